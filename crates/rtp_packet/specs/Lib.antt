@@ -1,0 +1,5 @@
+pub mod Fields
+pub mod Faults
+pub mod Packet
+pub mod Seen
+pub mod Rewritten

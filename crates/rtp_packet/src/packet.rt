@@ -1,0 +1,111 @@
+// A packet's parts, and the reader that finds them.
+
+ghost use Rattle.std.specs.Prelude.{◌≡◌, true, false, None, Some, IfOk, IfErr};
+ghost use Rattle.rtp_packet.specs.Faults.{first_fault, has_bad_padding, lacks_extension};
+ghost use Rattle.rtp_packet.specs.Fields.{behind_extension, block_in, payload_in, profile_in};
+ghost use Rattle.rtp_packet.specs.Packet.{packet_of};
+ghost use Rattle.rtp_packet.specs.Seen.{parts};
+
+use byteorder::{BigEndian, ByteOrder};
+use sfu_base::RtpFault;
+
+/// The parts of an RTP packet (RFC 3550, section 5.1), where they lie in its bytes. A packet without a header
+/// extension has no `profile` and an empty `block`. CSRC words and padding are part of none of them.
+#[derive(Clone, Copy, Debug)]
+pub struct Rtp<'a> {
+    /// The marker bit.
+    pub marker: bool,
+    /// The payload type, below 128.
+    pub payload_type: u8,
+    /// The sequence number.
+    pub seq: u16,
+    /// The timestamp, in ticks of the media's clock.
+    pub timestamp: u32,
+    /// The synchronization source.
+    pub ssrc: u32,
+    /// The profile word of the header extension.
+    pub profile: Option<u16>,
+    /// The block of the header extension, a whole number of 32-bit words, without its profile and count.
+    pub block: &'a [u8],
+    /// What stands between the header and the padding.
+    pub payload: &'a [u8],
+}
+
+/// The bytes of the fixed header.
+const FIXED_HEADER: usize = 12;
+
+/// Reads a packet (RFC 3550, section 5.1). It is refused by the first fault that stands: `Short` below 12 bytes,
+/// `Version` where the version isn't 2, `Csrc` where the CSRC words aren't all there, `Extension` where the header
+/// extension isn't, `Padding` where the padding's count is 0 or more than the bytes that follow the header.
+#[tactic(auto, unfolding(crate::specs::Faults::first_fault))]
+pub fn read<'a>(bytes: &'a [u8]) -> Result<Rtp<'a>, RtpFault>
+    ensures parts { IfOk result (λ r. parts r ≡ packet_of bytes.now) }
+    ensures ok { IfOk result (λ _. first_fault bytes.now ≡ None) }
+    ensures fault { IfErr result (λ e. first_fault bytes.now ≡ Some e) }
+{
+    if bytes.len() < FIXED_HEADER {
+        return Err(RtpFault::Short);
+    }
+    let first = bytes[0];
+    let second = bytes[1];
+    if first / 64 != 2 {
+        return Err(RtpFault::Version);
+    }
+    let csrc_end = FIXED_HEADER + 4 * (first % 16) as usize;
+    if bytes.len() < csrc_end {
+        return Err(RtpFault::Csrc);
+    }
+    let (profile, block, rest) = extension(first / 16 % 2 == 1, &bytes[csrc_end..])?;
+    let payload = unpadded(first / 32 % 2 == 1, rest)?;
+    Ok(Rtp {
+        marker: second / 128 == 1,
+        payload_type: second % 128,
+        seq: BigEndian::read_u16(&bytes[2..]),
+        timestamp: BigEndian::read_u32(&bytes[4..]),
+        ssrc: BigEndian::read_u32(&bytes[8..]),
+        profile,
+        block,
+        payload,
+    })
+}
+
+/// What stands at the front of the bytes behind the CSRC words: the extension's profile and block where there is one,
+/// and the bytes behind it.
+fn extension<'a>(
+    extended: bool,
+    rest: &'a [u8],
+) -> Result<(Option<u16>, &'a [u8], &'a [u8]), RtpFault>
+    ensures profile { IfOk result (λ x. x.0 ≡ profile_in extended rest.now) }
+    ensures block { IfOk result (λ x. x.1.now ≡ block_in extended rest.now) }
+    ensures behind { IfOk result (λ x. x.2.now ≡ behind_extension extended rest.now) }
+    ensures ok { IfOk result (λ _. lacks_extension extended rest.now ≡ false) }
+    ensures fault { IfErr result (λ e. (e ≡ RtpFault.Extension) × (lacks_extension extended rest.now ≡ true)) }
+{
+    if !extended {
+        return Ok((None, &[], rest));
+    }
+    if rest.len() < 4 {
+        return Err(RtpFault::Extension);
+    }
+    let end = 4 + 4 * BigEndian::read_u16(&rest[2..]) as usize;
+    if rest.len() < end {
+        return Err(RtpFault::Extension);
+    }
+    Ok((Some(BigEndian::read_u16(rest)), &rest[4..end], &rest[end..]))
+}
+
+/// The bytes behind the header without their padding.
+fn unpadded<'a>(padded: bool, rest: &'a [u8]) -> Result<&'a [u8], RtpFault>
+    ensures payload { IfOk result (λ x. x.now ≡ payload_in padded rest.now) }
+    ensures ok { IfOk result (λ _. has_bad_padding padded rest.now ≡ false) }
+    ensures fault { IfErr result (λ e. (e ≡ RtpFault.Padding) × (has_bad_padding padded rest.now ≡ true)) }
+{
+    if !padded {
+        return Ok(rest);
+    }
+    let count = rest.last().copied().unwrap_or(0) as usize;
+    if count == 0 || rest.len() < count {
+        return Err(RtpFault::Padding);
+    }
+    Ok(&rest[..rest.len() - count])
+}
