@@ -1,0 +1,5 @@
+pub mod Queues
+pub mod Passing
+pub mod Taking
+pub mod Refusing
+pub mod Serving

@@ -1,0 +1,39 @@
+-- The history of a room, and what it answers after it. Own rule. The code keeps no history.
+use Rattle.std.specs.Prelude.{ℕ, Bool, if◌then◌else◌, List, [], ◌∷◌, fold}
+use Rattle.std.specs.List.{flat_map}
+use Rattle.sfu_base.specs.Answer.{Answer, Done, Sent, Refused}
+use Rattle.sfu_base.specs.declared.call.Call.{Call}
+use Rattle.room_core.specs.Noted.{Noted}
+use Rattle.room_core.specs.Replies.{answer}
+
+-- One call on the room by a seat. A starved one found no memory, and changes nothing.
+pub record Entry : Type 0 where
+  pub seat : ℕ
+  pub call : Call
+  pub starved : Bool
+
+-- the accepted calls after one more was answered so: a refused one isn't among them
+abbrev pub after : Answer → Call → List Call → List Call
+after (Refused why) call past = past
+after Done call past = call ∷ past
+after (Sent bytes) call past = call ∷ past
+
+-- the accepted calls after one more entry
+abbrev pub after_entry : List Call → Entry → List Call
+after_entry past entry = if entry.starved then past else after (answer past entry.call) entry.call past
+
+-- The accepted calls of a history, the newest first. The history's entries stand oldest first.
+abbrev pub accepted : List Entry → List Call
+accepted history = fold after_entry [] history
+
+-- what the room answers to a call after this history
+abbrev pub reply_of : List Entry → Call → Answer
+reply_of history call = answer (accepted history) call
+
+-- an entry's seat and call, where it wasn't starved
+abbrev pub noted_of : Entry → List Noted
+noted_of entry = if entry.starved then [] else record { seat = entry.seat; call = entry.call } ∷ []
+
+-- the seats and calls that a recorder has kept of a history: those that weren't starved
+abbrev pub kept : List Entry → List Noted
+kept history = flat_map noted_of history

@@ -1,0 +1,9 @@
+pub mod Live
+pub mod Outgoing
+pub mod Replies
+pub mod History
+pub mod Noted
+pub mod Queue
+pub mod Content
+pub mod Steps
+pub mod Serves

@@ -1,0 +1,45 @@
+// What keeps the calls of a room.
+ghost use Rattle.std.specs.Prelude.{◌≡◌, ℕ, Bool, false, IsTrue, IsErr, List, Option, None, OnOk, OnErr};
+ghost use Rattle.room_core.specs.Noted.{Noted, Notes};
+
+use sfu_base::{Call, NoMemory};
+
+/// Keeps the seats and calls of a room, or nothing.
+pub trait Recorder: Drop {
+    /// Whether a call may be refused for want of memory.
+    ghost may_refuse: { Self → Bool };
+
+    /// The seats and calls that were noted, the oldest first, where it tells them.
+    ghost noted: { Self → Option (List Noted) };
+
+    /// Puts a seat and its call last. After `NoMemory` all is as before.
+    fn note(&mut self, seat: u32, call: &Call) -> Result<(), NoMemory>
+        ensures ok { OnOk result (Notes (noted self.old) (noted self.new) seat call.now) }
+        ensures err { OnErr result (noted self.new ≡ noted self.old) }
+        ensures refused { IsErr result → IsTrue (may_refuse self.old) }
+        ensures same { may_refuse self.new ≡ may_refuse self.old };
+}
+
+/// Keeps nothing, and never refuses.
+#[derive(Drop)]
+pub struct KeepNone;
+
+impl KeepNone {
+    /// A recorder that keeps nothing.
+    pub fn new() -> KeepNone
+        ensures may_refuse { ⟦<KeepNone as Recorder>⟧.may_refuse result ≡ false }
+        ensures noted { ⟦<KeepNone as Recorder>⟧.noted result ≡ None }
+    {
+        KeepNone
+    }
+}
+
+impl Recorder for KeepNone {
+    ghost may_refuse = { λ _. false };
+
+    ghost noted = { λ _. None };
+
+    fn note(&mut self, _seat: u32, _call: &Call) -> Result<(), NoMemory> {
+        Ok(())
+    }
+}
