@@ -1,0 +1,13 @@
+pub mod Cutting
+pub mod Filled
+pub mod HexText
+pub mod JoinLine
+pub mod LineLaws
+pub mod Options
+pub mod PacketLine
+pub mod Parsing
+pub mod PublishLine
+pub mod Spaces
+pub mod Steps
+pub mod TakeLine
+pub mod Written

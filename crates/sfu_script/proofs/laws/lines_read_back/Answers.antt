@@ -1,0 +1,5 @@
+use Rattle.sfu_script.proofs.Written.{read_back}
+use Rattle.sfu_script.proofs.laws.lines_read_back.Goals as goal
+
+pub returns : goal.returns
+returns c = read_back

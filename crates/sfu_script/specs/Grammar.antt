@@ -1,0 +1,56 @@
+-- What a line of text is made of: words with one space between them, each as its place says. Own rule.
+-- The code cuts a line at each space in turn and reads the words one by one.
+use Rattle.std.specs.Prelude.{◌≡◌, ℕ, ◌^◌, ◌<◌, ◌≤◌, List, [], ◌∷◌, ◌++◌, length, Ok, decimal}
+use Rattle.std.specs.Int.{to_be_bytes, w32}
+use Rattle.hex.specs.Hex.{decode_of, encode_lower, IsBytes}
+
+-- a place in a line, with what stands there
+pub data Place : Type 0 where
+  Word : (text : List ℕ) → Place
+  Number : (bits n : ℕ) → Place
+  Ssrc : (ssrc : ℕ) → Place
+  Hex : (bytes : List ℕ) → Place
+
+-- The text says the bytes: two hex digits each, of either case.
+abbrev pub IsHex : List ℕ → List ℕ → Type 0
+IsHex bytes text = decode_of text ≡ Ok bytes
+
+-- The value is one that its place can say: a number is within its type, and there are 1 to 2,048 bytes.
+abbrev pub IsWithin : Place → Type 0
+IsWithin (Word text) = Unit {0}
+IsWithin (Number bits n) = n < 2 ^ bits
+IsWithin (Ssrc ssrc) = ssrc < 2 ^ 32
+IsWithin (Hex bytes) = (0 < length bytes) × (length bytes ≤ 2048) × IsBytes bytes
+
+-- The word is right at its place: this very text; the number in decimal digits without a leading zero; the number in eight hex
+-- digits; the bytes in hex digits.
+abbrev pub Fills : Place → List ℕ → Type 0
+Fills (Word text) word = word ≡ text
+Fills (Number bits n) word = (n < 2 ^ bits) × (word ≡ decimal n)
+Fills (Ssrc ssrc) word = (ssrc < 2 ^ 32) × IsHex (to_be_bytes w32 ssrc) word
+Fills (Hex bytes) word = (0 < length bytes) × (length bytes ≤ 2048) × IsHex bytes word
+
+-- The text is one word for each place, in order, with one space between them.
+abbrev pub Spells : List Place → List ℕ → Type 0
+Spells [] text = text ≡ []
+Spells (place ∷ []) text = Fills place text
+Spells (place ∷ next ∷ places) text =
+    (word : List ℕ) × (after : List ℕ) × Fills place word × Spells (next ∷ places) after × (text ≡ word ++ 32 ∷ after)
+
+-- the word as it is written: hex digits are lower case
+abbrev pub word_of : Place → List ℕ
+word_of (Word text) = text
+word_of (Number bits n) = decimal n
+word_of (Ssrc ssrc) = encode_lower (to_be_bytes w32 ssrc)
+word_of (Hex bytes) = encode_lower bytes
+
+-- the text as it is written
+abbrev pub text_of : List Place → List ℕ
+text_of [] = []
+text_of (place ∷ []) = word_of place
+text_of (place ∷ next ∷ places) = word_of place ++ 32 ∷ text_of (next ∷ places)
+
+-- every value is one that its place can say
+abbrev pub AllWithin : List Place → Type 0
+AllWithin [] = Unit {0}
+AllWithin (place ∷ places) = IsWithin place × AllWithin places

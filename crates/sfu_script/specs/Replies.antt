@@ -1,0 +1,28 @@
+-- The texts of replies, without their line end. Own rule.
+use Rattle.std.specs.Prelude.{◌≡◌, ℕ, List, ◌++◌, codes, decimal}
+use Rattle.hex.specs.Hex.{encode_lower}
+use Rattle.sfu_base.specs.Answer.{Answer, Done, Sent, Refused}
+use Rattle.sfu_base.specs.declared.call.Refusal.{Refusal}
+use Rattle.sfu_base.specs.declared.call.Refusal.TheVariants.{NotBuilt, OutOfOrder, Empty, NoMemory}
+
+-- the text of a refusal
+abbrev pub refusal_text : Refusal → List ℕ
+refusal_text NotBuilt = codes "refused notbuilt"
+refusal_text (OutOfOrder next) = codes "refused outoforder " ++ decimal next
+refusal_text Empty = codes "empty"
+refusal_text NoMemory = codes "refused nomemory"
+
+-- the text of an answer
+abbrev pub answer_text : Answer → List ℕ
+answer_text Done = codes "ok"
+answer_text (Sent bytes) = codes "packet " ++ encode_lower bytes
+answer_text (Refused why) = refusal_text why
+
+-- the text of a line outside the grammar
+abbrev pub line_fault_text : ℕ → List ℕ
+line_fault_text line = codes "line " ++ decimal line
+
+-- The text goes on where the other ends: it is the other, followed by more.
+pub record GoesOn (before now : List ℕ) : Type 0 where
+  pub more : List ℕ
+  pub is : now ≡ before ++ more

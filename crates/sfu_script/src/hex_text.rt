@@ -1,0 +1,45 @@
+// A packet's bytes in hex digits, both ways.
+ghost use Rattle.std.specs.Prelude.{◌≡◌, ◌++◌, OnOk};
+ghost use Rattle.std.specs.Result.{result_ok};
+ghost use Rattle.hex.specs.Hex.{encode_lower};
+ghost use Rattle.sfu_script.specs.Reading.{bytes_of};
+ghost use Rattle.sfu_script.specs.Replies.{GoesOn};
+
+use crate::NoLine;
+use sfu_base::{Blob, NoMemory, PacketBuf};
+
+// How many bytes are written at once: few enough that clearing the room for their digits costs little.
+const CHUNK: usize = 256;
+
+/// The 1 to 2,048 bytes that a word is in hex digits.
+#[inline(always)]
+pub fn packet_bytes(word: &[u8]) -> Result<PacketBuf, NoLine>
+    ensures { result_ok result ≡ bytes_of word.now }
+{
+    if word.is_empty() || word.len() > 4096 || word.len() % 2 == 1 {
+        return Err(NoLine);
+    }
+    let mut room = [0u8; 2048];
+    let count = word.len() / 2;
+    match hex::decode_to_slice(word, &mut room[..count]) {
+        Ok(()) => Ok(PacketBuf::of(room, count)),
+        Err(_) => Err(NoLine),
+    }
+}
+
+/// Appends the bytes in hex digits. After `NoMemory` a front of them may stand there.
+pub fn append_hex(bytes: &[u8], out: &mut Blob) -> Result<(), NoMemory>
+    ensures ok { OnOk result (out.new ≡ out.old ++ encode_lower bytes.now) }
+    ensures begun { GoesOn out.old out.new }
+{
+    let mut digits = [0u8; 2 * CHUNK];
+    let mut rest = bytes;
+    'chunks: while !rest.is_empty() {
+        let (chunk, after) = rest.split_at(rest.len().min(CHUNK));
+        let text = &mut digits[..2 * chunk.len()];
+        hex::encode_to_slice(chunk, text).unwrap();
+        out.append(text)?;
+        rest = after;
+    }
+    Ok(())
+}

@@ -1,0 +1,16 @@
+//! The texts of scripts: each line says a call of the room, and each reply has its line.
+#![tactic(auto)]
+
+mod hex_text;
+mod laws;
+mod line_fault;
+mod lines;
+mod number_text;
+mod replies;
+mod undo;
+mod words;
+
+pub use laws::{lines_read_back, lines_say_one_call, reads_exactly_the_lines};
+pub use line_fault::write_line_fault;
+pub use lines::{NoLine, read_call};
+pub use replies::write_reply;

@@ -1,0 +1,23 @@
+// What a writer began goes away again where memory ran out.
+ghost use Rattle.std.specs.Prelude.{◌≡◌, OnErr, OnOk, take};
+
+use sfu_base::{Blob, NoMemory};
+
+/// The outcome of a writer that began at this length: after `NoMemory` what stands behind it goes away.
+pub fn whole_or_nothing(
+    written: Result<(), NoMemory>,
+    start: usize,
+    out: &mut Blob,
+) -> Result<(), NoMemory>
+    ensures same { result ≡ written }
+    ensures ok { OnOk result (out.new ≡ out.old) }
+    ensures err { OnErr result (out.new ≡ take start out.old) }
+{
+    match written {
+        Ok(()) => Ok(()),
+        Err(NoMemory) => {
+            out.truncate(start);
+            Err(NoMemory)
+        }
+    }
+}

@@ -1,0 +1,78 @@
+// The words of a line from the left.
+ghost use Rattle.std.specs.Prelude.{◌≡◌, ◌≢◌, ◌<◌, ◌^◌, ◌&&◌, if◌then◌else◌, length, nat_lt, slice_index, MatchResult, None, Some};
+ghost use Rattle.std.specs.Result.{result_ok};
+ghost use Rattle.std.specs.Str.{all_ascii_digits};
+ghost use Rattle.std.specs.Str.Parse.{digits_value};
+ghost use Rattle.sfu_script.specs.Reading.{cut, number_of, ssrc_of};
+
+use crate::NoLine;
+use std::str;
+
+/// What stands before the first space and behind it.
+pub fn split(text: &[u8]) -> Result<(&[u8], &[u8]), NoLine>
+    ensures { MatchResult result (λ parts. cut text.now ≡ Some (parts.0.now, parts.1.now)) (λ _. cut text.now ≡ None) }
+{
+    for (i, byte) in text.iter().enumerate() {
+        if *byte == b' ' {
+            return Ok((&text[..i], &text[i + 1..]));
+        }
+    }
+    Err(NoLine)
+}
+
+// The number that digits are, where it fits.
+fn decimal(word: &[u8]) -> Option<u64>
+    requires nonempty { 0 < length word.now }
+    requires unsigned { slice_index word.now 0 ≢ 43 }
+    ensures { result ≡ (if all_ascii_digits word.now && nat_lt (digits_value 10 word.now) (2 ^ 64) then Some (digits_value 10 word.now) else None) }
+{
+    match str::from_utf8(word) {
+        Ok(text) => text.parse::<u64>().ok(),
+        Err(_) => None,
+    }
+}
+
+/// The number that a word is, in decimal digits without a leading zero.
+pub fn number64(word: &[u8]) -> Result<u64, NoLine>
+    ensures { result_ok result ≡ number_of 64 word.now }
+{
+    let Some(first) = word.first() else {
+        return Err(NoLine);
+    };
+    if *first == b'+' || *first == b'0' && word.len() > 1 {
+        return Err(NoLine);
+    }
+    decimal(word).ok_or(NoLine)
+}
+
+/// As `number64`, of at most 32 bits.
+pub fn number32(word: &[u8]) -> Result<u32, NoLine>
+    ensures { result_ok result ≡ number_of 32 word.now }
+{
+    u32::try_from(number64(word)?).ok().ok_or(NoLine)
+}
+
+/// As `number64`, of at most 16 bits.
+pub fn number16(word: &[u8]) -> Result<u16, NoLine>
+    ensures { result_ok result ≡ number_of 16 word.now }
+{
+    u16::try_from(number64(word)?).ok().ok_or(NoLine)
+}
+
+/// As `number64`, of at most 8 bits.
+pub fn number8(word: &[u8]) -> Result<u8, NoLine>
+    ensures { result_ok result ≡ number_of 8 word.now }
+{
+    u8::try_from(number64(word)?).ok().ok_or(NoLine)
+}
+
+/// The number that eight hex digits are.
+pub fn ssrc(word: &[u8]) -> Result<u32, NoLine>
+    ensures { result_ok result ≡ ssrc_of word.now }
+{
+    let mut bytes = [0u8; 4];
+    match hex::decode_to_slice(word, &mut bytes) {
+        Ok(()) => Ok(u32::from_be_bytes(bytes)),
+        Err(_) => Err(NoLine),
+    }
+}
