@@ -1,5 +1,5 @@
 -- The call that a line says, as a function: what whole scripts are computed with.
-use Rattle.std.specs.Prelude.{ℕ, if◌then◌else◌, List, Option, Some, None, codes}
+use Rattle.std.specs.Prelude.{ℕ, Bool, true, false, if◌then◌else◌, List, Option, Some, None, codes}
 use Rattle.std.specs.Str.{bytes_eq}
 use Rattle.sfu_base.specs.declared.call.Call.{Call}
 use Rattle.sfu_base.specs.declared.call.Call.TheVariants.{Publish, Packet, Join, Take}
@@ -61,3 +61,11 @@ abbrev pub call_of : List ℕ → Option Call
 call_of line = do
   parts ← cut line
   command_of parts.0 parts.1
+
+abbrev pub is_packet : Call → Bool
+is_packet (Packet track moment bytes) = true
+is_packet call = false
+
+abbrev pub is_take : Call → Bool
+is_take (Take subscriber) = true
+is_take call = false

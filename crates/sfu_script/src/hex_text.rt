@@ -1,28 +1,25 @@
 // A packet's bytes in hex digits, both ways.
-ghost use Rattle.std.specs.Prelude.{◌≡◌, ◌++◌, OnOk};
-ghost use Rattle.std.specs.Result.{result_ok};
+ghost use Rattle.std.specs.Prelude.{◌≡◌, ◌++◌, ◌≤◌, MatchResult, None, OnOk, Some, take};
 ghost use Rattle.hex.specs.Hex.{encode_lower};
 ghost use Rattle.sfu_script.specs.Reading.{bytes_of};
 ghost use Rattle.sfu_script.specs.Replies.{GoesOn};
 
 use crate::NoLine;
-use sfu_base::{Blob, NoMemory, PacketBuf};
+use sfu_base::{Blob, NoMemory};
 
 // How many bytes are written at once: few enough that clearing the room for their digits costs little.
 const CHUNK: usize = 256;
 
-/// The 1 to 2,048 bytes that a word is in hex digits.
-#[inline(always)]
-pub fn packet_bytes(word: &[u8]) -> Result<PacketBuf, NoLine>
-    ensures { result_ok result ≡ bytes_of word.now }
+/// Reads the 1 to 2,048 bytes that a word is in hex digits into the front of the room, and says how many they are.
+pub fn decode(word: &[u8], room: &mut [u8; 2048]) -> Result<usize, NoLine>
+    ensures { MatchResult result (λ count. (count ≤ 2048) × (bytes_of word.now ≡ Some (take count room.new))) (λ _. bytes_of word.now ≡ None) }
 {
     if word.is_empty() || word.len() > 4096 || word.len() % 2 == 1 {
         return Err(NoLine);
     }
-    let mut room = [0u8; 2048];
     let count = word.len() / 2;
     match hex::decode_to_slice(word, &mut room[..count]) {
-        Ok(()) => Ok(PacketBuf::of(room, count)),
+        Ok(()) => Ok(count),
         Err(_) => Err(NoLine),
     }
 }

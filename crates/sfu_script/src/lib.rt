@@ -4,6 +4,7 @@
 mod hex_text;
 mod laws;
 mod line_fault;
+mod line_reader;
 mod lines;
 mod number_text;
 mod replies;
@@ -12,5 +13,6 @@ mod words;
 
 pub use laws::{lines_read_back, lines_say_one_call, reads_exactly_the_lines};
 pub use line_fault::write_line_fault;
+pub use line_reader::LineReader;
 pub use lines::{NoLine, read_call};
 pub use replies::write_reply;

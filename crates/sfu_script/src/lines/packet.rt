@@ -4,9 +4,9 @@ ghost use Rattle.std.specs.Result.{result_ok};
 ghost use Rattle.sfu_script.specs.ReadLines.{packet_of};
 
 use crate::NoLine;
-use crate::hex_text::packet_bytes;
+use crate::hex_text::decode;
 use crate::words::{number32, number64, split};
-use sfu_base::Call;
+use sfu_base::{Call, PacketBuf};
 
 #[tactic(auto, unfolding(crate::specs::ReadLines::packet_of))]
 #[inline(always)]
@@ -17,10 +17,11 @@ pub fn read(rest: &[u8]) -> Result<Call, NoLine>
     let track = number32(word)?;
     let (word, rest) = split(rest)?;
     let moment = number64(word)?;
-    let bytes = packet_bytes(rest)?;
+    let mut room = [0; 2048];
+    let count = decode(rest, &mut room)?;
     Ok(Call::Packet {
         track,
         moment,
-        bytes,
+        bytes: PacketBuf::of(room, count),
     })
 }

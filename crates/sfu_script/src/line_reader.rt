@@ -1,0 +1,104 @@
+// Lines read one after another.
+ghost use Rattle.std.specs.Prelude.{◌≡◌, IsTrue, MatchResult, None, Some};
+ghost use Rattle.sfu_script.specs.ReadLines.{call_of, packet_of, take_of, is_packet, is_take};
+
+use crate::hex_text::decode;
+use crate::words::{number32, number64, split};
+use crate::{NoLine, read_call};
+use sfu_base::{Call, PacketBuf};
+
+/// Reads lines one after another, as [`read_call`] does, and keeps the room of the calls: the lines that come most often write no more
+/// than they say.
+#[derive(Drop)]
+pub struct LineReader {
+    room: [u8; 2048],
+    packet: Call,
+    take: Call,
+    other: Call,
+    ghost keeps_a_packet: { IsTrue (is_packet packet) },
+    ghost keeps_a_take: { IsTrue (is_take take) },
+}
+
+impl LineReader {
+    /// A reader that has read no line.
+    pub fn new() -> LineReader {
+        LineReader {
+            room: [0; 2048],
+            packet: Call::Packet {
+                track: 0,
+                moment: 0,
+                bytes: PacketBuf::new(),
+            },
+            take: Call::Take { subscriber: 0 },
+            other: Call::Take { subscriber: 0 },
+        }
+    }
+
+    #[tactic(auto, unfolding(crate::specs::ReadLines::packet_of))]
+    fn read_packet(&mut self, rest: &[u8]) -> Result<(), NoLine>
+        ensures { MatchResult result (λ _. packet_of rest.now ≡ Some self.new.packet) (λ _. packet_of rest.now ≡ None) }
+    {
+        let (word, rest) = split(rest)?;
+        let number = number32(word)?;
+        let (word, rest) = split(rest)?;
+        let time = number64(word)?;
+        let count = decode(rest, &mut self.room)?;
+        match &mut self.packet {
+            Call::Packet {
+                track,
+                moment,
+                bytes,
+            } => {
+                *track = number;
+                *moment = time;
+                bytes.fill(&self.room[..count]);
+                Ok(())
+            }
+            _ => unreachable!(),
+        }
+    }
+
+    #[tactic(auto, unfolding(crate::specs::ReadLines::take_of))]
+    fn read_take(&mut self, rest: &[u8]) -> Result<(), NoLine>
+        ensures { MatchResult result (λ _. take_of rest.now ≡ Some self.new.take) (λ _. take_of rest.now ≡ None) }
+    {
+        let number = number32(rest)?;
+        match &mut self.take {
+            Call::Take { subscriber } => {
+                *subscriber = number;
+                Ok(())
+            }
+            _ => unreachable!(),
+        }
+    }
+
+    // Apart, so that the other lines need no room for a call that is handed on.
+    #[inline(never)]
+    fn read_other(&mut self, line: &[u8]) -> Result<(), NoLine>
+        ensures { MatchResult result (λ _. call_of line.now ≡ Some self.new.other) (λ _. call_of line.now ≡ None) }
+    {
+        self.other = read_call(line)?;
+        Ok(())
+    }
+
+    /// The call that a line says, which is kept until the next line is read. `NoLine` exactly where it says none. Takes no memory.
+    pub fn read(&mut self, line: &[u8]) -> Result<&Call, NoLine>
+        ensures { MatchResult result (λ said. call_of line.now ≡ Some said.now) (λ _. call_of line.now ≡ None) }
+    {
+        let (word, rest) = split(line)?;
+        match word {
+            b"packet" => {
+                self.read_packet(rest)?;
+                Ok(&self.packet)
+            }
+            b"take" => {
+                self.read_take(rest)?;
+                Ok(&self.take)
+            }
+            _ => {
+                self.read_other(line)?;
+                Ok(&self.other)
+            }
+        }
+    }
+}
