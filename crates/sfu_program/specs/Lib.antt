@@ -1,0 +1,5 @@
+pub mod Script
+pub mod Outcome
+pub mod Session
+pub mod Feeds
+pub mod Status
