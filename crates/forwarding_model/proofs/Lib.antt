@@ -1,0 +1,12 @@
+pub mod Members
+pub mod Distances
+pub mod WrapNumbers
+pub mod ReceivedNumbers
+pub mod Sound
+pub mod Decoding
+pub mod Restarting
+pub mod Causes
+pub mod Paths
+pub mod Receiving
+pub mod EpochStructures
+pub mod StrictReceiver

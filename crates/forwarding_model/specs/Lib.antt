@@ -1,0 +1,17 @@
+pub mod Lists
+pub mod Numbers
+pub mod Targets
+pub mod Selection
+pub mod Timeline
+pub mod Standing
+pub mod TrackFrames
+pub mod Decodable
+pub mod Restart
+pub mod Causes
+pub mod Outgoing
+pub mod Reading
+pub mod Cuts
+pub mod Frames
+pub mod Receiver
+pub mod WholeFrames
+pub mod Laws
