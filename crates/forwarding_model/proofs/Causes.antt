@@ -1,125 +1,32 @@
--- The path from a withheld frame ends at a root.
-use Rattle.std.proofs.Common.{◌≡◌, ◌≢◌, inl, inr, ◌+◌, ◌-◌, ◌<◌, ◌≤◌, ℕ, arith, Bool, true, false, List, [], ◌∷◌, refl, sym, subst, ap, ◌∙◌, cond, true≢false, ◌&&◌, not, length}
+-- What a standing keeps of the causes, and that what a cause names lies below and was not passed.
+use Rattle.std.proofs.Common.{◌≡◌, ◌≢◌, inl, inr, ◌+◌, ◌-◌, ◌<◌, ◌≤◌, ℕ, arith, Bool, true, false, List, [], ◌∷◌, refl, sym, subst, ap, ◌∙◌, cond, true≢false, not, length}
 use Rattle.std.specs.Prelude.{◌==◌, nat_lt, nat_le}
-use Rattle.std.proofs.lemmas.Bool.{eqb-true, eq-eqb, ne_eqb, and_parts, ltb-true, ltb-false, leb-true, not-true}
+use Rattle.std.proofs.lemmas.Bool.{eqb-true, eq-eqb, ne_eqb, and_parts, ltb-true, leb-true, not-true}
 use Rattle.std.specs.List.{AllByRecursion}
 use Rattle.std.specs.declared.option.Option.{Option}
 use Rattle.std.specs.declared.option.Option.TheVariants.{None, Some}
 use Rattle.sfu_base.specs.declared.frame.FrameMeaning.{FrameMeaning}
 use Rattle.sfu_base.specs.declared.frame.Wish.{Wish}
 use Rattle.sfu_base.specs.declared.frame.Verdict.{Verdict}
-use Rattle.sfu_base.specs.declared.frame.Verdict.TheVariants.{Passed, NotOfTarget, Behind, Reference, Full}
+use Rattle.sfu_base.specs.declared.frame.Verdict.TheVariants.{Passed}
 use Rattle.sfu_base.specs.declared.frame.Step.{Step}
 use Rattle.sfu_base.specs.Frame.{IsDistance}
 use Rattle.forwarding_model.specs.declared.target.CurrentTarget.{CurrentTarget}
 use Rattle.forwarding_model.specs.declared.target.CurrentTarget.TheVariants.{Open, Closed}
-use Rattle.forwarding_model.specs.declared.target.Reason.{Reason}
 use Rattle.forwarding_model.specs.declared.target.Reason.TheVariants.{BrokenLink, NotOpened}
-use Rattle.forwarding_model.specs.Lists.{IsMember, is_nothing}
-use Rattle.forwarding_model.specs.Targets.{references, is_present, is_active, aim}
-use Rattle.forwarding_model.specs.Selection.{missing_reference, chain_link, is_link_broken, target_under_mask, target_after_link, opened_or, is_present_in, has_room, target_of, reason_verdict, candidate_verdict, reference_verdict, target_verdict}
+use Rattle.forwarding_model.specs.Lists.{IsMember}
+use Rattle.forwarding_model.specs.Targets.{references, is_active}
+use Rattle.forwarding_model.specs.Selection.{missing_reference, chain_link, is_link_broken, target_under_mask, target_after_link, opened_or}
 use Rattle.forwarding_model.specs.Timeline.{Event, meanings_of}
 use Rattle.forwarding_model.specs.Timeline.Event.{WholeFrame, PlainPacket, WishChange, Take}
-use Rattle.forwarding_model.specs.Standing.{Standing, is_epoch, has_below, passed_at, target_at, has_passed, kept_target_at, candidate_at, passes_at, verdict_at, admitted, after_plain, plain_passes, standing}
+use Rattle.forwarding_model.specs.Standing.{Standing, is_epoch, has_below, passed_at, target_at, has_passed, key_passed, kept_target_at, passes_at, verdict_at, admitted, after_plain, plain_passes, standing}
 use Rattle.forwarding_model.specs.TrackFrames.{IsTrackFrame, Precedes, IsOneTrack}
 use Rattle.forwarding_model.specs.Causes.{verdict_among, verdicts, followed, IsWithheld}
 use Rattle.forwarding_model.proofs.Members.{each_member, each_of, each_weaker, member_any, failing_some}
 use Rattle.forwarding_model.proofs.Distances.{distances_of}
 use Rattle.forwarding_model.proofs.Sound.{IsSound, sound, sound_at, is_epoch-true, frames_sound}
 use Rattle.forwarding_model.proofs.Decoding.{IsKept, kept, kept_at}
-
--- ---- a verdict is Passed just where the frame passes
-
-present_of : (f : FrameMeaning) (t : ℕ) (v : Verdict) → target_verdict f (Some t) v ≡ Passed → (is_present f t ≡ true) × (v ≡ Passed)
-present_of f t v h = go (is_present f t) refl h
-  where
-    go : (b : Bool) → is_present f t ≡ b → cond b v (NotOfTarget (Some t)) ≡ Passed → (is_present f t ≡ true) × (v ≡ Passed)
-    go true e h = (e, h)
-    go false e h = absurd (grind arith)
-
-found_of : (f : FrameMeaning) (o : Option ℕ) (v : Verdict) → reference_verdict f o v ≡ Passed → (o ≡ None) × (v ≡ Passed)
-found_of f None v h = (refl, h)
-found_of f (Some d) v h = absurd (go (nat_lt f.number (f.start + d)) h)
-  where
-    go : (b : Bool) → cond b (Behind d f.start) (Reference (f.number - d)) ≡ Passed → ⊥
-    go true h = grind arith
-    go false h = grind arith
-
-reason_not_passed : (r : Reason) → reason_verdict r ≡ Passed → ⊥
-reason_not_passed (BrokenLink at number) h = grind arith
-reason_not_passed (NotOpened since) h = grind arith
-
-room_of : (queued packets : ℕ) → cond (has_room queued packets) Passed (Full queued packets) ≡ Passed → has_room queued packets ≡ true
-room_of queued packets h = go (has_room queued packets) refl h
-  where
-    go : (b : Bool) → has_room queued packets ≡ b → cond b Passed (Full queued packets) ≡ Passed → has_room queued packets ≡ true
-    go true e h = e
-    go false e h = absurd (grind arith)
-
-pub passes_from_verdict : (s : Standing) (f : FrameMeaning) (packets : ℕ) → verdict_at s f packets ≡ Passed → passes_at s f packets ≡ true
-passes_from_verdict s f packets h = go (candidate_at s f) h
-  where
-    go : (c : CurrentTarget) → target_verdict f (target_of s.wish f c) (reference_verdict f (missing_reference (has_passed s f) f) (candidate_verdict s.queued packets c)) ≡ Passed
-        → (is_present_in f c && (is_nothing (missing_reference (has_passed s f) f) && has_room s.queued packets)) ≡ true
-    go (Open t opened) h =
-        let room : Verdict = candidate_verdict s.queued packets (Open t opened) in
-        let a = present_of f t (reference_verdict f (missing_reference (has_passed s f) f) room) h in
-        let b = found_of f (missing_reference (has_passed s f) f) room a.1 in
-        rw (a.0, b.0, room_of s.queued packets b.1) refl
-    go (Closed r) h = closed (aim s.wish f) h
-      where
-        closed : (o : Option ℕ) → target_verdict f o (reference_verdict f (missing_reference (has_passed s f) f) (reason_verdict r)) ≡ Passed
-            → (false && (is_nothing (missing_reference (has_passed s f) f) && has_room s.queued packets)) ≡ true
-        closed None h = absurd (grind arith)
-        closed (Some t) h = absurd (reason_not_passed r (found_of f (missing_reference (has_passed s f) f) (reason_verdict r) (present_of f t (reference_verdict f (missing_reference (has_passed s f) f) (reason_verdict r)) h).1).1)
-
--- ---- what a verdict names
-
-abbrev pub AtSome : Option ℕ → (ℕ → Type 0) → Type 0
-AtSome None P = Unit {0}
-AtSome (Some m) P = P m
-
-abbrev AtBroken : CurrentTarget → (ℕ → Type 0) → Type 0
-AtBroken (Open t opened) P = Unit {0}
-AtBroken (Closed (BrokenLink at number)) P = P number
-AtBroken (Closed (NotOpened since)) P = Unit {0}
-
-target_names : (P : ℕ → Type 0) (f : FrameMeaning) (o : Option ℕ) (v : Verdict) → AtSome (followed v) P → AtSome (followed (target_verdict f o v)) P
-target_names P f None v h = tt
-target_names P f (Some t) v h = go (is_present f t)
-  where
-    go : (b : Bool) → AtSome (followed (cond b v (NotOfTarget (Some t)))) P
-    go true = h
-    go false = tt
-
-reference_names : (P : ℕ → Type 0) (f : FrameMeaning) (o : Option ℕ) (v : Verdict) → AtSome (followed v) P
-    → AtSome o (λ d. f.start + d ≤ f.number → P (f.number - d)) → AtSome (followed (reference_verdict f o v)) P
-reference_names P f None v h r = h
-reference_names P f (Some d) v h r = go (nat_lt f.number (f.start + d)) refl
-  where
-    go : (b : Bool) → nat_lt f.number (f.start + d) ≡ b → AtSome (followed (cond b (Behind d f.start) (Reference (f.number - d)))) P
-    go true e = tt
-    go false e = r (ltb-false f.number (f.start + d) e)
-
-open_names : (P : ℕ → Type 0) (queued packets : ℕ) (c : CurrentTarget) → AtBroken c P → AtSome (followed (candidate_verdict queued packets c)) P
-open_names P queued packets (Open t opened) h = go (has_room queued packets)
-  where
-    go : (b : Bool) → AtSome (followed (cond b Passed (Full queued packets))) P
-    go true = tt
-    go false = tt
-open_names P queued packets (Closed (BrokenLink at number)) h = h
-open_names P queued packets (Closed (NotOpened since)) h = tt
-
-opened_cut : (P : ℕ → Type 0) (f : FrameMeaning) (o : Option ℕ) (t : CurrentTarget) → AtBroken t P → AtBroken (opened_or f o t) P
-opened_cut P f None t h = h
-opened_cut P f (Some u) t h = tt
-
-verdict_names : (P : ℕ → Type 0) (s : Standing) (f : FrameMeaning) (packets : ℕ) → AtBroken (kept_target_at s f) P
-    → AtSome (missing_reference (has_passed s f) f) (λ d. f.start + d ≤ f.number → P (f.number - d)) → AtSome (followed (verdict_at s f packets)) P
-verdict_names P s f packets cut ref =
-    target_names P f (target_of s.wish f (candidate_at s f)) _
-    (reference_names P f (missing_reference (has_passed s f) f) _
-    (open_names P s.queued packets (candidate_at s f) (opened_cut P f _ (kept_target_at s f) cut)) ref)
+use Rattle.forwarding_model.proofs.Verdicts.{AtSome, AtBroken, opened_cut, passes_from_verdict, some_weaker, verdict_names}
 
 -- ---- what a standing keeps of the causes
 
@@ -127,10 +34,6 @@ verdict_names P s f packets cut ref =
 abbrev newest_of : List FrameMeaning → ℕ
 newest_of [] = 0
 newest_of (f ∷ past) = f.number
-
-pub some_weaker : (P Q : ℕ → Type 0) (o : Option ℕ) → ((m : ℕ) → P m → Q m) → AtSome o P → AtSome o Q
-some_weaker P Q None h a = tt
-some_weaker P Q (Some m) h a = h m a
 
 abbrev AtOpening : CurrentTarget → List FrameMeaning → Type 0
 AtOpening (Open t opened) passed = (h : FrameMeaning) × IsMember h passed × (h.number ≡ opened)
@@ -352,7 +255,7 @@ told_admitted past steps s f packets false track told sound kept e =
       opening = opening_at past steps s f told;
       cut = cut_weaker _ _ (kept_target_at s f) (told_cut steps f (verdict_at s f packets)) (cut_at past steps s f track told sound kept);
       told = λ m h. told_at steps s f (verdict_at s f packets) m (told.told m)
-          (λ v. true≢false (sym (passes_from_verdict s f packets v) ∙ e)) h;
+          (λ v. true≢false (sym (passes_from_verdict (has_passed s f) (key_passed s f) s.wish f (target_at s f) s.queued packets v) ∙ e)) h;
     }
 told_admitted past steps s f packets true track told sound kept e =
     record {
@@ -471,7 +374,7 @@ pub withheld_verdict : {S : Type 0} (wish : Wish) (events : List (Event S)) (n :
 withheld_verdict wish [] n track w = absurd w
 withheld_verdict wish (WholeFrame x ∷ past) n track (inl w) = λ e.
     let here : Some (verdict_at (standing wish past) x.meaning (length x.packets)) ≡ Some Passed = (rw (eq-eqb x.meaning.number n w.0) at e) in
-    true≢false (sym (passes_from_verdict (standing wish past) x.meaning (length x.packets) (grind arith)) ∙ w.1)
+    true≢false (sym (passes_from_verdict _ _ _ x.meaning _ _ (length x.packets) (let now : verdict_at (standing wish past) x.meaning (length x.packets) ≡ Passed = grind arith in now)) ∙ w.1)
 withheld_verdict wish (WholeFrame x ∷ past) n track (inr w) = λ e. go (x.meaning.number == n) refl e (withheld_verdict wish past n track.2 w)
   where
     go : (b : Bool) → (x.meaning.number == n) ≡ b

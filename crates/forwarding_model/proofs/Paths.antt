@@ -9,7 +9,8 @@ use Rattle.sfu_base.specs.declared.frame.Step.{Step}
 use Rattle.forwarding_model.specs.Timeline.{Event, meanings_of}
 use Rattle.forwarding_model.specs.TrackFrames.{IsOneTrack}
 use Rattle.forwarding_model.specs.Causes.{verdict_among, verdicts, cause, verdict_or_hole, newest_number, number_or, next_below, next_above, followed, path_within, path_on, path, IsPath, IsPathFrom, IsWithheld, TellsCauses}
-use Rattle.forwarding_model.proofs.Causes.{AtSome, some_weaker, names_unpassed, withheld_verdict}
+use Rattle.forwarding_model.proofs.Causes.{names_unpassed, withheld_verdict}
+use Rattle.forwarding_model.proofs.Verdicts.{AtSome, some_weaker}
 
 -- a path whose numbers fall ends at a root, whatever the causes
 path_falls : (causes : ℕ → Verdict) → ((n : ℕ) → AtSome (followed (causes n)) (λ m. (m < n) × (causes m ≢ Passed)))
@@ -70,3 +71,7 @@ unpassed_path wish events n track unpassed =
 pub withheld_unpassed : {S : Type 0} (wish : Wish) (events : List (Event S)) (n : ℕ) → IsOneTrack (meanings_of events) → IsWithheld wish events n
     → cause wish events n ≢ Passed
 withheld_unpassed wish events n track w = hole_or (verdict_among (verdicts wish events) n) _ _ (withheld_verdict wish events n track w)
+
+pub withheld_path : {S : Type 0} (wish : Wish) (events : List (Event S)) (n : ℕ) → IsOneTrack (meanings_of events) → IsWithheld wish events n
+    → IsPath (path (cause wish events) n)
+withheld_path wish events n track w = unpassed_path wish events n track (withheld_unpassed wish events n track w)

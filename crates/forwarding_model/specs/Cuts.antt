@@ -4,7 +4,7 @@
 -- The whole cut is said twice. `IsWholeCut` has the words, over a list of parts. A run is built mark by mark, which is how the frames of
 -- a track are defined and what code keeps; a law says that the runs that end are the whole cuts, no more and no fewer.
 -- X is the type of what a part brings with it.
-use Rattle.std.specs.Prelude.{◌≡◌, ◌+◌, ◌≤◌, ℕ, List, [], ◌∷◌, ◌++◌, Bool, true, false, if◌then◌else◌, ◌==◌, ◌&&◌, not, nat_lt, length, map, reverse}
+use Rattle.std.specs.Prelude.{◌≡◌, ◌+◌, ◌≤◌, ℕ, List, [], ◌∷◌, ◌++◌, Bool, true, false, if◌then◌else◌, ◌==◌, ◌&&◌, not, nat_lt, length}
 use Rattle.std.specs.Bool.{beq}
 use Rattle.std.specs.List.{AllByRecursion}
 use Rattle.std.specs.declared.option.Option.{Option}
@@ -141,8 +141,13 @@ abbrev pub NewestIsPart : {X : Type 0} → List (Mark X) → Type 0
 NewestIsPart [] = ⊥
 NewestIsPart (mark ∷ past) = IsPart mark
 
+-- the marks of parts that stand with the oldest first
+abbrev pub newest_first : {X : Type 0} → List (Part X) → List (Mark X)
+newest_first [] = []
+newest_first (part ∷ more) = newest_first more ++ Read part ∷ []
+
 -- padding left aside, the newest marks are these parts, in a row
 pub record EndsIn {X : Type 0} (marks : List (Mark X)) (parts : List (Part X)) : Type 0 where
   pub newest : NewestIsPart marks
   pub older : List (Mark X)
-  pub adjacent : without_padding marks ≡ reverse (map Read parts) ++ older
+  pub adjacent : without_padding marks ≡ newest_first parts ++ older

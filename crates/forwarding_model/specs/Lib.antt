@@ -14,4 +14,6 @@ pub mod Cuts
 pub mod Frames
 pub mod Receiver
 pub mod WholeFrames
+pub mod History
+pub mod Rows
 pub mod Laws

@@ -1,7 +1,7 @@
 -- What goes out to a subscriber, what of it was taken, and what is kept for a resend.
 -- Sequence number, SSRC and marker: RFC 3550, section 5.1; the marker of a layer's last packet: AV1 RTP payload format, RTP marker bit.
 -- Which packets go out is this project's rule. The code has one ring of packets, of which the older are kept and the newer are queued.
-use Rattle.std.specs.Prelude.{◌≡◌, ◌+◌, ◌%◌, ℕ, List, [], ◌∷◌, ◌++◌, Bool, false, if◌then◌else◌, ◌==◌, ◌||◌, length, take, drop}
+use Rattle.std.specs.Prelude.{◌≡◌, ◌<◌, ◌+◌, ◌%◌, ℕ, List, [], ◌∷◌, ◌++◌, Bool, false, if◌then◌else◌, ◌==◌, ◌||◌, length, take, drop}
 use Rattle.std.specs.List.{find}
 use Rattle.std.specs.declared.option.Option.{Option}
 use Rattle.std.specs.declared.option.Option.TheVariants.{None, Some}
@@ -103,3 +103,15 @@ abbrev pub AreConsecutive : List Packet → Type 0
 AreConsecutive [] = Unit {0}
 AreConsecutive (packet ∷ []) = Unit {0}
 AreConsecutive (packet ∷ next ∷ rest) = (next.sequence_number ≡ (packet.sequence_number + 1) % 65536) × AreConsecutive (next ∷ rest)
+
+-- each take found a packet queued, as takes that find none are refused
+abbrev pub FindPackets : {S : Type 0} → Sender S → Subscriber → List (Event S) → Type 0
+FindPackets send subscriber [] = Unit {0}
+FindPackets send subscriber (WholeFrame frame ∷ past) = FindPackets send subscriber past
+FindPackets send subscriber (PlainPacket packet ∷ past) = FindPackets send subscriber past
+FindPackets send subscriber (WishChange wish ∷ past) = FindPackets send subscriber past
+FindPackets send subscriber (Take ∷ past) = (takes_of past < length (outgoing send subscriber past)) × FindPackets send subscriber past
+
+-- a frame is sent as so many packets as it has
+abbrev pub KeepsCount : {S : Type 0} → Sender S → Type 0
+KeepsCount send = (frame : Frame _) (target : CurrentTarget) → length (send frame target) ≡ length frame.packets

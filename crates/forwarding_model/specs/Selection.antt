@@ -4,7 +4,8 @@
 -- What was passed before is seen through two things alone: a test `has`, where `has d` says that the frame d below f was passed in f's
 -- epoch, and `key_passed`, that a key frame of f's epoch was. The code answers the test by a window of bits, a standing (`Standing`) by
 -- the whole list. No test subtracts, since numbers stop at 0: a frame d below number n is one whose number plus d is n.
-use Rattle.std.specs.Prelude.{◌+◌, ◌-◌, ℕ, Bool, true, false, if◌then◌else◌, ◌&&◌, ◌||◌, not, nat_lt, nat_le, slice_index_or}
+use Rattle.std.specs.Prelude.{◌≡◌, ◌<◌, ◌+◌, ◌-◌, ℕ, Bool, true, false, if◌then◌else◌, ◌&&◌, ◌||◌, not, nat_lt, nat_le, slice_index_or}
+use Rattle.std.specs.List.{AllByRecursion}
 use Rattle.std.specs.declared.option.Option.{Option}
 use Rattle.std.specs.declared.option.Option.TheVariants.{None, Some}
 use Rattle.sfu_base.specs.declared.frame.FrameMeaning.{FrameMeaning}
@@ -126,3 +127,11 @@ verdict has key_passed wish f current queued packets =
     target_verdict f (target_of wish f (candidate has key_passed wish f current))
     (reference_verdict f (missing_reference has f)
     (candidate_verdict queued packets (candidate has key_passed wish f current)))
+
+-- ---- two tests
+
+-- The tests agree on the references of f and on its links, which are all that the rules ask for. So a window of numbers that is exact
+-- for those distances decides as the whole list does.
+pub record Agree (p q : ℕ → Bool) (f : FrameMeaning) : Type 0 where
+  pub references : AllByRecursion (λ d. p d ≡ q d) (references f)
+  pub links : (target : ℕ) → 0 < chain_link f target → p (chain_link f target) ≡ q (chain_link f target)
