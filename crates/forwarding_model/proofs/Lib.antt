@@ -20,3 +20,5 @@ pub mod Agreement
 pub mod Outgoings
 pub mod Histories
 pub mod Rows
+pub mod WorkedPackets
+pub mod Links

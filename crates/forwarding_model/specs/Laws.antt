@@ -14,7 +14,7 @@ use Rattle.forwarding_model.specs.Timeline.Event.{WholeFrame, Take}
 use Rattle.forwarding_model.specs.Standing.{standing, passes_at}
 use Rattle.forwarding_model.specs.TrackFrames.{IsOneTrack}
 use Rattle.forwarding_model.specs.Decodable.{IsDecodable, of_epoch}
-use Rattle.forwarding_model.specs.Restart.{BreaksAt, IsRestart}
+use Rattle.forwarding_model.specs.Restart.{BreaksAt, IsOpenAndLinked, IsRestart}
 use Rattle.forwarding_model.specs.Causes.{cause, path, IsPath, IsWithheld, TellsCauses}
 use Rattle.forwarding_model.specs.Outgoing.{Sender, Subscriber, outgoing, taken, queue, kept, next_packet, resent, send_marked, AreConsecutive, FindPackets, KeepsCount}
 use Rattle.forwarding_model.specs.Reading.{Format, IsFormat}
@@ -151,6 +151,11 @@ PassedWherePasses = (has : ℕ → Bool) (key_passed : Bool) (wish : Wish) (f : 
 abbrev pub PassesWherePassed : Type 0
 PassesWherePassed = (has : ℕ → Bool) (key_passed : Bool) (wish : Wish) (f : FrameMeaning) (current : CurrentTarget) (queued packets : ℕ)
     → verdict has key_passed wish f current queued packets ≡ Passed → passes has key_passed wish f current queued packets ≡ true
+
+-- a frame that passes opens its target, or the target is open and the chain's link in the frame was passed
+abbrev pub PassesLinked : Type 0
+PassesLinked = (has : ℕ → Bool) (key_passed : Bool) (wish : Wish) (f : FrameMeaning) (current : CurrentTarget) (queued packets : ℕ)
+    → passes has key_passed wish f current queued packets ≡ true → IsOpenAndLinked has f (candidate has key_passed wish f current)
 
 -- two tests that agree on what a frame names decide alike
 abbrev pub KeepAlike : Type 0

@@ -16,4 +16,5 @@ pub mod Receiver
 pub mod WholeFrames
 pub mod History
 pub mod Rows
+pub mod WorkedPackets
 pub mod Laws

@@ -47,10 +47,10 @@ pub record Layout : Type 0 where
 
 -- How the packets of a track are read, given its extension id. All of it looks at a packet's rest, and at nothing that a forwarder changes.
 pub record Format (S : Type 0) : Type 0 where
-  -- the descriptor, with the structure in force
+  -- the descriptor in the first header extension element of the track's id, with the structure in force; faulty where there is none
   pub descriptor : Option S → List ℕ → DescriptorReading S
   pub payload : List ℕ → Payload
-  -- two structures are the same
+  -- two structures are the same in all that they say
   pub same : S → S → Bool
   pub layout : S → Layout
 

@@ -1,8 +1,9 @@
 // The laws of forwarding: each is the contract of a function that does nothing. A crate above takes a law by a call of its function, or
 // by naming the lemma of `proofs/` that proves it. `Structure` is the type of template dependency structures.
 
-ghost use Rattle.forwarding_model.specs.Laws.{NeverComplains, AreDecodable, RestartsAtOnce, RestartsLater, EndsAtRoot, EndsAtRootUnpassed, PathsTellCauses, TakenNeverComplains, EndsAtRootInHistories, AreNumberedInOrder, OnlyGrows, ResendsFirstBytes, ResendsKept, QueuesTheRest, MarkingKeepsWhole, MarkingKeepsCount, FramesAreTrack, FramesAreAdded, NewestAreTrack, EndedRunsAreWhole, WholeCutsAreFound, AimIsBest, OpeningIsBest, PassedWherePasses, PassesWherePassed, KeepAlike, OpenAlike, PassAlike, JudgeAlike};
+ghost use Rattle.forwarding_model.specs.Laws.{NeverComplains, AreDecodable, RestartsAtOnce, RestartsLater, EndsAtRoot, EndsAtRootUnpassed, PathsTellCauses, TakenNeverComplains, EndsAtRootInHistories, AreNumberedInOrder, OnlyGrows, ResendsFirstBytes, ResendsKept, QueuesTheRest, MarkingKeepsWhole, MarkingKeepsCount, FramesAreTrack, FramesAreAdded, NewestAreTrack, EndedRunsAreWhole, WholeCutsAreFound, AimIsBest, OpeningIsBest, PassedWherePasses, PassesLinked, PassesWherePassed, KeepAlike, OpenAlike, PassAlike, JudgeAlike};
 ghost use Rattle.forwarding_model.specs.Rows.{BrokenChainCauses, BrokenChainNumbers, UpperLostCauses, UpperLostMarkers, MaskMarkers, WishCauses, WishMarkers, WishCauseUnpassed, FullCauses, FullTakenCauses, LateJoinCauses, BehindCause, HoldCauses, PlainResend};
+ghost use Rattle.forwarding_model.specs.WorkedPackets.{PaddedFrame, TornFrame, EarlyStart, WrappedNumbers, StaleNumber, NewMask, OtherStructure, Accepted, AcceptedCounts, NotRtp, OtherSource, RepeatedNumber, WrappedSequence, LacksKeyFrame, EmptyPayload, LacksStart, SecondStart, BrokenJoin, LacksReference, LostReference};
 
 // ---- the headline
 
@@ -91,6 +92,11 @@ pub fn verdicts_are_passed_where_frames_pass()
     ensures passed { PassesWherePassed }
 {}
 
+/// A frame that passes opens its target, or the target is open and the frame that the target's chain names was passed.
+pub fn passed_frames_are_linked()
+    ensures { PassesLinked }
+{}
+
 /// Whoever knows, of each frame that a frame refers to or is linked to, whether it was passed, decides as one who knows all of them.
 pub fn decisions_rest_on_named_frames()
     ensures kept { KeepAlike }
@@ -115,4 +121,32 @@ pub fn worked_timelines()
     ensures behind { BehindCause }
     ensures hold { HoldCauses }
     ensures plain_resend { PlainResend }
+{}
+
+/// Worked packets, with the frames that they make, worked out by hand.
+pub fn worked_frames()
+    ensures padded_frame { PaddedFrame }
+    ensures torn_frame { TornFrame }
+    ensures early_start { EarlyStart }
+    ensures wrapped_numbers { WrappedNumbers }
+    ensures stale_number { StaleNumber }
+    ensures new_mask { NewMask }
+    ensures other_structure { OtherStructure }
+{}
+
+/// Worked packets, with the complaint of a strict receiver, worked out by hand.
+pub fn worked_complaints()
+    ensures accepted { Accepted }
+    ensures accepted_counts { AcceptedCounts }
+    ensures not_rtp { NotRtp }
+    ensures other_source { OtherSource }
+    ensures repeated_number { RepeatedNumber }
+    ensures wrapped_sequence { WrappedSequence }
+    ensures lacks_key_frame { LacksKeyFrame }
+    ensures empty_payload { EmptyPayload }
+    ensures lacks_start { LacksStart }
+    ensures second_start { SecondStart }
+    ensures broken_join { BrokenJoin }
+    ensures lacks_reference { LacksReference }
+    ensures lost_reference { LostReference }
 {}
