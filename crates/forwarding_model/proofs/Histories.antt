@@ -1,6 +1,7 @@
 -- What happens to a subscriber in any history of its track.
 use Rattle.std.proofs.Common.{◌≡◌, ℕ, Bool, true, false, List, [], ◌∷◌, ◌++◌, refl, sym, subst, ap, ◌∙◌, cond, map, length, append_assoc, take-append-drop}
 use Rattle.std.specs.Prelude.{◌==◌, nat_lt}
+use Rattle.std.proofs.lemmas.Bool.{ltb-true}
 use Rattle.std.specs.List.{AllByRecursion}
 use Rattle.std.specs.declared.option.Option.{Option}
 use Rattle.std.specs.declared.option.Option.TheVariants.{None, Some}
@@ -8,7 +9,7 @@ use Rattle.sfu_base.specs.declared.frame.FrameMeaning.{FrameMeaning}
 use Rattle.forwarding_model.specs.Timeline.{Frame, Event, meaning_of, frames_of, takes_of}
 use Rattle.forwarding_model.specs.Timeline.Event.{WishChange, Take}
 use Rattle.forwarding_model.specs.TrackFrames.{Precedes, IsOneTrack}
-use Rattle.forwarding_model.specs.Outgoing.{Sender, Subscriber, outgoing, taken, queue}
+use Rattle.forwarding_model.specs.Outgoing.{Sender, Subscriber, outgoing, taken, queue, FindPackets}
 use Rattle.forwarding_model.specs.Reading.{Format, IsFormat}
 use Rattle.forwarding_model.specs.Frames.{Item, made_by_item, state_after, in_front, frames_after, frames_since}
 use Rattle.forwarding_model.specs.Receiver.{complaint}
@@ -138,3 +139,42 @@ pub withheld_path_in_history : {S : Type 0} (format : Format S) (send : Sender S
     → IsWithheld wish (timeline format send number history) n → IsPath (path (cause wish (timeline format send number history)) n)
 withheld_path_in_history format send number history wish n facts w =
     withheld_path wish (timeline format send number history) n (timeline_track format send number history facts).numbers w
+
+-- ---- each take of a timeline found a packet
+
+finds_frames : {S : Type 0} (send : Sender S) (subscriber : Subscriber) (frames : List (Frame S)) (events : List (Event S)) → FindPackets send subscriber events
+    → FindPackets send subscriber (frame_events frames ++ events)
+finds_frames send subscriber [] events h = h
+finds_frames send subscriber (x ∷ xs) events h = finds_frames send subscriber xs events h
+
+finds_asked : {S : Type 0} (send : Sender S) (subscriber : Subscriber) (events : List (Event S)) → FindPackets send subscriber events → FindPackets send subscriber (asked send (Some subscriber) events)
+finds_asked send subscriber events h = go (nat_lt (takes_of events) (length (outgoing send subscriber events))) refl
+  where
+    go : (b : Bool) → nat_lt (takes_of events) (length (outgoing send subscriber events)) ≡ b → FindPackets send subscriber (cond b (Take ∷ events) events)
+    go true e = (ltb-true (takes_of events) (length (outgoing send subscriber events)) e, h)
+    go false e = h
+
+pub timeline_finds : {S : Type 0} (format : Format S) (send : Sender S) (number : ℕ) (history : List Entry) (subscriber : Subscriber) → subscriber_of number history ≡ Some subscriber
+    → FindPackets send subscriber (timeline format send number history)
+timeline_finds format send number [] subscriber e = tt
+timeline_finds format send number (Released items ∷ past) subscriber e =
+    finds_frames send subscriber (frames_since format (items_of past) items) (timeline format send number past) (timeline_finds format send number past subscriber e)
+timeline_finds format send number (Joined other joined ∷ past) subscriber e = go (other == number) e (timeline_finds format send number past subscriber)
+  where
+    go : (b : Bool) → cond b (Some joined) (subscriber_of number past) ≡ Some subscriber
+        → (subscriber_of number past ≡ Some subscriber → FindPackets send subscriber (timeline format send number past))
+        → FindPackets send subscriber (cond b [] (timeline format send number past))
+    go true k h = tt
+    go false k h = h k
+timeline_finds format send number (Aimed other wish ∷ past) subscriber e = go (other == number) (timeline_finds format send number past subscriber e)
+  where
+    go : (b : Bool) → FindPackets send subscriber (timeline format send number past)
+        → FindPackets send subscriber (cond b (WishChange wish ∷ timeline format send number past) (timeline format send number past))
+    go true h = h
+    go false h = h
+timeline_finds format send number (Asked other ∷ past) subscriber e = go (other == number) (timeline_finds format send number past subscriber e)
+  where
+    go : (b : Bool) → FindPackets send subscriber (timeline format send number past)
+        → FindPackets send subscriber (cond b (asked send (subscriber_of number past) (timeline format send number past)) (timeline format send number past))
+    go true h = subst (λ o. FindPackets send subscriber (asked send o (timeline format send number past))) (sym e) (finds_asked send subscriber (timeline format send number past) h)
+    go false h = h

@@ -22,7 +22,7 @@ use Rattle.forwarding_model.specs.Cuts.{Part, Mark, Run, parts_of, cut_of, IsWho
 use Rattle.forwarding_model.specs.Frames.{Item, frames_after, frames_since}
 use Rattle.forwarding_model.specs.Receiver.{complaint}
 use Rattle.forwarding_model.specs.WholeFrames.{KeepsWhole, IsTrack, IsLayered}
-use Rattle.forwarding_model.specs.History.{Entry, timeline}
+use Rattle.forwarding_model.specs.History.{Entry, subscriber_of, timeline}
 
 -- ---- the headline
 
@@ -100,6 +100,11 @@ ResendsKept S = (send : Sender S) (subscriber : Subscriber) (events : List (Even
 abbrev pub QueuesTheRest : Type 0 → Type 0
 QueuesTheRest S = (send : Sender S) (subscriber : Subscriber) (events : List (Event S)) → KeepsCount send → FindPackets send subscriber events
     → (standing subscriber.wish events).queued ≡ length (queue send subscriber events)
+
+-- in a history each take found a packet
+abbrev pub TakesFindPackets : Type 0 → Type 0
+TakesFindPackets S = (format : Format S) (send : Sender S) (number : ℕ) (history : List Entry) (subscriber : Subscriber)
+    → subscriber_of number history ≡ Some subscriber → FindPackets send subscriber (timeline format send number history)
 
 -- setting the marker of a frame's last packet changes nothing of what is read, nor how many packets there are
 abbrev pub MarkingKeepsWhole : Type 0 → Type 0

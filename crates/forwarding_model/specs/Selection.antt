@@ -23,6 +23,11 @@ use Rattle.forwarding_model.specs.Targets.{references, is_switch, is_present, is
 abbrev pub missing_reference : (ℕ → Bool) → FrameMeaning → Option ℕ
 missing_reference has f = first_failing has (references f)
 
+-- the open target's index, if one is open
+abbrev pub open_target : CurrentTarget → Option ℕ
+open_target (Open target opened) = Some target
+open_target (Closed reason) = None
+
 -- (i), that a frame of another epoch closes the target, is a rule on the standing
 
 -- (ii) A target whose bit f's mask hasn't is closed.
