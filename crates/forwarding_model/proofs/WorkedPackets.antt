@@ -1,6 +1,6 @@
 -- The worked packets compute.
 use Rattle.std.proofs.Common.{refl}
-use Rattle.forwarding_model.specs.WorkedPackets.{PaddedFrame, TornFrame, EarlyStart, WrappedNumbers, StaleNumber, NewMask, OtherStructure, Accepted, AcceptedCounts, NotRtp, OtherSource, RepeatedNumber, WrappedSequence, LacksKeyFrame, EmptyPayload, LacksStart, SecondStart, BrokenJoin, LacksReference, LostReference}
+use Rattle.forwarding_model.specs.WorkedPackets.{HistoryNumbers, HistoryTaken, HistoryCauses, PaddedFrame, TornFrame, EarlyStart, WrappedNumbers, StaleNumber, NewMask, OtherStructure, Accepted, AcceptedCounts, NotRtp, OtherSource, RepeatedNumber, WrappedSequence, LacksKeyFrame, EmptyPayload, LacksStart, SecondStart, BrokenJoin, LacksReference, LostReference}
 
 pub padded_frame : PaddedFrame
 padded_frame = refl
@@ -61,3 +61,12 @@ lacks_reference = refl
 
 pub lost_reference : LostReference
 lost_reference = refl
+
+pub history_numbers : HistoryNumbers
+history_numbers = refl
+
+pub history_taken : HistoryTaken
+history_taken = refl
+
+pub history_causes : HistoryCauses
+history_causes = refl

@@ -6,18 +6,23 @@ use Rattle.std.specs.declared.option.Option.{Option}
 use Rattle.std.specs.declared.option.Option.TheVariants.{None, Some}
 use Rattle.sfu_base.specs.declared.frame.Dti.TheVariants.{Switch}
 use Rattle.forwarding_model.specs.declared.complaint.Complaint.{Complaint}
-use Rattle.forwarding_model.specs.Timeline.{Frame, Packet}
+use Rattle.sfu_base.specs.declared.frame.Verdict.TheVariants.{Passed, Reference, Hole}
+use Rattle.forwarding_model.specs.Timeline.{Event, Frame, Packet}
 use Rattle.forwarding_model.specs.Reading.{DescriptorReading, Format, Layout, Payload}
 use Rattle.forwarding_model.specs.Reading.DescriptorReading.{NeedsStructure, Faulty, Reads}
 use Rattle.forwarding_model.specs.Reading.Payload.{Empty, Broken, Elements}
 use Rattle.forwarding_model.specs.Frames.{Item, frames_after}
 use Rattle.forwarding_model.specs.Frames.Item.{Missing, Arrived}
+use Rattle.forwarding_model.specs.Causes.{cause}
+use Rattle.forwarding_model.specs.Outgoing.{Subscriber, outgoing, send_marked, taken}
+use Rattle.forwarding_model.specs.History.{Entry, timeline}
+use Rattle.forwarding_model.specs.History.Entry.{Released, Joined, Asked}
 use Rattle.forwarding_model.specs.Receiver.{complaint, frames_accepted, packets_accepted}
 use Rattle.forwarding_model.specs.Receiver.Receiver.{Waiting}
 
--- structures are told apart by a number; each has two decode targets and no chain
+-- structures are told apart by a number; each has two decode targets, of the layers (1, 0) and (0, 0), and no chain
 abbrev pub worked_layout : ℕ → Layout
-worked_layout s = record { target_count = 2; pairs = None ∷ None ∷ []; chain_count = 0; guards = [] }
+worked_layout s = record { target_count = 2; pairs = Some (record { spatial = 1; temporal = 0 }) ∷ Some (record { spatial = 0; temporal = 0 }) ∷ []; chain_count = 0; guards = [] }
 
 abbrev pub reads_as : (start end number : ℕ) → Option ℕ → (mask : ℕ) → List ℕ → DescriptorReading ℕ
 reads_as start end number structure mask refs =
@@ -119,6 +124,39 @@ abbrev pub OtherStructure : Type 0
 OtherStructure =
     told (came (frame_rest 3 1) ∷ came (1 ∷ 1 ∷ 2 ∷ 8 ∷ 0 ∷ 0 ∷ 0 ∷ 1 ∷ []) ∷ came (key_rest 1) ∷ [])
     ≡ (3 ∷ 1 ∷ 3 ∷ []) ∷ (1 ∷ 1 ∷ 3 ∷ []) ∷ []
+
+-- ---- a history: a key frame comes before the join; then a frame, another key frame, and a frame of three packets, of which one call
+-- releases the last two; three askings find two packets
+
+abbrev pub worked_subscriber : Subscriber
+worked_subscriber = record { ssrc = 2; first = 65535; wish = record { spatial = 1; temporal = 0 } }
+
+abbrev pub worked_history : List Entry
+worked_history =
+    Asked 1
+    ∷ Released (came (last_rest 4) ∷ came (middle_rest 4) ∷ [])
+    ∷ Released (came (first_rest 4) ∷ [])
+    ∷ Asked 1
+    ∷ Asked 1
+    ∷ Released (came (key_rest 3) ∷ [])
+    ∷ Released (came (frame_rest 2 1) ∷ [])
+    ∷ Joined 1 worked_subscriber
+    ∷ Released (came (key_rest 1) ∷ [])
+    ∷ []
+
+abbrev pub worked_timeline : List (Event ℕ)
+worked_timeline = timeline worked_format send_marked 1 worked_history
+
+-- frame 2 refers to what came before the join, so the key frame and the frame of three packets go out
+abbrev pub HistoryNumbers : Type 0
+HistoryNumbers = map (λ (p : Packet). p.sequence_number) (outgoing send_marked worked_subscriber worked_timeline) ≡ 65535 ∷ 0 ∷ 1 ∷ 2 ∷ []
+
+-- the second asking found nothing
+abbrev pub HistoryTaken : Type 0
+HistoryTaken = map (λ (p : Packet). p.sequence_number) (taken send_marked worked_subscriber worked_timeline) ≡ 65535 ∷ 0 ∷ []
+
+abbrev pub HistoryCauses : Type 0
+HistoryCauses = map (cause worked_subscriber.wish worked_timeline) (1 ∷ 2 ∷ 3 ∷ 4 ∷ []) ≡ Hole None 2 ∷ Reference 1 ∷ Passed ∷ Passed ∷ []
 
 -- ---- a strict receiver: the packets stand with the oldest first
 

@@ -3,7 +3,7 @@
 
 ghost use Rattle.forwarding_model.specs.Laws.{NeverComplains, AreDecodable, RestartsAtOnce, RestartsLater, EndsAtRoot, EndsAtRootUnpassed, PathsTellCauses, TakenNeverComplains, EndsAtRootInHistories, AreNumberedInOrder, OnlyGrows, ResendsFirstBytes, ResendsKept, QueuesTheRest, TakesFindPackets, MarkingKeepsWhole, MarkingKeepsCount, FramesAreTrack, FramesAreAdded, NewestAreTrack, EndedRunsAreWhole, WholeCutsAreFound, AimIsBest, OpeningIsBest, PassedWherePasses, PassesLinked, PassesWherePassed, KeepAlike, OpenAlike, PassAlike, JudgeAlike};
 ghost use Rattle.forwarding_model.specs.Rows.{BrokenChainCauses, BrokenChainNumbers, UpperLostCauses, UpperLostMarkers, MaskMarkers, WishCauses, WishMarkers, WishCauseUnpassed, FullCauses, FullTakenCauses, LateJoinCauses, BehindCause, HoldCauses, PlainResend};
-ghost use Rattle.forwarding_model.specs.WorkedPackets.{PaddedFrame, TornFrame, EarlyStart, WrappedNumbers, StaleNumber, NewMask, OtherStructure, Accepted, AcceptedCounts, NotRtp, OtherSource, RepeatedNumber, WrappedSequence, LacksKeyFrame, EmptyPayload, LacksStart, SecondStart, BrokenJoin, LacksReference, LostReference};
+ghost use Rattle.forwarding_model.specs.WorkedPackets.{HistoryNumbers, HistoryTaken, HistoryCauses, PaddedFrame, TornFrame, EarlyStart, WrappedNumbers, StaleNumber, NewMask, OtherStructure, Accepted, AcceptedCounts, NotRtp, OtherSource, RepeatedNumber, WrappedSequence, LacksKeyFrame, EmptyPayload, LacksStart, SecondStart, BrokenJoin, LacksReference, LostReference};
 
 // ---- the headline
 
@@ -133,6 +133,13 @@ pub fn worked_frames()
     ensures stale_number { StaleNumber }
     ensures new_mask { NewMask }
     ensures other_structure { OtherStructure }
+{}
+
+/// A worked history: a join, packets, and what goes out, is taken and is withheld, worked out by hand.
+pub fn worked_history()
+    ensures numbers { HistoryNumbers }
+    ensures taken { HistoryTaken }
+    ensures causes { HistoryCauses }
 {}
 
 /// Worked packets, with the complaint of a strict receiver, worked out by hand.
