@@ -1,0 +1,180 @@
+-- What happens to a subscriber in any history of its track.
+use Rattle.std.proofs.Common.{◌≡◌, ℕ, Bool, true, false, List, [], ◌∷◌, ◌++◌, refl, sym, subst, ap, ◌∙◌, cond, map, length, append_assoc, take-append-drop}
+use Rattle.std.specs.Prelude.{◌==◌, nat_lt}
+use Rattle.std.proofs.lemmas.Bool.{ltb-true}
+use Rattle.std.specs.List.{AllByRecursion}
+use Rattle.std.specs.declared.option.Option.{Option}
+use Rattle.std.specs.declared.option.Option.TheVariants.{None, Some}
+use Rattle.sfu_base.specs.declared.frame.FrameMeaning.{FrameMeaning}
+use Rattle.forwarding_model.specs.Timeline.{Frame, Event, meaning_of, frames_of, takes_of}
+use Rattle.forwarding_model.specs.Timeline.Event.{WishChange, Take}
+use Rattle.forwarding_model.specs.TrackFrames.{Precedes, IsOneTrack}
+use Rattle.forwarding_model.specs.Outgoing.{Sender, Subscriber, outgoing, taken, queue, FindPackets}
+use Rattle.forwarding_model.specs.Reading.{Format, IsFormat}
+use Rattle.forwarding_model.specs.Frames.{Item, made_by_item, state_after, in_front, frames_after, frames_since}
+use Rattle.forwarding_model.specs.Receiver.{complaint}
+use Rattle.forwarding_model.specs.WholeFrames.{IsWholeFrame, KeepsWhole, HaveEpochStructures, IsTrack, IsLayered}
+use Rattle.forwarding_model.specs.History.{Entry, items_of, subscriber_of, frame_events, asked, timeline}
+use Rattle.forwarding_model.specs.History.Entry.{Released, Joined, Aimed, Asked}
+use Rattle.sfu_base.specs.declared.frame.Wish.{Wish}
+use Rattle.forwarding_model.specs.Causes.{cause, path, IsPath, IsWithheld}
+use Rattle.forwarding_model.proofs.Paths.{withheld_path}
+use Rattle.forwarding_model.proofs.MadeFrames.{frames_are_track}
+use Rattle.forwarding_model.proofs.StrictReceiver.{prefix_never_complains}
+
+in_front-append : {S : Type 0} (o : Option (Frame S)) (xs ys : List (Frame S)) → in_front o (xs ++ ys) ≡ in_front o xs ++ ys
+in_front-append None xs ys = refl
+in_front-append (Some x) xs ys = refl
+
+-- the frames of a track are those of before, and those that more items made
+pub frames_after-append : {S : Type 0} (format : Format S) (items older : List Item)
+    → frames_after format (items ++ older) ≡ frames_since format older items ++ frames_after format older
+frames_after-append format [] older = refl
+frames_after-append format (item ∷ past) older =
+    ap (in_front (made_by_item format (state_after format (past ++ older)) item).frame) (frames_after-append format past older)
+    ∙ in_front-append (made_by_item format (state_after format (past ++ older)) item).frame (frames_since format older past) (frames_after format older)
+
+-- ---- the newest frames of a track are frames of a track
+
+each_newest : {S : Type 0} (P : Frame S → Type 0) (xs older : List (Frame S)) → AllByRecursion P (xs ++ older) → AllByRecursion P xs
+each_newest P [] older h = tt
+each_newest P (x ∷ xs) older h = (h.0, each_newest P xs older h.1)
+
+each_before : {S : Type 0} (f : FrameMeaning) (xs older : List (Frame S)) → AllByRecursion (Precedes f) (map meaning_of (xs ++ older)) → AllByRecursion (Precedes f) (map meaning_of xs)
+each_before f [] older h = tt
+each_before f (x ∷ xs) older h = (h.0, each_before f xs older h.1)
+
+newest_numbers : {S : Type 0} (xs older : List (Frame S)) → IsOneTrack (map meaning_of (xs ++ older)) → IsOneTrack (map meaning_of xs)
+newest_numbers [] older h = tt
+newest_numbers (x ∷ xs) older h = (h.0, each_before x.meaning xs older h.1, newest_numbers xs older h.2)
+
+newest_structures : {S : Type 0} (xs older : List (Frame S)) → HaveEpochStructures (xs ++ older) → HaveEpochStructures xs
+newest_structures [] older h = tt
+newest_structures (x ∷ xs) older h =
+    (each_newest (λ y. y.meaning.epoch ≡ x.meaning.epoch → y.structure ≡ x.structure) xs older h.0, newest_structures xs older h.1)
+
+pub newest_track : {S : Type 0} (format : Format S) (xs older : List (Frame S)) → IsTrack format (xs ++ older) → IsTrack format xs
+newest_track format xs older h =
+    record {
+      numbers = newest_numbers xs older h.numbers;
+      structures = newest_structures xs older h.structures;
+      whole = each_newest (IsWholeFrame format) xs older h.whole;
+    }
+
+-- ---- a subscriber sees the newest frames of the track
+
+pub frames_of-frame_events : {S : Type 0} (frames : List (Frame S)) (events : List (Event S)) → frames_of (frame_events frames ++ events) ≡ frames ++ frames_of events
+frames_of-frame_events [] events = refl
+frames_of-frame_events (x ∷ xs) events = ap (λ l. x ∷ l) (frames_of-frame_events xs events)
+
+pub layered-frame_events : {S : Type 0} (frames : List (Frame S)) (events : List (Event S)) → IsLayered events → IsLayered (frame_events frames ++ events)
+layered-frame_events [] events h = h
+layered-frame_events (x ∷ xs) events h = layered-frame_events xs events h
+
+-- the frames of the timeline are the newest of these
+pub record SeesNewest {S : Type 0} (events : List (Event S)) (frames : List (Frame S)) : Type 0 where
+  pub layered : IsLayered events
+  pub older : List (Frame S)
+  pub is : frames_of events ++ older ≡ frames
+
+sees_asked : {S : Type 0} (send : Sender S) (o : Option Subscriber) (events : List (Event S)) (frames : List (Frame S)) → SeesNewest events frames → SeesNewest (asked send o events) frames
+sees_asked send None events frames h = h
+sees_asked send (Some subscriber) events frames h = go (nat_lt (takes_of events) (length (outgoing send subscriber events)))
+  where
+    go : (b : Bool) → SeesNewest (cond b (Take ∷ events) events) frames
+    go true = record { layered = h.layered; older = h.older; is = h.is }
+    go false = h
+
+sees_newest : {S : Type 0} (format : Format S) (send : Sender S) (number : ℕ) (history : List Entry)
+    → SeesNewest (timeline format send number history) (frames_after format (items_of history))
+sees_newest format send number [] = record { layered = tt; older = []; is = refl }
+sees_newest format send number (Released items ∷ past) =
+    let h = sees_newest format send number past in
+    let made = frames_since format (items_of past) items in
+    record {
+      layered = layered-frame_events made (timeline format send number past) h.layered;
+      older = h.older;
+      is = ap (λ l. l ++ h.older) (frames_of-frame_events made (timeline format send number past))
+          ∙ append_assoc made (frames_of (timeline format send number past)) h.older
+          ∙ ap (λ l. made ++ l) h.is
+          ∙ sym (frames_after-append format items (items_of past));
+    }
+sees_newest format send number (Joined other subscriber ∷ past) = go (other == number) (sees_newest format send number past)
+  where
+    go : (b : Bool) → SeesNewest (timeline format send number past) (frames_after format (items_of past))
+        → SeesNewest (cond b [] (timeline format send number past)) (frames_after format (items_of past))
+    go true h = record { layered = tt; older = frames_after format (items_of past); is = refl }
+    go false h = h
+sees_newest format send number (Aimed other wish ∷ past) = go (other == number) (sees_newest format send number past)
+  where
+    go : (b : Bool) → SeesNewest (timeline format send number past) (frames_after format (items_of past))
+        → SeesNewest (cond b (WishChange wish ∷ timeline format send number past) (timeline format send number past)) (frames_after format (items_of past))
+    go true h = record { layered = h.layered; older = h.older; is = h.is }
+    go false h = h
+sees_newest format send number (Asked other ∷ past) = go (other == number) (sees_newest format send number past)
+  where
+    go : (b : Bool) → SeesNewest (timeline format send number past) (frames_after format (items_of past))
+        → SeesNewest (cond b (asked send (subscriber_of number past) (timeline format send number past)) (timeline format send number past)) (frames_after format (items_of past))
+    go true h = sees_asked send (subscriber_of number past) (timeline format send number past) (frames_after format (items_of past)) h
+    go false h = h
+
+pub timeline_track : {S : Type 0} (format : Format S) (send : Sender S) (number : ℕ) (history : List Entry) → IsFormat format
+    → IsTrack format (frames_of (timeline format send number history))
+timeline_track format send number history facts =
+    let sees = sees_newest format send number history in
+    newest_track format (frames_of (timeline format send number history)) sees.older
+    (subst (IsTrack format) (sym sees.is) (frames_are_track format (items_of history) facts))
+
+-- whatever the history, a strict receiver of what a subscriber has taken has no complaint
+pub taken_never_complains : {S : Type 0} (format : Format S) (send : Sender S) (number : ℕ) (history : List Entry) (subscriber : Subscriber)
+    → IsFormat format → KeepsWhole format send → complaint format (map Some (taken send subscriber (timeline format send number history))) ≡ None
+taken_never_complains format send number history subscriber facts keeps =
+    let events : List (Event _) = timeline format send number history in
+    prefix_never_complains format send subscriber events (taken send subscriber events) (queue send subscriber events) keeps
+    (sees_newest format send number history).layered (timeline_track format send number history facts)
+    (take-append-drop (takes_of events) (outgoing send subscriber events))
+
+-- and each frame that it wasn't sent has a path to a root
+pub withheld_path_in_history : {S : Type 0} (format : Format S) (send : Sender S) (number : ℕ) (history : List Entry) (wish : Wish) (n : ℕ) → IsFormat format
+    → IsWithheld wish (timeline format send number history) n → IsPath (path (cause wish (timeline format send number history)) n)
+withheld_path_in_history format send number history wish n facts w =
+    withheld_path wish (timeline format send number history) n (timeline_track format send number history facts).numbers w
+
+-- ---- each take of a timeline found a packet
+
+finds_frames : {S : Type 0} (send : Sender S) (subscriber : Subscriber) (frames : List (Frame S)) (events : List (Event S)) → FindPackets send subscriber events
+    → FindPackets send subscriber (frame_events frames ++ events)
+finds_frames send subscriber [] events h = h
+finds_frames send subscriber (x ∷ xs) events h = finds_frames send subscriber xs events h
+
+finds_asked : {S : Type 0} (send : Sender S) (subscriber : Subscriber) (events : List (Event S)) → FindPackets send subscriber events → FindPackets send subscriber (asked send (Some subscriber) events)
+finds_asked send subscriber events h = go (nat_lt (takes_of events) (length (outgoing send subscriber events))) refl
+  where
+    go : (b : Bool) → nat_lt (takes_of events) (length (outgoing send subscriber events)) ≡ b → FindPackets send subscriber (cond b (Take ∷ events) events)
+    go true e = (ltb-true (takes_of events) (length (outgoing send subscriber events)) e, h)
+    go false e = h
+
+pub timeline_finds : {S : Type 0} (format : Format S) (send : Sender S) (number : ℕ) (history : List Entry) (subscriber : Subscriber) → subscriber_of number history ≡ Some subscriber
+    → FindPackets send subscriber (timeline format send number history)
+timeline_finds format send number [] subscriber e = tt
+timeline_finds format send number (Released items ∷ past) subscriber e =
+    finds_frames send subscriber (frames_since format (items_of past) items) (timeline format send number past) (timeline_finds format send number past subscriber e)
+timeline_finds format send number (Joined other joined ∷ past) subscriber e = go (other == number) e (timeline_finds format send number past subscriber)
+  where
+    go : (b : Bool) → cond b (Some joined) (subscriber_of number past) ≡ Some subscriber
+        → (subscriber_of number past ≡ Some subscriber → FindPackets send subscriber (timeline format send number past))
+        → FindPackets send subscriber (cond b [] (timeline format send number past))
+    go true k h = tt
+    go false k h = h k
+timeline_finds format send number (Aimed other wish ∷ past) subscriber e = go (other == number) (timeline_finds format send number past subscriber e)
+  where
+    go : (b : Bool) → FindPackets send subscriber (timeline format send number past)
+        → FindPackets send subscriber (cond b (WishChange wish ∷ timeline format send number past) (timeline format send number past))
+    go true h = h
+    go false h = h
+timeline_finds format send number (Asked other ∷ past) subscriber e = go (other == number) (timeline_finds format send number past subscriber e)
+  where
+    go : (b : Bool) → FindPackets send subscriber (timeline format send number past)
+        → FindPackets send subscriber (cond b (asked send (subscriber_of number past) (timeline format send number past)) (timeline format send number past))
+    go true h = subst (λ o. FindPackets send subscriber (asked send o (timeline format send number past))) (sym e) (finds_asked send subscriber (timeline format send number past) h)
+    go false h = h

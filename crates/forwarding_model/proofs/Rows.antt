@@ -1,0 +1,45 @@
+-- The worked timelines compute.
+use Rattle.std.proofs.Common.{refl}
+use Rattle.forwarding_model.specs.Rows.{BrokenChainCauses, BrokenChainNumbers, UpperLostCauses, UpperLostMarkers, MaskMarkers, WishCauses, WishMarkers, WishCauseUnpassed, FullCauses, FullTakenCauses, LateJoinCauses, BehindCause, HoldCauses, PlainResend}
+
+pub broken_chain_causes : BrokenChainCauses
+broken_chain_causes = refl
+
+pub broken_chain_numbers : BrokenChainNumbers
+broken_chain_numbers = refl
+
+pub upper_lost_causes : UpperLostCauses
+upper_lost_causes = refl
+
+pub upper_lost_markers : UpperLostMarkers
+upper_lost_markers = refl
+
+pub mask_markers : MaskMarkers
+mask_markers = refl
+
+pub wish_causes : WishCauses
+wish_causes = refl
+
+pub wish_markers : WishMarkers
+wish_markers = refl
+
+pub wish_cause_unpassed : WishCauseUnpassed
+wish_cause_unpassed = refl
+
+pub full_causes : FullCauses
+full_causes = refl
+
+pub full_taken_causes : FullTakenCauses
+full_taken_causes = refl
+
+pub late_join_causes : LateJoinCauses
+late_join_causes = refl
+
+pub behind_cause : BehindCause
+behind_cause = refl
+
+pub hold_causes : HoldCauses
+hold_causes = refl
+
+pub plain_resend : PlainResend
+plain_resend = refl

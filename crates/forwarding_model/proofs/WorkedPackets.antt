@@ -1,0 +1,72 @@
+-- The worked packets compute.
+use Rattle.std.proofs.Common.{refl}
+use Rattle.forwarding_model.specs.WorkedPackets.{HistoryNumbers, HistoryTaken, HistoryCauses, PaddedFrame, TornFrame, EarlyStart, WrappedNumbers, StaleNumber, NewMask, OtherStructure, Accepted, AcceptedCounts, NotRtp, OtherSource, RepeatedNumber, WrappedSequence, LacksKeyFrame, EmptyPayload, LacksStart, SecondStart, BrokenJoin, LacksReference, LostReference}
+
+pub padded_frame : PaddedFrame
+padded_frame = refl
+
+pub torn_frame : TornFrame
+torn_frame = refl
+
+pub early_start : EarlyStart
+early_start = refl
+
+pub wrapped_numbers : WrappedNumbers
+wrapped_numbers = refl
+
+pub stale_number : StaleNumber
+stale_number = refl
+
+pub new_mask : NewMask
+new_mask = refl
+
+pub other_structure : OtherStructure
+other_structure = refl
+
+pub accepted : Accepted
+accepted = refl
+
+pub accepted_counts : AcceptedCounts
+accepted_counts = refl
+
+pub not_rtp : NotRtp
+not_rtp = refl
+
+pub other_source : OtherSource
+other_source = refl
+
+pub repeated_number : RepeatedNumber
+repeated_number = refl
+
+pub wrapped_sequence : WrappedSequence
+wrapped_sequence = refl
+
+pub lacks_key_frame : LacksKeyFrame
+lacks_key_frame = refl
+
+pub empty_payload : EmptyPayload
+empty_payload = refl
+
+pub lacks_start : LacksStart
+lacks_start = refl
+
+pub second_start : SecondStart
+second_start = refl
+
+pub broken_join : BrokenJoin
+broken_join = refl
+
+pub lacks_reference : LacksReference
+lacks_reference = refl
+
+pub lost_reference : LostReference
+lost_reference = refl
+
+pub history_numbers : HistoryNumbers
+history_numbers = refl
+
+pub history_taken : HistoryTaken
+history_taken = refl
+
+pub history_causes : HistoryCauses
+history_causes = refl

@@ -1,0 +1,8 @@
+use Rattle.forwarding_model.proofs.Outgoings.{marked_keeps_whole, marked_keeps_count}
+use Rattle.forwarding_model.proofs.laws.marking_keeps_frames_whole.Goals as goal
+
+pub returns-clause-whole : goal.returns-clause-whole
+returns-clause-whole g c = marked_keeps_whole
+
+pub returns-clause-count : goal.returns-clause-count
+returns-clause-count g c = marked_keeps_count

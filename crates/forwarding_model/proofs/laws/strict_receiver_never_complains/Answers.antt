@@ -1,0 +1,9 @@
+use Rattle.forwarding_model.proofs.StrictReceiver.{prefix_never_complains}
+use Rattle.forwarding_model.proofs.Histories.{taken_never_complains}
+use Rattle.forwarding_model.proofs.laws.strict_receiver_never_complains.Goals as goal
+
+pub returns-clause-prefix : goal.returns-clause-prefix
+returns-clause-prefix g c = prefix_never_complains
+
+pub returns-clause-history : goal.returns-clause-history
+returns-clause-history g c = taken_never_complains

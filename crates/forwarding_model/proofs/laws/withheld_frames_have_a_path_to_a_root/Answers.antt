@@ -1,0 +1,16 @@
+use Rattle.forwarding_model.specs.Causes.{cause}
+use Rattle.forwarding_model.proofs.Paths.{withheld_path, unpassed_path, path_tells}
+use Rattle.forwarding_model.proofs.Histories.{withheld_path_in_history}
+use Rattle.forwarding_model.proofs.laws.withheld_frames_have_a_path_to_a_root.Goals as goal
+
+pub returns-clause-root : goal.returns-clause-root
+returns-clause-root g c = withheld_path
+
+pub returns-clause-unpassed : goal.returns-clause-unpassed
+returns-clause-unpassed g c = unpassed_path
+
+pub returns-clause-causes : goal.returns-clause-causes
+returns-clause-causes g c = λ wish events n. path_tells (cause wish events) n
+
+pub returns-clause-history : goal.returns-clause-history
+returns-clause-history g c = withheld_path_in_history

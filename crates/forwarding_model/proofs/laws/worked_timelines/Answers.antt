@@ -1,0 +1,44 @@
+use Rattle.forwarding_model.proofs.Rows.{broken_chain_causes, broken_chain_numbers, upper_lost_causes, upper_lost_markers, mask_markers, wish_causes, wish_markers, wish_cause_unpassed, full_causes, full_taken_causes, late_join_causes, behind_cause, hold_causes, plain_resend}
+use Rattle.forwarding_model.proofs.laws.worked_timelines.Goals as goal
+
+pub returns-clause-broken_chain : goal.returns-clause-broken_chain
+returns-clause-broken_chain c = broken_chain_causes
+
+pub returns-clause-broken_chain_numbers : goal.returns-clause-broken_chain_numbers
+returns-clause-broken_chain_numbers c = broken_chain_numbers
+
+pub returns-clause-upper_lost : goal.returns-clause-upper_lost
+returns-clause-upper_lost c = upper_lost_causes
+
+pub returns-clause-upper_lost_markers : goal.returns-clause-upper_lost_markers
+returns-clause-upper_lost_markers c = upper_lost_markers
+
+pub returns-clause-mask : goal.returns-clause-mask
+returns-clause-mask c = mask_markers
+
+pub returns-clause-wish : goal.returns-clause-wish
+returns-clause-wish c = wish_causes
+
+pub returns-clause-wish_markers : goal.returns-clause-wish_markers
+returns-clause-wish_markers c = wish_markers
+
+pub returns-clause-wish_unpassed : goal.returns-clause-wish_unpassed
+returns-clause-wish_unpassed c = wish_cause_unpassed
+
+pub returns-clause-full : goal.returns-clause-full
+returns-clause-full c = full_causes
+
+pub returns-clause-full_taken : goal.returns-clause-full_taken
+returns-clause-full_taken c = full_taken_causes
+
+pub returns-clause-late_join : goal.returns-clause-late_join
+returns-clause-late_join c = late_join_causes
+
+pub returns-clause-behind : goal.returns-clause-behind
+returns-clause-behind c = behind_cause
+
+pub returns-clause-hold : goal.returns-clause-hold
+returns-clause-hold c = hold_causes
+
+pub returns-clause-plain_resend : goal.returns-clause-plain_resend
+returns-clause-plain_resend c = plain_resend

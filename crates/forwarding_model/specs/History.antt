@@ -1,0 +1,53 @@
+-- Histories of one layered track and its subscribers, and what happens to each subscriber in one. Own rules.
+-- A history has the newest first. The code keeps no history.
+use Rattle.std.specs.Prelude.{ℕ, List, [], ◌∷◌, ◌++◌, if◌then◌else◌, ◌==◌, nat_lt, length, map}
+use Rattle.std.specs.declared.option.Option.{Option}
+use Rattle.std.specs.declared.option.Option.TheVariants.{None, Some}
+use Rattle.sfu_base.specs.declared.frame.Wish.{Wish}
+use Rattle.forwarding_model.specs.Timeline.{Frame, Event, takes_of}
+use Rattle.forwarding_model.specs.Timeline.Event.{WholeFrame, WishChange, Take}
+use Rattle.forwarding_model.specs.Outgoing.{Sender, Subscriber, outgoing}
+use Rattle.forwarding_model.specs.Reading.{Format}
+use Rattle.forwarding_model.specs.Frames.{Item, frames_since}
+
+-- A packet came or time went on, which released these items, the newest first; a subscriber joined, changed its wish, or asked for a
+-- packet.
+pub data Entry : Type 0 where
+  Released : (items : List Item) → Entry
+  Joined : (number : ℕ) → (subscriber : Subscriber) → Entry
+  Aimed : (number : ℕ) → (wish : Wish) → Entry
+  Asked : (number : ℕ) → Entry
+
+-- all items, the newest first
+abbrev pub items_of : List Entry → List Item
+items_of [] = []
+items_of (Released items ∷ past) = items ++ items_of past
+items_of (Joined number subscriber ∷ past) = items_of past
+items_of (Aimed number wish ∷ past) = items_of past
+items_of (Asked number ∷ past) = items_of past
+
+-- how the subscriber with this number joined, if it did
+abbrev pub subscriber_of : ℕ → List Entry → Option Subscriber
+subscriber_of number [] = None
+subscriber_of number (Released items ∷ past) = subscriber_of number past
+subscriber_of number (Joined other subscriber ∷ past) = if other == number then Some subscriber else subscriber_of number past
+subscriber_of number (Aimed other wish ∷ past) = subscriber_of number past
+subscriber_of number (Asked other ∷ past) = subscriber_of number past
+
+abbrev pub frame_events : {S : Type 0} → List (Frame S) → List (Event S)
+frame_events frames = map WholeFrame frames
+
+-- a subscriber that asks takes a packet where one is queued
+abbrev pub asked : {S : Type 0} → Sender S → Option Subscriber → List (Event S) → List (Event S)
+asked send None events = events
+asked send (Some subscriber) events = if nat_lt (takes_of events) (length (outgoing send subscriber events)) then Take ∷ events else events
+
+-- what happened to the subscriber since it joined: the frames that got whole since, and its own changes of wish and takes
+abbrev pub timeline : {S : Type 0} → Format S → Sender S → ℕ → List Entry → List (Event S)
+timeline format send number [] = []
+timeline format send number (Released items ∷ past) = frame_events (frames_since format (items_of past) items) ++ timeline format send number past
+timeline format send number (Joined other subscriber ∷ past) = if other == number then [] else timeline format send number past
+timeline format send number (Aimed other wish ∷ past) =
+    if other == number then WishChange wish ∷ timeline format send number past else timeline format send number past
+timeline format send number (Asked other ∷ past) =
+    if other == number then asked send (subscriber_of number past) (timeline format send number past) else timeline format send number past

@@ -1,0 +1,120 @@
+-- What a packet says: its dependency descriptor and its payload's flags.
+-- AV1 RTP payload format, Appendix A (dependency descriptor) and the aggregation header. How bits are read is told by a `Format`, which
+-- the crates of those grammars give; here stand the rules over what was read. The structure rule is this project's own.
+-- S is the type of template dependency structures.
+use Rattle.std.specs.Prelude.{◌≡◌, ◌≢◌, ◌<◌, ◌≤◌, ◌^◌, ℕ, List, Bool, true, false, if◌then◌else◌, ◌==◌, ◌&&◌, ◌||◌, slice_index, take}
+use Rattle.std.specs.declared.option.Option.{Option}
+use Rattle.std.specs.declared.option.Option.TheVariants.{None, Some}
+use Rattle.sfu_base.specs.declared.frame.Dti.{Dti}
+use Rattle.sfu_base.specs.declared.frame.Wish.{Wish}
+use Rattle.sfu_base.specs.Frame.{IsDistance}
+
+-- a descriptor, with what its template gives filled in; of `refs` the first `ref_count` count
+pub record Descriptor (S : Type 0) : Type 0 where
+  pub start : Bool  -- start_of_frame
+  pub end : Bool  -- end_of_frame
+  pub number : ℕ  -- frame_number, below 65,536
+  pub structure : Option S  -- the structure that it carries
+  pub mask : Option ℕ  -- the active decode targets, where they are written
+  pub spatial : ℕ
+  pub temporal : ℕ
+  pub dtis : List Dti
+  pub ref_count : ℕ
+  pub refs : List ℕ
+  pub links : List ℕ
+
+pub data DescriptorReading (S : Type 0) : Type 0 where
+  NeedsStructure : DescriptorReading S
+  Faulty : DescriptorReading S
+  Reads : (descriptor : Descriptor S) → DescriptorReading S
+
+-- whether the first element continues one of the packet before (Z), and the last goes on in the next (Y)
+pub record Joins : Type 0 where
+  pub continues : Bool
+  pub carries : Bool
+
+pub data Payload : Type 0 where
+  Empty : Payload
+  Broken : Payload
+  Elements : (joins : Joins) → Payload
+
+-- what a structure says of decode targets and chains
+pub record Layout : Type 0 where
+  pub target_count : ℕ
+  pub pairs : List (Option Wish)
+  pub chain_count : ℕ
+  pub guards : List ℕ
+
+-- How the packets of a track are read, given its extension id. All of it looks at a packet's rest, and at nothing that a forwarder changes.
+pub record Format (S : Type 0) : Type 0 where
+  -- the descriptor in the first header extension element of the track's id, with the structure in force; faulty where there is none
+  pub descriptor : Option S → List ℕ → DescriptorReading S
+  pub payload : List ℕ → Payload
+  -- two structures are the same in all that they say
+  pub same : S → S → Bool
+  pub layout : S → Layout
+
+abbrev pub has_structure : {S : Type 0} → Option S → Bool
+has_structure None = false
+has_structure (Some s) = true
+
+-- a descriptor with a structure, the start bit and no references begins a key frame
+abbrev pub is_key_start : {S : Type 0} → Descriptor S → Bool
+is_key_start d = has_structure d.structure && (d.start && d.ref_count == 0)
+
+-- there is no structure, or it is the same as the one in force
+abbrev pub keeps_structure : {S : Type 0} → Format S → Option S → Option S → Bool
+keeps_structure format force None = true
+keeps_structure format None (Some s) = false
+keeps_structure format (Some current) (Some s) = format.same s current
+
+-- the structure rule: only a key start brings a structure that isn't in force
+abbrev pub obeys_structure : {S : Type 0} → Format S → Option S → Descriptor S → Bool
+obeys_structure format force d = is_key_start d || keeps_structure format force d.structure
+
+-- what a packet shows by the structure in force: nothing, or a descriptor that obeys the structure rule, and its payload
+pub data Showing (S : Type 0) : Type 0 where
+  LacksStructure : Showing S
+  Unread : Showing S
+  Shows : (descriptor : Descriptor S) → (payload : Payload) → Showing S
+
+abbrev pub shown_by : {S : Type 0} → Format S → Option S → Payload → DescriptorReading S → Showing S
+shown_by format force payload NeedsStructure = LacksStructure
+shown_by format force payload Faulty = Unread
+shown_by format force payload (Reads d) = if obeys_structure format force d then Shows d payload else Unread
+
+abbrev pub shown : {S : Type 0} → Format S → Option S → List ℕ → Showing S
+shown format force rest = shown_by format force (format.payload rest) (format.descriptor force rest)
+
+-- ---- what the grammars guarantee
+
+abbrev pub referred_distances : {S : Type 0} → Descriptor S → List ℕ
+referred_distances d = take d.ref_count d.refs
+
+-- the structure that a descriptor was read by
+abbrev pub read_by : {S : Type 0} → Option S → Option S → Option S
+read_by force None = force
+read_by force (Some s) = Some s
+
+-- a structure that was carried has at most 32 decode targets and 32 chains, and each target is guarded by one of the chains
+pub record IsLayout (layout : Layout) : Type 0 where
+  pub targets : layout.target_count ≤ 32
+  pub chains : layout.chain_count ≤ 32
+  pub guards : layout.chain_count ≢ 0 → (t : ℕ) → t < layout.target_count → slice_index layout.guards t < layout.chain_count
+
+-- what is true of a descriptor that was read with this structure in force
+pub record IsDescriptor {S : Type 0} (format : Format S) (force : Option S) (d : Descriptor S) : Type 0 where
+  pub number : d.number < 65536
+  pub references : d.ref_count ≤ 16
+  pub distances : (i : ℕ) → i < d.ref_count → IsDistance (slice_index d.refs i)
+  pub layout : (s : S) → d.structure ≡ Some s → IsLayout (format.layout s)
+  pub mask : (s : S) (m : ℕ) → read_by force d.structure ≡ Some s → d.mask ≡ Some m → m < 2 ^ (format.layout s).target_count
+
+-- The facts about reading on which the laws rest: each descriptor that reads is one, a descriptor that reads with no structure in force
+-- carries one, a descriptor that carries a structure reads the same whatever is in force, and same structures are equal.
+pub record IsFormat {S : Type 0} (format : Format S) : Type 0 where
+  pub valid : (force : Option S) (rest : List ℕ) (d : Descriptor S) → format.descriptor force rest ≡ Reads d → IsDescriptor format force d
+  pub carries : (rest : List ℕ) (d : Descriptor S) → format.descriptor None rest ≡ Reads d → has_structure d.structure ≡ true
+  pub independent : (force other : Option S) (rest : List ℕ) (d : Descriptor S)
+      → format.descriptor force rest ≡ Reads d → has_structure d.structure ≡ true → format.descriptor other rest ≡ Reads d
+  pub same : (s t : S) → format.same s t ≡ true → s ≡ t

@@ -1,0 +1,220 @@
+-- Worked packets: small lists of packets whose frames, and whose complaints at a strict receiver, were worked out by hand. They compute.
+-- They are read by a format of their own, in which a packet's rest is a list of numbers: start and end bit, frame number, whether a
+-- structure is carried, the mask plus one or 0 for none, the payload (0 and 1 for Z and Y each, or 2 for none), and the distances.
+use Rattle.std.specs.Prelude.{◌≡◌, ◌+◌, ◌-◌, ℕ, List, [], ◌∷◌, false, if◌then◌else◌, ◌==◌, map, length}
+use Rattle.std.specs.declared.option.Option.{Option}
+use Rattle.std.specs.declared.option.Option.TheVariants.{None, Some}
+use Rattle.sfu_base.specs.declared.frame.Dti.TheVariants.{Switch}
+use Rattle.forwarding_model.specs.declared.complaint.Complaint.{Complaint}
+use Rattle.sfu_base.specs.declared.frame.Verdict.TheVariants.{Passed, Reference, Hole}
+use Rattle.forwarding_model.specs.Timeline.{Event, Frame, Packet}
+use Rattle.forwarding_model.specs.Reading.{DescriptorReading, Format, Layout, Payload}
+use Rattle.forwarding_model.specs.Reading.DescriptorReading.{NeedsStructure, Faulty, Reads}
+use Rattle.forwarding_model.specs.Reading.Payload.{Empty, Broken, Elements}
+use Rattle.forwarding_model.specs.Frames.{Item, frames_after}
+use Rattle.forwarding_model.specs.Frames.Item.{Missing, Arrived}
+use Rattle.forwarding_model.specs.Causes.{cause}
+use Rattle.forwarding_model.specs.Outgoing.{Subscriber, outgoing, send_marked, taken}
+use Rattle.forwarding_model.specs.History.{Entry, timeline}
+use Rattle.forwarding_model.specs.History.Entry.{Released, Joined, Asked}
+use Rattle.forwarding_model.specs.Receiver.{complaint, frames_accepted, packets_accepted}
+use Rattle.forwarding_model.specs.Receiver.Receiver.{Waiting}
+
+-- structures are told apart by a number; each has two decode targets, of the layers (1, 0) and (0, 0), and no chain
+abbrev pub worked_layout : ℕ → Layout
+worked_layout s = record { target_count = 2; pairs = Some (record { spatial = 1; temporal = 0 }) ∷ Some (record { spatial = 0; temporal = 0 }) ∷ []; chain_count = 0; guards = [] }
+
+abbrev pub reads_as : (start end number : ℕ) → Option ℕ → (mask : ℕ) → List ℕ → DescriptorReading ℕ
+reads_as start end number structure mask refs =
+    Reads (record {
+      start = start == 1;
+      end = end == 1;
+      number = number;
+      structure = structure;
+      mask = if mask == 0 then None else Some (mask - 1);
+      spatial = 0;
+      temporal = 0;
+      dtis = Switch ∷ Switch ∷ [];
+      ref_count = length refs;
+      refs = refs;
+      links = [];
+    })
+
+abbrev pub worked_descriptor : Option ℕ → List ℕ → DescriptorReading ℕ
+worked_descriptor None (start ∷ end ∷ number ∷ carried ∷ mask ∷ z ∷ y ∷ refs) =
+    if carried == 0 then NeedsStructure else reads_as start end number (Some carried) mask refs
+worked_descriptor (Some force) (start ∷ end ∷ number ∷ carried ∷ mask ∷ z ∷ y ∷ refs) =
+    reads_as start end number (if carried == 0 then None else Some carried) mask refs
+worked_descriptor force rest = Faulty
+
+abbrev pub worked_payload : List ℕ → Payload
+worked_payload (start ∷ end ∷ number ∷ carried ∷ mask ∷ z ∷ y ∷ refs) =
+    if z == 2 then Empty else Elements (record { continues = z == 1; carries = y == 1 })
+worked_payload rest = Broken
+
+abbrev pub worked_format : Format ℕ
+worked_format = record { descriptor = worked_descriptor; payload = worked_payload; same = λ s t. s == t; layout = worked_layout }
+
+abbrev pub sent_as : ℕ → List ℕ → Packet
+sent_as sequence_number rest = record { sequence_number = sequence_number; ssrc = 1; marker = false; rest = rest }
+
+-- a key frame of one packet; a frame of one packet that refers to the one at a distance; padding
+abbrev pub key_rest : ℕ → List ℕ
+key_rest number = 1 ∷ 1 ∷ number ∷ 7 ∷ 0 ∷ 0 ∷ 0 ∷ []
+
+abbrev pub frame_rest : ℕ → ℕ → List ℕ
+frame_rest number distance = 1 ∷ 1 ∷ number ∷ 0 ∷ 0 ∷ 0 ∷ 0 ∷ distance ∷ []
+
+abbrev pub padding_rest : List ℕ
+padding_rest = 0 ∷ 0 ∷ 0 ∷ 0 ∷ 0 ∷ 2 ∷ 0 ∷ []
+
+-- a frame of more packets: the first, one between and the last, whose elements join; the first refers to the frame before
+abbrev pub first_rest : ℕ → List ℕ
+first_rest number = 1 ∷ 0 ∷ number ∷ 0 ∷ 0 ∷ 0 ∷ 1 ∷ 1 ∷ []
+
+abbrev pub middle_rest : ℕ → List ℕ
+middle_rest number = 0 ∷ 0 ∷ number ∷ 0 ∷ 0 ∷ 1 ∷ 1 ∷ []
+
+abbrev pub last_rest : ℕ → List ℕ
+last_rest number = 0 ∷ 1 ∷ number ∷ 0 ∷ 0 ∷ 1 ∷ 0 ∷ []
+
+-- ---- frames: the items stand with the newest first
+
+abbrev pub came : List ℕ → Item
+came rest = Arrived (sent_as 0 rest)
+
+-- of each frame its number, how many packets it has, and its mask; the newest first
+abbrev pub told : List Item → List (List ℕ)
+told items = map (λ (x : Frame ℕ). x.meaning.number ∷ length x.packets ∷ x.meaning.mask ∷ []) (frames_after worked_format items)
+
+-- padding may stand between the packets of a frame
+abbrev pub PaddedFrame : Type 0
+PaddedFrame =
+    told (came (last_rest 2) ∷ came padding_rest ∷ came (middle_rest 2) ∷ came (first_rest 2) ∷ came padding_rest ∷ came (key_rest 1) ∷ [])
+    ≡ (2 ∷ 3 ∷ 3 ∷ []) ∷ (1 ∷ 1 ∷ 3 ∷ []) ∷ []
+
+-- a number that was given up inside a frame tears it, and the next frame begins anew
+abbrev pub TornFrame : Type 0
+TornFrame =
+    told (came (frame_rest 3 1) ∷ came (last_rest 2) ∷ Missing ∷ came (first_rest 2) ∷ came (key_rest 1) ∷ [])
+    ≡ (3 ∷ 1 ∷ 3 ∷ []) ∷ (1 ∷ 1 ∷ 3 ∷ []) ∷ []
+
+-- so does a start that comes too early
+abbrev pub EarlyStart : Type 0
+EarlyStart = told (came (last_rest 2) ∷ came (frame_rest 3 2) ∷ came (first_rest 2) ∷ came (key_rest 1) ∷ []) ≡ (3 ∷ 1 ∷ 3 ∷ []) ∷ (1 ∷ 1 ∷ 3 ∷ []) ∷ []
+
+-- frame numbers wrap, and a key frame's number lies above all before
+abbrev pub WrappedNumbers : Type 0
+WrappedNumbers =
+    told (came (key_rest 5) ∷ came (frame_rest 0 1) ∷ came (key_rest 65535) ∷ [])
+    ≡ (65541 ∷ 1 ∷ 3 ∷ []) ∷ (65536 ∷ 1 ∷ 3 ∷ []) ∷ (65535 ∷ 1 ∷ 3 ∷ []) ∷ []
+
+-- a frame number that doesn't rise is no frame
+abbrev pub StaleNumber : Type 0
+StaleNumber = told (came (frame_rest 4 1) ∷ came (frame_rest 5 1) ∷ came (key_rest 4) ∷ []) ≡ (5 ∷ 1 ∷ 3 ∷ []) ∷ (4 ∷ 1 ∷ 3 ∷ []) ∷ []
+
+-- a mask counts from the frame that carries it; a structure without a mask makes all targets active
+abbrev pub NewMask : Type 0
+NewMask =
+    told (came (frame_rest 4 1) ∷ came (1 ∷ 1 ∷ 3 ∷ 0 ∷ 3 ∷ 0 ∷ 0 ∷ 1 ∷ []) ∷ came (frame_rest 2 1) ∷ came (key_rest 1) ∷ [])
+    ≡ (4 ∷ 1 ∷ 2 ∷ []) ∷ (3 ∷ 1 ∷ 2 ∷ []) ∷ (2 ∷ 1 ∷ 3 ∷ []) ∷ (1 ∷ 1 ∷ 3 ∷ []) ∷ []
+
+-- only a key start brings another structure; the frame that does it otherwise is unreadable
+abbrev pub OtherStructure : Type 0
+OtherStructure =
+    told (came (frame_rest 3 1) ∷ came (1 ∷ 1 ∷ 2 ∷ 8 ∷ 0 ∷ 0 ∷ 0 ∷ 1 ∷ []) ∷ came (key_rest 1) ∷ [])
+    ≡ (3 ∷ 1 ∷ 3 ∷ []) ∷ (1 ∷ 1 ∷ 3 ∷ []) ∷ []
+
+-- ---- a history: a key frame comes before the join; then a frame, another key frame, and a frame of three packets, of which one call
+-- releases the last two; three askings find two packets
+
+abbrev pub worked_subscriber : Subscriber
+worked_subscriber = record { ssrc = 2; first = 65535; wish = record { spatial = 1; temporal = 0 } }
+
+abbrev pub worked_history : List Entry
+worked_history =
+    Asked 1
+    ∷ Released (came (last_rest 4) ∷ came (middle_rest 4) ∷ [])
+    ∷ Released (came (first_rest 4) ∷ [])
+    ∷ Asked 1
+    ∷ Asked 1
+    ∷ Released (came (key_rest 3) ∷ [])
+    ∷ Released (came (frame_rest 2 1) ∷ [])
+    ∷ Joined 1 worked_subscriber
+    ∷ Released (came (key_rest 1) ∷ [])
+    ∷ []
+
+abbrev pub worked_timeline : List (Event ℕ)
+worked_timeline = timeline worked_format send_marked 1 worked_history
+
+-- frame 2 refers to what came before the join, so the key frame and the frame of three packets go out
+abbrev pub HistoryNumbers : Type 0
+HistoryNumbers = map (λ (p : Packet). p.sequence_number) (outgoing send_marked worked_subscriber worked_timeline) ≡ 65535 ∷ 0 ∷ 1 ∷ 2 ∷ []
+
+-- the second asking found nothing
+abbrev pub HistoryTaken : Type 0
+HistoryTaken = map (λ (p : Packet). p.sequence_number) (taken send_marked worked_subscriber worked_timeline) ≡ 65535 ∷ 0 ∷ []
+
+abbrev pub HistoryCauses : Type 0
+HistoryCauses = map (cause worked_subscriber.wish worked_timeline) (1 ∷ 2 ∷ 3 ∷ 4 ∷ []) ≡ Hole None 2 ∷ Reference 1 ∷ Passed ∷ Passed ∷ []
+
+-- ---- a strict receiver: the packets stand with the oldest first
+
+abbrev pub read_from : ℕ → List (List ℕ) → List (Option Packet)
+read_from sequence_number [] = []
+read_from sequence_number (rest ∷ more) = Some (sent_as sequence_number rest) ∷ read_from (sequence_number + 1) more
+
+abbrev pub complaint_at : List (Option Packet) → Option Complaint
+complaint_at packets = complaint worked_format packets
+
+abbrev pub Accepted : Type 0
+Accepted = complaint_at (read_from 10 (key_rest 1 ∷ first_rest 2 ∷ middle_rest 2 ∷ last_rest 2 ∷ frame_rest 4 2 ∷ [])) ≡ None
+
+-- six packets and three frames, as the fourth has only begun
+abbrev pub AcceptedCounts : Type 0
+AcceptedCounts =
+    packets_accepted worked_format Waiting (read_from 10 (key_rest 1 ∷ first_rest 2 ∷ middle_rest 2 ∷ last_rest 2 ∷ frame_rest 4 2 ∷ first_rest 5 ∷ []))
+    ∷ frames_accepted worked_format Waiting (read_from 10 (key_rest 1 ∷ first_rest 2 ∷ middle_rest 2 ∷ last_rest 2 ∷ frame_rest 4 2 ∷ first_rest 5 ∷ []))
+    ∷ []
+    ≡ 6 ∷ 3 ∷ []
+
+-- no RTP
+abbrev pub NotRtp : Type 0
+NotRtp = complaint_at (Some (sent_as 10 (key_rest 1)) ∷ None ∷ []) ≡ Some Complaint.Unread
+
+abbrev pub OtherSource : Type 0
+OtherSource =
+    complaint_at (Some (sent_as 10 (key_rest 1)) ∷ Some (record { sequence_number = 11; ssrc = 2; marker = false; rest = frame_rest 2 1 }) ∷ [])
+    ≡ Some (Complaint.OtherSource 1 2)
+
+abbrev pub RepeatedNumber : Type 0
+RepeatedNumber = complaint_at (Some (sent_as 65535 (key_rest 1)) ∷ Some (sent_as 65535 (key_rest 1)) ∷ []) ≡ Some (Complaint.Sequence 65535 65535)
+
+-- after 65,535 comes 0
+abbrev pub WrappedSequence : Type 0
+WrappedSequence = complaint_at (Some (sent_as 65535 (key_rest 1)) ∷ Some (sent_as 0 (frame_rest 2 1)) ∷ []) ≡ None
+
+abbrev pub LacksKeyFrame : Type 0
+LacksKeyFrame = complaint_at (read_from 10 (frame_rest 2 1 ∷ [])) ≡ Some Complaint.NoStructure
+
+-- a payload that is empty
+abbrev pub EmptyPayload : Type 0
+EmptyPayload = complaint_at (read_from 10 (key_rest 1 ∷ padding_rest ∷ [])) ≡ Some Complaint.Unread
+
+-- a continuation without its start, a start in an unfinished frame, a broken join
+abbrev pub LacksStart : Type 0
+LacksStart = complaint_at (read_from 10 (key_rest 1 ∷ last_rest 2 ∷ [])) ≡ Some Complaint.NotWhole
+
+abbrev pub SecondStart : Type 0
+SecondStart = complaint_at (read_from 10 (key_rest 1 ∷ first_rest 2 ∷ frame_rest 3 2 ∷ [])) ≡ Some Complaint.NotWhole
+
+abbrev pub BrokenJoin : Type 0
+BrokenJoin = complaint_at (read_from 10 (key_rest 1 ∷ first_rest 2 ∷ (0 ∷ 1 ∷ 2 ∷ 0 ∷ 0 ∷ 0 ∷ 0 ∷ []) ∷ [])) ≡ Some Complaint.NotWhole
+
+-- frame 2 never came
+abbrev pub LacksReference : Type 0
+LacksReference = complaint_at (read_from 10 (key_rest 1 ∷ frame_rest 3 1 ∷ [])) ≡ Some (Complaint.MissingReference 3 1)
+
+-- a key frame empties the received numbers
+abbrev pub LostReference : Type 0
+LostReference = complaint_at (read_from 10 (key_rest 1 ∷ key_rest 3 ∷ frame_rest 4 3 ∷ [])) ≡ Some (Complaint.MissingReference 4 3)

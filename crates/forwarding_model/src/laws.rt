@@ -1,0 +1,160 @@
+// The laws of forwarding: each is the contract of a function that does nothing. A crate above takes a law by a call of its function, or
+// by naming the lemma of `proofs/` that proves it. `Structure` is the type of template dependency structures.
+
+ghost use Rattle.forwarding_model.specs.Laws.{NeverComplains, AreDecodable, RestartsAtOnce, RestartsLater, EndsAtRoot, EndsAtRootUnpassed, PathsTellCauses, TakenNeverComplains, EndsAtRootInHistories, AreNumberedInOrder, OnlyGrows, ResendsFirstBytes, ResendsKept, QueuesTheRest, TakesFindPackets, MarkingKeepsWhole, MarkingKeepsCount, FramesAreTrack, FramesAreAdded, NewestAreTrack, EndedRunsAreWhole, WholeCutsAreFound, AimIsBest, OpeningIsBest, PassedWherePasses, PassesLinked, PassesWherePassed, KeepAlike, OpenAlike, PassAlike, JudgeAlike};
+ghost use Rattle.forwarding_model.specs.Rows.{BrokenChainCauses, BrokenChainNumbers, UpperLostCauses, UpperLostMarkers, MaskMarkers, WishCauses, WishMarkers, WishCauseUnpassed, FullCauses, FullTakenCauses, LateJoinCauses, BehindCause, HoldCauses, PlainResend};
+ghost use Rattle.forwarding_model.specs.WorkedPackets.{HistoryNumbers, HistoryTaken, HistoryCauses, PaddedFrame, TornFrame, EarlyStart, WrappedNumbers, StaleNumber, NewMask, OtherStructure, Accepted, AcceptedCounts, NotRtp, OtherSource, RepeatedNumber, WrappedSequence, LacksKeyFrame, EmptyPayload, LacksStart, SecondStart, BrokenJoin, LacksReference, LostReference};
+
+// ---- the headline
+
+/// A strict receiver of the packets that go out to a subscriber of a layered track, and of each prefix of them, has no complaint. In
+/// whatever history of a track, it has none of what a subscriber has taken.
+pub fn strict_receiver_never_complains<Structure>()
+    ensures prefix { NeverComplains Structure }
+    ensures history { TakenNeverComplains Structure }
+{}
+
+/// Each frame that passed is decodable in the passed frames of its epoch.
+pub fn passed_frames_are_decodable<Structure>()
+    ensures { AreDecodable Structure }
+{}
+
+/// After a broken chain link the next frame that passes is a key frame, or a switch for the target that it opens, and all its
+/// references were passed.
+pub fn broken_links_end_at_a_restart<Structure>()
+    ensures at_once { RestartsAtOnce Structure }
+    ensures later { RestartsLater Structure }
+{}
+
+/// The path of each withheld frame falls strictly, ends at a root, and tells the cause of each of its numbers.
+pub fn withheld_frames_have_a_path_to_a_root<Structure>()
+    ensures root { EndsAtRoot Structure }
+    ensures unpassed { EndsAtRootUnpassed Structure }
+    ensures causes { PathsTellCauses Structure }
+    ensures history { EndsAtRootInHistories Structure }
+{}
+
+/// A packet that was taken, and is still kept, is resent as it was.
+pub fn resends_give_first_bytes<Structure>()
+    ensures first { ResendsFirstBytes Structure }
+    ensures kept { ResendsKept Structure }
+{}
+
+/// Sequence numbers that go out are consecutive modulo 65,536.
+pub fn outgoing_numbers_are_consecutive<Structure>()
+    ensures { AreNumberedInOrder Structure }
+{}
+
+// ---- what goes out
+
+/// What went out stays as it was, and more comes behind it.
+pub fn outgoing_packets_only_grow<Structure>()
+    ensures { OnlyGrows Structure }
+{}
+
+/// As many packets are queued as went out and weren't taken, where each take found one, as it does in a history.
+pub fn queued_packets_are_those_not_taken<Structure>()
+    ensures queued { QueuesTheRest Structure }
+    ensures history { TakesFindPackets Structure }
+{}
+
+/// A frame is sent whole, in as many packets as it has, when the marker of its last packet is set.
+pub fn marking_keeps_frames_whole<Structure>()
+    ensures whole { MarkingKeepsWhole Structure }
+    ensures count { MarkingKeepsCount Structure }
+{}
+
+// ---- frames
+
+/// The frames that come out of a track's packets are one track's frames, and whole.
+pub fn frames_of_items_are_one_track<Structure>()
+    ensures track { FramesAreTrack Structure }
+    ensures added { FramesAreAdded Structure }
+    ensures newest { NewestAreTrack Structure }
+{}
+
+/// The runs of parts that end are the whole cuts of the list of marks. `Brought` is the type of what a part brings with it.
+pub fn ended_runs_are_the_whole_cuts<Brought>()
+    ensures whole { EndedRunsAreWhole Brought }
+    ensures found { WholeCutsAreFound Brought }
+{}
+
+// ---- selection
+
+/// The aim is the best allowed target, and a frame opens the best target that it can open.
+pub fn chosen_targets_are_the_best()
+    ensures aim { AimIsBest }
+    ensures opening { OpeningIsBest }
+{}
+
+/// The verdict on a frame is that it passed exactly where it passes.
+pub fn verdicts_are_passed_where_frames_pass()
+    ensures passes { PassedWherePasses }
+    ensures passed { PassesWherePassed }
+{}
+
+/// A frame that passes opens its target, or the target is open and the frame that the target's chain names was passed.
+pub fn passed_frames_are_linked()
+    ensures { PassesLinked }
+{}
+
+/// Whoever knows, of each frame that a frame refers to or is linked to, whether it was passed, decides as one who knows all of them.
+pub fn decisions_rest_on_named_frames()
+    ensures kept { KeepAlike }
+    ensures candidate { OpenAlike }
+    ensures passes { PassAlike }
+    ensures verdict { JudgeAlike }
+{}
+
+/// Worked timelines, with the verdicts and outgoing packets that were worked out by hand.
+pub fn worked_timelines()
+    ensures broken_chain { BrokenChainCauses }
+    ensures broken_chain_numbers { BrokenChainNumbers }
+    ensures upper_lost { UpperLostCauses }
+    ensures upper_lost_markers { UpperLostMarkers }
+    ensures mask { MaskMarkers }
+    ensures wish { WishCauses }
+    ensures wish_markers { WishMarkers }
+    ensures wish_unpassed { WishCauseUnpassed }
+    ensures full { FullCauses }
+    ensures full_taken { FullTakenCauses }
+    ensures late_join { LateJoinCauses }
+    ensures behind { BehindCause }
+    ensures hold { HoldCauses }
+    ensures plain_resend { PlainResend }
+{}
+
+/// Worked packets, with the frames that they make, worked out by hand.
+pub fn worked_frames()
+    ensures padded_frame { PaddedFrame }
+    ensures torn_frame { TornFrame }
+    ensures early_start { EarlyStart }
+    ensures wrapped_numbers { WrappedNumbers }
+    ensures stale_number { StaleNumber }
+    ensures new_mask { NewMask }
+    ensures other_structure { OtherStructure }
+{}
+
+/// A worked history: a join, packets, and what goes out, is taken and is withheld, worked out by hand.
+pub fn worked_history()
+    ensures numbers { HistoryNumbers }
+    ensures taken { HistoryTaken }
+    ensures causes { HistoryCauses }
+{}
+
+/// Worked packets, with the complaint of a strict receiver, worked out by hand.
+pub fn worked_complaints()
+    ensures accepted { Accepted }
+    ensures accepted_counts { AcceptedCounts }
+    ensures not_rtp { NotRtp }
+    ensures other_source { OtherSource }
+    ensures repeated_number { RepeatedNumber }
+    ensures wrapped_sequence { WrappedSequence }
+    ensures lacks_key_frame { LacksKeyFrame }
+    ensures empty_payload { EmptyPayload }
+    ensures lacks_start { LacksStart }
+    ensures second_start { SecondStart }
+    ensures broken_join { BrokenJoin }
+    ensures lacks_reference { LacksReference }
+    ensures lost_reference { LostReference }
+{}

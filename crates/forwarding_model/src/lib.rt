@@ -1,0 +1,22 @@
+//! What forwarding means: the definitions behind every contract of the forwarder, and the laws that hold of them.
+//!
+//! The definitions stand in `specs/`, one topic a file. `Targets`, `Selection` and `Standing` say which frames pass to a subscriber,
+//! `Outgoing` what goes out, `Causes` why a frame was withheld, `Reading`, `Cuts` and `Frames` how packets become frames, and `Receiver`
+//! what a strict receiver makes of packets. `Laws` has the laws, and the functions of this crate carry them. There is no other code here.
+#![tactic(auto)]
+
+mod complaint;
+mod laws;
+mod target;
+
+pub use complaint::Complaint;
+pub use laws::{
+    broken_links_end_at_a_restart, chosen_targets_are_the_best, decisions_rest_on_named_frames,
+    ended_runs_are_the_whole_cuts, frames_of_items_are_one_track, marking_keeps_frames_whole,
+    outgoing_numbers_are_consecutive, outgoing_packets_only_grow, passed_frames_are_decodable,
+    passed_frames_are_linked, queued_packets_are_those_not_taken, resends_give_first_bytes,
+    strict_receiver_never_complains, verdicts_are_passed_where_frames_pass,
+    withheld_frames_have_a_path_to_a_root, worked_complaints, worked_frames, worked_history,
+    worked_timelines,
+};
+pub use target::{CurrentTarget, Reason};
