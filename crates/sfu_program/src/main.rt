@@ -7,6 +7,8 @@ mod run;
 mod session;
 mod sfu;
 mod sink;
+#[cfg(test)]
+mod tests;
 
 use sfu_base::{StdSink, StdSource};
 use std::process::ExitCode;
