@@ -1,5 +1,5 @@
 -- The texts of replies, without their line end. Own rule.
-use Rattle.std.specs.Prelude.{◌≡◌, ℕ, List, ◌++◌, codes, decimal}
+use Rattle.std.specs.Prelude.{ℕ, List, ◌++◌, codes, decimal}
 use Rattle.hex.specs.Hex.{encode_lower}
 use Rattle.sfu_base.specs.Answer.{Answer, Done, Sent, Refused}
 use Rattle.sfu_base.specs.declared.call.Refusal.{Refusal}
@@ -21,8 +21,3 @@ answer_text (Refused why) = refusal_text why
 -- the text of a line outside the grammar
 abbrev pub line_fault_text : ℕ → List ℕ
 line_fault_text line = codes "line " ++ decimal line
-
--- The text goes on where the other ends: it is the other, followed by more.
-pub record GoesOn (before now : List ℕ) : Type 0 where
-  pub more : List ℕ
-  pub is : now ≡ before ++ more

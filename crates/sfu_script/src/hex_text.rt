@@ -2,7 +2,7 @@
 ghost use Rattle.std.specs.Prelude.{◌≡◌, ◌++◌, ◌≤◌, MatchResult, None, OnOk, Some, take};
 ghost use Rattle.hex.specs.Hex.{encode_lower};
 ghost use Rattle.sfu_script.specs.Reading.{bytes_of};
-ghost use Rattle.sfu_script.specs.Replies.{GoesOn};
+ghost use Rattle.sfu_script.specs.Texts.{GoesOn};
 
 use crate::NoLine;
 use sfu_base::{Blob, NoMemory};

@@ -8,6 +8,8 @@ mod line_reader;
 mod lines;
 mod number_text;
 mod replies;
+#[cfg(test)]
+mod tests;
 mod undo;
 mod words;
 
