@@ -20,6 +20,7 @@ pub fn head(rest: &[u8]) -> Result<(u32, u64, &[u8]), NoLine>
     Ok((track, moment, rest))
 }
 
+/// The call that the words behind `packet` say.
 #[tactic(auto, unfolding(crate::specs::ReadLines::packet_of))]
 #[inline(always)]
 pub fn read(rest: &[u8]) -> Result<Call, NoLine>
