@@ -7,6 +7,7 @@ pub mod Options
 pub mod PacketLine
 pub mod Parsing
 pub mod PublishLine
+pub mod ReplyLaws
 pub mod Spaces
 pub mod Steps
 pub mod TakeLine

@@ -1,5 +1,5 @@
 -- `publish T plain SSRC HOLD`, both ways.
-use Rattle.std.proofs.Common.{◌≡◌, ◌<◌, ℕ, ◌^◌, Bool, true, cond, List, [], ◌∷◌, ◌++◌, refl, sym, ap, ◌∙◌, subst, arith, Option, Some, None}
+use Rattle.std.proofs.Common.{◌≡◌, ℕ, List, [], ◌∷◌, ◌++◌, refl, subst, arith, Some}
 use Rattle.std.specs.Prelude.{codes}
 use Rattle.std.specs.Str.{bytes_eq}
 use Rattle.std.proofs.lemmas.Slice.Eq.{bytes_eq-Decides}
@@ -9,7 +9,7 @@ use Rattle.sfu_base.specs.declared.call.Kind.TheVariants.{Plain}
 use Rattle.sfu_script.specs.Grammar.{Word, Number, Ssrc, Spells}
 use Rattle.sfu_script.specs.Lines.{IsLine}
 use Rattle.sfu_script.specs.Reading.{cut, field, number_of, ssrc_of}
-use Rattle.sfu_script.specs.ReadLines.{publish_of, kind_of, plain_of}
+use Rattle.sfu_script.specs.ReadLines.{publish_of, plain_of}
 use Rattle.sfu_script.proofs.Options.{bind_some, chosen}
 use Rattle.sfu_script.proofs.Filled.{number_found, number_again}
 use Rattle.sfu_script.proofs.Steps.{number_read, ssrc_read, word_read, number_spelled, ssrc_spelled, word_spelled}

@@ -1,5 +1,5 @@
 -- `take S`, both ways.
-use Rattle.std.proofs.Common.{◌≡◌, ◌<◌, ℕ, ◌^◌, List, [], ◌∷◌, ◌++◌, refl, subst, arith, Option, Some, None}
+use Rattle.std.proofs.Common.{◌≡◌, ℕ, List, ◌∷◌, ◌++◌, refl, subst, arith, Some}
 use Rattle.std.specs.Prelude.{codes}
 use Rattle.sfu_base.specs.declared.call.Call.{Call}
 use Rattle.sfu_base.specs.declared.call.Call.TheVariants.{Take}

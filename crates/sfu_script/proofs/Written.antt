@@ -1,12 +1,11 @@
 -- What is written for a call is a line that says it.
-use Rattle.std.proofs.Common.{◌≡◌, ◌<◌, ◌≤◌, ℕ, zero, suc, ◌^◌, ◌/◌, ◌%◌, List, [], ◌∷◌, ◌++◌, refl, Some, arith}
+use Rattle.std.proofs.Common.{◌≡◌, ◌<◌, ℕ, zero, suc, ◌^◌, ◌/◌, ◌%◌, List, [], ◌∷◌, refl, Some, arith}
 use Rattle.std.specs.Int.{to_be_bytes, w32}
 use Rattle.hex.specs.Hex.{IsBytes}
 use Rattle.hex.proofs.HexLemmas.{decode_of-encode_lower}
 use Rattle.sfu_base.specs.declared.call.Call.{Call}
-use Rattle.sfu_base.specs.declared.call.Call.TheVariants.{Publish, Packet, Join, Take}
 use Rattle.sfu_script.specs.Grammar.{Place, Word, Number, Ssrc, Hex, IsWithin, AllWithin, Fills, Spells, word_of, text_of}
-use Rattle.sfu_script.specs.Lines.{IsLine, HasLine, line_of, places}
+use Rattle.sfu_script.specs.Lines.{HasLine, line_of, places}
 use Rattle.sfu_script.specs.ReadLines.{call_of}
 use Rattle.sfu_script.proofs.LineLaws.{call_again}
 

@@ -1,5 +1,7 @@
 pub mod Grammar
+pub mod Kept
 pub mod Lines
-pub mod Reading
 pub mod ReadLines
+pub mod Reading
 pub mod Replies
+pub mod Texts

@@ -1,5 +1,5 @@
 -- The call that a line says, as a function: what whole scripts are computed with.
-use Rattle.std.specs.Prelude.{ℕ, Bool, true, false, if◌then◌else◌, List, Option, Some, None, codes}
+use Rattle.std.specs.Prelude.{ℕ, if◌then◌else◌, List, Option, Some, None, codes}
 use Rattle.std.specs.Str.{bytes_eq}
 use Rattle.sfu_base.specs.declared.call.Call.{Call}
 use Rattle.sfu_base.specs.declared.call.Call.TheVariants.{Publish, Packet, Join, Take}
@@ -22,13 +22,18 @@ publish_of rest = do
   kind ← cut track.1
   kind_of track.0 kind.0 kind.1
 
--- behind `packet`
-unfoldable pub packet_of : List ℕ → Option Call
-packet_of rest = do
+-- behind `packet`: the track, the moment, and then the hex digits
+unfoldable pub packet_head_of : List ℕ → Option (ℕ × ℕ × List ℕ)
+packet_head_of rest = do
   track ← field (number_of 32) rest
   moment ← field (number_of 64) track.1
-  bytes ← bytes_of moment.1
-  Some (Packet track.0 moment.0 bytes)
+  Some (track.0, moment.0, moment.1)
+
+unfoldable pub packet_of : List ℕ → Option Call
+packet_of rest = do
+  head ← packet_head_of rest
+  bytes ← bytes_of head.2
+  Some (Packet head.0 head.1 bytes)
 
 -- behind `join`
 unfoldable pub join_of : List ℕ → Option Call
@@ -61,11 +66,3 @@ abbrev pub call_of : List ℕ → Option Call
 call_of line = do
   parts ← cut line
   command_of parts.0 parts.1
-
-abbrev pub is_packet : Call → Bool
-is_packet (Packet track moment bytes) = true
-is_packet call = false
-
-abbrev pub is_take : Call → Bool
-is_take (Take subscriber) = true
-is_take call = false

@@ -2,7 +2,7 @@
 ghost use Rattle.std.specs.Prelude.{◌≡◌, ◌++◌, ◌≤◌, MatchResult, None, OnOk, Some, take};
 ghost use Rattle.hex.specs.Hex.{encode_lower};
 ghost use Rattle.sfu_script.specs.Reading.{bytes_of};
-ghost use Rattle.sfu_script.specs.Replies.{GoesOn};
+ghost use Rattle.sfu_script.specs.Texts.{GoesOn};
 
 use crate::NoLine;
 use sfu_base::{Blob, NoMemory};
@@ -11,6 +11,8 @@ use sfu_base::{Blob, NoMemory};
 const CHUNK: usize = 256;
 
 /// Reads the 1 to 2,048 bytes that a word is in hex digits into the front of the room, and says how many they are.
+// Apart from its callers, where the loop would not keep its counts in registers.
+#[inline(never)]
 pub fn decode(word: &[u8], room: &mut [u8; 2048]) -> Result<usize, NoLine>
     ensures { MatchResult result (λ count. (count ≤ 2048) × (bytes_of word.now ≡ Some (take count room.new))) (λ _. bytes_of word.now ≡ None) }
 {

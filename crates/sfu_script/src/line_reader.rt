@@ -1,9 +1,11 @@
 // Lines read one after another.
 ghost use Rattle.std.specs.Prelude.{◌≡◌, IsTrue, MatchResult, None, Some};
-ghost use Rattle.sfu_script.specs.ReadLines.{call_of, packet_of, take_of, is_packet, is_take};
+ghost use Rattle.sfu_script.specs.Kept.{is_packet, is_take};
+ghost use Rattle.sfu_script.specs.ReadLines.{call_of, packet_of, take_of};
 
 use crate::hex_text::decode;
-use crate::words::{number32, number64, split};
+use crate::lines::packet;
+use crate::words::{number32, split};
 use crate::{NoLine, read_call};
 use sfu_base::{Call, PacketBuf};
 
@@ -38,11 +40,8 @@ impl LineReader {
     fn read_packet(&mut self, rest: &[u8]) -> Result<(), NoLine>
         ensures { MatchResult result (λ _. packet_of rest.now ≡ Some self.new.packet) (λ _. packet_of rest.now ≡ None) }
     {
-        let (word, rest) = split(rest)?;
-        let number = number32(word)?;
-        let (word, rest) = split(rest)?;
-        let time = number64(word)?;
-        let count = decode(rest, &mut self.room)?;
+        let (number, time, digits) = packet::head(rest)?;
+        let count = decode(digits, &mut self.room)?;
         match &mut self.packet {
             Call::Packet {
                 track,

@@ -6,7 +6,7 @@ ghost use Rattle.sfu_script.specs.Lines.{IsLine};
 ghost use Rattle.sfu_script.specs.ReadLines.{call_of};
 
 mod join;
-mod packet;
+pub mod packet;
 mod publish;
 mod take;
 
@@ -17,6 +17,7 @@ use sfu_base::Call;
 #[derive(Clone, Copy, Debug, PartialEq, Eq)]
 pub struct NoLine;
 
+// The readers of single lines are inlined here: each function that hands a call on would clear and copy its 2 KB once more.
 #[inline(always)]
 fn call(line: &[u8]) -> Result<Call, NoLine>
     ensures { result_ok result ≡ call_of line.now }

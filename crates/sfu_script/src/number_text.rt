@@ -1,6 +1,6 @@
 // Numbers in decimal digits.
 ghost use Rattle.std.specs.Prelude.{◌≡◌, ◌++◌, OnOk, decimal};
-ghost use Rattle.sfu_script.specs.Replies.{GoesOn};
+ghost use Rattle.sfu_script.specs.Texts.{GoesOn};
 
 use itoa::Buffer;
 use sfu_base::{Blob, NoMemory};

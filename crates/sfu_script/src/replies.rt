@@ -1,7 +1,8 @@
 // The texts of replies.
 ghost use Rattle.std.specs.Prelude.{◌≡◌, ◌++◌, OnErr, OnOk};
 ghost use Rattle.sfu_base.specs.Answer.{answer_of, Sent};
-ghost use Rattle.sfu_script.specs.Replies.{answer_text, refusal_text, GoesOn};
+ghost use Rattle.sfu_script.specs.Replies.{answer_text, refusal_text};
+ghost use Rattle.sfu_script.specs.Texts.{GoesOn};
 
 use crate::hex_text::append_hex;
 use crate::number_text::append_numbered;

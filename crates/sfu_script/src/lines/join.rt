@@ -7,6 +7,7 @@ use crate::NoLine;
 use crate::words::{number8, number16, number32, split, ssrc};
 use sfu_base::{Call, Wish};
 
+/// The call that the words behind `join` say.
 #[tactic(auto, unfolding(crate::specs::ReadLines::join_of))]
 #[inline(always)]
 pub fn read(rest: &[u8]) -> Result<Call, NoLine>

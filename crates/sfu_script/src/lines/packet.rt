@@ -1,24 +1,34 @@
 // The line `packet T MOMENT HEX`, behind its first word.
-ghost use Rattle.std.specs.Prelude.{◌≡◌};
+ghost use Rattle.std.specs.Prelude.{◌≡◌, MatchResult, None, Some};
 ghost use Rattle.std.specs.Result.{result_ok};
-ghost use Rattle.sfu_script.specs.ReadLines.{packet_of};
+ghost use Rattle.sfu_script.specs.ReadLines.{packet_head_of, packet_of};
 
 use crate::NoLine;
 use crate::hex_text::decode;
 use crate::words::{number32, number64, split};
 use sfu_base::{Call, PacketBuf};
 
-#[tactic(auto, unfolding(crate::specs::ReadLines::packet_of))]
-#[inline(always)]
-pub fn read(rest: &[u8]) -> Result<Call, NoLine>
-    ensures { result_ok result ≡ packet_of rest.now }
+/// The track, the moment, and what stands behind them.
+#[tactic(auto, unfolding(crate::specs::ReadLines::packet_head_of))]
+pub fn head(rest: &[u8]) -> Result<(u32, u64, &[u8]), NoLine>
+    ensures { MatchResult result (λ head. packet_head_of rest.now ≡ Some (head.0, head.1, head.2.now)) (λ _. packet_head_of rest.now ≡ None) }
 {
     let (word, rest) = split(rest)?;
     let track = number32(word)?;
     let (word, rest) = split(rest)?;
     let moment = number64(word)?;
+    Ok((track, moment, rest))
+}
+
+/// The call that the words behind `packet` say.
+#[tactic(auto, unfolding(crate::specs::ReadLines::packet_of))]
+#[inline(always)]
+pub fn read(rest: &[u8]) -> Result<Call, NoLine>
+    ensures { result_ok result ≡ packet_of rest.now }
+{
+    let (track, moment, digits) = head(rest)?;
     let mut room = [0; 2048];
-    let count = decode(rest, &mut room)?;
+    let count = decode(digits, &mut room)?;
     Ok(Call::Packet {
         track,
         moment,

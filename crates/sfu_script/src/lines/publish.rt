@@ -23,6 +23,7 @@ fn plain(track: u32, rest: &[u8]) -> Result<Call, NoLine>
     })
 }
 
+/// The call that the words behind `publish` say.
 #[tactic(auto, unfolding(crate::specs::ReadLines::publish_of))]
 #[inline(always)]
 pub fn read(rest: &[u8]) -> Result<Call, NoLine>

@@ -7,6 +7,7 @@ use crate::NoLine;
 use crate::words::number32;
 use sfu_base::Call;
 
+/// The call that the words behind `take` say.
 #[tactic(auto, unfolding(crate::specs::ReadLines::take_of))]
 #[inline(always)]
 pub fn read(rest: &[u8]) -> Result<Call, NoLine>

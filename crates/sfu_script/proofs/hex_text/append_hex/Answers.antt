@@ -1,8 +1,8 @@
-use Rattle.std.proofs.Common.{◌≡◌, ℕ, List, ◌++◌, ◌∙◌, ap, sym, subst, length, eqb-true, take, drop, Result, OnOk}
+use Rattle.std.proofs.Common.{◌≡◌, ℕ, List, ◌++◌, ◌∙◌, ap, sym, subst, length, eqb-true, drop, Result, OnOk}
 use Rattle.std.proofs.lemmas.List.{take-append-drop}
 use Rattle.hex.specs.Hex.{encode_lower}
 use Rattle.hex.specs.declared.error.FromHexError.{FromHexError}
-use Rattle.sfu_script.specs.Replies.{GoesOn}
+use Rattle.sfu_script.specs.Texts.{GoesOn}
 use Rattle.sfu_script.proofs.HexText.{chunk_written, all_written, goes_on_further}
 use Rattle.sfu_script.proofs.hex_text.append_hex.Goals as goal
 

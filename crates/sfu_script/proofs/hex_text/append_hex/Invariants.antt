@@ -1,6 +1,6 @@
 use Rattle.std.proofs.Common.{◌≡◌, ◌++◌, length}
 use Rattle.hex.specs.Hex.{encode_lower}
-use Rattle.sfu_script.specs.Replies.{GoesOn}
+use Rattle.sfu_script.specs.Texts.{GoesOn}
 use Rattle.sfu_script.proofs.hex_text.append_hex.Given as goal
 
 abbrev pub invariant-chunks : goal.invariant-chunks

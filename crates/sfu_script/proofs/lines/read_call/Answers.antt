@@ -1,4 +1,4 @@
-use Rattle.std.proofs.Common.{◌≡◌, ◌∙◌, sym, Option, Some, None, Result, Ok, Err, List, ℕ}
+use Rattle.std.proofs.Common.{◌≡◌, sym, Result, Ok, Err, List, ℕ}
 use Rattle.sfu_base.specs.declared.call.Call.{Call}
 use Rattle.std.specs.Prelude.{IfOk, OnErr}
 use Rattle.std.specs.Result.{result_ok}
