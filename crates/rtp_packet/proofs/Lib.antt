@@ -4,3 +4,4 @@ pub mod Rewriting
 pub mod Found
 pub mod Taken
 pub mod Answered
+pub mod Readdressed

@@ -35,19 +35,19 @@ count_back true false n h = omega arith
 count_back false true n h = omega arith
 count_back false false n h = omega arith
 
-marker_back : (m : Bool) (n : ℕ) → n < 128 → (second_byte m n / 128 == 1) ≡ m
+pub marker_back : (m : Bool) (n : ℕ) → n < 128 → (second_byte m n / 128 == 1) ≡ m
 marker_back true n h = grind (arith, nat_tests)
 marker_back false n h = grind (arith, nat_tests)
 
-type_back : (m : Bool) (n : ℕ) → n < 128 → second_byte m n % 128 ≡ n
+pub type_back : (m : Bool) (n : ℕ) → n < 128 → second_byte m n % 128 ≡ n
 type_back true n h = omega arith
 type_back false n h = omega arith
 
 -- a number read from its own bytes
-two_back : (n : ℕ) (rest : List ℕ) → n < 2 ^ 16 → big_number 2 (big_bytes 2 n ++ rest) ≡ n
+pub two_back : (n : ℕ) (rest : List ℕ) → n < 2 ^ 16 → big_number 2 (big_bytes 2 n ++ rest) ≡ n
 two_back n rest h = omega arith
 
-four_back : (n : ℕ) (rest : List ℕ) → n < 2 ^ 32 → big_number 4 (big_bytes 4 n ++ rest) ≡ n
+pub four_back : (n : ℕ) (rest : List ℕ) → n < 2 ^ 32 → big_number 4 (big_bytes 4 n ++ rest) ≡ n
 four_back n rest h = omega arith
 
 -- The extension at the front of its bytes and those behind it.
@@ -123,7 +123,7 @@ padding_good payload (Some f) =
 at_both : {X : Type 0} (f : Bool → List ℕ → X) (a b : Bool) (xs ys : List ℕ) → a ≡ b → xs ≡ ys → f a xs ≡ f b ys
 at_both f a b xs ys e h = ap (λ (x : Bool). f x xs) e ∙ ap (f b) h
 
-same_packet : (p q : Packet) → q.marker ≡ p.marker → q.payload_type ≡ p.payload_type → q.sequence ≡ p.sequence → q.timestamp ≡ p.timestamp
+pub same_packet : (p q : Packet) → q.marker ≡ p.marker → q.payload_type ≡ p.payload_type → q.sequence ≡ p.sequence → q.timestamp ≡ p.timestamp
     → q.ssrc ≡ p.ssrc → q.profile ≡ p.profile → q.block ≡ p.block → q.payload ≡ p.payload → q ≡ p
 same_packet p q a b c d e f g h =
     let packed : (m : Bool) (t s u v : ℕ) (o : Option ℕ) (x y : List ℕ) → Packet = λ m t s u v o x y. record {

@@ -64,6 +64,7 @@ fn each_fault_comes_first_at_its_edge(rt: HostRuntime) {
     assert_eq!(rt; fault(&[]), short);
     assert_eq!(rt; fault(&FULL[..11]), short);
     assert_eq!(rt; fault(&FULL[..12]), csrc);
+    assert_eq!(rt; fault(&FULL[..16]), csrc);
     assert_eq!(rt; fault(&FULL[..19]), csrc);
     for end in 20..28 {
         assert_eq!(rt; fault(&FULL[..end]), extension, "cut at {end}");
