@@ -18,7 +18,7 @@ pub fn write_one(out: &mut PacketBuf, id: u8, value: &[u8]) -> Result<(), NoFit>
     ensures reads { OnOk result (AddsElement Form.OneByte out.old out.new (record { id = id; value = value.now })) }
     ensures err { OnErr result (out.new ≡ out.old) }
 {
-    if id < 1 || id > 14 || value.is_empty() || value.len() > 16 {
+    if !(1..=14).contains(&id) || !(1..=16).contains(&value.len()) {
         return Err(NoFit);
     }
     if out.bytes().len() + 1 + value.len() > ROOM {
@@ -37,7 +37,7 @@ pub fn write_two(out: &mut PacketBuf, id: u8, value: &[u8]) -> Result<(), NoFit>
     ensures reads { OnOk result (AddsElement Form.TwoByte out.old out.new (record { id = id; value = value.now })) }
     ensures err { OnErr result (out.new ≡ out.old) }
 {
-    if id < 1 || value.len() > 255 {
+    if id == 0 || value.len() > 255 {
         return Err(NoFit);
     }
     if out.bytes().len() + 2 + value.len() > ROOM {
