@@ -1,3 +1,7 @@
 pub mod Faultless
-pub mod Rewriting
 pub mod Plain
+pub mod Rewriting
+pub mod Found
+pub mod Taken
+pub mod Answered
+pub mod Readdressed

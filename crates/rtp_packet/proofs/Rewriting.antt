@@ -24,7 +24,7 @@ overwritten (a ∷ b ∷ c ∷ d ∷ e ∷ f ∷ g ∷ h ∷ i ∷ j ∷ k ∷ l
 overwritten old mid new field source second sequence ssrc marker long ef es e2 em en = absurd (omega arith)
 
 -- what follows the CSRC words stays
-same_behind : (bytes : List ℕ) (s r : ℕ) (m : Bool) → 12 ≤ length bytes → behind_csrcs (rewritten s r m bytes) ≡ behind_csrcs bytes
+pub same_behind : (bytes : List ℕ) (s r : ℕ) (m : Bool) → 12 ≤ length bytes → behind_csrcs (rewritten s r m bytes) ≡ behind_csrcs bytes
 unfolding rewritten
 same_behind (a ∷ b ∷ c ∷ d ∷ e ∷ f ∷ g ∷ h ∷ i ∷ j ∷ k ∷ l ∷ rest) s r m long =
     let old : List ℕ = a ∷ b ∷ c ∷ d ∷ e ∷ f ∷ g ∷ h ∷ i ∷ j ∷ k ∷ l ∷ rest in
@@ -36,7 +36,7 @@ unfolding rewritten
 same_first (a ∷ b ∷ c ∷ d ∷ e ∷ f ∷ g ∷ h ∷ i ∷ j ∷ k ∷ l ∷ rest) s r m long = refl
 same_first bytes s r m long = absurd (omega arith)
 
-same_length : (bytes : List ℕ) (s r : ℕ) (m : Bool) → 12 ≤ length bytes → length (rewritten s r m bytes) ≡ length bytes
+pub same_length : (bytes : List ℕ) (s r : ℕ) (m : Bool) → 12 ≤ length bytes → length (rewritten s r m bytes) ≡ length bytes
 unfolding rewritten
 same_length (a ∷ b ∷ c ∷ d ∷ e ∷ f ∷ g ∷ h ∷ i ∷ j ∷ k ∷ l ∷ rest) s r m long = refl
 same_length bytes s r m long = absurd (omega arith)

@@ -1,11 +1,38 @@
 // Laws of the definitions that `read` and `rewrite` are held to.
 
-ghost use Rattle.std.specs.Prelude.{◌≡◌, ◌≤◌, ℕ, List, None, length, slice_index};
+ghost use Rattle.std.specs.Prelude.{◌≡◌, ◌<◌, ◌≤◌, ◌^◌, ℕ, Bool, List, None, length, slice_index};
 ghost use Rattle.rtp_packet.specs.Faults.{first_fault};
+ghost use Rattle.rtp_packet.specs.Packet.{AreBytes, IsPacket, Packet, packet_of};
+ghost use Rattle.rtp_packet.specs.Rewritten.{readdressed, rewritten};
 
 /// Bytes that begin with 80 (version 2, no padding, no extension, no CSRC words) and have a whole fixed header are
 /// read.
-#[tactic(auto, using(crate::proofs::Plain::plain_reads))]
 pub fn plain_packets_read()
     ensures { (bytes : List ℕ) → 12 ≤ length bytes → slice_index bytes 0 ≡ 128 → first_fault bytes ≡ None }
+{}
+
+/// Bytes with no fault are a packet, and it says what the fields of the bytes say.
+pub fn bytes_without_fault_are_a_packet()
+    ensures { (bytes : List ℕ) → AreBytes bytes → first_fault bytes ≡ None → IsPacket bytes (packet_of bytes) }
+{}
+
+/// A packet has no fault, and the fields of its bytes say what it says.
+pub fn a_packet_is_read()
+    ensures no_fault { (bytes : List ℕ) (p : Packet) → IsPacket bytes p → first_fault bytes ≡ None }
+    ensures fields { (bytes : List ℕ) (p : Packet) → IsPacket bytes p → packet_of bytes ≡ p }
+{}
+
+/// The same bytes are no two packets.
+pub fn bytes_are_one_packet()
+    ensures { (bytes : List ℕ) (p q : Packet) → IsPacket bytes p → IsPacket bytes q → p ≡ q }
+{}
+
+/// Rewritten bytes are as many as before, have the same faults, and say the same but for the three fields.
+pub fn three_fields_are_rewritten()
+    ensures len { (sequence ssrc : ℕ) (marker : Bool) (bytes : List ℕ) → 12 ≤ length bytes
+        → length (rewritten sequence ssrc marker bytes) ≡ length bytes }
+    ensures faults { (sequence ssrc : ℕ) (marker : Bool) (bytes : List ℕ) → 12 ≤ length bytes
+        → first_fault (rewritten sequence ssrc marker bytes) ≡ first_fault bytes }
+    ensures fields { (sequence ssrc : ℕ) (marker : Bool) (bytes : List ℕ) → 12 ≤ length bytes → sequence < 2 ^ 16 → ssrc < 2 ^ 32
+        → packet_of (rewritten sequence ssrc marker bytes) ≡ readdressed sequence ssrc marker (packet_of bytes) }
 {}

@@ -4,7 +4,12 @@
 mod laws;
 mod outgoing;
 mod packet;
+#[cfg(test)]
+mod tests;
 
-pub use laws::plain_packets_read;
+pub use laws::{
+    a_packet_is_read, bytes_are_one_packet, bytes_without_fault_are_a_packet, plain_packets_read,
+    three_fields_are_rewritten,
+};
 pub use outgoing::rewrite;
 pub use packet::{Rtp, read};

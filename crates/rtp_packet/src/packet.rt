@@ -3,7 +3,7 @@
 ghost use Rattle.std.specs.Prelude.{◌≡◌, true, false, None, Some, IfOk, IfErr};
 ghost use Rattle.rtp_packet.specs.Faults.{first_fault, has_bad_padding, lacks_extension};
 ghost use Rattle.rtp_packet.specs.Fields.{behind_extension, block_in, payload_in, profile_in};
-ghost use Rattle.rtp_packet.specs.Packet.{packet_of};
+ghost use Rattle.rtp_packet.specs.Packet.{IsPacket, Packet, packet_of};
 ghost use Rattle.rtp_packet.specs.Seen.{parts};
 
 use byteorder::{BigEndian, ByteOrder};
@@ -37,8 +37,19 @@ const FIXED_HEADER: usize = 12;
 /// Reads a packet (RFC 3550, section 5.1). It is refused by the first fault that stands: `Short` below 12 bytes,
 /// `Version` where the version isn't 2, `Csrc` where the CSRC words aren't all there, `Extension` where the header
 /// extension isn't, `Padding` where the padding's count is 0 or more than the bytes that follow the header.
-#[tactic(auto, unfolding(crate::specs::Faults::first_fault))]
 pub fn read<'a>(bytes: &'a [u8]) -> Result<Rtp<'a>, RtpFault>
+    ensures found { IfOk result (λ r. IsPacket bytes.now (parts r)) }
+    ensures none { IfErr result (λ _. (p : Packet) → IsPacket bytes.now p → ⊥) }
+    ensures fault { IfErr result (λ e. first_fault bytes.now ≡ Some e) }
+    ensures ok { IfOk result (λ _. first_fault bytes.now ≡ None) }
+    ensures parts { IfOk result (λ r. parts r ≡ packet_of bytes.now) }
+{
+    located(bytes)
+}
+
+/// Each part where its field says that it lies, or the first fault.
+#[tactic(auto, unfolding(crate::specs::Faults::first_fault))]
+fn located<'a>(bytes: &'a [u8]) -> Result<Rtp<'a>, RtpFault>
     ensures parts { IfOk result (λ r. parts r ≡ packet_of bytes.now) }
     ensures ok { IfOk result (λ _. first_fault bytes.now ≡ None) }
     ensures fault { IfErr result (λ e. first_fault bytes.now ≡ Some e) }

@@ -1,0 +1,62 @@
+-- The block of a header extension, laid end to end (RFC 8285, sections 4.2 and 4.3): elements and bytes of padding in
+-- any order, and then what ends processing. The code goes over the bytes from the front.
+use Rattle.std.specs.Prelude.{◌≡◌, ℕ, ◌+◌, ◌/◌, ◌%◌, ◌<◌, ◌⊎◌, List, [], ◌∷◌, ◌++◌, length, slice_index, Option, Some, None}
+use Rattle.std.specs.List.{flat_map}
+use Rattle.rtp_extension.specs.declared.form.Form.{Form}
+use Rattle.rtp_extension.specs.declared.form.Form.TheVariants.{OneByte, TwoByte}
+use Rattle.rtp_extension.specs.Forms.{PlainElement, Fits, element_bytes}
+
+-- each item of a list is a byte
+abbrev pub AreBytes : List ℕ → Type 0
+AreBytes xs = (i : ℕ) → slice_index xs i < 256
+
+-- a byte of padding, or an element
+pub data Piece : Type 0 where
+  PaddingByte : Piece
+  AnElement : PlainElement → Piece
+
+abbrev pub piece_bytes : Form → Piece → List ℕ
+piece_bytes form PaddingByte = 0 ∷ []
+piece_bytes form (AnElement e) = element_bytes form e
+
+abbrev pub PieceFits : Form → Piece → Type 0
+PieceFits form PaddingByte = Unit {0}
+PieceFits form (AnElement e) = Fits form e
+
+abbrev pub PiecesFit : Form → List Piece → Type 0
+PiecesFit form [] = Unit {0}
+PiecesFit form (p ∷ ps) = PieceFits form p × PiecesFit form ps
+
+-- the elements among the pieces, in order
+abbrev pub elements_among : List Piece → List PlainElement
+elements_among [] = []
+elements_among (PaddingByte ∷ ps) = elements_among ps
+elements_among (AnElement e ∷ ps) = e ∷ elements_among ps
+
+-- the bytes are elements and padding to their end, and these are the elements
+pub record IsWhole (form : Form) (bytes : List ℕ) (es : List PlainElement) : Type 0 where
+  pub pieces : List Piece
+  pub fit : PiecesFit form pieces
+  pub laid : bytes ≡ flat_map (piece_bytes form) pieces
+  pub said : es ≡ elements_among pieces
+
+-- Where processing ends. In either form: where no byte is left, and where an element's length or value isn't all there
+-- (own rule). In the one-byte form also at id 15, and at id 0 with a length that isn't 0 (own rule).
+abbrev pub Ends : Form → List ℕ → Type 0
+Ends form [] = Unit {0}
+Ends OneByte (head ∷ rest) = (0 < head) × ((head / 16 ≡ 0) ⊎ (head / 16 ≡ 15) ⊎ (length rest < head % 16 + 1))
+Ends TwoByte (id ∷ []) = 0 < id
+Ends TwoByte (id ∷ count ∷ rest) = (0 < id) × (length rest < count)
+
+-- the block has these elements: they stand in its front, and processing ends behind it
+pub record IsBlock (form : Form) (block : List ℕ) (es : List PlainElement) : Type 0 where
+  pub front : List ℕ
+  pub rest : List ℕ
+  pub laid : block ≡ front ++ rest
+  pub whole : IsWhole form front es
+  pub ends : Ends form rest
+
+-- the same for the form that a profile names: one that names none has no elements (own rule)
+abbrev pub HasElements : Option Form → List ℕ → List PlainElement → Type 0
+HasElements None block es = es ≡ []
+HasElements (Some form) block es = IsBlock form block es

@@ -1,0 +1,5 @@
+pub mod Forms
+pub mod Blocks
+pub mod Reading
+pub mod Seen
+pub mod Writing

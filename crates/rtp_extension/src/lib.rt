@@ -1,0 +1,15 @@
+//! The elements of RTP header extensions (RFC 8285), read and written. No call takes memory.
+#![tactic(auto)]
+
+mod block;
+mod element;
+mod form;
+mod laws;
+#[cfg(test)]
+mod tests;
+mod writers;
+
+pub use block::{elements, find};
+pub use element::{Element, Elements};
+pub use laws::{a_block_has_one_reading, each_block_is_in_the_grammar, whole_blocks_join};
+pub use writers::{write_one, write_two};

@@ -1,0 +1,49 @@
+// An element appended to a buffer.
+
+ghost use Rattle.std.specs.Prelude.{◌≡◌, ◌++◌, ◌↔◌, IsOk, OnErr, OnOk};
+ghost use Rattle.rtp_extension.specs.Forms.{element_bytes};
+ghost use Rattle.rtp_extension.specs.Writing.{AddsElement, CanAppend};
+
+use crate::form::Form;
+use sfu_base::{NoFit, PacketBuf};
+
+/// The bytes that a buffer has room for.
+const ROOM: usize = 2048;
+
+/// Appends an element of the one-byte form (RFC 8285, section 4.2). `NoFit` where the id isn't 1 to 14, the value
+/// hasn't 1 to 16 bytes, or the buffer would pass 2,048 bytes; the buffer is then as it was.
+pub fn write_one(out: &mut PacketBuf, id: u8, value: &[u8]) -> Result<(), NoFit>
+    ensures fits { IsOk result ↔ CanAppend Form.OneByte out.old (record { id = id; value = value.now }) }
+    ensures ok { OnOk result (out.new ≡ out.old ++ element_bytes Form.OneByte (record { id = id; value = value.now })) }
+    ensures reads { OnOk result (AddsElement Form.OneByte out.old out.new (record { id = id; value = value.now })) }
+    ensures err { OnErr result (out.new ≡ out.old) }
+{
+    if !(1..=14).contains(&id) || !(1..=16).contains(&value.len()) {
+        return Err(NoFit);
+    }
+    if out.bytes().len() + 1 + value.len() > ROOM {
+        return Err(NoFit);
+    }
+    out.append(&[id * 16 + (value.len() - 1) as u8]);
+    out.append(value);
+    Ok(())
+}
+
+/// Appends an element of the two-byte form (RFC 8285, section 4.3). `NoFit` where the id is 0, the value has more than
+/// 255 bytes, or the buffer would pass 2,048 bytes; the buffer is then as it was.
+pub fn write_two(out: &mut PacketBuf, id: u8, value: &[u8]) -> Result<(), NoFit>
+    ensures fits { IsOk result ↔ CanAppend Form.TwoByte out.old (record { id = id; value = value.now }) }
+    ensures ok { OnOk result (out.new ≡ out.old ++ element_bytes Form.TwoByte (record { id = id; value = value.now })) }
+    ensures reads { OnOk result (AddsElement Form.TwoByte out.old out.new (record { id = id; value = value.now })) }
+    ensures err { OnErr result (out.new ≡ out.old) }
+{
+    if id == 0 || value.len() > 255 {
+        return Err(NoFit);
+    }
+    if out.bytes().len() + 2 + value.len() > ROOM {
+        return Err(NoFit);
+    }
+    out.append(&[id, value.len() as u8]);
+    out.append(value);
+    Ok(())
+}

@@ -1,0 +1,127 @@
+// Packets laid out by hand from RFC 3550, section 5.1.
+
+ghost use Rattle.std.specs.Prelude.{◌≤◌, length};
+
+use crate::{Rtp, read, rewrite};
+use sfu_base::{PacketBuf, RtpFault};
+use std::test::Fail;
+
+// Version 2, padding, extension, two CSRC words; marker, payload type 96; an extension of one word; three bytes of
+// payload; three bytes of padding.
+static FULL: [u8; 34] = [
+    0xB2, 0xE0, 0x12, 0x34, 1, 2, 3, 4, 0xAA, 0xBB, 0xCC, 0xDD, 0, 0, 0, 1, 0, 0, 0, 2, 0xBE, 0xDE,
+    0, 1, 0x10, 0xAA, 0, 0, 7, 8, 9, 0, 0, 3,
+];
+
+// The fault of a packet's first bytes.
+fn fault(bytes: &[u8]) -> Option<RtpFault> {
+    match read(bytes) {
+        Ok(_) => None,
+        Err(fault) => Some(fault),
+    }
+}
+
+// A fixed header with this first byte, and what follows it.
+fn with_tail(first: u8, tail: &[u8]) -> PacketBuf
+    requires { length tail.now ≤ 100 }
+{
+    let mut packet = PacketBuf::new();
+    packet.fill(&[first, 0x60, 0, 1, 0, 0, 0, 0, 0, 0, 0, 1]);
+    packet.append(tail);
+    packet
+}
+
+#[test]
+fn each_part_is_found(rt: HostRuntime) -> Result<(), Fail> {
+    let Rtp {
+        marker,
+        payload_type,
+        seq,
+        timestamp,
+        ssrc,
+        profile,
+        block,
+        payload,
+    } = read(&FULL)?;
+    assert!(rt; marker);
+    assert_eq!(rt; payload_type, 96);
+    assert_eq!(rt; seq, 0x1234);
+    assert_eq!(rt; timestamp, 0x01020304);
+    assert_eq!(rt; ssrc, 0xAABBCCDD);
+    assert_eq!(rt; profile, Some(0xBEDE));
+    assert_eq!(rt; block, [0x10, 0xAA, 0, 0].as_slice());
+    assert_eq!(rt; payload, [7, 8, 9].as_slice());
+    Ok(())
+}
+
+#[test]
+fn each_fault_comes_first_at_its_edge(rt: HostRuntime) {
+    let short = Some(RtpFault::Short);
+    let version = Some(RtpFault::Version);
+    let csrc = Some(RtpFault::Csrc);
+    let extension = Some(RtpFault::Extension);
+    let padding = Some(RtpFault::Padding);
+    assert_eq!(rt; fault(&[]), short);
+    assert_eq!(rt; fault(&FULL[..11]), short);
+    assert_eq!(rt; fault(&FULL[..12]), csrc);
+    assert_eq!(rt; fault(&FULL[..16]), csrc);
+    assert_eq!(rt; fault(&FULL[..19]), csrc);
+    for end in 20..28 {
+        assert_eq!(rt; fault(&FULL[..end]), extension, "cut at {end}");
+    }
+    let rows: [(u8, &[u8], Option<RtpFault>); 14] = [
+        // a fixed header alone
+        (0x80, &[], None),
+        // other versions, before all that follows
+        (0x00, &[], version),
+        (0x7F, &[], version),
+        (0xC0, &[], version),
+        // one CSRC word, short by a byte and whole
+        (0x81, &[0, 0, 0], csrc),
+        (0x81, &[0, 0, 0, 5], None),
+        // no word of extension, and two words short by one
+        (0x90, &[0xBE, 0xDE, 0, 0], None),
+        (0x90, &[0xBE, 0xDE, 0, 2, 0, 0, 0, 0], extension),
+        // padding: no byte, a count of 0, all that follows, one more than that
+        (0xA0, &[], padding),
+        (0xA0, &[9, 9, 0], padding),
+        (0xA0, &[9, 9, 3], None),
+        (0xA0, &[9, 9, 4], padding),
+        // the padding doesn't reach into the extension
+        (0xB0, &[0xBE, 0xDE, 0, 0, 1], None),
+        (0xB0, &[0xBE, 0xDE, 0, 0, 2], padding),
+    ];
+    for (first, tail, wanted) in rows {
+        let packet = with_tail(first, tail);
+        assert_eq!(rt; fault(packet.bytes()), wanted, "first byte {first}");
+    }
+}
+
+#[test]
+fn padding_may_be_all_that_follows(rt: HostRuntime) -> Result<(), Fail> {
+    let packet = with_tail(0xA0, &[9, 9, 3]);
+    let parts = read(packet.bytes())?;
+    assert_eq!(rt; parts.payload, [].as_slice());
+    assert_eq!(rt; parts.profile, None);
+    Ok(())
+}
+
+#[test]
+fn three_fields_are_rewritten(rt: HostRuntime) -> Result<(), Fail> {
+    let mut packet = PacketBuf::new();
+    packet.fill(&FULL);
+    let _ = read(packet.bytes())?;
+    rewrite(&mut packet, 0xFFFE, 0x22222222, false);
+    let mut wanted = FULL;
+    wanted[1] = 0x60;
+    wanted[2] = 0xFF;
+    wanted[3] = 0xFE;
+    wanted[8] = 0x22;
+    wanted[9] = 0x22;
+    wanted[10] = 0x22;
+    wanted[11] = 0x22;
+    assert_eq!(rt; packet.bytes(), wanted.as_slice());
+    rewrite(&mut packet, 0x1234, 0xAABBCCDD, true);
+    assert_eq!(rt; packet.bytes(), FULL.as_slice());
+    Ok(())
+}
