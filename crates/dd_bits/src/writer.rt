@@ -1,4 +1,4 @@
-ghost use Rattle.std.specs.Prelude.{◌≡◌, ◌<◌, ◌≤◌, ◌+◌, ◌*◌, ◌-◌, ◌/◌, ◌%◌, ◌^◌, [], ◌++◌, length, slice_index, OnOk, OnErr};
+ghost use Rattle.std.specs.Prelude.{◌≡◌, ◌<◌, ◌≤◌, ◌+◌, ◌*◌, ◌-◌, ◌/◌, ◌%◌, ◌^◌, [], ◌++◌, length, slice_index, OnErr};
 
 use crate::digits::{byte_with, digit_count, digits_at, short_form_count, with_digits};
 
@@ -28,7 +28,7 @@ pub struct BitWriter {
 impl BitWriter {
     ghost use Rattle.dd_bits.specs.Bits.{bits_of};
     ghost use Rattle.dd_bits.specs.Numbers.{non_symmetric_bits};
-    ghost use Rattle.dd_bits.specs.Writer.{room, written, IsPadded};
+    ghost use Rattle.dd_bits.specs.Writer.{room, written, IsPadded, Puts};
 
     /// A writer in which nothing stands.
     pub fn new() -> BitWriter
@@ -45,8 +45,7 @@ impl BitWriter {
     /// Puts a number in n bits, f(n). `NoRoom` comes where they would pass 2,040 bytes; the writer is then as before.
     pub fn put(&mut self, n: u8, value: u32) -> Result<(), NoRoom>
         requires { value < 2 ^ n }
-        ensures put { OnOk result (written self.new ≡ written self.old ++ bits_of n value) }
-        ensures full { OnErr result (room < length (written self.old) + n) }
+        ensures put { Puts result self.old self.new (bits_of n value) }
         ensures unchanged { OnErr result (self.new ≡ self.old) }
         ensures within { length (written self.new) ≤ room }
     {
@@ -62,8 +61,7 @@ impl BitWriter {
     pub fn put_ns(&mut self, n: u32, value: u32) -> Result<(), NoRoom>
         requires most { n ≤ 64 }
         requires below { value < n }
-        ensures put { OnOk result (written self.new ≡ written self.old ++ non_symmetric_bits n value) }
-        ensures full { OnErr result (room < length (written self.old) + length (non_symmetric_bits n value)) }
+        ensures put { Puts result self.old self.new (non_symmetric_bits n value) }
         ensures unchanged { OnErr result (self.new ≡ self.old) }
         ensures within { length (written self.new) ≤ room }
     {
