@@ -1,20 +1,20 @@
 -- A well-formed structure reads back from its bits.
-use Rattle.std.proofs.Common.{◌≡◌, ℕ, zero, suc, ◌+◌, ◌-◌, ◌≤◌, ◌<◌, ◌^◌, Bool, List, [], ◌∷◌, ◌++◌, length, map, Option, Some, None, Result, Ok, Err, refl, sym, ap, ◌∙◌, append_assoc, arith}
+use Rattle.std.proofs.Common.{◌≡◌, ℕ, ◌+◌, ◌-◌, ◌≤◌, ◌<◌, ◌^◌, Bool, List, [], ◌∷◌, ◌++◌, length, Some, None, Result, Ok, refl, sym, ap, ◌∙◌, append_assoc, arith}
 use Rattle.std.specs.List.{flat_map, AllByRecursion}
 use Rattle.std.proofs.lemmas.List.{length-map}
 use Rattle.sfu_base.specs.declared.frame.Dti.{Dti}
 use Rattle.sfu_base.specs.declared.frame.Dti.TheVariants.{NotPresent, Discardable, Switch, Required}
 use Rattle.dd_bits.specs.Bits.{bits_of}
 use Rattle.dd_bits.specs.Numbers.{non_symmetric_bits}
-use Rattle.dd_bits.specs.Sequences.{◌>>=◌, repeat_at, or_fault}
+use Rattle.dd_bits.specs.Sequences.{repeat_at, or_fault}
 use Rattle.dd_bits.proofs.ReadBack.{fixed_again, non_symmetric_again}
 use Rattle.dd_bits.proofs.SequenceLaws.{bind_is, row_again, until_again, until_spelled-flat_map, each_after_all}
 use Rattle.dd_structure.specs.declared.layer.Layer.{Layer}
 use Rattle.dd_structure.specs.declared.fault.StructureFault.{StructureFault}
 use Rattle.dd_structure.specs.declared.fault.StructureFault.TheVariants as faults
-use Rattle.dd_structure.specs.TemplateStructure.{Template, TemplateStructure, templates_of, layers_of, indications_of, distances_of, links_of}
+use Rattle.dd_structure.specs.TemplateStructure.{Template, TemplateStructure, layers_of, indications_of, distances_of, links_of}
 use Rattle.dd_structure.specs.Reading.{number_at, below_at, next_layer_at, layers_at, indication_at, next_distance_at, distances_at, guard_count, guards_at, resolution_at, resolutions_at, structure_at, greatest_spatial}
-use Rattle.dd_structure.specs.Spelling.{layer_bits, layers_bits, indication_bits, distance_bits, distances_bits, resolution_bits, resolutions_bits, structure_bits, Follows, AreLayers, IsDistance, IsTemplate, IsResolution, AreResolutions, IsWellFormed}
+use Rattle.dd_structure.specs.Spelling.{layer_bits, layers_bits, indication_bits, distance_bits, distances_bits, resolution_bits, resolutions_bits, structure_bits, Follows, AreLayers, IsDistance, IsResolution, AreResolutions, IsWellFormed}
 use Rattle.dd_structure.proofs.Found.{code_is, laid, structure_bits-laid}
 use Rattle.dd_structure.proofs.TemplateLemmas.{templates_of-fields, all_indications, all_distances, all_links}
 

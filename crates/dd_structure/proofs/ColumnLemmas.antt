@@ -1,11 +1,11 @@
 -- What the arrays of a structure show.
-use Rattle.std.proofs.Common.{◌≡◌, ℕ, ◌<◌, ◌≤◌, List, length, get_or, take, map, sym, ap, ◌∙◌, arith}
+use Rattle.std.proofs.Common.{◌≡◌, ℕ, ◌<◌, ◌≤◌, List, length, get_or, take, map, ap, ◌∙◌, arith}
 use Rattle.std.proofs.lemmas.List.{length-take, length-map, get_or-map, get_or-take, get_or_default}
 use Rattle.sfu_base.specs.declared.frame.Dti.{Dti}
 use Rattle.dd_structure.specs.declared.layer.Layer.{Layer}
 use Rattle.dd_structure.specs.declared.columns.Columns.{Columns}
 use Rattle.dd_structure.specs.declared.columns.Distances.{Distances}
-use Rattle.dd_structure.specs.TemplateStructure.{Template, TemplateStructure, template_at, layers_of, indications_of, distances_of, links_of}
+use Rattle.dd_structure.specs.TemplateStructure.{Template, template_at, layers_of, indications_of, distances_of, links_of}
 use Rattle.dd_structure.specs.Columns.{distances_in, layer_column, indication_column, distance_column, link_column, structure_of, IsWithin}
 use Rattle.dd_structure.proofs.TemplateLemmas.{AreAligned, layers_of-templates_of, indications_of-templates_of, distances_of-templates_of, links_of-templates_of, length-templates_of, get_or-templates_of}
 

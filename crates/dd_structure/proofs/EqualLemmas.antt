@@ -1,9 +1,8 @@
 -- Structures that are the same have equal counts and columns.
 use Rattle.std.proofs.Common.{◌≡◌, ℕ, ◌<◌, ◌≤◌, List, length, get_or, take, map, sym, ap, ◌∙◌, arith}
 use Rattle.std.proofs.lemmas.List.{get_or-map, length-take}
-use Rattle.dd_structure.specs.declared.layer.Layer.{Layer}
 use Rattle.dd_structure.specs.declared.columns.Columns.{Columns}
-use Rattle.dd_structure.specs.TemplateStructure.{Template, TemplateStructure, layers_of, indications_of, distances_of, links_of}
+use Rattle.dd_structure.specs.TemplateStructure.{TemplateStructure, layers_of, indications_of, distances_of, links_of}
 use Rattle.dd_structure.specs.Columns.{layer_column, indication_column, distance_column, link_column, structure_of, IsWithin, HaveSameCounts, HaveSameFields}
 use Rattle.dd_structure.proofs.ColumnLemmas.{layers-are, indications-are, distances-are, links-are}
 

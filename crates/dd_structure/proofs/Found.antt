@@ -1,11 +1,11 @@
 -- A structure that is read is well formed, and its bits were read.
-use Rattle.std.proofs.Common.{◌≡◌, ℕ, zero, suc, ◌+◌, ◌-◌, ◌≤◌, ◌<◌, ◌^◌, Bool, true, false, cond, ltb, eqb, List, [], ◌∷◌, ◌++◌, length, map, max, Option, Some, None, Result, Ok, Err, refl, sym, ap, subst, ◌∙◌, append_assoc, inl, inr, arith}
+use Rattle.std.proofs.Common.{◌≡◌, ℕ, zero, suc, ◌+◌, ◌-◌, ◌≤◌, ◌<◌, ◌^◌, Bool, true, false, cond, ltb, eqb, List, [], ◌∷◌, ◌++◌, length, Option, Some, None, Result, Ok, Err, refl, sym, ap, subst, ◌∙◌, append_assoc, inl, inr, arith}
 use Rattle.std.specs.List.{flat_map, AllByRecursion}
 use Rattle.std.proofs.lemmas.Bool.{ltb-true, lt-ltb, le-ltb, ne_eqb}
 use Rattle.sfu_base.specs.declared.frame.Dti.{Dti}
 use Rattle.dd_bits.specs.Bits.{bits_of}
 use Rattle.dd_bits.specs.Numbers.{fixed, non_symmetric, non_symmetric_bits}
-use Rattle.dd_bits.specs.Sequences.{◌>>=◌, repeat_at, until_at, or_fault, EachAfter}
+use Rattle.dd_bits.specs.Sequences.{◌>>=◌, repeat_at, until_at, EachAfter}
 use Rattle.dd_bits.proofs.ReadBack.{fixed_found, non_symmetric_found}
 use Rattle.dd_bits.proofs.SequenceLaws.{bind_ok, bind_then, chosen, done, ok_is, some_is, or_fault_ok, Takes, TakesRow, repeat_found, until_found, until_spelled-flat_map, all_from_each_after}
 use Rattle.dd_structure.specs.declared.layer.Layer.{Layer}
@@ -13,7 +13,7 @@ use Rattle.dd_structure.specs.declared.fault.StructureFault.{StructureFault}
 use Rattle.dd_structure.specs.declared.fault.StructureFault.TheVariants as faults
 use Rattle.dd_structure.specs.TemplateStructure.{TemplateStructure, first_layer, templates_of, layers_of, indications_of, distances_of, links_of}
 use Rattle.dd_structure.specs.Reading.{number_at, below_at, layer_after, next_layer_at, layers_at, indication_of, indication_at, next_distance_at, distances_at, guard_count, guards_at, resolution_count, resolution_at, resolutions_at, structure_at, greatest_spatial}
-use Rattle.dd_structure.specs.Spelling.{layer_code, layer_bits, layers_bits, indication_code, indication_bits, distance_bits, distances_bits, resolution_bits, resolutions_bits, head_bits, template_bits, chain_bits, structure_bits, Follows, AreLayers, IsDistance, IsTemplate, IsResolution, AreResolutions, IsWellFormed}
+use Rattle.dd_structure.specs.Spelling.{layer_code, layer_bits, layers_bits, indication_code, indication_bits, distance_bits, distances_bits, resolution_bits, resolutions_bits, head_bits, template_bits, chain_bits, structure_bits, Follows, AreLayers, IsDistance, IsResolution, AreResolutions, IsWellFormed}
 use Rattle.dd_structure.proofs.TemplateLemmas.{AreAligned, layers_of-templates_of, indications_of-templates_of, distances_of-templates_of, links_of-templates_of, templates_are}
 
 -- ---- numbers

@@ -1,11 +1,9 @@
 -- The greatest layers, template by template.
-use Rattle.std.proofs.Common.{◌≡◌, ℕ, zero, suc, ◌+◌, ◌<◌, ◌≤◌, max, take, Bool, true, false, cond, List, [], ◌∷◌, length, drop, map, get_or, Option, Some, None, refl, sym, ap, ◌∙◌, arith}
+use Rattle.std.proofs.Common.{◌≡◌, ℕ, ◌+◌, ◌<◌, max, Bool, true, false, cond, List, [], ◌∷◌, length, drop, get_or, Option, Some, None, refl, sym, ap, ◌∙◌, arith}
 use Rattle.std.specs.List.{filter}
 use Rattle.std.proofs.lemmas.List.{drop_more}
 use Rattle.sfu_base.specs.declared.frame.Wish.{Wish}
-use Rattle.dd_structure.specs.declared.layer.Layer.{Layer}
 use Rattle.dd_structure.specs.TemplateStructure.{Template}
-use Rattle.dd_structure.specs.Reading.{greatest}
 use Rattle.dd_structure.specs.Pair.{joined, layer_where, greatest_of}
 
 joined_assoc : (a b c : Option Wish) → joined (joined a b) c ≡ joined a (joined b c)

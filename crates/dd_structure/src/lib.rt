@@ -21,3 +21,6 @@ pub use fault::StructureFault;
 pub use laws::{structure_reads_back, structures_are_well_formed};
 pub use layer::Layer;
 pub use structure::Structure;
+
+#[cfg(test)]
+mod tests;

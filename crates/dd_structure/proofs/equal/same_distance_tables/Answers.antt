@@ -1,4 +1,4 @@
-use Rattle.std.proofs.Common.{arith, rules}
+use Rattle.std.proofs.Common.{arith}
 use Rattle.dd_structure.specs.Columns.{distances_in}
 use Rattle.dd_structure.proofs.EqualLemmas.{map_differs}
 use Rattle.dd_structure.proofs.equal.same_distance_tables.Goals as goal

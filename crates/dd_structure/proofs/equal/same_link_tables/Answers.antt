@@ -1,4 +1,4 @@
-use Rattle.std.proofs.Common.{take, arith, rules}
+use Rattle.std.proofs.Common.{take, arith}
 use Rattle.dd_structure.proofs.EqualLemmas.{map_differs}
 use Rattle.dd_structure.proofs.equal.same_link_tables.Goals as goal
 

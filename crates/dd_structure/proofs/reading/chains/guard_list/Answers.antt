@@ -1,7 +1,6 @@
-use Rattle.std.proofs.Common.{take, arith, ◌∙◌}
+use Rattle.std.proofs.Common.{arith, ◌∙◌}
 use Rattle.std.proofs.lemmas.List.{length-set}
 use Rattle.std.proofs.lemmas.Result.{err_from_is_err_and}
-use Rattle.dd_bits.specs.Sequences.{repeat_at}
 use Rattle.dd_bits.proofs.ReadingLoops.{repeat_fails, array_more, array_done}
 use Rattle.dd_structure.specs.Reading.{below_at}
 use Rattle.dd_structure.proofs.reading.chains.guard_list.Goals as goal

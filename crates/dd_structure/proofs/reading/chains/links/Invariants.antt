@@ -1,4 +1,4 @@
-use Rattle.std.proofs.Common.{◌≡◌, ◌-◌, length, take, map}
+use Rattle.std.proofs.Common.{◌≡◌, ◌-◌, length, take}
 use Rattle.dd_bits.specs.Reader.{bits_left}
 use Rattle.dd_bits.specs.Sequences.{repeat_at}
 use Rattle.dd_bits.proofs.ReadingLoops.{with_front}

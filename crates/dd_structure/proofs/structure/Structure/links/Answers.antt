@@ -1,4 +1,4 @@
-use Rattle.std.proofs.Common.{◌<◌, sym, arith}
+use Rattle.std.proofs.Common.{◌<◌, sym}
 use Rattle.dd_structure.proofs.ColumnLemmas.{template_count-is, links-at}
 use Rattle.dd_structure.proofs.structure.Structure.links.Goals as goal
 

@@ -2,7 +2,6 @@ use Rattle.std.proofs.Common.{take}
 use Rattle.std.specs.List.{flat_map}
 use Rattle.std.proofs.lemmas.Result.{err_from_is_err_and}
 use Rattle.dd_bits.specs.Bits.{bits_of}
-use Rattle.dd_bits.specs.Numbers.{non_symmetric_bits}
 use Rattle.dd_bits.proofs.WritingLoops.{no_room_at}
 use Rattle.dd_structure.proofs.writing.chains.put_link_table.Goals as goal
 

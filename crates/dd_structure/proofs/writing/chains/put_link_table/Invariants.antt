@@ -1,7 +1,6 @@
 use Rattle.std.proofs.Common.{◌≡◌, ◌++◌, drop, take}
 use Rattle.std.specs.List.{flat_map}
 use Rattle.dd_bits.specs.Bits.{bits_of}
-use Rattle.dd_bits.specs.Numbers.{non_symmetric_bits}
 use Rattle.dd_bits.specs.Writer.{written}
 use Rattle.dd_structure.proofs.writing.chains.put_link_table.Given as goal
 

@@ -1,4 +1,3 @@
-use Rattle.std.proofs.Common.{arith}
 use Rattle.std.proofs.lemmas.Result.{err_from_is_err_and}
 use Rattle.dd_bits.proofs.WritingLoops.{no_room_at, puts_early}
 use Rattle.dd_structure.specs.Spelling.{distance_bits}

@@ -1,10 +1,7 @@
-use Rattle.std.proofs.Common.{◌≡◌, ◌++◌, drop, take}
+use Rattle.std.proofs.Common.{◌≡◌, ◌++◌, drop}
 use Rattle.std.specs.List.{flat_map}
-use Rattle.dd_bits.specs.Bits.{bits_of}
-use Rattle.dd_bits.specs.Numbers.{non_symmetric_bits}
 use Rattle.dd_bits.specs.Writer.{written}
 use Rattle.dd_structure.specs.Spelling.{indication_bits}
-use Rattle.sfu_base.specs.declared.frame.Dti.TheVariants.{NotPresent}
 use Rattle.dd_structure.proofs.writing.indications.put_indications.Given as goal
 
 abbrev pub invariant-loop-indication : goal.invariant-loop-indication
