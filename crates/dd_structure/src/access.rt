@@ -31,7 +31,8 @@ impl Structure {
     /// How many chains there are, at most as many as decode targets.
     pub fn chain_count(&self) -> u8
         ensures value { result ≡ self.now.chain_count }
-        ensures few { result ≤ self.now.target_count }
+        ensures within { result ≤ self.now.target_count }
+        ensures few { result ≤ 32 }
     {
         self.columns.chain_count
     }
