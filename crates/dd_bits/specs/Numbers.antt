@@ -1,0 +1,40 @@
+-- The two kinds of number that stand in bits: f(n) and ns(n).
+-- RTP Payload Format For AV1 v1.0, Appendix A, whose syntax takes f(n) and ns(n) from the AV1 bitstream
+-- specification, sections 4.10.2 and 4.10.7. The code takes the bits of a number from one byte at a time.
+use Rattle.std.specs.Prelude.{ℕ, zero, suc, ◌+◌, ◌-◌, ◌*◌, ◌^◌, Bool, List, length, take, drop, Option, Some, None, nat_lt, if◌then◌else◌}
+use Rattle.dd_bits.specs.Bits.{value, bits_of}
+
+-- f(n): the number in the first n bits, and the bits that are left; none where there are fewer
+unfoldable pub fixed : ℕ → List Bool → Option (ℕ × List Bool)
+fixed n bits = if nat_lt (length bits) n then None else Some (value (take n bits), drop n bits)
+
+-- how many binary digits a number below 2 ^ k has: the least w such that the number is below 2 ^ w
+unfoldable pub digits_below : ℕ → ℕ → ℕ
+digits_below zero n = 0
+digits_below (suc k) n = if nat_lt n (2 ^ k) then digits_below k n else suc k
+
+-- how many binary digits a number of 32 bits has
+abbrev pub digits : ℕ → ℕ
+digits n = digits_below 32 n
+
+-- how many of the numbers below n are spelled with one digit less than n has
+abbrev pub short_forms : ℕ → ℕ
+short_forms n = 2 ^ digits n - n
+
+infixl 10 ◌>>=◌
+abbrev pub ◌>>=◌ : {A B : Type 0} → Option A → (A → Option B) → Option B
+(Some x) >>= f = f x
+None >>= f = None
+
+-- ns(n): a number below n, and the bits that are left; none where there are too few.
+-- The first digits are one less than n has; where they aren't a short form, one more bit follows.
+unfoldable pub non_symmetric : ℕ → List Bool → Option (ℕ × List Bool)
+non_symmetric n bits = do
+  front ← fixed (digits n - 1) bits
+  if nat_lt front.0 (short_forms n) then Some front else (do
+    last ← fixed 1 front.1
+    Some (2 * front.0 - short_forms n + last.0, last.1))
+
+-- the bits of a number below n as ns(n) spells it
+unfoldable pub non_symmetric_bits : ℕ → ℕ → List Bool
+non_symmetric_bits n v = if nat_lt v (short_forms n) then bits_of (digits n - 1) v else bits_of (digits n) (v + short_forms n)

@@ -1,0 +1,54 @@
+-- Grammars that are read from left to right: one part after another, and the first fault ends it.
+-- S is what is read, as a list of bits or of bytes; a part answers its value and what is left, or a fault E.
+-- The code keeps a place in its input and an array or a list that it fills; here each part takes what the one before it left.
+use Rattle.std.specs.Prelude.{◌≡◌, ℕ, zero, suc, Bool, List, [], ◌∷◌, ◌++◌, Option, Some, None, Result, Ok, Err}
+use Rattle.dd_bits.specs.declared.reader.BitReader.{BitReader}
+use Rattle.dd_bits.specs.Reader.{bits_left}
+
+infixl 10 ◌>>=◌
+abbrev pub ◌>>=◌ : {A B E : Type 0} → Result A E → (A → Result B E) → Result B E
+(Ok x) >>= f = f x
+(Err e) >>= f = Err e
+
+-- a value, or this fault where there is none
+abbrev pub or_fault : {A E : Type 0} → E → Option A → Result A E
+or_fault e None = Err e
+or_fault e (Some x) = Ok x
+
+-- ---- so many items, one after another
+
+unfoldable pub repeat_at : {A E S : Type 0} → (S → Result (A × S) E) → ℕ → S → Result (List A × S) E
+repeat_at item zero input = Ok ([], input)
+repeat_at item (suc n) input = do
+  first ← item input
+  others ← repeat_at item n first.1
+  Ok (first.0 ∷ others.0, others.1)
+
+-- ---- items up to a mark that ends them
+
+-- what follows an item, if there is one
+abbrev pub going_on : {A E S : Type 0} → (A → S → Result (List A × S) E) → Option A × S → Result (List A × S) E
+going_on more (None, input) = Ok ([], input)
+going_on more (Some x, input) = more x input >>= λ others. Ok (x ∷ others.0, others.1)
+
+-- items up to a mark, each read after the one before it; one more than there is room for is the fault `full`
+unfoldable pub until_at : {A E S : Type 0} → (A → S → Result (Option A × S) E) → E → ℕ → A → S → Result (List A × S) E
+until_at next full zero before input = next before input >>= going_on (λ x rest. Err full)
+until_at next full (suc room) before input = next before input >>= going_on (until_at next full room)
+
+-- the spelling of such items, each after the one before it, and of the mark
+abbrev pub until_spelled : {A T : Type 0} → (A → A → List T) → List T → A → List A → List T
+until_spelled item mark before [] = mark
+until_spelled item mark before (x ∷ xs) = item before x ++ until_spelled item mark x xs
+
+-- R holds of each item and the one before it
+abbrev pub EachAfter : {A : Type 0} → (A → A → Type 0) → A → List A → Type 0
+EachAfter R before [] = Unit {0}
+EachAfter R before (x ∷ xs) = R before x × EachAfter R x xs
+
+-- ---- what a function over a reader of bits did
+
+-- Its result, seen by view, and the bits that it left are what the grammar gives, or it found the grammar's fault.
+abbrev pub Gives : {X Y E : Type 0} → (X → Y) → Result X E → BitReader → Result (Y × List Bool) E → Type 0
+Gives view (Ok x) new given = given ≡ Ok (view x, bits_left new)
+Gives view (Err e) new given = given ≡ Err e

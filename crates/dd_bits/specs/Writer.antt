@@ -1,0 +1,25 @@
+-- What was written.
+use Rattle.std.specs.Prelude.{◌≡◌, ℕ, ◌+◌, ◌<◌, ◌*◌, Bool, false, List, ◌++◌, length, take, replicate, Result, Ok, Err}
+use Rattle.dd_bits.specs.Bits.{bits_of, bits_of_bytes}
+use Rattle.dd_bits.specs.declared.writer.BitWriter.{BitWriter}
+use Rattle.dd_bits.specs.declared.writer.NoRoom.{NoRoom}
+
+-- the most bits that a writer holds, those of 2,040 bytes (own rule)
+abbrev pub room : ℕ
+room = 8 * 2040
+
+-- the bits that were put so far
+unfoldable pub written : BitWriter → List Bool
+written w = bits_of_bytes (take w.len w.bytes) ++ bits_of w.used w.pending
+
+-- bytes that hold these bits, and zeros up to the end of the last byte
+pub record IsPadded (bits : List Bool) (bytes : List ℕ) : Type 0 where
+  pub zeros : ℕ
+  pub few : zeros < 8
+  pub holds : bits_of_bytes bytes ≡ bits ++ replicate zeros false
+
+-- What a write did: these bits stand last, or they would pass the room.
+-- Where several fields are written one after another, a part of them may then stand, unless a clause says otherwise.
+abbrev pub Puts : Result (Unit {0}) NoRoom → BitWriter → BitWriter → List Bool → Type 0
+Puts (Ok x) old new bits = written new ≡ written old ++ bits
+Puts (Err e) old new bits = room < length (written old) + length bits

@@ -1,0 +1,58 @@
+//! Binary digits of numbers: how many there are, and those at one place.
+
+ghost use Rattle.std.specs.Prelude.{◌≡◌, ◌≤◌, ◌<◌, ◌+◌, ◌-◌, ◌*◌, ◌/◌, ◌%◌, ◌^◌};
+ghost use Rattle.dd_bits.specs.Numbers.{digits, short_forms};
+
+/// How many binary digits a number from 1 to 64 has.
+pub fn digit_count(n: u32) -> u8
+    requires least { 1 ≤ n }
+    requires most { n ≤ 64 }
+    ensures value { result ≡ digits n }
+    ensures some { 1 ≤ result }
+    ensures few { result ≤ 7 }
+{
+    (32 - n.leading_zeros()) as u8
+}
+
+/// How many of the numbers below n are spelled with one digit less than n has.
+pub fn short_form_count(n: u32) -> u32
+    requires least { 1 ≤ n }
+    requires most { n ≤ 64 }
+    ensures value { result ≡ short_forms n }
+    ensures within { result ≤ n }
+    ensures whole { result + n ≡ 2 ^ digits n }
+{
+    (1u32 << digit_count(n)) - n
+}
+
+/// So many digits of a number, where so many lower ones stand behind them.
+pub fn digits_at(number: u32, behind: u8, count: u8) -> u32
+    requires { count ≤ 8 }
+    ensures value { result ≡ number / 2 ^ behind % 2 ^ count }
+    ensures small { result < 2 ^ count }
+{
+    if behind < 32 {
+        (number >> behind) % (1 << count)
+    } else {
+        0
+    }
+}
+
+/// A number with so many more digits behind its own.
+pub fn with_digits(number: u32, count: u8, more: u32) -> u32
+    requires count { count ≤ 8 }
+    requires more { more < 2 ^ count }
+    requires fits { (number + 1) * 2 ^ count ≤ 2 ^ 32 }
+    ensures { result ≡ number * 2 ^ count + more }
+{
+    (number << count) + more
+}
+
+/// The byte that begins with so many digits and goes on with zeros.
+pub fn byte_with(digits: u32, count: u8) -> u8
+    requires count { count ≤ 8 }
+    requires small { digits < 2 ^ count }
+    ensures { result ≡ digits * 2 ^ (8 - count) }
+{
+    (digits << (8 - count)) as u8
+}

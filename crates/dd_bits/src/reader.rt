@@ -1,0 +1,124 @@
+ghost use Rattle.std.specs.Prelude.{◌≡◌, ◌<◌, ◌≤◌, ◌+◌, ◌^◌, length, take, drop, min, Some, None, IfOk, OnErr};
+
+use crate::digits::{digit_count, digits_at, short_form_count, with_digits};
+
+/// Fewer bits are left than the value needs.
+#[derive(Clone, Copy, Debug, PartialEq, Eq)]
+pub struct Short;
+
+/// The bits of a slice that are left to be read, the highest of each byte first.
+#[derive(Clone, Copy)]
+pub struct BitReader<'a> {
+    /// The bytes from the one on that the next bit is in.
+    rest: &'a [u8],
+    /// How many bits of the first of them were read.
+    used: u8,
+    ghost in_byte: { used < 8 },
+}
+
+impl<'a> BitReader<'a> {
+    ghost use Rattle.dd_bits.specs.Bits.{bits_of_bytes, value};
+    ghost use Rattle.dd_bits.specs.Numbers.{fixed, non_symmetric};
+    ghost use Rattle.dd_bits.specs.Reader.{bits_left};
+
+    /// A reader of all bits of the bytes.
+    pub fn new(bytes: &'a [u8]) -> BitReader<'a>
+        ensures { bits_left result ≡ bits_of_bytes bytes.now }
+    {
+        BitReader {
+            rest: bytes,
+            used: 0,
+        }
+    }
+
+    /// How many bits are left, or the greatest `usize` where there are more.
+    pub fn left(&self) -> usize
+        ensures { result ≡ min (length (bits_left self.now)) usize.MAX }
+    {
+        match self.rest {
+            [] => 0,
+            [_, others @ ..] => others
+                .len()
+                .saturating_mul(8)
+                .saturating_add((8 - self.used) as usize),
+        }
+    }
+
+    /// Takes the number in the next n bits, f(n). After `Short` the reader is as before.
+    pub fn bits(&mut self, n: u8) -> Result<u32, Short>
+        requires { n ≤ 32 }
+        ensures read { IfOk result (λ v. fixed n (bits_left self.old) ≡ Some (v, bits_left self.new)) }
+        ensures short { OnErr result (fixed n (bits_left self.old) ≡ None) }
+        ensures unchanged { OnErr result (self.new ≡ self.old) }
+        ensures small { IfOk result (λ v. v < 2 ^ n) }
+    {
+        if self.left() < n as usize {
+            return Err(Short);
+        }
+        Ok(self.take_bits(n))
+    }
+
+    /// Takes the next number below n, ns(n). After `Short` the reader is as before.
+    pub fn ns(&mut self, n: u32) -> Result<u32, Short>
+        requires least { 1 ≤ n }
+        requires most { n ≤ 64 }
+        ensures read { IfOk result (λ v. non_symmetric n (bits_left self.old) ≡ Some (v, bits_left self.new)) }
+        ensures short { OnErr result (non_symmetric n (bits_left self.old) ≡ None) }
+        ensures unchanged { OnErr result (self.new ≡ self.old) }
+        ensures small { IfOk result (λ v. v < n) }
+    {
+        let before = *self;
+        let short_forms = short_form_count(n);
+        let front = self.bits(digit_count(n) - 1)?;
+        if front < short_forms {
+            return Ok(front);
+        }
+        match self.bits(1) {
+            Ok(last) => Ok(2 * front - short_forms + last),
+            Err(short) => {
+                *self = before;
+                Err(short)
+            }
+        }
+    }
+
+    /// Takes n bits, as many of one byte at a time as it has.
+    fn take_bits(&mut self, n: u8) -> u32
+        requires width { n ≤ 32 }
+        requires enough { n ≤ length (bits_left self.old) }
+        ensures number { result ≡ value (take n (bits_left self.old)) }
+        ensures rest { bits_left self.new ≡ drop n (bits_left self.old) }
+    {
+        let mut number = 0;
+        let mut missing = n;
+        while missing > 0 {
+            let count = missing.min(8 - self.used);
+            number = with_digits(number, count, self.take_in_byte(count));
+            missing -= count;
+        }
+        number
+    }
+
+    /// Takes bits that the next byte has.
+    fn take_in_byte(&mut self, count: u8) -> u32
+        requires some { 1 ≤ length (bits_left self.old) }
+        requires in_byte { self.old.used + count ≤ 8 }
+        ensures number { result ≡ value (take count (bits_left self.old)) }
+        ensures small { result < 2 ^ count }
+        ensures rest { bits_left self.new ≡ drop count (bits_left self.old) }
+    {
+        match self.rest {
+            [] => unreachable!(),
+            [first, others @ ..] => {
+                let behind = 8 - self.used - count;
+                if behind == 0 {
+                    self.rest = others;
+                    self.used = 0;
+                } else {
+                    self.used += count;
+                }
+                digits_at(*first as u32, behind, count)
+            }
+        }
+    }
+}

@@ -1,0 +1,121 @@
+ghost use Rattle.std.specs.Prelude.{◌≡◌, ◌<◌, ◌≤◌, ◌+◌, ◌*◌, ◌-◌, ◌/◌, ◌%◌, ◌^◌, [], ◌++◌, length, slice_index, OnErr};
+
+use crate::digits::{byte_with, digit_count, digits_at, short_form_count, with_digits};
+
+/// The bits would pass 2,040 bytes.
+#[derive(Clone, Copy, Debug, PartialEq, Eq)]
+pub struct NoRoom;
+
+/// The most bytes that a writer holds.
+const MOST: usize = 2040;
+
+/// Bits that are put one after another into at most 2,040 bytes, the highest of each byte first.
+#[derive(Clone, Copy)]
+pub struct BitWriter {
+    bytes: [u8; MOST],
+    /// How many bytes are full.
+    len: usize,
+    /// How many bits stand in the byte after these, fewer than 8, and the number that they spell.
+    used: u8,
+    pending: u32,
+    ghost whole: { length bytes ≡ 2040 },
+    ghost in_byte: { used < 8 },
+    ghost within: { 8 * len + used ≤ 16320 },
+    ghost small: { pending < 2 ^ used },
+    ghost shown: { 0 < used → slice_index bytes len ≡ pending * 2 ^ (8 - used) },
+}
+
+impl BitWriter {
+    ghost use Rattle.dd_bits.specs.Bits.{bits_of};
+    ghost use Rattle.dd_bits.specs.Numbers.{non_symmetric_bits};
+    ghost use Rattle.dd_bits.specs.Writer.{room, written, IsPadded, Puts};
+
+    /// A writer in which nothing stands.
+    pub fn new() -> BitWriter
+        ensures { written result ≡ [] }
+    {
+        BitWriter {
+            bytes: [0; MOST],
+            len: 0,
+            used: 0,
+            pending: 0,
+        }
+    }
+
+    /// Puts a number in n bits, f(n). `NoRoom` comes where they would pass 2,040 bytes; the writer is then as before.
+    pub fn put(&mut self, n: u8, value: u32) -> Result<(), NoRoom>
+        requires { value < 2 ^ n }
+        ensures put { Puts result self.old self.new (bits_of n value) }
+        ensures unchanged { OnErr result (self.new ≡ self.old) }
+        ensures within { length (written self.new) ≤ room }
+    {
+        if MOST * 8 < self.len * 8 + self.used as usize + n as usize {
+            return Err(NoRoom);
+        }
+        self.put_bits(n, value);
+        Ok(())
+    }
+
+    /// Puts a number below n as ns(n) spells it. `NoRoom` comes where its bits would pass 2,040 bytes; the writer is then
+    /// as before.
+    pub fn put_ns(&mut self, n: u32, value: u32) -> Result<(), NoRoom>
+        requires most { n ≤ 64 }
+        requires below { value < n }
+        ensures put { Puts result self.old self.new (non_symmetric_bits n value) }
+        ensures unchanged { OnErr result (self.new ≡ self.old) }
+        ensures within { length (written self.new) ≤ room }
+    {
+        let digits = digit_count(n);
+        let short_forms = short_form_count(n);
+        if value < short_forms {
+            self.put(digits - 1, value)
+        } else {
+            self.put(digits, value + short_forms)
+        }
+    }
+
+    /// The bytes that hold the bits, the last with zeros up to its end.
+    pub fn bytes(&self) -> &[u8]
+        ensures { IsPadded (written self.now) result.now }
+    {
+        if self.used == 0 {
+            &self.bytes[..self.len]
+        } else {
+            &self.bytes[..self.len + 1]
+        }
+    }
+
+    /// Puts n bits, as many in one byte at a time as it takes.
+    fn put_bits(&mut self, n: u8, value: u32)
+        requires { length (written self.old) + n ≤ room }
+        ensures { written self.new ≡ written self.old ++ bits_of n value }
+    {
+        let mut missing = n;
+        while missing > 0 {
+            let count = missing.min(8 - self.used);
+            missing -= count;
+            self.put_in_byte(count, digits_at(value, missing, count));
+        }
+    }
+
+    /// Puts bits that the byte after the full ones has room for.
+    fn put_in_byte(&mut self, count: u8, value: u32)
+        requires some { 1 ≤ count }
+        requires in_byte { self.old.used + count ≤ 8 }
+        requires small { value < 2 ^ count }
+        requires room { length (written self.old) + count ≤ room }
+        ensures { written self.new ≡ written self.old ++ bits_of count value }
+    {
+        let used = self.used + count;
+        let pending = with_digits(self.pending, count, value);
+        self.bytes[self.len] = byte_with(pending, used);
+        if used == 8 {
+            self.len += 1;
+            self.used = 0;
+            self.pending = 0;
+        } else {
+            self.used = used;
+            self.pending = pending;
+        }
+    }
+}

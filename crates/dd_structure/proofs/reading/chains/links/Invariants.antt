@@ -1,0 +1,12 @@
+use Rattle.std.proofs.Common.{◌≡◌, ◌-◌, length, take}
+use Rattle.dd_bits.specs.Reader.{bits_left}
+use Rattle.dd_bits.specs.Sequences.{repeat_at}
+use Rattle.dd_bits.proofs.ReadingLoops.{with_front}
+use Rattle.dd_structure.specs.Reading.{number_at}
+use Rattle.dd_structure.proofs.reading.chains.links.Given as goal
+
+abbrev pub invariant-loop-i : goal.invariant-loop-i
+invariant-loop-i l = record {
+  whole : length l.out ≡ 32;
+  reads : with_front (take l.i l.out) (repeat_at (number_at 4) (l.chains - l.i) (bits_left l.bits)) ≡ repeat_at (number_at 4) l.chains (bits_left l.fn.bits);
+}

@@ -1,0 +1,96 @@
+//! The parts of a structure.
+
+ghost use Rattle.std.specs.Prelude.{◌≡◌, ◌<◌, ◌≤◌, length, All};
+ghost use Rattle.dd_structure.specs.Reading.{guard_count};
+ghost use Rattle.dd_structure.specs.Spelling.{IsDistance};
+ghost use Rattle.dd_structure.specs.TemplateStructure.{template_at};
+
+use crate::layer::Layer;
+use crate::reading::chains::guarded_targets;
+use crate::structure::Structure;
+use sfu_base::Dti;
+
+impl Structure {
+    /// The template id of the first template, 0 to 63.
+    pub fn offset(&self) -> u8
+        ensures value { result ≡ self.now.offset }
+        ensures small { result < 64 }
+    {
+        self.columns.offset
+    }
+
+    /// How many decode targets there are, 1 to 32.
+    pub fn target_count(&self) -> u8
+        ensures value { result ≡ self.now.target_count }
+        ensures some { 1 ≤ result }
+        ensures few { result ≤ 32 }
+    {
+        self.columns.target_count
+    }
+
+    /// How many chains there are, at most as many as decode targets.
+    pub fn chain_count(&self) -> u8
+        ensures value { result ≡ self.now.chain_count }
+        ensures within { result ≤ self.now.target_count }
+        ensures few { result ≤ 32 }
+    {
+        self.columns.chain_count
+    }
+
+    /// How many templates there are, 1 to 64.
+    pub fn template_count(&self) -> u8
+        ensures value { result ≡ length self.now.templates }
+        ensures few { result ≤ 64 }
+    {
+        self.columns.template_count
+    }
+
+    /// The layer of a template, by its index from 0.
+    pub fn layer(&self, template: u8) -> Layer
+        requires { template < length self.now.templates }
+        ensures { result ≡ (template_at self.now template).layer }
+    {
+        self.columns.layers[template as usize]
+    }
+
+    /// What a template is to each decode target.
+    pub fn indications(&self, template: u8) -> &[Dti]
+        requires { template < length self.now.templates }
+        ensures value { result.now ≡ (template_at self.now template).indications }
+        ensures len { length result.now ≡ self.now.target_count }
+        ensures few { length result.now ≤ 32 }
+    {
+        let columns = &self.columns;
+        &columns.indications[template as usize][..columns.target_count as usize]
+    }
+
+    /// How many frames back each frame is that a template refers to.
+    pub fn distances(&self, template: u8) -> &[u8]
+        requires { template < length self.now.templates }
+        ensures value { result.now ≡ (template_at self.now template).distances }
+        ensures few { length result.now ≤ 16 }
+    {
+        let distances = &self.columns.distances[template as usize];
+        &distances.items[..distances.count as usize]
+    }
+
+    /// How many frames back a template's previous frame in each chain is, 0 where none is needed.
+    pub fn links(&self, template: u8) -> &[u8]
+        requires { template < length self.now.templates }
+        ensures value { result.now ≡ (template_at self.now template).links }
+        ensures len { length result.now ≡ self.now.chain_count }
+        ensures few { length result.now ≤ 32 }
+    {
+        let columns = &self.columns;
+        &columns.links[template as usize][..columns.chain_count as usize]
+    }
+
+    /// The chain that protects each decode target; none where there are no chains.
+    pub fn guards(&self) -> &[u8]
+        ensures value { result.now ≡ self.now.guards }
+        ensures few { length result.now ≤ 32 }
+    {
+        let columns = &self.columns;
+        &columns.guards[..guarded_targets(columns.chain_count, columns.target_count) as usize]
+    }
+}

@@ -1,0 +1,39 @@
+//! A structure as arrays, one for each kind of field.
+
+ghost use Rattle.std.specs.Prelude.{◌≤◌};
+
+use crate::layer::Layer;
+use sfu_base::Dti;
+
+/// The distances of a template.
+#[derive(Clone, Copy)]
+pub struct Distances {
+    pub count: u8,
+    pub items: [u8; 16],
+    ghost within: { count ≤ 16 },
+}
+
+/// The width and height of each spatial id, from 0 on, where they are told.
+#[derive(Clone, Copy)]
+pub struct Resolutions {
+    pub count: u8,
+    pub items: [(u32, u32); 4],
+    ghost within: { count ≤ 4 },
+}
+
+/// The fields of a structure, of which only the first places count: `template_count` of those that go by template,
+/// `target_count` of those that go by decode target, `chain_count` of those that go by chain.
+#[derive(Clone, Copy)]
+pub struct Columns {
+    pub offset: u8,
+    pub target_count: u8,
+    pub chain_count: u8,
+    pub template_count: u8,
+    pub layers: [Layer; 64],
+    pub indications: [[Dti; 32]; 64],
+    pub distances: [Distances; 64],
+    pub links: [[u8; 32]; 64],
+    /// They count only where there are chains.
+    pub guards: [u8; 32],
+    pub resolutions: Resolutions,
+}

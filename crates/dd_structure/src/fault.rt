@@ -1,0 +1,12 @@
+/// Why bits are no template structure: the first fault from left to right.
+#[derive(Clone, Copy, Debug, PartialEq, Eq)]
+pub enum StructureFault {
+    /// Fewer bits are left than the next field needs.
+    Short,
+    /// A template's spatial id is above 3, or its temporal id above 7.
+    Layer,
+    /// There is a 65th template.
+    Templates,
+    /// A template has a 17th distance.
+    References,
+}

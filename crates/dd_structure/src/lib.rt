@@ -1,0 +1,26 @@
+//! The template structure of an AV1 dependency descriptor, read from bits and written to bits (RTP Payload Format For AV1
+//! v1.0, Appendix A).
+//!
+//! A [`Structure`] says what frames that name one of its templates have in common: the layer, the decode target indications,
+//! the frames that they refer to and the chains' previous frames; and which chain protects each decode target.
+//! Nothing here takes memory.
+#![tactic(auto)]
+
+mod access;
+mod columns;
+mod equal;
+mod fault;
+mod laws;
+mod layer;
+mod pair;
+mod reading;
+mod structure;
+mod writing;
+
+pub use fault::StructureFault;
+pub use laws::{structure_reads_back, structures_are_well_formed};
+pub use layer::Layer;
+pub use structure::Structure;
+
+#[cfg(test)]
+mod tests;

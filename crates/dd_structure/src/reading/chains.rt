@@ -1,0 +1,69 @@
+ghost use Rattle.std.specs.Prelude.{◌≡◌, ◌≤◌, take, map};
+ghost use Rattle.dd_bits.specs.Reader.{bits_left};
+ghost use Rattle.dd_bits.specs.Sequences.{Gives, repeat_at};
+ghost use Rattle.dd_structure.specs.Reading.{number_at, below_at, guard_count, guards_at};
+
+use crate::fault::StructureFault;
+use crate::reading::fields::{below, number};
+use dd_bits::BitReader;
+
+/// How many decode targets are protected by a chain.
+pub fn guarded_targets(chains: u8, targets: u8) -> u8
+    ensures value { result ≡ guard_count chains targets }
+    ensures within { result ≤ targets }
+    ensures none { chains ≡ 0 → result ≡ 0 }
+{
+    if chains == 0 { 0 } else { targets }
+}
+
+fn guard_list(bits: &mut BitReader<'_>, chains: u8, targets: u8) -> Result<[u8; 32], StructureFault>
+    requires targets { targets ≤ 32 }
+    requires chains { chains ≤ 32 }
+    requires none { chains ≡ 0 → targets ≡ 0 }
+    ensures { Gives (λ a. take targets a) result bits.new (repeat_at (below_at chains) targets (bits_left bits.old)) }
+{
+    let mut out = [0; 32];
+    for i in 0..targets {
+        out[i as usize] = below(bits, chains as u32)? as u8;
+    }
+    Ok(out)
+}
+
+/// The chain that protects each decode target.
+#[tactic(auto, unfolding(crate::specs::Reading::guards_at))]
+pub fn guards(bits: &mut BitReader<'_>, chains: u8, targets: u8) -> Result<[u8; 32], StructureFault>
+    requires targets { targets ≤ 32 }
+    requires chains { chains ≤ 32 }
+    ensures { Gives (λ a. take (guard_count chains targets) a) result bits.new (guards_at chains targets (bits_left bits.old)) }
+{
+    guard_list(bits, chains, guarded_targets(chains, targets))
+}
+
+/// A template's links, chain by chain.
+fn links(bits: &mut BitReader<'_>, chains: u8) -> Result<[u8; 32], StructureFault>
+    requires { chains ≤ 32 }
+    ensures { Gives (λ a. take chains a) result bits.new (repeat_at (number_at 4) chains (bits_left bits.old)) }
+{
+    let mut out = [0; 32];
+    for i in 0..chains {
+        out[i as usize] = number(bits, 4)? as u8;
+    }
+    Ok(out)
+}
+
+/// The links of each template.
+pub fn link_table(
+    bits: &mut BitReader<'_>,
+    chains: u8,
+    templates: u8,
+) -> Result<[[u8; 32]; 64], StructureFault>
+    requires chains { chains ≤ 32 }
+    requires templates { templates ≤ 64 }
+    ensures { Gives (λ a. map (take chains) (take templates a)) result bits.new (repeat_at (repeat_at (number_at 4) chains) templates (bits_left bits.old)) }
+{
+    let mut out = [[0; 32]; 64];
+    for i in 0..templates {
+        out[i as usize] = links(bits, chains)?;
+    }
+    Ok(out)
+}

@@ -1,0 +1,32 @@
+ghost use Rattle.std.specs.Prelude.{◌≤◌, ◌<◌, ◌^◌, IfOk};
+ghost use Rattle.dd_bits.specs.Reader.{bits_left};
+ghost use Rattle.dd_bits.specs.Sequences.{Gives};
+ghost use Rattle.dd_structure.specs.Reading.{number_at, below_at};
+
+use crate::fault::StructureFault;
+use dd_bits::BitReader;
+
+/// f(n)
+pub fn number(bits: &mut BitReader<'_>, n: u8) -> Result<u32, StructureFault>
+    requires { n ≤ 32 }
+    ensures read { Gives (λ v. v) result bits.new (number_at n (bits_left bits.old)) }
+    ensures small { IfOk result (λ v. v < 2 ^ n) }
+{
+    match bits.bits(n) {
+        Ok(v) => Ok(v),
+        Err(_) => Err(StructureFault::Short),
+    }
+}
+
+/// ns(n)
+pub fn below(bits: &mut BitReader<'_>, n: u32) -> Result<u32, StructureFault>
+    requires least { 1 ≤ n }
+    requires most { n ≤ 64 }
+    ensures read { Gives (λ v. v) result bits.new (below_at n (bits_left bits.old)) }
+    ensures small { IfOk result (λ v. v < n) }
+{
+    match bits.ns(n) {
+        Ok(v) => Ok(v),
+        Err(_) => Err(StructureFault::Short),
+    }
+}

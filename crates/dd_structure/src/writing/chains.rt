@@ -1,0 +1,41 @@
+ghost use Rattle.std.specs.Prelude.{◌<◌, ◌≤◌, ◌^◌, take, All};
+ghost use Rattle.std.specs.List.{flat_map};
+ghost use Rattle.dd_bits.specs.Bits.{bits_of};
+ghost use Rattle.dd_bits.specs.Numbers.{non_symmetric_bits};
+ghost use Rattle.dd_bits.specs.Writer.{Puts};
+
+use dd_bits::{BitWriter, NoRoom};
+
+/// The chain that protects each decode target.
+pub fn put_guards(out: &mut BitWriter, chains: u8, guards: &[u8]) -> Result<(), NoRoom>
+    requires chains { chains ≤ 64 }
+    requires below { All (λ g. g < chains) guards.now }
+    ensures { Puts result out.old out.new (flat_map (non_symmetric_bits chains) guards.now) }
+{
+    for guard in guards {
+        out.put_ns(chains as u32, *guard as u32)?;
+    }
+    Ok(())
+}
+
+fn put_links(out: &mut BitWriter, row: &[u8]) -> Result<(), NoRoom>
+    requires { All (λ l. l < 2 ^ 4) row.now }
+    ensures { Puts result out.old out.new (flat_map (bits_of 4) row.now) }
+{
+    for link in row {
+        out.put(4, *link as u32)?;
+    }
+    Ok(())
+}
+
+/// The links of each template.
+pub fn put_link_table(out: &mut BitWriter, chains: usize, rows: &[[u8; 32]]) -> Result<(), NoRoom>
+    requires chains { chains ≤ 32 }
+    requires small { All (λ row. All (λ l. l < 2 ^ 4) (take chains row)) rows.now }
+    ensures { Puts result out.old out.new (flat_map (λ row. flat_map (bits_of 4) (take chains row)) rows.now) }
+{
+    for row in rows {
+        put_links(out, &row[..chains])?;
+    }
+    Ok(())
+}
