@@ -3,3 +3,4 @@ pub mod Passing
 pub mod Taking
 pub mod Refusing
 pub mod Serving
+pub mod HandingOut

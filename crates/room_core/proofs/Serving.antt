@@ -49,5 +49,6 @@ done_as_served noted may_refuse old new seat call given does fed notes unchanged
   refusals = refuses_exactly noted old call given [] (λ history stands. (does []).answered (accepted history) stands.content_is);
   unchanged = unchanged;
   memory = λ starved. let both : false ≡ true = sym fed ∙ starved in cc;
+  last = λ history stands starved. let both : false ≡ true = sym fed ∙ starved in cc;
   recorder = same;
 }

@@ -1,5 +1,5 @@
 -- The history of a room, and what it answers after it. Own rule. The code keeps no history.
-use Rattle.std.specs.Prelude.{ℕ, Bool, if◌then◌else◌, List, [], ◌∷◌, fold}
+use Rattle.std.specs.Prelude.{ℕ, Bool, true, false, if◌then◌else◌, List, [], ◌∷◌, fold}
 use Rattle.std.specs.List.{flat_map}
 use Rattle.sfu_base.specs.Answer.{Answer, Done, Sent, Refused}
 use Rattle.sfu_base.specs.declared.call.Call.{Call}
@@ -11,6 +11,12 @@ pub record Entry : Type 0 where
   pub seat : ℕ
   pub call : Call
   pub starved : Bool
+
+-- whether an answer is other than a refusal
+abbrev pub is_accepted : Answer → Bool
+is_accepted (Refused why) = false
+is_accepted Done = true
+is_accepted (Sent bytes) = true
 
 -- the accepted calls after one more was answered so: a refused one isn't among them
 abbrev pub after : Answer → Call → List Call → List Call

@@ -2,6 +2,7 @@ pub mod Live
 pub mod Outgoing
 pub mod Replies
 pub mod History
+pub mod HandedOut
 pub mod Noted
 pub mod Queue
 pub mod Content

@@ -12,7 +12,7 @@ use Rattle.room_core.specs.Noted.{Noted}
 use Rattle.room_core.specs.Live.{newest, following}
 use Rattle.room_core.specs.Outgoing.{taken, outgoing_list}
 use Rattle.room_core.specs.Replies.{is_not_built}
-use Rattle.room_core.specs.History.{Entry, accepted, reply_of, kept}
+use Rattle.room_core.specs.History.{Entry, accepted, is_accepted, reply_of, kept}
 use Rattle.room_core.specs.Content.{IsAfter}
 
 -- The room stands for this history: its content is where the accepted calls leave it, and its recorder, where it tells them, has the
@@ -61,9 +61,19 @@ abbrev pub OnRefused : Reply → Type 0 → Type 0
 OnRefused (Refused why) fact = fact
 OnRefused reply fact = Unit {0}
 
+-- whether the room's recorder may refuse a call for want of memory
+abbrev pub recorder_may_refuse : {R : Type 0} → (R → Bool) → Room R → Bool
+recorder_may_refuse may_refuse room = may_refuse room.recorder
+
 -- Want of memory is answered only to a call that takes memory, or where the recorder may refuse.
 abbrev pub MemoryHasCause : {R : Type 0} → (R → Bool) → Room R → Call → Reply → Type 0
-MemoryHasCause may_refuse room call reply = IsTrue (is_starved reply) → TakesMemory call ⊎ IsTrue (may_refuse room.recorder)
+MemoryHasCause may_refuse room call reply = IsTrue (is_starved reply) → TakesMemory call ⊎ IsTrue (recorder_may_refuse may_refuse room)
+
+-- Want of memory is the last refusal: whatever history the room stood for, it is answered only to a call that the history accepts, or
+-- where the recorder may refuse.
+abbrev pub MemoryIsLast : {R : Type 0} → (R → Option (List Noted)) → (R → Bool) → Room R → Call → Reply → Type 0
+MemoryIsLast noted may_refuse room call reply = (history : List Entry) → Stands noted room history → IsTrue (is_starved reply)
+    → IsTrue (is_accepted (reply_of history call)) ⊎ IsTrue (recorder_may_refuse may_refuse room)
 
 -- What a room's own method does and answers: what `serve` does for the call of its name, whatever stands in the scratch.
 pub record DoesAsServe {R : Type 0} (noted : R → Option (List Noted)) (may_refuse : R → Bool) (old new : Room R) (seat : ℕ) (call : Call) (reply : Reply) : Type 0 where
@@ -71,4 +81,5 @@ pub record DoesAsServe {R : Type 0} (noted : R → Option (List Noted)) (may_ref
   pub refusals : RefusesExactly noted old call reply
   pub unchanged : OnRefused reply (IsUnchanged old new)
   pub memory : MemoryHasCause may_refuse old call reply
-  pub recorder : may_refuse new.recorder ≡ may_refuse old.recorder
+  pub last : MemoryIsLast noted may_refuse old call reply
+  pub recorder : recorder_may_refuse may_refuse new ≡ recorder_may_refuse may_refuse old

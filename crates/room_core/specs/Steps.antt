@@ -48,6 +48,11 @@ pub record Takes (old new : Subscriber) (found : Bool) (before bytes : List ℕ)
 abbrev pub accepts : Content → ℕ → Bool
 accepts content track = is_track track (option_map published_by content.track) && not (is_some content.subscriber)
 
+-- a call that wants memory: a join that is accepted
+abbrev pub WantsMemory : Content → Call → Type 0
+WantsMemory content (Join subscriber track ssrc first wish) = accepts content track ≡ true
+WantsMemory content call = ⊥
+
 -- a subscriber with nothing queued
 pub record IsFresh (s : Subscriber) (number ssrc first : ℕ) : Type 0 where
   pub number_is : s.number ≡ number

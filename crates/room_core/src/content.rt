@@ -4,7 +4,7 @@ ghost use Rattle.std.specs.Option.{option_map};
 ghost use Rattle.sfu_base.specs.Answer.{is_starved};
 ghost use Rattle.room_core.specs.Live.{is_track};
 ghost use Rattle.room_core.specs.Content.{Does, IsAfter, published_by};
-ghost use Rattle.room_core.specs.Steps.{IsReady};
+ghost use Rattle.room_core.specs.Steps.{IsReady, WantsMemory};
 ghost use Rattle.room_core.specs.Serves.{OnRefused, TakesMemory};
 ghost use Rattle.sfu_base.specs.declared.call.Kind.{Kind};
 ghost use Rattle.sfu_base.specs.declared.frame.Wish.{Wish};
@@ -39,6 +39,7 @@ impl Content {
     pub fn prepare(&self, alloc: Global, call: &Call) -> Result<Option<Subscriber>, NoMemory>
         ensures ready { IfOk result (IsReady self.now call.now) }
         ensures memory { OnErr result (TakesMemory call.now) }
+        ensures wanted { OnErr result (WantsMemory self.now call.now) }
     {
         let Call::Join {
             subscriber,

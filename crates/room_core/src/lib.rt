@@ -5,19 +5,25 @@
 #![tactic(auto)]
 
 mod content;
+mod laws;
 mod packet_queue;
 mod recorder;
 mod subscriber;
+#[cfg(test)]
+mod tests;
 mod track;
 
 use content::Content;
+pub use laws::takes_hand_out_the_first_packets;
 pub use recorder::{KeepNone, Recorder};
 use sfu_base::{Call, Kind, PacketBuf, Refusal, Reply, Scratch, Wish};
 use std::alloc::Global;
 
 /// A room with what its recorder keeps of the calls. `publish` begins a track, `join` a subscriber; `packet` brings a packet of the track,
-/// which goes out to the subscriber, and `take` hands out the oldest one that waits. Moments are milliseconds. A refused call changes
-/// nothing but what the recorder keeps.
+/// which goes out to the subscriber where fewer than 512 wait, and `take` hands out the oldest one that waits. Moments are milliseconds.
+///
+/// A call is refused by the first of these that stands, and then changes nothing but what the recorder keeps: `NotBuilt`, `OutOfOrder`,
+/// `Empty`, `NoMemory`. Over a recorder that refuses nothing only `join` may want memory. All of it is an own rule.
 #[derive(Drop)]
 pub struct Room<R: Recorder> {
     alloc: Global,
@@ -29,14 +35,15 @@ impl<R: Recorder> Room<R> {
     ghost use Rattle.std.specs.Prelude.{◌≡◌, ◌≢◌, [], List, ℕ, IfSome};
     ghost use Rattle.room_core.specs.Noted.{Noted};
     ghost use Rattle.room_core.specs.History.{Entry, kept};
-    ghost use Rattle.room_core.specs.Serves.{DoesAsServe, IsUnchanged, MemoryHasCause, OnRefused, RefusesExactly, Serves, Stands};
+    ghost use Rattle.room_core.specs.Serves.{DoesAsServe, IsUnchanged, MemoryHasCause, MemoryIsLast, OnRefused, RefusesExactly, Serves, Stands, recorder_may_refuse};
     ghost use Rattle.sfu_base.specs.declared.call.Call.TheVariants.{Publish, Packet, Join, Take};
     ghost use Rattle.sfu_base.specs.declared.call.Reply.TheVariants as reply;
 
-    /// A room on which no call was made.
+    /// A room on which no call was made. The recorder has kept nothing yet. It takes no memory.
     pub fn new(alloc: Global, recorder: R) -> Room<R>
         requires { IfSome (R.noted recorder) (λ notes. notes ≡ []) }
-        ensures { Stands R.noted result [] }
+        ensures stands { Stands R.noted result [] }
+        ensures recorder { recorder_may_refuse R.may_refuse result ≡ R.may_refuse recorder }
     {
         Room {
             alloc,
@@ -45,13 +52,15 @@ impl<R: Recorder> Room<R> {
         }
     }
 
-    /// Serves one call of a seat. A `Packet` leaves its bytes in `scratch.packet`; no other reply changes the scratch.
+    /// Serves one call of a seat, the one entry to the room. A `Packet` leaves its bytes in `scratch.packet`; no other reply changes the
+    /// scratch.
     pub fn serve(&mut self, seat: u32, call: &Call, scratch: &mut Scratch) -> Reply
         ensures serves { Serves R.noted self.old self.new seat call.now result scratch.new.packet }
         ensures refusals { RefusesExactly R.noted self.old call.now result }
         ensures unchanged { OnRefused result (IsUnchanged self.old self.new) }
         ensures memory { MemoryHasCause R.may_refuse self.old call.now result }
-        ensures recorder { R.may_refuse self.new.recorder ≡ R.may_refuse self.old.recorder }
+        ensures last { MemoryIsLast R.noted R.may_refuse self.old call.now result }
+        ensures recorder { recorder_may_refuse R.may_refuse self.new ≡ recorder_may_refuse R.may_refuse self.old }
         ensures names { scratch.new.names ≡ scratch.old.names }
         ensures packet { result ≢ reply.Packet → scratch.new.packet ≡ scratch.old.packet }
     {
@@ -64,7 +73,7 @@ impl<R: Recorder> Room<R> {
         }
     }
 
-    /// Begins a track, as [`Call::Publish`] does.
+    /// Begins a track, as [`Call::Publish`] does. `NotBuilt`: there is one already.
     pub fn publish(&mut self, seat: u32, track: u32, kind: Kind, ssrc: u32, hold: u32) -> Reply
         ensures { DoesAsServe R.noted R.may_refuse self.old self.new seat (Publish track kind ssrc hold) result }
     {
@@ -80,7 +89,9 @@ impl<R: Recorder> Room<R> {
         }
     }
 
-    /// Brings a packet, as [`Call::Packet`] does. The recorder is shown a copy.
+    /// Brings a packet, as [`Call::Packet`] does. The recorder is shown a copy. `NotBuilt`: the track isn't the one that was published, the
+    /// bytes aren't 12 to 1,500, the first isn't 80 in hex, or the SSRC isn't the track's. `OutOfOrder`: its sequence number doesn't follow
+    /// the last one's.
     pub fn packet(&mut self, seat: u32, track: u32, moment: u64, bytes: &PacketBuf) -> Reply
         ensures { DoesAsServe R.noted R.may_refuse self.old self.new seat (Packet track moment bytes.now) result }
     {
@@ -97,7 +108,8 @@ impl<R: Recorder> Room<R> {
         }
     }
 
-    /// Begins a subscriber, as [`Call::Join`] does.
+    /// Begins a subscriber, as [`Call::Join`] does. `NotBuilt`: the track isn't the one that was published, or there is a subscriber
+    /// already. `NoMemory`: none was found for its queue.
     pub fn join(
         &mut self,
         seat: u32,
@@ -125,22 +137,25 @@ impl<R: Recorder> Room<R> {
         }
     }
 
-    /// Asks for the oldest packet that waits, as [`Call::Take`] does.
+    /// Hands out the oldest packet that waits, as [`Call::Take`] does: `Packet`, with its bytes in `scratch.packet`. `NotBuilt`: the
+    /// subscriber isn't the one that joined. `Empty`: none waits.
     pub fn take(&mut self, seat: u32, subscriber: u32, scratch: &mut Scratch) -> Reply
         ensures serves { Serves R.noted self.old self.new seat (Take subscriber) result scratch.new.packet }
         ensures refusals { RefusesExactly R.noted self.old (Take subscriber) result }
         ensures unchanged { OnRefused result (IsUnchanged self.old self.new) }
         ensures memory { MemoryHasCause R.may_refuse self.old (Take subscriber) result }
-        ensures recorder { R.may_refuse self.new.recorder ≡ R.may_refuse self.old.recorder }
+        ensures last { MemoryIsLast R.noted R.may_refuse self.old (Take subscriber) result }
+        ensures recorder { recorder_may_refuse R.may_refuse self.new ≡ recorder_may_refuse R.may_refuse self.old }
         ensures names { scratch.new.names ≡ scratch.old.names }
         ensures packet { result ≢ reply.Packet → scratch.new.packet ≡ scratch.old.packet }
     {
         self.serve(seat, &Call::Take { subscriber }, scratch)
     }
 
-    /// What the recorder kept.
+    /// The recorder, with what it kept.
     pub fn into_recorder(self) -> R
-        ensures { (history : List Entry) → Stands R.noted self history → IfSome (R.noted result) (λ notes. notes ≡ kept history) }
+        ensures kept { (history : List Entry) → Stands R.noted self history → IfSome (R.noted result) (λ notes. notes ≡ kept history) }
+        ensures recorder { R.may_refuse result ≡ recorder_may_refuse R.may_refuse self }
     {
         let Room {
             alloc: _,

@@ -4,7 +4,7 @@ ghost use Rattle.room_core.specs.Noted.{Noted, Notes};
 
 use sfu_base::{Call, NoMemory};
 
-/// Keeps the seats and calls of a room, or nothing.
+/// Keeps the seats and calls of a room, or nothing. Own rule.
 pub trait Recorder: Drop {
     /// Whether a call may be refused for want of memory.
     ghost may_refuse: { Self → Bool };
@@ -12,7 +12,7 @@ pub trait Recorder: Drop {
     /// The seats and calls that were noted, the oldest first, where it tells them.
     ghost noted: { Self → Option (List Noted) };
 
-    /// Puts a seat and its call last. After `NoMemory` all is as before.
+    /// Puts a seat and its call last in what is kept. After `NoMemory` all is as before.
     fn note(&mut self, seat: u32, call: &Call) -> Result<(), NoMemory>
         ensures ok { OnOk result (Notes (noted self.old) (noted self.new) seat call.now) }
         ensures err { OnErr result (noted self.new ≡ noted self.old) }

@@ -9,10 +9,10 @@ pub enum Kind {
     Plain,
 }
 
-/// A call on a room. Tracks and subscribers are named by numbers that the caller chooses.
+/// A call on a room. Own rule. Tracks and subscribers are named by numbers that the caller chooses.
 #[derive(Drop)]
 pub enum Call {
-    /// A track begins: its packets have this SSRC; `hold` is how long a gap is waited for, in milliseconds.
+    /// A track begins: its packets have this SSRC; `hold` is how long a gap in their sequence numbers is waited for, in milliseconds.
     Publish {
         track: u32,
         kind: Kind,
@@ -25,7 +25,8 @@ pub enum Call {
         moment: u64,
         bytes: PacketBuf,
     },
-    /// A subscriber of the track begins: what goes out to it has this SSRC and sequence numbers from `first` on.
+    /// A subscriber of the track begins: what goes out to it has this SSRC and sequence numbers from `first` on; `wish` bounds the
+    /// layers of a layered track.
     Join {
         subscriber: u32,
         track: u32,
@@ -54,20 +55,20 @@ pub enum RtpFault {
     Padding,
 }
 
-/// Why a call was refused. A refused call changes nothing.
+/// Why a call was refused. Own rule. A refused call changes nothing.
 #[derive(Clone, Copy, Debug, PartialEq, Eq)]
 pub enum Refusal {
     /// What was asked for isn't built yet.
     NotBuilt,
-    /// The packet isn't the track's next one: its sequence number isn't `next`.
+    /// The packet isn't the track's next one: its sequence number isn't `next`, the one that follows the track's last.
     OutOfOrder { next: u16 },
     /// Nothing is queued.
     Empty,
-    /// Want of memory.
+    /// Want of memory: the one refusal that the calls before don't determine.
     NoMemory,
 }
 
-/// The reply to a call.
+/// The reply to a call. Own rule.
 #[derive(Clone, Copy, Debug, PartialEq, Eq)]
 pub enum Reply {
     /// The call was done.
@@ -78,9 +79,11 @@ pub enum Reply {
     Refused(Refusal),
 }
 
-/// Where a call leaves the bytes and the numbers of its reply.
+/// Where a call leaves the bytes and the numbers of its reply. Made once and used for many calls.
 #[derive(Drop)]
 pub struct Scratch {
+    /// The bytes of a packet.
     pub packet: PacketBuf,
+    /// Sequence numbers.
     pub names: SeqList,
 }

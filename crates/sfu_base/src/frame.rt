@@ -58,30 +58,32 @@ pub struct FrameMeaning {
     pub refs: [u16; 16],
 }
 
-/// Why a frame was or wasn't sent to a subscriber. Own rule; numbers are unwrapped frame numbers.
+/// Why a frame was or wasn't passed on to a subscriber. Own rule; numbers are unwrapped frame numbers.
 #[derive(Clone, Copy, Debug, PartialEq, Eq)]
 pub enum Verdict {
-    /// The frame was sent.
+    /// The frame was passed on: its packets were queued.
     Passed,
     /// The frame isn't present in the subscriber's target, or there is none.
     NotOfTarget { target: Option<u8> },
-    /// A reference, `fdiff` back, lies before the epoch's start.
+    /// A reference, `fdiff` frame numbers back, lies before the epoch, which began at frame `start`.
     Behind { fdiff: u16, start: u64 },
-    /// The frame that it refers to wasn't sent.
+    /// A frame that it refers to wasn't passed on.
     Reference { number: u64 },
-    /// The queue had `queued` packets and the frame has `needed`.
+    /// The queue had too little room: `queued` packets were in it, and the frame has `needed`.
     Full { queued: u16, needed: u16 },
-    /// The chain was broken at frame `at`: frame `number` wasn't sent.
+    /// The target's chain was broken at frame `at`: its previous frame `number` wasn't passed on.
     Link { at: u64, number: u64 },
     /// No target has been open since frame `since`.
     Unopened { since: u64 },
-    /// No whole frame of this number came; the nearest frames that did.
+    /// No whole frame of this number came since the subscriber joined; the nearest numbers that did, on either side.
     Hole { below: Option<u64>, above: u64 },
 }
 
 /// One step of the path from a withheld frame to its root cause.
 #[derive(Clone, Copy, Debug, PartialEq, Eq)]
 pub struct Step {
+    /// Frame number, without the wrap at 65,536.
     pub number: u64,
+    /// Why that frame was or wasn't passed on.
     pub verdict: Verdict,
 }

@@ -1,5 +1,5 @@
 // A source and a sink in memory that never fail: their count of faults is the constant 0.
-ghost use Rattle.std.specs.Prelude.{◌≡◌, ◌≤◌, ◌<◌, ◌++◌, [], None, Some, length, take, drop, vec_len};
+ghost use Rattle.std.specs.Prelude.{◌≡◌, ◌≤◌, ◌<◌, ◌++◌, ◌-◌, [], None, Some, length, min, take, drop, vec_len};
 
 use crate::{Failed, Sink, Source};
 
@@ -31,11 +31,12 @@ impl Source for CalmSource {
     }
 }
 
-// Copies what fits of the bytes from the place on, and moves the place behind it.
+// Copies as many of the bytes from the place on as fit, moves the place behind them, and answers how many they are.
 pub fn give(bytes: &[u8], place: &mut usize, buf: &mut [u8]) -> usize
     requires { place.old ≤ length bytes.now }
     ensures bound { result ≤ length buf.new }
     ensures within { place.new ≤ length bytes.now }
+    ensures full { result ≡ min (length buf.new) (length bytes.now - place.old) }
     ensures given { drop place.old bytes.now ≡ take result buf.new ++ drop place.new bytes.now }
     ensures end { result ≡ 0 → 0 < length buf.new → drop place.new bytes.now ≡ [] }
 {
