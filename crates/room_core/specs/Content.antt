@@ -12,12 +12,15 @@ use Rattle.room_core.specs.Outgoing.{taken, outgoing_list}
 use Rattle.room_core.specs.Replies.{answer}
 use Rattle.room_core.specs.History.{after}
 
+-- what the history tells of a track
 abbrev pub published_by : Track → Published
 published_by track = record { number = track.number; ssrc = track.ssrc }
 
+-- what the history tells of a subscriber
 abbrev pub joined_by : Subscriber → Joined
 joined_by subscriber = record { number = subscriber.number; ssrc = subscriber.ssrc; first = subscriber.first }
 
+-- the sequence number of the track's last packet
 abbrev pub last_of : Option Track → Option ℕ
 last_of None = None
 last_of (Some track) = track.last
@@ -33,6 +36,7 @@ pub record IsIdle (past : List Call) : Type 0 where
   pub outgoing : outgoing_list past ≡ []
   pub taken : taken past ≡ 0
 
+-- what waits for the subscriber, where there is one
 abbrev pub QueuesFor : List Call → Option Subscriber → Type 0
 QueuesFor past None = IsIdle past
 QueuesFor past (Some s) = IsRest s.first (taken past) (outgoing_list past) s.queue s.next

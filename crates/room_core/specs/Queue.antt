@@ -1,6 +1,5 @@
 -- What a subscriber's queue does.
-use Rattle.std.specs.Prelude.{◌≡◌, Bool, true, false, List, Option, None, Some}
-use Rattle.std.specs.Prelude.{ℕ}
+use Rattle.std.specs.Prelude.{◌≡◌, ℕ, Bool, true, false, List, Option, None, Some}
 
 -- The oldest packet was handed out, or there was none and what stood in the buffer stays.
 abbrev pub HandsOut : Option (List ℕ) → Bool → List ℕ → List ℕ → Type 0

@@ -9,7 +9,7 @@ use Rattle.rtp_packet.specs.Fields.{sequence_of, ssrc_of}
 use Rattle.room_core.specs.Live.{Published, published, joined, newest, following, is_track, is_subscriber}
 use Rattle.room_core.specs.Outgoing.{taken, outgoing_list}
 
--- 12 to 1,500 bytes whose first says version 2, no padding, no extension and no CSRC words (RFC 3550, section 5.1)
+-- 12 to 1,500 bytes (own rule) whose first says version 2, no padding, no extension and no CSRC words (RFC 3550, section 5.1)
 abbrev pub is_plain_packet : List ℕ → Bool
 is_plain_packet bytes = nat_le 12 (length bytes) && nat_le (length bytes) 1500 && slice_index bytes 0 == 128
 
