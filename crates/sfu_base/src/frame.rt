@@ -30,7 +30,7 @@ pub struct FrameMeaning {
     pub number: u64,
     /// Frame number of the key frame that began the epoch.
     pub start: u64,
-    /// How many epochs began before, counted from the publisher's first key frame.
+    /// How many epochs have begun, this one included: a key frame begins one, the publisher's first the first.
     pub epoch: u64,
     /// Spatial id, 0 to 3.
     pub spatial: u8,
