@@ -1,0 +1,5 @@
+pub mod Padding
+pub mod OwnStructure
+pub mod Again
+pub mod Items
+pub mod Found

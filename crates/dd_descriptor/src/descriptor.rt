@@ -1,0 +1,45 @@
+use dd_structure::Structure;
+use sfu_base::Dti;
+
+/// Which parts of a frame's definition are its own and not its template's.
+#[derive(Clone, Copy, Debug, PartialEq, Eq)]
+pub struct Custom {
+    /// The decode target indications.
+    pub dtis: bool,
+    /// The distances to the frames that it refers to.
+    pub fdiffs: bool,
+    /// The distances to the chains' previous frames.
+    pub chains: bool,
+}
+
+/// What the dependency descriptor of a packet says. Of the arrays only the first places count: as many as the structure that holds has
+/// decode targets and chains, and `ref_count`.
+#[derive(Drop)]
+pub struct Descriptor {
+    /// Whether the packet is the first of its frame.
+    pub start: bool,
+    /// Whether the packet is the last of its frame.
+    pub end: bool,
+    /// The template id as it stands in the descriptor, 0 to 63.
+    pub template: u8,
+    /// The frame number modulo 65,536.
+    pub number: u16,
+    /// The structure that the descriptor carries.
+    pub structure: Option<Structure>,
+    /// The active decode targets: bit i, the lowest first, is target i. A structure that is carried without a mask makes
+    /// all its targets active.
+    pub mask: Option<u32>,
+    /// Spatial id, 0 to 3.
+    pub spatial: u8,
+    /// Temporal id, 0 to 7.
+    pub temporal: u8,
+    pub custom: Custom,
+    /// The frame's indication for each decode target.
+    pub dtis: [Dti; 32],
+    /// How many frames this one refers to, at most 16.
+    pub ref_count: u8,
+    /// How many frames back each of them is, 1 to 4,096.
+    pub refs: [u16; 16],
+    /// How many frames back each chain's previous frame is, 0 where none is needed.
+    pub links: [u8; 32],
+}
