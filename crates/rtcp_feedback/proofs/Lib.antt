@@ -1,0 +1,5 @@
+pub mod Marks
+pub mod Cutting
+pub mod Spelled
+pub mod Found
+pub mod Datagrams

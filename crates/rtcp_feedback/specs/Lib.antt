@@ -1,0 +1,6 @@
+pub mod Fields
+pub mod Names
+pub mod Faults
+pub mod Reading
+pub mod Datagram
+pub mod Seen
