@@ -3,3 +3,8 @@ pub mod Cutting
 pub mod Spelled
 pub mod Found
 pub mod Datagrams
+pub mod Rising
+pub mod Spreading
+pub mod Rule
+pub mod Written
+pub mod OneRule

@@ -2,7 +2,7 @@
 use Rattle.std.proofs.Common.{◌≡◌, ◌<◌, ◌≤◌, ℕ, zero, suc, ◌+◌, ◌*◌, ◌/◌, ◌%◌, ◌^◌, ◌==◌, Bool, true, false, cond, List, [], ◌∷◌, ◌++◌, length, map, filter, drop, refl, sym, ap, ◌∙◌, arith}
 use Rattle.std.proofs.Math.Nat.{pow-suc}
 use Rattle.std.proofs.lemmas.Nat.{shr-shr}
-use Rattle.std.specs.List.{flat_map, range_with_len}
+use Rattle.std.specs.List.{flat_map, range_with_len, Contains}
 use Rattle.byteorder.specs.Endian.{big_number}
 use Rattle.rtcp_feedback.specs.Names.{Pair, named, pairs_in, names_in}
 use Rattle.rtcp_feedback.specs.Reading.{nacks, feedback_of}
@@ -19,7 +19,7 @@ pub first_marked : (n x b : ℕ) → marked (suc n) x b ≡ cond (b % 2 == 1) (x
 unfolding marked
 first_marked n x b = refl
 
-half : (n b : ℕ) → b < 2 ^ suc n → b / 2 < 2 ^ n
+pub half : (n b : ℕ) → b < 2 ^ suc n → b / 2 < 2 ^ n
 half n b small = omega (arith, pow-suc 2 n)
 
 -- a bit past the highest that is set names nothing
@@ -75,21 +75,85 @@ at_places (suc n) a x m =
     chosen true f a r s e = ap (λ (z : List ℕ). f a ∷ z) e
     chosen false f a r s e = e
 
+-- the names of a pair behind PID are those of its bits
+pub named_marked : (x m : ℕ) → named (record { first = x; bits = m }) ≡ x ∷ marked 16 ((x + 1) % 65536) m
+named_marked x m =
+    let from_0 : (x + 0 + 1) % 65536 ≡ (x + 1) % 65536 = omega arith in
+    let whole : m / 2 ^ 0 ≡ m = omega arith in
+    ap (λ (r : List ℕ). x ∷ r) (sym (at_places 16 0 x m)
+    ∙ ap (marked 16 ((x + 0 + 1) % 65536)) whole
+    ∙ ap (λ (r : ℕ). marked 16 r m) from_0)
+
 -- the bits of a pair, with one below them for PID
 pub pair_named : (x m : ℕ) → m < 2 ^ 16 → named (record { first = x; bits = m }) ≡ marked 32 x (2 * m + 1)
 pair_named x m small =
     let y = (x + 1) % 65536 in
     let is_set : (2 * m + 1) % 2 ≡ 1 = omega arith in
     let halved : (2 * m + 1) / 2 ≡ m = omega arith in
-    let from_0 : (x + 0 + 1) % 65536 ≡ y = omega arith in
-    let whole : m / 2 ^ 0 ≡ m = omega arith in
-    sym (first_marked 31 x (2 * m + 1)
+    named_marked x m
+    ∙ sym (first_marked 31 x (2 * m + 1)
     ∙ ap (λ (r : ℕ). cond (r == 1) (x ∷ marked 31 y ((2 * m + 1) / 2)) (marked 31 y ((2 * m + 1) / 2))) is_set
     ∙ ap (λ (r : ℕ). x ∷ marked 31 y r) halved
-    ∙ ap (λ (r : List ℕ). x ∷ r) (fewer 15 y m small
-    ∙ ap (λ (r : ℕ). marked 16 r m) (sym from_0)
-    ∙ ap (marked 16 ((x + 0 + 1) % 65536)) (sym whole)
-    ∙ at_places 16 0 x m))
+    ∙ ap (λ (r : List ℕ). x ∷ r) (fewer 15 y m small))
+
+-- one more bit, above those that are set, names one more number
+pushed : (t : Bool) (x z : ℕ) (r : List ℕ) → cond t (x ∷ (r ++ z ∷ [])) (r ++ z ∷ []) ≡ cond t (x ∷ r) r ++ z ∷ []
+pushed true x z r = refl
+pushed false x z r = refl
+
+marked_more : (k n x b : ℕ) → k < n → b < 2 ^ k → x < 65536 → marked n x (b + 2 ^ k) ≡ marked n x b ++ ((x + k) % 65536) ∷ []
+marked_more k zero x b place small fits = absurd (omega arith)
+marked_more zero (suc n) x b place small fits =
+    let none : b ≡ 0 = omega arith in
+    let here : x ≡ (x + 0) % 65536 = omega arith in
+    ap (λ (r : ℕ). marked (suc n) x (r + 1)) none
+    ∙ first_marked n x 1
+    ∙ ap (λ (r : List ℕ). x ∷ r) (none_marked n ((x + 1) % 65536))
+    ∙ ap (λ (r : ℕ). r ∷ []) here
+    ∙ ap (λ (r : List ℕ). r ++ ((x + 0) % 65536) ∷ []) (sym (none_marked (suc n) x))
+    ∙ ap (λ (r : ℕ). marked (suc n) x r ++ ((x + 0) % 65536) ∷ []) (sym none)
+marked_more (suc k) (suc n) x b place small fits =
+    let y = (x + 1) % 65536 in
+    let low : (b + 2 ^ suc k) % 2 ≡ b % 2 = omega (arith, pow-suc 2 k) in
+    let high : (b + 2 ^ suc k) / 2 ≡ b / 2 + 2 ^ k = omega (arith, pow-suc 2 k) in
+    let there : (y + k) % 65536 ≡ (x + suc k) % 65536 = omega arith in
+    first_marked n x (b + 2 ^ suc k)
+    ∙ ap (λ (r : ℕ). cond (r == 1) (x ∷ marked n y ((b + 2 ^ suc k) / 2)) (marked n y ((b + 2 ^ suc k) / 2))) low
+    ∙ ap (λ (r : ℕ). cond (b % 2 == 1) (x ∷ marked n y r) (marked n y r)) high
+    ∙ ap (λ (r : List ℕ). cond (b % 2 == 1) (x ∷ r) r) (marked_more k n y (b / 2) (omega arith) (half k b small) (omega arith)
+    ∙ ap (λ (r : ℕ). marked n y (b / 2) ++ r ∷ []) there)
+    ∙ pushed (b % 2 == 1) x ((x + suc k) % 65536) (marked n y (b / 2))
+    ∙ ap (λ (r : List ℕ). r ++ ((x + suc k) % 65536) ∷ []) (sym (first_marked n x b))
+
+pub named_more : (x b k : ℕ) → k < 16 → b < 2 ^ k
+    → named (record { first = x; bits = b + 2 ^ k }) ≡ named (record { first = x; bits = b }) ++ ((x + (k + 1)) % 65536) ∷ []
+named_more x b k place small =
+    let y = (x + 1) % 65536 in
+    let there : (y + k) % 65536 ≡ (x + (k + 1)) % 65536 = omega arith in
+    named_marked x (b + 2 ^ k)
+    ∙ ap (λ (r : List ℕ). x ∷ r) (marked_more k 16 y b place small (omega arith) ∙ ap (λ (r : ℕ). marked 16 y b ++ r ∷ []) there)
+    ∙ ap (λ (r : List ℕ). r ++ ((x + (k + 1)) % 65536) ∷ []) (sym (named_marked x b))
+
+pub named_alone : (x : ℕ) → named (record { first = x; bits = 0 }) ≡ x ∷ []
+named_alone x = named_marked x 0 ∙ ap (λ (r : List ℕ). x ∷ r) (none_marked 16 ((x + 1) % 65536))
+
+-- each number that is marked lies within the bits
+abbrev IsAbove : ℕ → ℕ → ℕ → Type 0
+IsAbove n x y = (k : ℕ) × (k < n) × (y ≡ (x + k) % 65536)
+
+one_above : (n x y : ℕ) → IsAbove n ((x + 1) % 65536) y → IsAbove (suc n) x y
+one_above n x y at = (suc at.0, omega (arith, at.1), at.2 ∙ omega arith)
+
+within_by_bit : (t : Bool) (n x y : ℕ) (r : List ℕ) → x < 65536 → (Contains r y → IsAbove n ((x + 1) % 65536) y) → Contains (cond t (x ∷ r) r) y → IsAbove (suc n) x y
+within_by_bit false n x y r fits later rest = one_above n x y (later rest)
+within_by_bit true n x y r fits later (zero, within, e) = (0, omega arith, sym e ∙ omega arith)
+within_by_bit true n x y r fits later (suc k, within, e) = one_above n x y (later (k, omega (arith, within), e))
+
+pub marked_within : (n x b y : ℕ) → x < 65536 → Contains (marked n x b) y → (k : ℕ) × (k < n) × (y ≡ (x + k) % 65536)
+unfolding marked
+marked_within zero x b y fits has = absurd (omega (arith, has.1))
+marked_within (suc n) x b y fits has =
+    within_by_bit (b % 2 == 1) n x y (marked n ((x + 1) % 65536) (b / 2)) fits (marked_within n ((x + 1) % 65536) (b / 2) y (omega arith)) has
 
 -- the pair that bytes begin with
 pub first_pair : (xs : List ℕ) → 4 ≤ length xs

@@ -4,3 +4,5 @@ pub mod Faults
 pub mod Reading
 pub mod Datagram
 pub mod Seen
+pub mod Writing
+pub mod Ahead

@@ -2,7 +2,7 @@
 
 ghost use Rattle.std.specs.Prelude.{◌≡◌, ◌+◌, ◌*◌, ◌<◌, ◌≤◌, ◌||◌, length, drop, None, Some, IfOk, IfErr};
 ghost use Rattle.rtcp_feedback.specs.Faults.{packet_fault};
-ghost use Rattle.rtcp_feedback.specs.Fields.{is_nack, is_padded, is_pli, length_of, padding_of};
+ghost use Rattle.rtcp_feedback.specs.Fields.{is_nack, is_padded, is_pli, length_of, media_of, padding_of};
 ghost use Rattle.rtcp_feedback.specs.Reading.{packet_feedback};
 ghost use Rattle.rtcp_feedback.specs.Seen.{body_feedback, body_length};
 
@@ -72,11 +72,11 @@ pub(crate) fn split_packet<'a>(bytes: &'a [u8]) -> (Body<'a>, &'a [u8])
     let behind = &bytes[length..];
     if is_nack(bytes) {
         let end = length - padding(bytes);
-        let media = BigEndian::read_u32(&bytes[8..]);
+        let media = media(bytes);
         let pairs = &bytes[SOURCES..end];
         (Body::Nack { media, pairs }, behind)
     } else if is_pli(bytes) {
-        let media = BigEndian::read_u32(&bytes[8..]);
+        let media = media(bytes);
         (Body::Pli { media }, behind)
     } else {
         (Body::Other, behind)
@@ -110,6 +110,14 @@ fn padding(bytes: &[u8]) -> usize
     } else {
         0
     }
+}
+
+/// The SSRC of the media source of the packet at the front.
+fn media(bytes: &[u8]) -> u32
+    requires { 12 ≤ length bytes.now }
+    ensures { result ≡ media_of bytes.now }
+{
+    BigEndian::read_u32(&bytes[8..])
 }
 
 /// Whether the packet at the front is a generic NACK.
