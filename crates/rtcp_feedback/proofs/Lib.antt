@@ -1,0 +1,10 @@
+pub mod Marks
+pub mod Cutting
+pub mod Spelled
+pub mod Found
+pub mod Datagrams
+pub mod Rising
+pub mod Spreading
+pub mod Rule
+pub mod Written
+pub mod OneRule

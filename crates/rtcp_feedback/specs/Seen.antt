@@ -1,0 +1,36 @@
+-- What is left to an iterator over a datagram's feedback.
+use Rattle.std.specs.Prelude.{ℕ, zero, suc, ◌+◌, ◌/◌, ◌%◌, ◌==◌, if◌then◌else◌, List, [], ◌∷◌, ◌++◌, length}
+use Rattle.rtcp_feedback.specs.declared.feedback.Feedback.{Feedback}
+use Rattle.rtcp_feedback.specs.declared.feedback.Feedback.TheVariants.{Pli}
+use Rattle.rtcp_feedback.specs.declared.names.Names.{Names}
+use Rattle.rtcp_feedback.specs.declared.packet.Body.{Body}
+use Rattle.rtcp_feedback.specs.declared.packet.Body.TheVariants.{Nack as NackBody, Pli as PliBody, Other as OtherBody}
+use Rattle.rtcp_feedback.specs.declared.place.Place.{Place}
+use Rattle.rtcp_feedback.specs.Names.{names_in}
+use Rattle.rtcp_feedback.specs.Reading.{nacks, feedback_of}
+
+-- the numbers from `next` on, modulo 65,536, whose bits are set, the lowest bit being that of `next`: so many at most
+unfoldable pub marked : ℕ → ℕ → ℕ → List ℕ
+marked zero next bits = []
+marked (suc n) next bits =
+    if bits % 2 == 1 then next ∷ marked n ((next + 1) % 65536) (bits / 2) else marked n ((next + 1) % 65536) (bits / 2)
+
+-- the names of a pair that are left
+abbrev pub names_left : Names → List ℕ
+names_left names = marked 32 names.next names.bits
+
+-- the feedback of a packet
+abbrev pub body_feedback : Body → List Feedback
+body_feedback (NackBody media pairs) = nacks media (names_in pairs.now)
+body_feedback (PliBody media) = Pli media ∷ []
+body_feedback OtherBody = []
+
+-- how many bytes of a packet its pairs take
+abbrev pub body_length : Body → ℕ
+body_length (NackBody media pairs) = length pairs.now
+body_length (PliBody media) = 0
+body_length OtherBody = 0
+
+-- those of the pair at hand, then those of the NACK's other pairs, then the feedback of the packets behind it
+abbrev pub feedback_left : Place → List Feedback
+feedback_left p = nacks p.media (names_left p.names) ++ (nacks p.media (names_in p.pairs.now) ++ feedback_of p.packets.now)

@@ -1,0 +1,22 @@
+//! RTCP feedback: generic NACKs and picture loss indications (RFC 4585), read and written. No call takes memory.
+#![tactic(auto)]
+
+mod fault;
+mod feedback;
+mod laws;
+mod names;
+mod packet;
+mod place;
+mod reader;
+#[cfg(test)]
+mod tests;
+mod writers;
+
+pub use fault::RtcpFault;
+pub use feedback::Feedback;
+pub use laws::{
+    a_datagram_has_one_reading, each_faultless_datagram_is_in_the_grammar,
+    the_rule_makes_the_fewest_pairs, what_is_written_reads_back,
+};
+pub use reader::{Feedbacks, read};
+pub use writers::{write_nack, write_pli};

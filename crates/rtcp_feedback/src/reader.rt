@@ -1,0 +1,79 @@
+// The feedback of a datagram.
+
+ghost use Rattle.std.specs.Prelude.{◌≡◌, None, Some, IfOk, IfErr};
+ghost use Rattle.rtcp_feedback.specs.Datagram.{IsDatagram};
+ghost use Rattle.rtcp_feedback.specs.Faults.{first_fault};
+ghost use Rattle.rtcp_feedback.specs.Reading.{feedback_of};
+
+use crate::fault::RtcpFault;
+use crate::feedback::Feedback;
+use crate::names::Names;
+use crate::packet::checked_length;
+use crate::place::{Place, first_item};
+use std::marker::Model;
+
+/// An iterator over the feedback of a datagram, seen as the list of what is left of it.
+#[derive(Drop)]
+pub struct Feedbacks<'a> {
+    place: Place<'a>,
+}
+
+impl<'a> Model for Feedbacks<'a> {
+    ghost use Rattle.std.specs.Prelude.{◌≡◌, List, None};
+    ghost use Rattle.rtcp_feedback.specs.declared.feedback.Feedback.{Feedback};
+    ghost use Rattle.rtcp_feedback.specs.Faults.{fault_among, packets_in};
+    ghost use Rattle.rtcp_feedback.specs.Seen.{feedback_left};
+
+    ghost Value = { List Feedback };
+
+    ghost view = { λ f. feedback_left f.place };
+
+    ghost invariant = { λ f. fault_among (packets_in f.place.packets.now) ≡ None };
+}
+
+impl<'a> Iterator for Feedbacks<'a> {
+    ghost use Rattle.std.specs.Iterator.{YieldsFirst, item_count};
+
+    type Item = Feedback;
+
+    ghost next_gives = { YieldsFirst (λ left. left) };
+
+    ghost remaining = { item_count (λ left. left) };
+
+    fn next(&mut self) -> Option<Feedback> {
+        match first_item(self.place) {
+            Some((item, place)) => {
+                self.place = place;
+                Some(item)
+            }
+            None => None,
+        }
+    }
+}
+
+/// Reads a datagram (RFC 3550, section 6.1): the feedback of its packets, in order (RFC 4585, sections 6.2.1 and 6.3.1).
+/// Packets of other types and formats are stepped over, and the first may be of any type (own rule). A datagram in which
+/// a packet has a fault gives no feedback at all.
+pub fn read<'a>(bytes: &'a [u8]) -> Result<Feedbacks<'a>, RtcpFault>
+    ensures items { IfOk result (λ items. items ≡ feedback_of bytes.now) }
+    ensures grammar { IfOk result (λ items. IsDatagram bytes.now items) }
+    ensures ok { IfOk result (λ _. first_fault bytes.now ≡ None) }
+    ensures fault { IfErr result (λ e. first_fault bytes.now ≡ Some e) }
+{
+    if bytes.is_empty() {
+        return Err(RtcpFault::Short);
+    }
+    let mut rest = bytes;
+    while !rest.is_empty() {
+        let length = checked_length(rest)?;
+        rest = &rest[length..];
+    }
+    let names = Names { next: 0, bits: 0 };
+    let place = Place {
+        names,
+        media: 0,
+        pairs: &[],
+        packets: bytes,
+    };
+    Ok(Feedbacks { place })
+}
