@@ -1,4 +1,4 @@
--- The laws of forwarding, over every timeline. S is the type of template dependency structures.
+-- The laws of forwarding, over every timeline: own statements. S is the type of template dependency structures.
 use Rattle.std.specs.Prelude.{◌≡◌, ◌≢◌, ◌+◌, ◌≤◌, ℕ, List, ◌∷◌, ◌++◌, Bool, true, map, length}
 use Rattle.std.specs.List.{AllByRecursion}
 use Rattle.std.specs.declared.option.Option.TheVariants.{None, Some}

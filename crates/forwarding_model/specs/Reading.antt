@@ -1,6 +1,7 @@
 -- What a packet says: its dependency descriptor and its payload's flags.
--- AV1 RTP payload format, Appendix A (dependency descriptor) and the aggregation header. How bits are read is told by a `Format`, which
--- the crates of those grammars give; here stand the rules over what was read. The structure rule is this project's own.
+-- AV1 RTP payload format, Appendix A (dependency descriptor) and section 4.4 (aggregation header). How bits are read is told by a
+-- `Format`, which the crates of those grammars give; here stand the rules over what was read. The structure rule is this project's own.
+-- The code reads bytes; here a packet's rest is what a reader answers for.
 -- S is the type of template dependency structures.
 use Rattle.std.specs.Prelude.{◌≡◌, ◌≢◌, ◌<◌, ◌≤◌, ◌^◌, ℕ, List, Bool, true, false, if◌then◌else◌, ◌==◌, ◌&&◌, ◌||◌, slice_index, take}
 use Rattle.std.specs.declared.option.Option.{Option}
@@ -45,7 +46,8 @@ pub record Layout : Type 0 where
   pub chain_count : ℕ
   pub guards : List ℕ
 
--- How the packets of a track are read, given its extension id. All of it looks at a packet's rest, and at nothing that a forwarder changes.
+-- How the packets of a track are read, given its extension id. All of it looks at a packet's rest, and not at its sequence number, SSRC
+-- and marker.
 pub record Format (S : Type 0) : Type 0 where
   -- the descriptor in the first header extension element of the track's id, with the structure in force; faulty where there is none
   pub descriptor : Option S → List ℕ → DescriptorReading S

@@ -1,5 +1,6 @@
 -- What the packets of a whole frame guarantee to whoever reads them.
--- AV1 RTP payload format with Appendix A. Own statement: a frame is whole under the structure that it was read by.
+-- AV1 RTP payload format, section 4.4 and Appendix A. Own statement: a frame is whole under the structure that it was read by. The code
+-- doesn't compute it; it is what laws say of the frames that come out of a track's packets.
 use Rattle.std.specs.Prelude.{◌≡◌, ◌⊎◌, ◌+◌, ◌%◌, ◌<◌, ℕ, List, [], ◌∷◌, Bool, true, false, map}
 use Rattle.std.specs.List.{AllByRecursion}
 use Rattle.std.specs.declared.option.Option.{Option}
