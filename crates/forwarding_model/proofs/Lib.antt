@@ -21,4 +21,5 @@ pub mod Outgoings
 pub mod Histories
 pub mod Rows
 pub mod WorkedPackets
+pub mod WorkedFormats
 pub mod Links

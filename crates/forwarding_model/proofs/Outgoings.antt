@@ -13,7 +13,7 @@ use Rattle.forwarding_model.specs.Timeline.Event.{WholeFrame, PlainPacket, WishC
 use Rattle.forwarding_model.specs.Standing.{Standing, passes_at, candidate_at, plain_passes, admitted, after_plain, standing}
 use Rattle.forwarding_model.specs.Outgoing.{Sender, Subscriber, marked, is_top_layer, send_marked, forwarded, numbered, outgoing, queue, kept, next_packet, resent, AreConsecutive, FindPackets, KeepsCount}
 use Rattle.forwarding_model.specs.Reading.{Format}
-use Rattle.forwarding_model.specs.WholeFrames.{AreWhole, KeepsWhole}
+use Rattle.forwarding_model.specs.WholeFrames.{AreWhole, IsWholeFrame, IsSentWhole, KeepsWhole}
 use Rattle.forwarding_model.proofs.StrictReceiver.{numbered-append}
 
 -- ---- the marker rule
@@ -28,9 +28,12 @@ length-marked is_last [] = refl
 length-marked is_last (p ∷ []) = refl
 length-marked is_last (p ∷ q ∷ ps) = ap suc (length-marked is_last (q ∷ ps))
 
-pub marked_keeps_whole : {S : Type 0} (format : Format S) → KeepsWhole format send_marked
-marked_keeps_whole format frame target whole =
+pub marked_sent_whole : {S : Type 0} (format : Format S) (frame : Frame S) → IsWholeFrame format frame → IsSentWhole format send_marked frame
+marked_sent_whole format frame whole target =
     subst (AreWhole format frame.structure frame.meaning) (sym (rests-marked (is_top_layer frame.meaning target) frame.packets)) whole
+
+pub marked_keeps_whole : {S : Type 0} (format : Format S) → KeepsWhole format send_marked
+marked_keeps_whole format frame valid read whole = marked_sent_whole format frame whole
 
 pub marked_keeps_count : {S : Type 0} (frame : Frame S) (target : CurrentTarget) → length (send_marked frame target) ≡ length frame.packets
 marked_keeps_count frame target = length-marked (is_top_layer frame.meaning target) frame.packets

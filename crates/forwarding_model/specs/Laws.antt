@@ -21,15 +21,16 @@ use Rattle.forwarding_model.specs.Reading.{Format, IsFormat}
 use Rattle.forwarding_model.specs.Cuts.{Part, Mark, Run, parts_of, cut_of, IsWholeCut, EndsIn}
 use Rattle.forwarding_model.specs.Frames.{Item, frames_after, frames_since}
 use Rattle.forwarding_model.specs.Receiver.{complaint}
-use Rattle.forwarding_model.specs.WholeFrames.{KeepsWhole, IsTrack, IsLayered}
+use Rattle.forwarding_model.specs.WholeFrames.{IsWholeFrame, IsReadFrame, IsSentWhole, KeepsWhole, IsTrack, IsLayered}
 use Rattle.forwarding_model.specs.History.{Entry, subscriber_of, timeline}
 
 -- ---- the headline
 
--- a strict receiver of what goes out, and of each prefix of it, has no complaint
+-- where each frame is sent whole, a strict receiver of what goes out, and of each prefix of it, has no complaint
 abbrev pub NeverComplains : Type 0 → Type 0
 NeverComplains S = (format : Format S) (send : Sender S) (subscriber : Subscriber) (events : List (Event S)) (sent queued : List Packet)
-    → KeepsWhole format send → IsLayered events → IsTrack format (frames_of events) → sent ++ queued ≡ outgoing send subscriber events
+    → AllByRecursion (IsSentWhole format send) (frames_of events) → IsLayered events → IsTrack format (frames_of events)
+    → sent ++ queued ≡ outgoing send subscriber events
     → complaint format (map Some sent) ≡ None
 
 -- each frame that passed is decodable in the passed frames of its epoch
@@ -68,6 +69,12 @@ PathsTellCauses S = (wish : Wish) (events : List (Event S)) (n : ℕ) → TellsC
 abbrev pub TakenNeverComplains : Type 0 → Type 0
 TakenNeverComplains S = (format : Format S) (send : Sender S) (number : ℕ) (history : List Entry) (subscriber : Subscriber) → IsFormat format → KeepsWhole format send
     → complaint format (map Some (taken send subscriber (timeline format send number history))) ≡ None
+
+-- nor has one of what goes out to it, or of a prefix of that
+abbrev pub OutgoingNeverComplains : Type 0 → Type 0
+OutgoingNeverComplains S = (format : Format S) (send : Sender S) (number : ℕ) (history : List Entry) (subscriber : Subscriber) (sent queued : List Packet)
+    → IsFormat format → KeepsWhole format send → sent ++ queued ≡ outgoing send subscriber (timeline format send number history)
+    → complaint format (map Some sent) ≡ None
 
 -- and the path of each frame that was withheld from it ends at a root
 abbrev pub EndsAtRootInHistories : Type 0 → Type 0
@@ -108,7 +115,11 @@ TakesFindPackets S = (format : Format S) (send : Sender S) (number : ℕ) (histo
 
 -- setting the marker of a frame's last packet changes nothing of what is read, nor how many packets there are
 abbrev pub MarkingKeepsWhole : Type 0 → Type 0
-MarkingKeepsWhole S = (format : Format S) → KeepsWhole format send_marked
+MarkingKeepsWhole S = (format : Format S) (frame : Frame S) → IsWholeFrame format frame → IsSentWhole format send_marked frame
+
+-- so that it is a sender of which the laws over histories hold
+abbrev pub MarkingIsASender : Type 0 → Type 0
+MarkingIsASender S = (format : Format S) → KeepsWhole format send_marked
 
 abbrev pub MarkingKeepsCount : Type 0 → Type 0
 MarkingKeepsCount S = (frame : Frame S) (target : CurrentTarget) → length (send_marked frame target) ≡ length frame.packets
@@ -118,6 +129,10 @@ MarkingKeepsCount S = (frame : Frame S) (target : CurrentTarget) → length (sen
 -- the frames that come out of items are one track's frames, each whole
 abbrev pub FramesAreTrack : Type 0 → Type 0
 FramesAreTrack S = (format : Format S) (items : List Item) → IsFormat format → IsTrack format (frames_after format items)
+
+-- and what each means is told by a structure that was carried
+abbrev pub FramesAreRead : Type 0 → Type 0
+FramesAreRead S = (format : Format S) (items : List Item) → IsFormat format → AllByRecursion (IsReadFrame format) (frames_after format items)
 
 -- the frames of items that came after others are added in front
 abbrev pub FramesAreAdded : Type 0 → Type 0

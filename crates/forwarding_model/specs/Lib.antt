@@ -16,5 +16,6 @@ pub mod Receiver
 pub mod WholeFrames
 pub mod History
 pub mod Rows
+pub mod WorkedFormat
 pub mod WorkedPackets
 pub mod Laws

@@ -1,16 +1,12 @@
 -- Worked packets: small lists of packets whose frames, and whose complaints at a strict receiver, were worked out by hand. They compute.
--- They are read by a format of their own, in which a packet's rest is a list of numbers: start and end bit, frame number, whether a
--- structure is carried, the mask plus one or 0 for none, the payload (0 and 1 for Z and Y each, or 2 for none), and the distances.
-use Rattle.std.specs.Prelude.{◌≡◌, ◌+◌, ◌-◌, ℕ, List, [], ◌∷◌, false, if◌then◌else◌, ◌==◌, map, length}
+-- They are read by the format of `WorkedFormat`.
+use Rattle.std.specs.Prelude.{◌≡◌, ◌+◌, ℕ, List, [], ◌∷◌, false, map, length}
 use Rattle.std.specs.declared.option.Option.{Option}
 use Rattle.std.specs.declared.option.Option.TheVariants.{None, Some}
-use Rattle.sfu_base.specs.declared.frame.Dti.TheVariants.{Switch}
 use Rattle.forwarding_model.specs.declared.complaint.Complaint.{Complaint}
 use Rattle.sfu_base.specs.declared.frame.Verdict.TheVariants.{Passed, Reference, Hole}
 use Rattle.forwarding_model.specs.Timeline.{Event, Frame, Packet}
-use Rattle.forwarding_model.specs.Reading.{DescriptorReading, Format, Layout, Payload}
-use Rattle.forwarding_model.specs.Reading.DescriptorReading.{NeedsStructure, Faulty, Reads}
-use Rattle.forwarding_model.specs.Reading.Payload.{Empty, Broken, Elements}
+use Rattle.forwarding_model.specs.WorkedFormat.{worked_format}
 use Rattle.forwarding_model.specs.Frames.{Item, frames_after}
 use Rattle.forwarding_model.specs.Frames.Item.{Missing, Arrived}
 use Rattle.forwarding_model.specs.Causes.{cause}
@@ -19,41 +15,6 @@ use Rattle.forwarding_model.specs.History.{Entry, timeline}
 use Rattle.forwarding_model.specs.History.Entry.{Released, Joined, Asked}
 use Rattle.forwarding_model.specs.Receiver.{complaint, frames_accepted, packets_accepted}
 use Rattle.forwarding_model.specs.Receiver.Receiver.{Waiting}
-
--- structures are told apart by a number; each has two decode targets, of the layers (1, 0) and (0, 0), and no chain
-abbrev pub worked_layout : ℕ → Layout
-worked_layout s = record { target_count = 2; pairs = Some (record { spatial = 1; temporal = 0 }) ∷ Some (record { spatial = 0; temporal = 0 }) ∷ []; chain_count = 0; guards = [] }
-
-abbrev pub reads_as : (start end number : ℕ) → Option ℕ → (mask : ℕ) → List ℕ → DescriptorReading ℕ
-reads_as start end number structure mask refs =
-    Reads (record {
-      start = start == 1;
-      end = end == 1;
-      number = number;
-      structure = structure;
-      mask = if mask == 0 then None else Some (mask - 1);
-      spatial = 0;
-      temporal = 0;
-      dtis = Switch ∷ Switch ∷ [];
-      ref_count = length refs;
-      refs = refs;
-      links = [];
-    })
-
-abbrev pub worked_descriptor : Option ℕ → List ℕ → DescriptorReading ℕ
-worked_descriptor None (start ∷ end ∷ number ∷ carried ∷ mask ∷ z ∷ y ∷ refs) =
-    if carried == 0 then NeedsStructure else reads_as start end number (Some carried) mask refs
-worked_descriptor (Some force) (start ∷ end ∷ number ∷ carried ∷ mask ∷ z ∷ y ∷ refs) =
-    reads_as start end number (if carried == 0 then None else Some carried) mask refs
-worked_descriptor force rest = Faulty
-
-abbrev pub worked_payload : List ℕ → Payload
-worked_payload (start ∷ end ∷ number ∷ carried ∷ mask ∷ z ∷ y ∷ refs) =
-    if z == 2 then Empty else Elements (record { continues = z == 1; carries = y == 1 })
-worked_payload rest = Broken
-
-abbrev pub worked_format : Format ℕ
-worked_format = record { descriptor = worked_descriptor; payload = worked_payload; same = λ s t. s == t; layout = worked_layout }
 
 abbrev pub sent_as : ℕ → List ℕ → Packet
 sent_as sequence_number rest = record { sequence_number = sequence_number; ssrc = 1; marker = false; rest = rest }

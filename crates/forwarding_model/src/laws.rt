@@ -1,17 +1,20 @@
 // The laws of forwarding: each is the contract of a function that does nothing. A crate above takes a law by a call of its function, or
 // by naming the lemma of `proofs/` that proves it. `Structure` is the type of template dependency structures.
 
-ghost use Rattle.forwarding_model.specs.Laws.{NeverComplains, AreDecodable, RestartsAtOnce, RestartsLater, EndsAtRoot, EndsAtRootUnpassed, PathsTellCauses, TakenNeverComplains, EndsAtRootInHistories, AreNumberedInOrder, OnlyGrows, ResendsFirstBytes, ResendsKept, QueuesTheRest, TakesFindPackets, MarkingKeepsWhole, MarkingKeepsCount, FramesAreTrack, FramesAreAdded, NewestAreTrack, EndedRunsAreWhole, WholeCutsAreFound, AimIsBest, OpeningIsBest, PassedWherePasses, PassesLinked, PassesWherePassed, KeepAlike, OpenAlike, PassAlike, JudgeAlike};
+ghost use Rattle.forwarding_model.specs.Laws.{NeverComplains, AreDecodable, RestartsAtOnce, RestartsLater, EndsAtRoot, EndsAtRootUnpassed, PathsTellCauses, TakenNeverComplains, OutgoingNeverComplains, EndsAtRootInHistories, AreNumberedInOrder, OnlyGrows, ResendsFirstBytes, ResendsKept, QueuesTheRest, TakesFindPackets, MarkingKeepsWhole, MarkingIsASender, MarkingKeepsCount, FramesAreTrack, FramesAreRead, FramesAreAdded, NewestAreTrack, EndedRunsAreWhole, WholeCutsAreFound, AimIsBest, OpeningIsBest, PassedWherePasses, PassesLinked, PassesWherePassed, KeepAlike, OpenAlike, PassAlike, JudgeAlike};
+ghost use Rattle.forwarding_model.specs.Reading.{IsFormat};
+ghost use Rattle.forwarding_model.specs.WorkedFormat.{worked_format};
 ghost use Rattle.forwarding_model.specs.Rows.{BrokenChainCauses, BrokenChainNumbers, UpperLostCauses, UpperLostMarkers, MaskMarkers, WishCauses, WishMarkers, WishCauseUnpassed, FullCauses, FullTakenCauses, LateJoinCauses, BehindCause, HoldCauses, PlainResend};
 ghost use Rattle.forwarding_model.specs.WorkedPackets.{HistoryNumbers, HistoryTaken, HistoryCauses, PaddedFrame, TornFrame, EarlyStart, WrappedNumbers, StaleNumber, NewMask, OtherStructure, Accepted, AcceptedCounts, NotRtp, OtherSource, RepeatedNumber, WrappedSequence, LacksKeyFrame, EmptyPayload, LacksStart, SecondStart, BrokenJoin, LacksReference, LostReference};
 
 // ---- the headline
 
 /// A strict receiver of the packets that go out to a subscriber of a layered track, and of each prefix of them, has no complaint. In
-/// whatever history of a track, it has none of what a subscriber has taken.
+/// whatever history of a track, it has none of those, nor of what a subscriber has taken.
 pub fn strict_receiver_never_complains<Structure>()
     ensures prefix { NeverComplains Structure }
-    ensures history { TakenNeverComplains Structure }
+    ensures history { OutgoingNeverComplains Structure }
+    ensures taken { TakenNeverComplains Structure }
 {}
 
 /// Each frame that passed is decodable in the passed frames of its epoch.
@@ -61,14 +64,16 @@ pub fn queued_packets_are_those_not_taken<Structure>()
 /// A frame is sent whole, in as many packets as it has, when the marker of its last packet is set.
 pub fn marking_keeps_frames_whole<Structure>()
     ensures whole { MarkingKeepsWhole Structure }
+    ensures sender { MarkingIsASender Structure }
     ensures count { MarkingKeepsCount Structure }
 {}
 
 // ---- frames
 
-/// The frames that come out of a track's packets are one track's frames, and whole.
+/// The frames that come out of a track's packets are one track's frames, whole, and read by structures that were carried.
 pub fn frames_of_items_are_one_track<Structure>()
     ensures track { FramesAreTrack Structure }
+    ensures read { FramesAreRead Structure }
     ensures added { FramesAreAdded Structure }
     ensures newest { NewestAreTrack Structure }
 {}
@@ -122,6 +127,11 @@ pub fn worked_timelines()
     ensures behind { BehindCause }
     ensures hold { HoldCauses }
     ensures plain_resend { PlainResend }
+{}
+
+/// The worked packets are read by a format that has all the facts on which the laws rest.
+pub fn worked_packets_have_a_format()
+    ensures { IsFormat worked_format }
 {}
 
 /// Worked packets, with the frames that they make, worked out by hand.

@@ -17,6 +17,6 @@ pub use laws::{
     passed_frames_are_linked, queued_packets_are_those_not_taken, resends_give_first_bytes,
     strict_receiver_never_complains, verdicts_are_passed_where_frames_pass,
     withheld_frames_have_a_path_to_a_root, worked_complaints, worked_frames, worked_history,
-    worked_timelines,
+    worked_packets_have_a_format, worked_timelines,
 };
 pub use target::{CurrentTarget, Reason};
