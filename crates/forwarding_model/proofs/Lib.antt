@@ -23,3 +23,5 @@ pub mod Rows
 pub mod WorkedPackets
 pub mod WorkedFormats
 pub mod Links
+pub mod Decisions
+pub mod Claimed

@@ -5,6 +5,7 @@ use Rattle.std.specs.declared.option.Option.TheVariants.{None, Some}
 use Rattle.sfu_base.specs.declared.frame.FrameMeaning.{FrameMeaning}
 use Rattle.sfu_base.specs.declared.frame.Wish.{Wish}
 use Rattle.sfu_base.specs.declared.frame.Verdict.TheVariants.{Passed}
+use Rattle.sfu_base.specs.declared.frame.Step.{Step}
 use Rattle.forwarding_model.specs.declared.target.CurrentTarget.{CurrentTarget}
 use Rattle.forwarding_model.specs.Lists.{IsMember}
 use Rattle.forwarding_model.specs.Targets.{aim, best, is_allowed, IsBest}
@@ -58,6 +59,11 @@ EndsAtRoot S = (wish : Wish) (events : List (Event S)) (n : ℕ) → IsOneTrack 
 abbrev pub EndsAtRootUnpassed : Type 0 → Type 0
 EndsAtRootUnpassed S = (wish : Wish) (events : List (Event S)) (n : ℕ) → IsOneTrack (meanings_of events) → cause wish events n ≢ Passed
     → IsPath (path (cause wish events) n)
+
+-- a path begins at its number
+abbrev pub PathsBegin : Type 0 → Type 0
+PathsBegin S = (wish : Wish) (events : List (Event S)) (n : ℕ)
+    → (steps : List Step) × (path (cause wish events) n ≡ record { number = n; verdict = cause wish events n } ∷ steps)
 
 -- each step of a path has the cause of its number
 abbrev pub PathsTellCauses : Type 0 → Type 0

@@ -7,6 +7,7 @@ pub mod Standing
 pub mod TrackFrames
 pub mod Decodable
 pub mod Restart
+pub mod Decisions
 pub mod Causes
 pub mod Outgoing
 pub mod Reading

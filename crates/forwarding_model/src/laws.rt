@@ -1,10 +1,11 @@
 // The laws of forwarding: each is the contract of a function that does nothing. A crate above takes a law by a call of its function, or
 // by naming the lemma of `proofs/` that proves it. `Structure` is the type of template dependency structures.
 
-ghost use Rattle.forwarding_model.specs.Laws.{NeverComplains, AreDecodable, RestartsAtOnce, RestartsLater, EndsAtRoot, EndsAtRootUnpassed, PathsTellCauses, TakenNeverComplains, OutgoingNeverComplains, EndsAtRootInHistories, AreNumberedInOrder, OnlyGrows, ResendsFirstBytes, ResendsKept, QueuesTheRest, TakesFindPackets, MarkingKeepsWhole, MarkingIsASender, MarkingKeepsCount, FramesAreTrack, FramesAreRead, FramesAreAdded, NewestAreTrack, EndedRunsAreWhole, WholeCutsAreFound, AimIsBest, OpeningIsBest, PassedWherePasses, PassesLinked, PassesWherePassed, KeepAlike, OpenAlike, PassAlike, JudgeAlike};
+ghost use Rattle.forwarding_model.specs.Laws.{NeverComplains, AreDecodable, RestartsAtOnce, RestartsLater, EndsAtRoot, EndsAtRootUnpassed, PathsBegin, PathsTellCauses, TakenNeverComplains, OutgoingNeverComplains, EndsAtRootInHistories, AreNumberedInOrder, OnlyGrows, ResendsFirstBytes, ResendsKept, QueuesTheRest, TakesFindPackets, MarkingKeepsWhole, MarkingIsASender, MarkingKeepsCount, FramesAreTrack, FramesAreRead, FramesAreAdded, NewestAreTrack, EndedRunsAreWhole, WholeCutsAreFound, AimIsBest, OpeningIsBest, PassedWherePasses, PassesLinked, PassesWherePassed, KeepAlike, OpenAlike, PassAlike, JudgeAlike};
+ghost use Rattle.forwarding_model.specs.Decisions.{BrokenLinksClose, OtherLinksKeep, BrokenLinksBreak, ReasonsHold, OpensTheBest, OpensWhatItCan, PassesInTarget, FullClaims, BehindClaims, ReferenceClaims, OtherTargetClaims, NoTargetClaims, LinkClaims, UnopenedClaims, NoFrameIsAHole};
 ghost use Rattle.forwarding_model.specs.Reading.{IsFormat};
 ghost use Rattle.forwarding_model.specs.WorkedFormat.{worked_format};
-ghost use Rattle.forwarding_model.specs.Rows.{BrokenChainCauses, BrokenChainNumbers, UpperLostCauses, UpperLostMarkers, MaskMarkers, WishCauses, WishMarkers, WishCauseUnpassed, FullCauses, FullTakenCauses, LateJoinCauses, BehindCause, HoldCauses, PlainResend};
+ghost use Rattle.forwarding_model.specs.Rows.{BrokenChainCauses, BrokenChainNumbers, UpperLostCauses, UpperLostMarkers, MaskMarkers, WishCauses, WishMarkers, WishCauseUnpassed, FullCauses, FullTakenCauses, LateJoinCauses, BehindCause, HoldCauses, PlainResend, BrokenLinkCauses, UnlinkedCause, EarlyLinkCauses, MaskedCauses, IntactUpperMarkers, LoweredWishCause};
 ghost use Rattle.forwarding_model.specs.WorkedPackets.{HistoryNumbers, HistoryTaken, HistoryCauses, PaddedFrame, TornFrame, EarlyStart, WrappedNumbers, StaleNumber, NewMask, OtherStructure, Accepted, AcceptedCounts, NotRtp, OtherSource, RepeatedNumber, WrappedSequence, LacksKeyFrame, EmptyPayload, LacksStart, SecondStart, BrokenJoin, LacksReference, LostReference};
 
 // ---- the headline
@@ -29,10 +30,11 @@ pub fn broken_links_end_at_a_restart<Structure>()
     ensures later { RestartsLater Structure }
 {}
 
-/// The path of each withheld frame falls strictly, ends at a root, and tells the cause of each of its numbers.
+/// The path of each withheld frame begins at it, falls strictly, ends at a root, and tells the cause of each of its numbers.
 pub fn withheld_frames_have_a_path_to_a_root<Structure>()
     ensures root { EndsAtRoot Structure }
     ensures unpassed { EndsAtRootUnpassed Structure }
+    ensures begins { PathsBegin Structure }
     ensures causes { PathsTellCauses Structure }
     ensures history { EndsAtRootInHistories Structure }
 {}
@@ -103,6 +105,38 @@ pub fn passed_frames_are_linked()
     ensures { PassesLinked }
 {}
 
+/// A broken link closes the open target, and no other link does. Where a target is closed, a frame of the timeline closed it for the
+/// reason that it has, and no frame passed since.
+pub fn targets_are_closed_for_their_reasons<Structure>()
+    ensures broken { BrokenLinksClose }
+    ensures other { OtherLinksKeep }
+    ensures breaks { BrokenLinksBreak }
+    ensures reasons { ReasonsHold Structure }
+{}
+
+/// What a frame opens is the best of the targets that it can open, and it opens one where it can open any.
+pub fn frames_open_the_best_that_they_can()
+    ensures best { OpensTheBest }
+    ensures any { OpensWhatItCan }
+{}
+
+/// A frame that passes is present in its target, and its mask has that target.
+pub fn passed_frames_are_in_their_target()
+    ensures { PassesInTarget }
+{}
+
+/// What each verdict says of a frame is so.
+pub fn verdicts_are_true()
+    ensures full { FullClaims }
+    ensures behind { BehindClaims }
+    ensures reference { ReferenceClaims }
+    ensures other_target { OtherTargetClaims }
+    ensures no_target { NoTargetClaims }
+    ensures link { LinkClaims }
+    ensures unopened { UnopenedClaims }
+    ensures hole { NoFrameIsAHole }
+{}
+
 /// Whoever knows, of each frame that a frame refers to or is linked to, whether it was passed, decides as one who knows all of them.
 pub fn decisions_rest_on_named_frames()
     ensures kept { KeepAlike }
@@ -115,9 +149,15 @@ pub fn decisions_rest_on_named_frames()
 pub fn worked_timelines()
     ensures broken_chain { BrokenChainCauses }
     ensures broken_chain_numbers { BrokenChainNumbers }
+    ensures broken_link { BrokenLinkCauses }
+    ensures unlinked { UnlinkedCause }
+    ensures early_link { EarlyLinkCauses }
     ensures upper_lost { UpperLostCauses }
     ensures upper_lost_markers { UpperLostMarkers }
     ensures mask { MaskMarkers }
+    ensures masked { MaskedCauses }
+    ensures intact_upper { IntactUpperMarkers }
+    ensures lowered_wish { LoweredWishCause }
     ensures wish { WishCauses }
     ensures wish_markers { WishMarkers }
     ensures wish_unpassed { WishCauseUnpassed }
