@@ -25,3 +25,4 @@ pub mod WorkedFormats
 pub mod Links
 pub mod Decisions
 pub mod Claimed
+pub mod Accepting

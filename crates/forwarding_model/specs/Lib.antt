@@ -14,6 +14,7 @@ pub mod Reading
 pub mod Cuts
 pub mod Frames
 pub mod Receiver
+pub mod Accepted
 pub mod WholeFrames
 pub mod History
 pub mod Rows

@@ -9,7 +9,7 @@ use Rattle.sfu_base.specs.declared.frame.Wish.{Wish}
 use Rattle.sfu_base.specs.declared.frame.Verdict.TheVariants.{Passed, NotOfTarget, Behind, Reference, Full, Link, Unopened, Hole}
 use Rattle.forwarding_model.specs.Timeline.{Event, Packet}
 use Rattle.forwarding_model.specs.Timeline.Event.{WholeFrame, PlainPacket, WishChange, Take}
-use Rattle.forwarding_model.specs.Causes.{cause}
+use Rattle.forwarding_model.specs.Causes.{cause, is_ahead, is_too_old}
 use Rattle.forwarding_model.specs.Outgoing.{Subscriber, outgoing, resent, send_marked}
 
 abbrev pub layers_wish : ℕ → ℕ → Wish
@@ -146,6 +146,19 @@ UpperLostCauses = map (cause (layers_wish 1 0) upper_lost) (3 ∷ 4 ∷ 5 ∷ 6 
 abbrev pub UpperLostMarkers : Type 0
 UpperLostMarkers = markers (outgoing send_marked joined_at_10 upper_lost) ≡ false ∷ true ∷ false ∷ true ∷ []
 
+-- ---- a frame of three packets of the target's layer ends the picture with its last packet; markers that stand are kept
+
+abbrev pub three_packets : List Packet → List (Event ℕ)
+three_packets packets = one_target 2 1 1 false Switch 1 (1 ∷ []) packets ∷ key_a 1 1 ∷ []
+
+abbrev pub ThreePacketMarkers : Type 0
+ThreePacketMarkers =
+    markers (outgoing send_marked joined_at_10 (three_packets (packet false ∷ packet false ∷ packet false ∷ []))) ≡ true ∷ false ∷ false ∷ true ∷ []
+
+abbrev pub KeptMarkers : Type 0
+KeptMarkers =
+    markers (outgoing send_marked joined_at_10 (three_packets (packet true ∷ packet false ∷ packet true ∷ []))) ≡ true ∷ true ∷ false ∷ true ∷ []
+
 -- ---- the mask takes the upper target away at frame 3, which then ends the picture
 
 abbrev pub masked_upper : List (Event ℕ)
@@ -277,3 +290,17 @@ plain_taken = Take ∷ PlainPacket (packet true) ∷ Take ∷ PlainPacket (packe
 
 abbrev pub PlainResend : Type 0
 PlainResend = resent send_marked joined_at_10 plain_taken 11 ≡ Some (record { sequence_number = 11; ssrc = 2; marker = true; rest = [] })
+
+-- ---- what can be asked for, and how far down a hole is seen: a number is too old that lies 4,096 or more below the newest
+
+abbrev pub AskedNumbers : Type 0
+AskedNumbers =
+    is_ahead None 0 ∷ is_ahead (Some 5) 5 ∷ is_ahead (Some 5) 6 ∷ is_too_old (Some 4095) 0 ∷ is_too_old (Some 4096) 0 ∷ is_too_old (Some 4097) 2 ∷ []
+    ≡ true ∷ false ∷ true ∷ false ∷ true ∷ false ∷ []
+
+abbrev pub HoleBounds : Type 0
+HoleBounds =
+    cause (layers_wish 1 0) (one_target 4096 1 1 false Switch 0 [] (packet true ∷ []) ∷ key_a 1 1 ∷ []) 2
+    ∷ cause (layers_wish 1 0) (one_target 4097 1 1 false Switch 0 [] (packet true ∷ []) ∷ key_a 1 1 ∷ []) 2
+    ∷ []
+    ≡ Hole (Some 1) 4096 ∷ Hole None 4097 ∷ []

@@ -1,6 +1,6 @@
 -- Worked packets: small lists of packets whose frames, and whose complaints at a strict receiver, were worked out by hand. They compute.
 -- They are read by the format of `WorkedFormat`.
-use Rattle.std.specs.Prelude.{◌≡◌, ◌+◌, ℕ, List, [], ◌∷◌, false, map, length}
+use Rattle.std.specs.Prelude.{◌≡◌, ◌+◌, ℕ, List, [], ◌∷◌, ◌++◌, false, map, length, replicate}
 use Rattle.std.specs.declared.option.Option.{Option}
 use Rattle.std.specs.declared.option.Option.TheVariants.{None, Some}
 use Rattle.forwarding_model.specs.declared.complaint.Complaint.{Complaint}
@@ -179,3 +179,64 @@ LacksReference = complaint_at (read_from 10 (key_rest 1 ∷ frame_rest 3 1 ∷ [
 -- a key frame empties the received numbers
 abbrev pub LostReference : Type 0
 LostReference = complaint_at (read_from 10 (key_rest 1 ∷ key_rest 3 ∷ frame_rest 4 3 ∷ [])) ≡ Some (Complaint.MissingReference 4 3)
+
+-- ---- and what it is strict about
+
+-- another frame number inside a frame
+abbrev pub OtherNumber : Type 0
+OtherNumber = complaint_at (read_from 10 (key_rest 1 ∷ first_rest 2 ∷ last_rest 3 ∷ [])) ≡ Some Complaint.NotWhole
+
+-- an end that leaves an element open
+abbrev pub EndCarries : Type 0
+EndCarries = complaint_at (read_from 10 (key_rest 1 ∷ first_rest 2 ∷ (0 ∷ 1 ∷ 2 ∷ 0 ∷ 0 ∷ 1 ∷ 1 ∷ []) ∷ [])) ≡ Some Complaint.NotWhole
+
+-- a start that continues an element
+abbrev pub StartContinues : Type 0
+StartContinues = complaint_at (read_from 10 (key_rest 1 ∷ (1 ∷ 1 ∷ 2 ∷ 0 ∷ 0 ∷ 1 ∷ 0 ∷ 1 ∷ []) ∷ [])) ≡ Some Complaint.NotWhole
+
+-- 512 packets are a frame
+abbrev pub LongestFrame : Type 0
+LongestFrame = complaint_at (read_from 10 (key_rest 1 ∷ first_rest 2 ∷ replicate 510 (middle_rest 2) ++ last_rest 2 ∷ [])) ≡ None
+
+-- and a 513th packet is too many
+abbrev pub TooManyPackets : Type 0
+TooManyPackets = complaint_at (read_from 10 (key_rest 1 ∷ first_rest 2 ∷ replicate 511 (middle_rest 2) ++ last_rest 2 ∷ [])) ≡ Some Complaint.NotWhole
+
+-- a descriptor that is missing or doesn't read, here by its mask
+abbrev pub FaultyDescriptor : Type 0
+FaultyDescriptor = complaint_at (read_from 10 (key_rest 1 ∷ (1 ∷ 1 ∷ 2 ∷ 0 ∷ 9 ∷ 0 ∷ 0 ∷ 1 ∷ []) ∷ [])) ≡ Some Complaint.Unread
+
+-- a payload that is broken
+abbrev pub BrokenPayload : Type 0
+BrokenPayload = complaint_at (read_from 10 (key_rest 1 ∷ (1 ∷ 1 ∷ 2 ∷ 0 ∷ 0 ∷ 3 ∷ 0 ∷ 1 ∷ []) ∷ [])) ≡ Some Complaint.Unread
+
+-- another structure in a frame that is no key frame, where the same one does no harm
+abbrev pub StructureRule : Type 0
+StructureRule = complaint_at (read_from 10 (key_rest 1 ∷ (1 ∷ 1 ∷ 2 ∷ 7 ∷ 0 ∷ 0 ∷ 0 ∷ 1 ∷ []) ∷ (1 ∷ 1 ∷ 3 ∷ 8 ∷ 0 ∷ 0 ∷ 0 ∷ 1 ∷ []) ∷ [])) ≡ Some Complaint.Unread
+
+abbrev pub SameStructure : Type 0
+SameStructure = complaint_at (read_from 10 (key_rest 1 ∷ (1 ∷ 1 ∷ 2 ∷ 7 ∷ 0 ∷ 0 ∷ 0 ∷ 1 ∷ []) ∷ [])) ≡ None
+
+-- that there is no structure comes before the payload
+abbrev pub NoStructureFirst : Type 0
+NoStructureFirst = complaint_at (read_from 10 ((1 ∷ 1 ∷ 2 ∷ 0 ∷ 0 ∷ 2 ∷ 0 ∷ 1 ∷ []) ∷ [])) ≡ Some Complaint.NoStructure
+
+-- the source comes before the number
+abbrev pub SourceFirst : Type 0
+SourceFirst = complaint_at (Some (sent_as 10 (key_rest 1)) ∷ Some (record { sequence_number = 13; ssrc = 2; marker = false; rest = frame_rest 2 1 }) ∷ []) ≡ Some (Complaint.OtherSource 1 2)
+
+-- and the number before what the packet says
+abbrev pub NumberBeforeContent : Type 0
+NumberBeforeContent = complaint_at (Some (sent_as 10 (key_rest 1)) ∷ Some (sent_as 12 padding_rest) ∷ []) ≡ Some (Complaint.Sequence 10 12)
+
+-- the first complaint stays, whatever comes
+abbrev pub FirstComplaintStays : Type 0
+FirstComplaintStays = complaint_at (Some (sent_as 10 (frame_rest 2 1)) ∷ Some (sent_as 13 (key_rest 1)) ∷ None ∷ []) ≡ Some Complaint.NoStructure
+
+-- a number that isn't above the newest empties the received numbers: frame 3 came after key frame 5, so that frame 6 lacks frame 5
+abbrev pub StaleEmpties : Type 0
+StaleEmpties = complaint_at (read_from 10 (key_rest 5 ∷ (1 ∷ 1 ∷ 3 ∷ 0 ∷ 0 ∷ 0 ∷ 0 ∷ []) ∷ frame_rest 6 1 ∷ [])) ≡ Some (Complaint.MissingReference 6 1)
+
+-- and is a number to count from
+abbrev pub StaleCounts : Type 0
+StaleCounts = complaint_at (read_from 10 (key_rest 5 ∷ (1 ∷ 1 ∷ 3 ∷ 0 ∷ 0 ∷ 0 ∷ 0 ∷ []) ∷ frame_rest 4 1 ∷ frame_rest 6 3 ∷ [])) ≡ None

@@ -2,11 +2,12 @@
 // by naming the lemma of `proofs/` that proves it. `Structure` is the type of template dependency structures.
 
 ghost use Rattle.forwarding_model.specs.Laws.{NeverComplains, AreDecodable, RestartsAtOnce, RestartsLater, EndsAtRoot, EndsAtRootUnpassed, PathsBegin, PathsTellCauses, TakenNeverComplains, OutgoingNeverComplains, EndsAtRootInHistories, AreNumberedInOrder, OnlyGrows, ResendsFirstBytes, ResendsKept, QueuesTheRest, TakesFindPackets, MarkingKeepsWhole, MarkingIsASender, MarkingKeepsCount, FramesAreTrack, FramesAreRead, FramesAreAdded, NewestAreTrack, EndedRunsAreWhole, WholeCutsAreFound, AimIsBest, OpeningIsBest, PassedWherePasses, PassesLinked, PassesWherePassed, KeepAlike, OpenAlike, PassAlike, JudgeAlike};
+ghost use Rattle.forwarding_model.specs.Accepted.{NoComplaintAccepts};
 ghost use Rattle.forwarding_model.specs.Decisions.{BrokenLinksClose, OtherLinksKeep, BrokenLinksBreak, ReasonsHold, OpensTheBest, OpensWhatItCan, PassesInTarget, FullClaims, BehindClaims, ReferenceClaims, OtherTargetClaims, NoTargetClaims, LinkClaims, UnopenedClaims, NoFrameIsAHole};
 ghost use Rattle.forwarding_model.specs.Reading.{IsFormat};
 ghost use Rattle.forwarding_model.specs.WorkedFormat.{worked_format};
-ghost use Rattle.forwarding_model.specs.Rows.{BrokenChainCauses, BrokenChainNumbers, UpperLostCauses, UpperLostMarkers, MaskMarkers, WishCauses, WishMarkers, WishCauseUnpassed, FullCauses, FullTakenCauses, LateJoinCauses, BehindCause, HoldCauses, PlainResend, BrokenLinkCauses, UnlinkedCause, EarlyLinkCauses, MaskedCauses, IntactUpperMarkers, LoweredWishCause};
-ghost use Rattle.forwarding_model.specs.WorkedPackets.{HistoryNumbers, HistoryTaken, HistoryCauses, PaddedFrame, TornFrame, EarlyStart, WrappedNumbers, StaleNumber, NewMask, OtherStructure, Accepted, AcceptedCounts, NotRtp, OtherSource, RepeatedNumber, WrappedSequence, LacksKeyFrame, EmptyPayload, LacksStart, SecondStart, BrokenJoin, LacksReference, LostReference};
+ghost use Rattle.forwarding_model.specs.Rows.{BrokenChainCauses, BrokenChainNumbers, UpperLostCauses, UpperLostMarkers, MaskMarkers, WishCauses, WishMarkers, WishCauseUnpassed, FullCauses, FullTakenCauses, LateJoinCauses, BehindCause, HoldCauses, PlainResend, BrokenLinkCauses, UnlinkedCause, EarlyLinkCauses, MaskedCauses, IntactUpperMarkers, LoweredWishCause, ThreePacketMarkers, KeptMarkers, AskedNumbers, HoleBounds};
+ghost use Rattle.forwarding_model.specs.WorkedPackets.{HistoryNumbers, HistoryTaken, HistoryCauses, PaddedFrame, TornFrame, EarlyStart, WrappedNumbers, StaleNumber, NewMask, OtherStructure, Accepted, AcceptedCounts, NotRtp, OtherSource, RepeatedNumber, WrappedSequence, LacksKeyFrame, EmptyPayload, LacksStart, SecondStart, BrokenJoin, LacksReference, LostReference, OtherNumber, EndCarries, StartContinues, LongestFrame, TooManyPackets, FaultyDescriptor, BrokenPayload, StructureRule, SameStructure, NoStructureFirst, SourceFirst, NumberBeforeContent, FirstComplaintStays, StaleEmpties, StaleCounts};
 
 // ---- the headline
 
@@ -16,6 +17,12 @@ pub fn strict_receiver_never_complains<Structure>()
     ensures prefix { NeverComplains Structure }
     ensures history { OutgoingNeverComplains Structure }
     ensures taken { TakenNeverComplains Structure }
+{}
+
+/// What a strict receiver has no complaint of is of one source, consecutive in number, and whole frames one after another, of which each
+/// refers to frames that came since the newest key frame.
+pub fn accepted_packets_are_whole_frames<Structure>()
+    ensures { NoComplaintAccepts Structure }
 {}
 
 /// Each frame that passed is decodable in the passed frames of its epoch.
@@ -167,6 +174,10 @@ pub fn worked_timelines()
     ensures behind { BehindCause }
     ensures hold { HoldCauses }
     ensures plain_resend { PlainResend }
+    ensures three_packet_markers { ThreePacketMarkers }
+    ensures kept_markers { KeptMarkers }
+    ensures asked_numbers { AskedNumbers }
+    ensures hole_bounds { HoleBounds }
 {}
 
 /// The worked packets are read by a format that has all the facts on which the laws rest.
@@ -207,4 +218,19 @@ pub fn worked_complaints()
     ensures broken_join { BrokenJoin }
     ensures lacks_reference { LacksReference }
     ensures lost_reference { LostReference }
+    ensures other_number { OtherNumber }
+    ensures end_carries { EndCarries }
+    ensures start_continues { StartContinues }
+    ensures longest_frame { LongestFrame }
+    ensures too_many_packets { TooManyPackets }
+    ensures faulty_descriptor { FaultyDescriptor }
+    ensures broken_payload { BrokenPayload }
+    ensures structure_rule { StructureRule }
+    ensures same_structure { SameStructure }
+    ensures no_structure_first { NoStructureFirst }
+    ensures source_first { SourceFirst }
+    ensures number_before_content { NumberBeforeContent }
+    ensures first_complaint_stays { FirstComplaintStays }
+    ensures stale_empties { StaleEmpties }
+    ensures stale_counts { StaleCounts }
 {}

@@ -11,8 +11,8 @@ mod target;
 
 pub use complaint::Complaint;
 pub use laws::{
-    broken_links_end_at_a_restart, chosen_targets_are_the_best, decisions_rest_on_named_frames,
-    ended_runs_are_the_whole_cuts, frames_of_items_are_one_track,
+    accepted_packets_are_whole_frames, broken_links_end_at_a_restart, chosen_targets_are_the_best,
+    decisions_rest_on_named_frames, ended_runs_are_the_whole_cuts, frames_of_items_are_one_track,
     frames_open_the_best_that_they_can, marking_keeps_frames_whole,
     outgoing_numbers_are_consecutive, outgoing_packets_only_grow, passed_frames_are_decodable,
     passed_frames_are_in_their_target, passed_frames_are_linked,

@@ -1,4 +1,4 @@
-use Rattle.forwarding_model.proofs.Rows.{broken_chain_causes, broken_chain_numbers, upper_lost_causes, upper_lost_markers, mask_markers, wish_causes, wish_markers, wish_cause_unpassed, full_causes, full_taken_causes, late_join_causes, behind_cause, hold_causes, plain_resend, broken_link_causes, unlinked_cause, early_link_causes, masked_causes, intact_upper_markers, lowered_wish_cause}
+use Rattle.forwarding_model.proofs.Rows.{broken_chain_causes, broken_chain_numbers, upper_lost_causes, upper_lost_markers, mask_markers, wish_causes, wish_markers, wish_cause_unpassed, full_causes, full_taken_causes, late_join_causes, behind_cause, hold_causes, plain_resend, broken_link_causes, unlinked_cause, early_link_causes, masked_causes, intact_upper_markers, lowered_wish_cause, three_packet_markers, kept_markers, asked_numbers, hole_bounds}
 use Rattle.forwarding_model.proofs.laws.worked_timelines.Goals as goal
 
 pub returns-clause-broken_chain : goal.returns-clause-broken_chain
@@ -60,3 +60,15 @@ returns-clause-intact_upper c = intact_upper_markers
 
 pub returns-clause-lowered_wish : goal.returns-clause-lowered_wish
 returns-clause-lowered_wish c = lowered_wish_cause
+
+pub returns-clause-three_packet_markers : goal.returns-clause-three_packet_markers
+returns-clause-three_packet_markers c = three_packet_markers
+
+pub returns-clause-kept_markers : goal.returns-clause-kept_markers
+returns-clause-kept_markers c = kept_markers
+
+pub returns-clause-asked_numbers : goal.returns-clause-asked_numbers
+returns-clause-asked_numbers c = asked_numbers
+
+pub returns-clause-hole_bounds : goal.returns-clause-hole_bounds
+returns-clause-hole_bounds c = hole_bounds
