@@ -26,3 +26,4 @@ pub mod Links
 pub mod Decisions
 pub mod Claimed
 pub mod Accepting
+pub mod Making

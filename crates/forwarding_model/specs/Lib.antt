@@ -16,6 +16,7 @@ pub mod Frames
 pub mod Receiver
 pub mod Accepted
 pub mod WholeFrames
+pub mod Making
 pub mod History
 pub mod Rows
 pub mod WorkedFormat

@@ -1,9 +1,10 @@
 -- Worked packets: small lists of packets whose frames, and whose complaints at a strict receiver, were worked out by hand. They compute.
 -- They are read by the format of `WorkedFormat`.
-use Rattle.std.specs.Prelude.{◌≡◌, ◌+◌, ℕ, List, [], ◌∷◌, ◌++◌, false, map, length, replicate}
+use Rattle.std.specs.Prelude.{◌≡◌, ◌+◌, ℕ, List, [], ◌∷◌, ◌++◌, false, if◌then◌else◌, map, length, replicate}
 use Rattle.std.specs.declared.option.Option.{Option}
 use Rattle.std.specs.declared.option.Option.TheVariants.{None, Some}
 use Rattle.forwarding_model.specs.declared.complaint.Complaint.{Complaint}
+use Rattle.sfu_base.specs.declared.frame.Wish.{Wish}
 use Rattle.sfu_base.specs.declared.frame.Verdict.TheVariants.{Passed, Reference, Hole}
 use Rattle.forwarding_model.specs.Timeline.{Event, Frame, Packet}
 use Rattle.forwarding_model.specs.WorkedFormat.{worked_format}
@@ -12,7 +13,7 @@ use Rattle.forwarding_model.specs.Frames.Item.{Missing, Arrived}
 use Rattle.forwarding_model.specs.Causes.{cause}
 use Rattle.forwarding_model.specs.Outgoing.{Subscriber, outgoing, send_marked, taken}
 use Rattle.forwarding_model.specs.History.{Entry, timeline}
-use Rattle.forwarding_model.specs.History.Entry.{Released, Joined, Asked}
+use Rattle.forwarding_model.specs.History.Entry.{Released, Joined, Aimed, Asked}
 use Rattle.forwarding_model.specs.Receiver.{complaint, frames_accepted, packets_accepted}
 use Rattle.forwarding_model.specs.Receiver.Receiver.{Waiting}
 
@@ -86,6 +87,58 @@ OtherStructure =
     told (came (frame_rest 3 1) ∷ came (1 ∷ 1 ∷ 2 ∷ 8 ∷ 0 ∷ 0 ∷ 0 ∷ 1 ∷ []) ∷ came (key_rest 1) ∷ [])
     ≡ (3 ∷ 1 ∷ 3 ∷ []) ∷ (1 ∷ 1 ∷ 3 ∷ []) ∷ []
 
+-- a packet that doesn't read tears the frame that it lies in, and so do a broken payload and another structure
+abbrev pub UnreadInside : Type 0
+UnreadInside = told (came (last_rest 2) ∷ came (0 ∷ 0 ∷ 2 ∷ 0 ∷ 9 ∷ 1 ∷ 1 ∷ []) ∷ came (first_rest 2) ∷ came (key_rest 1) ∷ []) ≡ (1 ∷ 1 ∷ 3 ∷ []) ∷ []
+
+abbrev pub BrokenInside : Type 0
+BrokenInside = told (came (last_rest 2) ∷ came (0 ∷ 0 ∷ 2 ∷ 0 ∷ 0 ∷ 3 ∷ 1 ∷ []) ∷ came (first_rest 2) ∷ came (key_rest 1) ∷ []) ≡ (1 ∷ 1 ∷ 3 ∷ []) ∷ []
+
+abbrev pub OtherStructureInside : Type 0
+OtherStructureInside = told (came (last_rest 2) ∷ came (0 ∷ 0 ∷ 2 ∷ 8 ∷ 0 ∷ 1 ∷ 1 ∷ []) ∷ came (first_rest 2) ∷ came (key_rest 1) ∷ []) ≡ (1 ∷ 1 ∷ 3 ∷ []) ∷ []
+
+-- a key start acts though its payload is broken: number 4 doesn't lie above it, and number 6 does
+abbrev pub BrokenKeyStart : Type 0
+BrokenKeyStart = told (came (frame_rest 6 1) ∷ came (frame_rest 4 1) ∷ came (1 ∷ 1 ∷ 5 ∷ 7 ∷ 0 ∷ 3 ∷ 0 ∷ []) ∷ came (key_rest 1) ∷ []) ≡ (6 ∷ 1 ∷ 3 ∷ []) ∷ (1 ∷ 1 ∷ 3 ∷ []) ∷ []
+
+-- and though its frame is torn
+abbrev pub TornKeyFrame : Type 0
+TornKeyFrame = told (came (frame_rest 6 1) ∷ came (frame_rest 4 1) ∷ Missing ∷ came (1 ∷ 0 ∷ 5 ∷ 7 ∷ 0 ∷ 0 ∷ 1 ∷ []) ∷ came (key_rest 1) ∷ []) ≡ (6 ∷ 1 ∷ 3 ∷ []) ∷ (1 ∷ 1 ∷ 3 ∷ []) ∷ []
+
+-- so does a mask
+abbrev pub BrokenMask : Type 0
+BrokenMask = told (came (frame_rest 3 1) ∷ came (1 ∷ 1 ∷ 2 ∷ 0 ∷ 3 ∷ 3 ∷ 0 ∷ 1 ∷ []) ∷ came (key_rest 1) ∷ []) ≡ (3 ∷ 1 ∷ 2 ∷ []) ∷ (1 ∷ 1 ∷ 3 ∷ []) ∷ []
+
+-- a packet without a payload says nothing, whether a mask or a key start
+abbrev pub PaddingSaysNothing : Type 0
+PaddingSaysNothing = told (came (frame_rest 2 1) ∷ came (1 ∷ 1 ∷ 5 ∷ 8 ∷ 0 ∷ 2 ∷ 0 ∷ []) ∷ came (0 ∷ 0 ∷ 1 ∷ 0 ∷ 3 ∷ 2 ∷ 0 ∷ []) ∷ came (key_rest 1) ∷ []) ≡ (2 ∷ 1 ∷ 3 ∷ []) ∷ (1 ∷ 1 ∷ 3 ∷ []) ∷ []
+
+-- a frame has the mask in force once its last packet was read
+abbrev pub LastMask : Type 0
+LastMask = told (came (0 ∷ 1 ∷ 2 ∷ 0 ∷ 3 ∷ 1 ∷ 0 ∷ []) ∷ came (first_rest 2) ∷ came (key_rest 1) ∷ []) ≡ (2 ∷ 2 ∷ 2 ∷ []) ∷ (1 ∷ 1 ∷ 3 ∷ []) ∷ []
+
+-- the same structure without a mask makes all targets active again
+abbrev pub MaskAgain : Type 0
+MaskAgain = told (came (1 ∷ 1 ∷ 3 ∷ 7 ∷ 0 ∷ 0 ∷ 0 ∷ 1 ∷ []) ∷ came (1 ∷ 1 ∷ 2 ∷ 0 ∷ 3 ∷ 0 ∷ 0 ∷ 1 ∷ []) ∷ came (key_rest 1) ∷ []) ≡ (3 ∷ 1 ∷ 3 ∷ []) ∷ (2 ∷ 1 ∷ 2 ∷ []) ∷ (1 ∷ 1 ∷ 3 ∷ []) ∷ []
+
+-- the first key frame may have the number 0
+abbrev pub FirstNumberZero : Type 0
+FirstNumberZero = told (came (frame_rest 1 1) ∷ came (key_rest 0) ∷ []) ≡ (1 ∷ 1 ∷ 3 ∷ []) ∷ (0 ∷ 1 ∷ 3 ∷ []) ∷ []
+
+-- a number 32,767 ahead lies above, and one 32,768 ahead doesn't
+abbrev pub FarthestAbove : Type 0
+FarthestAbove = told (came (1 ∷ 1 ∷ 32768 ∷ 0 ∷ 0 ∷ 0 ∷ 0 ∷ []) ∷ came (key_rest 1) ∷ []) ≡ (32768 ∷ 1 ∷ 3 ∷ []) ∷ (1 ∷ 1 ∷ 3 ∷ []) ∷ []
+
+abbrev pub NearestBehind : Type 0
+NearestBehind = told (came (1 ∷ 1 ∷ 32769 ∷ 0 ∷ 0 ∷ 0 ∷ 0 ∷ []) ∷ came (key_rest 1) ∷ []) ≡ (1 ∷ 1 ∷ 3 ∷ []) ∷ []
+
+-- 512 packets are a frame, and 513 are none
+abbrev pub LongFrame : Type 0
+LongFrame = told (came (last_rest 2) ∷ replicate 510 (came (middle_rest 2)) ++ came (first_rest 2) ∷ came (key_rest 1) ∷ []) ≡ (2 ∷ 512 ∷ 3 ∷ []) ∷ (1 ∷ 1 ∷ 3 ∷ []) ∷ []
+
+abbrev pub TooLongFrame : Type 0
+TooLongFrame = told (came (last_rest 2) ∷ replicate 511 (came (middle_rest 2)) ++ came (first_rest 2) ∷ came (key_rest 1) ∷ []) ≡ (1 ∷ 1 ∷ 3 ∷ []) ∷ []
+
 -- ---- a history: a key frame comes before the join; then a frame, another key frame, and a frame of three packets, of which one call
 -- releases the last two; three askings find two packets
 
@@ -118,6 +171,58 @@ HistoryTaken = map (λ (p : Packet). p.sequence_number) (taken send_marked worke
 
 abbrev pub HistoryCauses : Type 0
 HistoryCauses = map (cause worked_subscriber.wish worked_timeline) (1 ∷ 2 ∷ 3 ∷ 4 ∷ []) ≡ Hole None 2 ∷ Reference 1 ∷ Passed ∷ Passed ∷ []
+
+-- ---- a history of three subscribers: 1 joins first, and lowers its wish before frame 4; 2 joins after the key frame 1; 3 joins between
+-- the packets of frame 2
+
+abbrev pub layered_wish : ℕ → Wish
+layered_wish spatial = record { spatial = spatial; temporal = 0 }
+
+abbrev pub joined_as : (ssrc first spatial : ℕ) → Subscriber
+joined_as ssrc first spatial = record { ssrc = ssrc; first = first; wish = layered_wish spatial }
+
+abbrev pub three_subscribers : List Entry
+three_subscribers =
+    Asked 2
+    ∷ Released (came (frame_rest 4 1) ∷ [])
+    ∷ Aimed 1 (layered_wish 0)
+    ∷ Released (came (key_rest 3) ∷ [])
+    ∷ Released (came (last_rest 2) ∷ [])
+    ∷ Joined 3 (joined_as 4 7 1)
+    ∷ Released (came (first_rest 2) ∷ [])
+    ∷ Joined 2 (joined_as 3 100 0)
+    ∷ Released (came (key_rest 1) ∷ [])
+    ∷ Joined 1 (joined_as 2 65535 1)
+    ∷ []
+
+abbrev pub sent_to : ℕ → Subscriber → List Packet
+sent_to number subscriber = outgoing send_marked subscriber (timeline worked_format send_marked number three_subscribers)
+
+-- of each packet with the marker its number
+abbrev pub numbers_and_markers : List Packet → List (Option ℕ)
+numbers_and_markers packets = map (λ (p : Packet). if p.marker then Some p.sequence_number else None) packets
+
+abbrev pub FirstSubscriber : Type 0
+FirstSubscriber =
+    map (λ (p : Packet). p.sequence_number) (sent_to 1 (joined_as 2 65535 1)) ≡ 65535 ∷ 0 ∷ 1 ∷ 2 ∷ 3 ∷ []
+
+-- all frames are of the lower layer, so that the marker is set for those of the lower target alone; of the others stands none
+abbrev pub FirstSubscriberMarkers : Type 0
+FirstSubscriberMarkers = numbers_and_markers (sent_to 1 (joined_as 2 65535 1)) ≡ None ∷ None ∷ None ∷ None ∷ Some 3 ∷ []
+
+abbrev pub SecondSubscriber : Type 0
+SecondSubscriber = numbers_and_markers (sent_to 2 (joined_as 3 100 0)) ≡ Some 100 ∷ Some 101 ∷ []
+
+abbrev pub SecondSubscriberTaken : Type 0
+SecondSubscriberTaken =
+    map (λ (p : Packet). p.ssrc) (taken send_marked (joined_as 3 100 0) (timeline worked_format send_marked 2 three_subscribers)) ≡ 3 ∷ []
+
+abbrev pub ThirdSubscriber : Type 0
+ThirdSubscriber = map (λ (p : Packet). p.sequence_number) (sent_to 3 (joined_as 4 7 1)) ≡ 7 ∷ 8 ∷ []
+
+-- frame 2 got whole after subscriber 3 joined, and what it refers to before
+abbrev pub ThirdSubscriberCauses : Type 0
+ThirdSubscriberCauses = map (cause (layered_wish 1) (timeline worked_format send_marked 3 three_subscribers)) (1 ∷ 2 ∷ 3 ∷ 4 ∷ []) ≡ Hole None 2 ∷ Reference 1 ∷ Passed ∷ Passed ∷ []
 
 -- ---- a strict receiver: the packets stand with the oldest first
 

@@ -4,10 +4,11 @@
 ghost use Rattle.forwarding_model.specs.Laws.{NeverComplains, AreDecodable, RestartsAtOnce, RestartsLater, EndsAtRoot, EndsAtRootUnpassed, PathsBegin, PathsTellCauses, TakenNeverComplains, OutgoingNeverComplains, EndsAtRootInHistories, AreNumberedInOrder, OnlyGrows, ResendsFirstBytes, ResendsKept, QueuesTheRest, TakesFindPackets, MarkingKeepsWhole, MarkingIsASender, MarkingKeepsCount, FramesAreTrack, FramesAreRead, FramesAreAdded, NewestAreTrack, EndedRunsAreWhole, WholeCutsAreFound, AimIsBest, OpeningIsBest, PassedWherePasses, PassesLinked, PassesWherePassed, KeepAlike, OpenAlike, PassAlike, JudgeAlike};
 ghost use Rattle.forwarding_model.specs.Accepted.{NoComplaintAccepts};
 ghost use Rattle.forwarding_model.specs.Decisions.{BrokenLinksClose, OtherLinksKeep, BrokenLinksBreak, ReasonsHold, OpensTheBest, OpensWhatItCan, PassesInTarget, FullClaims, BehindClaims, ReferenceClaims, OtherTargetClaims, NoTargetClaims, LinkClaims, UnopenedClaims, NoFrameIsAHole};
+ghost use Rattle.forwarding_model.specs.Making.{WhatWasReadIsInForce, KeyStartsAreNumbered, ItemsHaveMarks, FramesAreCuts, CutsAreFrames};
 ghost use Rattle.forwarding_model.specs.Reading.{IsFormat};
 ghost use Rattle.forwarding_model.specs.WorkedFormat.{worked_format};
 ghost use Rattle.forwarding_model.specs.Rows.{BrokenChainCauses, BrokenChainNumbers, UpperLostCauses, UpperLostMarkers, MaskMarkers, WishCauses, WishMarkers, WishCauseUnpassed, FullCauses, FullTakenCauses, LateJoinCauses, BehindCause, HoldCauses, PlainResend, BrokenLinkCauses, UnlinkedCause, EarlyLinkCauses, MaskedCauses, IntactUpperMarkers, LoweredWishCause, ThreePacketMarkers, KeptMarkers, AskedNumbers, HoleBounds};
-ghost use Rattle.forwarding_model.specs.WorkedPackets.{HistoryNumbers, HistoryTaken, HistoryCauses, PaddedFrame, TornFrame, EarlyStart, WrappedNumbers, StaleNumber, NewMask, OtherStructure, Accepted, AcceptedCounts, NotRtp, OtherSource, RepeatedNumber, WrappedSequence, LacksKeyFrame, EmptyPayload, LacksStart, SecondStart, BrokenJoin, LacksReference, LostReference, OtherNumber, EndCarries, StartContinues, LongestFrame, TooManyPackets, FaultyDescriptor, BrokenPayload, StructureRule, SameStructure, NoStructureFirst, SourceFirst, NumberBeforeContent, FirstComplaintStays, StaleEmpties, StaleCounts};
+ghost use Rattle.forwarding_model.specs.WorkedPackets.{UnreadInside, BrokenInside, OtherStructureInside, BrokenKeyStart, TornKeyFrame, BrokenMask, PaddingSaysNothing, LastMask, MaskAgain, FirstNumberZero, FarthestAbove, NearestBehind, LongFrame, TooLongFrame, FirstSubscriber, FirstSubscriberMarkers, SecondSubscriber, SecondSubscriberTaken, ThirdSubscriber, ThirdSubscriberCauses, HistoryNumbers, HistoryTaken, HistoryCauses, PaddedFrame, TornFrame, EarlyStart, WrappedNumbers, StaleNumber, NewMask, OtherStructure, Accepted, AcceptedCounts, NotRtp, OtherSource, RepeatedNumber, WrappedSequence, LacksKeyFrame, EmptyPayload, LacksStart, SecondStart, BrokenJoin, LacksReference, LostReference, OtherNumber, EndCarries, StartContinues, LongestFrame, TooManyPackets, FaultyDescriptor, BrokenPayload, StructureRule, SameStructure, NoStructureFirst, SourceFirst, NumberBeforeContent, FirstComplaintStays, StaleEmpties, StaleCounts};
 
 // ---- the headline
 
@@ -85,6 +86,20 @@ pub fn frames_of_items_are_one_track<Structure>()
     ensures read { FramesAreRead Structure }
     ensures added { FramesAreAdded Structure }
     ensures newest { NewestAreTrack Structure }
+{}
+
+/// An item makes a frame exactly where it ends a whole cut whose number isn't stale, and the frame has the packets of that cut, and the
+/// meaning that its first descriptor, the structure and what is in force give it.
+pub fn items_make_the_frames_of_their_cuts<Structure>()
+    ensures marks { ItemsHaveMarks Structure }
+    ensures frames { FramesAreCuts Structure }
+    ensures cuts { CutsAreFrames Structure }
+{}
+
+/// Structure, mask and epoch in force are those of the descriptors that were read, and key starts are numbered above all before.
+pub fn what_was_read_is_in_force<Structure>()
+    ensures in_force { WhatWasReadIsInForce Structure }
+    ensures numbers { KeyStartsAreNumbered Structure }
 {}
 
 /// The runs of parts that end are the whole cuts of the list of marks. `Brought` is the type of what a part brings with it.
@@ -194,13 +209,33 @@ pub fn worked_frames()
     ensures stale_number { StaleNumber }
     ensures new_mask { NewMask }
     ensures other_structure { OtherStructure }
+    ensures unread_inside { UnreadInside }
+    ensures broken_inside { BrokenInside }
+    ensures other_structure_inside { OtherStructureInside }
+    ensures broken_key_start { BrokenKeyStart }
+    ensures torn_key_frame { TornKeyFrame }
+    ensures broken_mask { BrokenMask }
+    ensures padding_says_nothing { PaddingSaysNothing }
+    ensures last_mask { LastMask }
+    ensures mask_again { MaskAgain }
+    ensures first_number_zero { FirstNumberZero }
+    ensures farthest_above { FarthestAbove }
+    ensures nearest_behind { NearestBehind }
+    ensures long_frame { LongFrame }
+    ensures too_long_frame { TooLongFrame }
 {}
 
-/// A worked history: a join, packets, and what goes out, is taken and is withheld, worked out by hand.
+/// Worked histories: joins, packets, a wish that changes, and what goes out, is taken and is withheld, worked out by hand.
 pub fn worked_history()
     ensures numbers { HistoryNumbers }
     ensures taken { HistoryTaken }
     ensures causes { HistoryCauses }
+    ensures first_subscriber { FirstSubscriber }
+    ensures first_subscriber_markers { FirstSubscriberMarkers }
+    ensures second_subscriber { SecondSubscriber }
+    ensures second_subscriber_taken { SecondSubscriberTaken }
+    ensures third_subscriber { ThirdSubscriber }
+    ensures third_subscriber_causes { ThirdSubscriberCauses }
 {}
 
 /// Worked packets, with the complaint of a strict receiver, worked out by hand.
