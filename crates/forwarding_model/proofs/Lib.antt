@@ -27,3 +27,5 @@ pub mod Decisions
 pub mod Claimed
 pub mod Accepting
 pub mod Making
+pub mod Takings
+pub mod Outcomes

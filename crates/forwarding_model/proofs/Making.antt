@@ -429,6 +429,14 @@ number_some force d h = go (is_key_start d) refl h
     go false k (inl y) = absurd (true≢false (sym y ∙ k))
     go false k (inr up) = (number_above force.newest d.number, ap (λ b. cond b (Some (number_above force.newest d.number)) None) up)
 
+made_framed : {S : Type 0} (format : Format S) (force : Force S) (run : Run (ReadPacket S)) (s : S) (number : ℕ) → force.structure ≡ Some s
+    → number_of force run.first.brings.descriptor ≡ Some number
+    → in_front (frame_of format force (Some run)) []
+    ≡ record { meaning = meaning_by (format.layout s) force number run.first.brings.descriptor; structure = s; packets = map packet_of (parts_of run) } ∷ []
+made_framed format force run s number has numbered =
+    ap (λ o. in_front (framed format force run o (number_of force run.first.brings.descriptor)) []) has
+    ∙ ap (λ o. in_front (framed format force run (Some s) o) []) numbered
+
 pub cuts_are_frames : {S : Type 0} (format : Format S) (item : Item) (past : List Item) (marks : List (Mark (ReadPacket S))) (first : Part (ReadPacket S)) (more : List (Part (ReadPacket S)))
     → IsFormat format → AreMarks format (item ∷ past) marks → IsWholeCut (first ∷ more) → EndsIn marks (first ∷ more)
     → (is_key_start first.brings.descriptor ≡ true) ⊎ ((number : ℕ) × IsNear (newest_number format past) first.brings.descriptor.number number)
@@ -442,8 +450,7 @@ cuts_are_frames {S} format item past marks first more facts are whole at fresh =
       record { meaning = meaning_by (format.layout s.0) force n.0 d; structure = s.0; packets = map packet_of (parts_of c.run) },
       made_frames format item past marks are
           ∙ ap (λ o. in_front (frame_of format force o) []) c.found
-          ∙ ap (λ o. in_front (framed format force c.run o (number_of force d)) []) s.1
-          ∙ ap (λ o. in_front (framed format force c.run (Some s.0) o) []) n.1,
+          ∙ made_framed format force c.run s.0 n.0 s.1 n.1,
       ap (map packet_of) c.is,
     )
   where

@@ -1,6 +1,7 @@
 -- The laws of forwarding, over every timeline: own statements. S is the type of template dependency structures.
-use Rattle.std.specs.Prelude.{◌≡◌, ◌≢◌, ◌+◌, ◌≤◌, ℕ, List, ◌∷◌, ◌++◌, Bool, true, map, length}
+use Rattle.std.specs.Prelude.{◌≡◌, ◌≢◌, ◌⊎◌, ◌+◌, ◌<◌, ◌≤◌, ℕ, List, ◌∷◌, ◌++◌, Bool, true, false, map, length}
 use Rattle.std.specs.List.{AllByRecursion}
+use Rattle.std.specs.declared.option.Option.{Option}
 use Rattle.std.specs.declared.option.Option.TheVariants.{None, Some}
 use Rattle.sfu_base.specs.declared.frame.FrameMeaning.{FrameMeaning}
 use Rattle.sfu_base.specs.declared.frame.Wish.{Wish}
@@ -16,10 +17,12 @@ use Rattle.forwarding_model.specs.Standing.{standing, passes_at}
 use Rattle.forwarding_model.specs.TrackFrames.{IsOneTrack}
 use Rattle.forwarding_model.specs.Decodable.{IsDecodable, of_epoch}
 use Rattle.forwarding_model.specs.Restart.{BreaksAt, IsOpenAndLinked, IsRestart}
-use Rattle.forwarding_model.specs.Causes.{cause, path, IsPath, IsWithheld, TellsCauses}
+use Rattle.forwarding_model.specs.Causes.{is_ahead, is_too_old, oldest_asked, cause, path, IsPath, IsWithheld, TellsCauses}
 use Rattle.forwarding_model.specs.Outgoing.{Sender, Subscriber, outgoing, taken, queue, kept, next_packet, resent, send_marked, AreConsecutive, FindPackets, KeepsCount}
 use Rattle.forwarding_model.specs.Reading.{Format, IsFormat}
-use Rattle.forwarding_model.specs.Cuts.{Part, Mark, Run, parts_of, cut_of, IsWholeCut, EndsIn}
+use Rattle.forwarding_model.specs.Cuts.{Part, Mark, Run, parts_of, cut_by, cut_of, extended, outcome, IsWholeCut, EndsIn}
+use Rattle.forwarding_model.specs.Cuts.Mark.{Padding}
+use Rattle.forwarding_model.specs.Cuts.Outcome.{IsPadding, IsWhole, IsPartial, IsTorn}
 use Rattle.forwarding_model.specs.Frames.{Item, frames_after, frames_since}
 use Rattle.forwarding_model.specs.Receiver.{complaint}
 use Rattle.forwarding_model.specs.WholeFrames.{IsWholeFrame, IsReadFrame, IsSentWhole, KeepsWhole, IsTrack, IsLayered}
@@ -64,6 +67,14 @@ EndsAtRootUnpassed S = (wish : Wish) (events : List (Event S)) (n : ℕ) → IsO
 abbrev pub PathsBegin : Type 0 → Type 0
 PathsBegin S = (wish : Wish) (events : List (Event S)) (n : ℕ)
     → (steps : List Step) × (path (cause wish events) n ≡ record { number = n; verdict = cause wish events n } ∷ steps)
+
+-- a number is too old where it lies below the oldest that can be asked for, and ahead where it lies above the newest frame
+abbrev pub TooOldIsBelow : Type 0
+TooOldIsBelow = (newest n : ℕ)
+    → (is_too_old (Some newest) n ≡ true → n < oldest_asked newest) × (is_too_old (Some newest) n ≡ false → oldest_asked newest ≤ n)
+
+abbrev pub AheadIsAbove : Type 0
+AheadIsAbove = (newest n : ℕ) → (is_ahead (Some newest) n ≡ true → newest < n) × (is_ahead (Some newest) n ≡ false → n ≤ newest)
 
 -- each step of a path has the cause of its number
 abbrev pub PathsTellCauses : Type 0 → Type 0
@@ -157,6 +168,25 @@ EndedRunsAreWhole X = (marks : List (Mark X)) (run : Run X) → cut_of marks ≡
 abbrev pub WholeCutsAreFound : Type 0 → Type 0
 WholeCutsAreFound X = (marks : List (Mark X)) (part : Part X) (more : List (Part X)) → EndsIn marks (part ∷ more) → IsWholeCut (part ∷ more)
     → (run : Run X) × (cut_of marks ≡ Some run) × (parts_of run ≡ part ∷ more)
+
+-- a mark makes a frame whole exactly where it ends a whole cut
+abbrev pub WholeOutcomesAreCuts : Type 0 → Type 0
+WholeOutcomesAreCuts X = (run : Option (Run X)) (mark : Mark X)
+    → (outcome run mark ≡ IsWhole → (ended : Run X) × (cut_by run mark ≡ Some ended))
+    × ((ended : Run X) → cut_by run mark ≡ Some ended → outcome run mark ≡ IsWhole)
+
+-- a frame is partial where a run goes on, which hasn't ended; and padding alone is padding
+abbrev pub PartialOutcomesGoOn : Type 0 → Type 0
+PartialOutcomesGoOn X = (run : Option (Run X)) (mark : Mark X) → outcome run mark ≡ IsPartial
+    → (ongoing : Run X) × (extended run mark ≡ Some ongoing) × (ongoing.newest.end ≡ false)
+
+abbrev pub PaddingOutcomesArePadding : Type 0 → Type 0
+PaddingOutcomesArePadding X = (run : Option (Run X)) (mark : Mark X) → outcome run mark ≡ IsPadding → mark ≡ Padding
+
+-- a torn frame leaves no run, or one that has ended with an element open
+abbrev pub TornOutcomesAreTorn : Type 0 → Type 0
+TornOutcomesAreTorn X = (run : Option (Run X)) (mark : Mark X) → outcome run mark ≡ IsTorn
+    → (extended run mark ≡ None) ⊎ ((ended : Run X) × (extended run mark ≡ Some ended) × (ended.newest.end ≡ true) × (ended.newest.carries ≡ true))
 
 -- ---- selection
 

@@ -10,6 +10,7 @@ pub mod Restart
 pub mod Decisions
 pub mod Causes
 pub mod Outgoing
+pub mod Taken
 pub mod Reading
 pub mod Cuts
 pub mod Frames

@@ -1,11 +1,12 @@
 // The laws of forwarding: each is the contract of a function that does nothing. A crate above takes a law by a call of its function, or
 // by naming the lemma of `proofs/` that proves it. `Structure` is the type of template dependency structures.
 
-ghost use Rattle.forwarding_model.specs.Laws.{NeverComplains, AreDecodable, RestartsAtOnce, RestartsLater, EndsAtRoot, EndsAtRootUnpassed, PathsBegin, PathsTellCauses, TakenNeverComplains, OutgoingNeverComplains, EndsAtRootInHistories, AreNumberedInOrder, OnlyGrows, ResendsFirstBytes, ResendsKept, QueuesTheRest, TakesFindPackets, MarkingKeepsWhole, MarkingIsASender, MarkingKeepsCount, FramesAreTrack, FramesAreRead, FramesAreAdded, NewestAreTrack, EndedRunsAreWhole, WholeCutsAreFound, AimIsBest, OpeningIsBest, PassedWherePasses, PassesLinked, PassesWherePassed, KeepAlike, OpenAlike, PassAlike, JudgeAlike};
+ghost use Rattle.forwarding_model.specs.Laws.{NeverComplains, AreDecodable, RestartsAtOnce, RestartsLater, EndsAtRoot, EndsAtRootUnpassed, PathsBegin, PathsTellCauses, TakenNeverComplains, OutgoingNeverComplains, EndsAtRootInHistories, AreNumberedInOrder, OnlyGrows, ResendsFirstBytes, ResendsKept, QueuesTheRest, TakesFindPackets, MarkingKeepsWhole, MarkingIsASender, MarkingKeepsCount, FramesAreTrack, FramesAreRead, FramesAreAdded, NewestAreTrack, EndedRunsAreWhole, WholeCutsAreFound, WholeOutcomesAreCuts, PartialOutcomesGoOn, PaddingOutcomesArePadding, TornOutcomesAreTorn, TooOldIsBelow, AheadIsAbove, AimIsBest, OpeningIsBest, PassedWherePasses, PassesLinked, PassesWherePassed, KeepAlike, OpenAlike, PassAlike, JudgeAlike};
 ghost use Rattle.forwarding_model.specs.Accepted.{NoComplaintAccepts};
 ghost use Rattle.forwarding_model.specs.Decisions.{BrokenLinksClose, OtherLinksKeep, BrokenLinksBreak, ReasonsHold, OpensTheBest, OpensWhatItCan, PassesInTarget, FullClaims, BehindClaims, ReferenceClaims, OtherTargetClaims, NoTargetClaims, LinkClaims, UnopenedClaims, NoFrameIsAHole};
 ghost use Rattle.forwarding_model.specs.Making.{WhatWasReadIsInForce, KeyStartsAreNumbered, ItemsHaveMarks, FramesAreCuts, CutsAreFrames};
 ghost use Rattle.forwarding_model.specs.Reading.{IsFormat};
+ghost use Rattle.forwarding_model.specs.Taken.{TakesGiveWhatWasTaken, NextHasNextNumber, KeepsTheLast, OldestIsKept, ResendsTheKeptNumbers};
 ghost use Rattle.forwarding_model.specs.WorkedFormat.{worked_format};
 ghost use Rattle.forwarding_model.specs.Rows.{BrokenChainCauses, BrokenChainNumbers, UpperLostCauses, UpperLostMarkers, MaskMarkers, WishCauses, WishMarkers, WishCauseUnpassed, FullCauses, FullTakenCauses, LateJoinCauses, BehindCause, HoldCauses, PlainResend, BrokenLinkCauses, UnlinkedCause, EarlyLinkCauses, MaskedCauses, IntactUpperMarkers, LoweredWishCause, ThreePacketMarkers, KeptMarkers, AskedNumbers, HoleBounds};
 ghost use Rattle.forwarding_model.specs.WorkedPackets.{UnreadInside, BrokenInside, OtherStructureInside, BrokenKeyStart, TornKeyFrame, BrokenMask, PaddingSaysNothing, LastMask, MaskAgain, FirstNumberZero, FarthestAbove, NearestBehind, LongFrame, TooLongFrame, FirstSubscriber, FirstSubscriberMarkers, SecondSubscriber, SecondSubscriberTaken, ThirdSubscriber, ThirdSubscriberCauses, HistoryNumbers, HistoryTaken, HistoryCauses, PaddedFrame, TornFrame, EarlyStart, WrappedNumbers, StaleNumber, NewMask, OtherStructure, Accepted, AcceptedCounts, NotRtp, OtherSource, RepeatedNumber, WrappedSequence, LacksKeyFrame, EmptyPayload, LacksStart, SecondStart, BrokenJoin, LacksReference, LostReference, OtherNumber, EndCarries, StartContinues, LongestFrame, TooManyPackets, FaultyDescriptor, BrokenPayload, StructureRule, SameStructure, NoStructureFirst, SourceFirst, NumberBeforeContent, FirstComplaintStays, StaleEmpties, StaleCounts};
@@ -47,6 +48,12 @@ pub fn withheld_frames_have_a_path_to_a_root<Structure>()
     ensures history { EndsAtRootInHistories Structure }
 {}
 
+/// Causes can be asked for of the 4,096 numbers up to the newest frame's.
+pub fn causes_are_known_up_to_the_newest()
+    ensures too_old { TooOldIsBelow }
+    ensures ahead { AheadIsAbove }
+{}
+
 /// A packet that was taken, and is still kept, is resent as it was.
 pub fn resends_give_first_bytes<Structure>()
     ensures first { ResendsFirstBytes Structure }
@@ -69,6 +76,19 @@ pub fn outgoing_packets_only_grow<Structure>()
 pub fn queued_packets_are_those_not_taken<Structure>()
     ensures queued { QueuesTheRest Structure }
     ensures history { TakesFindPackets Structure }
+{}
+
+/// What the takes gave, one after another, is what was taken, and the next packet has the next number.
+pub fn takes_give_what_was_taken<Structure>()
+    ensures given { TakesGiveWhatWasTaken Structure }
+    ensures next { NextHasNextNumber Structure }
+{}
+
+/// The last 1,024 packets that were taken are kept, and exactly their numbers are resent.
+pub fn the_last_that_were_taken_are_kept<Structure>()
+    ensures last { KeepsTheLast Structure }
+    ensures oldest { OldestIsKept Structure }
+    ensures numbers { ResendsTheKeptNumbers Structure }
 {}
 
 /// A frame is sent whole, in as many packets as it has, when the marker of its last packet is set.
@@ -106,6 +126,15 @@ pub fn what_was_read_is_in_force<Structure>()
 pub fn ended_runs_are_the_whole_cuts<Brought>()
     ensures whole { EndedRunsAreWhole Brought }
     ensures found { WholeCutsAreFound Brought }
+{}
+
+/// A mark makes a frame whole exactly where it ends a whole cut, and partial, padded or torn as the run that it leaves says. `Brought`
+/// is the type of what a part brings with it.
+pub fn outcomes_are_those_of_runs<Brought>()
+    ensures whole { WholeOutcomesAreCuts Brought }
+    ensures partial { PartialOutcomesGoOn Brought }
+    ensures padding { PaddingOutcomesArePadding Brought }
+    ensures torn { TornOutcomesAreTorn Brought }
 {}
 
 // ---- selection
