@@ -2,7 +2,9 @@
 //!
 //! The definitions stand in `specs/`, one topic a file. `Targets`, `Selection` and `Standing` say which frames pass to a subscriber,
 //! `Outgoing` what goes out, `Causes` why a frame was withheld, `Reading`, `Cuts` and `Frames` how packets become frames, and `Receiver`
-//! what a strict receiver makes of packets. `Laws` has the laws, and the functions of this crate carry them. There is no other code here.
+//! what a strict receiver makes of packets. `Decisions`, `Taken`, `Making` and `Accepted` tell decisions, takes, frames and reception in
+//! words, with the laws that tie them to the definitions, and `Laws` has the other laws. The functions of this crate carry all of them.
+//! There is no other code here.
 #![tactic(auto)]
 
 mod complaint;
