@@ -47,7 +47,7 @@ better_trans (Some p) None z t u v h k = absurd k
 better_trans (Some p) (Some q) None t u v h k = tt
 better_trans (Some p) (Some q) (Some r) t u v h k = grind arith
 
-better_fact : (x y : Option Wish) (t u : ℕ) → is_better_of x y t u ≡ true → IsBetterOf x y t u
+pub better_fact : (x y : Option Wish) (t u : ℕ) → is_better_of x y t u ≡ true → IsBetterOf x y t u
 better_fact None y t u h = absurd (true≢false (sym h))
 better_fact (Some p) None t u h = tt
 better_fact (Some p) (Some q) t u h = pair_fact p q t u h

@@ -6,20 +6,20 @@ use Rattle.std.specs.List.{AllByRecursion}
 use Rattle.std.specs.declared.option.Option.{Option}
 use Rattle.std.specs.declared.option.Option.TheVariants.{None, Some}
 use Rattle.sfu_base.specs.declared.frame.FrameMeaning.{FrameMeaning}
-use Rattle.forwarding_model.specs.Timeline.{Frame, Event, meaning_of, frames_of, takes_of}
+use Rattle.forwarding_model.specs.Timeline.{Frame, Event, Packet, meaning_of, frames_of, takes_of}
 use Rattle.forwarding_model.specs.Timeline.Event.{WishChange, Take}
 use Rattle.forwarding_model.specs.TrackFrames.{Precedes, IsOneTrack}
 use Rattle.forwarding_model.specs.Outgoing.{Sender, Subscriber, outgoing, taken, queue, FindPackets}
 use Rattle.forwarding_model.specs.Reading.{Format, IsFormat}
 use Rattle.forwarding_model.specs.Frames.{Item, made_by_item, state_after, in_front, frames_after, frames_since}
 use Rattle.forwarding_model.specs.Receiver.{complaint}
-use Rattle.forwarding_model.specs.WholeFrames.{IsWholeFrame, KeepsWhole, HaveEpochStructures, IsTrack, IsLayered}
+use Rattle.forwarding_model.specs.WholeFrames.{IsReadFrame, IsSentWhole, IsWholeFrame, KeepsWhole, HaveEpochStructures, IsTrack, IsLayered}
 use Rattle.forwarding_model.specs.History.{Entry, items_of, subscriber_of, frame_events, asked, timeline}
 use Rattle.forwarding_model.specs.History.Entry.{Released, Joined, Aimed, Asked}
 use Rattle.sfu_base.specs.declared.frame.Wish.{Wish}
 use Rattle.forwarding_model.specs.Causes.{cause, path, IsPath, IsWithheld}
 use Rattle.forwarding_model.proofs.Paths.{withheld_path}
-use Rattle.forwarding_model.proofs.MadeFrames.{frames_are_track}
+use Rattle.forwarding_model.proofs.MadeFrames.{frames_are_track, frames_are_read}
 use Rattle.forwarding_model.proofs.StrictReceiver.{prefix_never_complains}
 
 in_front-append : {S : Type 0} (o : Option (Frame S)) (xs ys : List (Frame S)) → in_front o (xs ++ ys) ≡ in_front o xs ++ ys
@@ -125,13 +125,36 @@ timeline_track format send number history facts =
     newest_track format (frames_of (timeline format send number history)) sees.older
     (subst (IsTrack format) (sym sees.is) (frames_are_track format (items_of history) facts))
 
--- whatever the history, a strict receiver of what a subscriber has taken has no complaint
+timeline_read : {S : Type 0} (format : Format S) (send : Sender S) (number : ℕ) (history : List Entry) → IsFormat format
+    → AllByRecursion (IsReadFrame format) (frames_of (timeline format send number history))
+timeline_read format send number history facts =
+    let sees = sees_newest format send number history in
+    each_newest (IsReadFrame format) (frames_of (timeline format send number history)) sees.older
+    (subst (AllByRecursion (IsReadFrame format)) (sym sees.is) (frames_are_read format (items_of history) facts))
+
+all_sent_whole : {S : Type 0} (format : Format S) (send : Sender S) (frames : List (Frame S)) → KeepsWhole format send → IsOneTrack (map meaning_of frames)
+    → AllByRecursion (IsReadFrame format) frames → AllByRecursion (IsWholeFrame format) frames → AllByRecursion (IsSentWhole format send) frames
+all_sent_whole format send [] keeps numbers read whole = tt
+all_sent_whole format send (x ∷ xs) keeps numbers read whole =
+    (keeps x numbers.0.valid read.0 whole.0, all_sent_whole format send xs keeps numbers.2 read.1 whole.1)
+
+-- whatever the history, a strict receiver of what goes out to a subscriber, or of a prefix of it, has no complaint
+pub outgoing_never_complains : {S : Type 0} (format : Format S) (send : Sender S) (number : ℕ) (history : List Entry) (subscriber : Subscriber) (sent queued : List Packet)
+    → IsFormat format → KeepsWhole format send → sent ++ queued ≡ outgoing send subscriber (timeline format send number history)
+    → complaint format (map Some sent) ≡ None
+outgoing_never_complains format send number history subscriber sent queued facts keeps e =
+    let events : List (Event _) = timeline format send number history in
+    let track = timeline_track format send number history facts in
+    prefix_never_complains format send subscriber events sent queued
+    (all_sent_whole format send (frames_of events) keeps track.numbers (timeline_read format send number history facts) track.whole)
+    (sees_newest format send number history).layered track e
+
+-- and what it has taken is a prefix
 pub taken_never_complains : {S : Type 0} (format : Format S) (send : Sender S) (number : ℕ) (history : List Entry) (subscriber : Subscriber)
     → IsFormat format → KeepsWhole format send → complaint format (map Some (taken send subscriber (timeline format send number history))) ≡ None
 taken_never_complains format send number history subscriber facts keeps =
     let events : List (Event _) = timeline format send number history in
-    prefix_never_complains format send subscriber events (taken send subscriber events) (queue send subscriber events) keeps
-    (sees_newest format send number history).layered (timeline_track format send number history facts)
+    outgoing_never_complains format send number history subscriber (taken send subscriber events) (queue send subscriber events) facts keeps
     (take-append-drop (takes_of events) (outgoing send subscriber events))
 
 -- and each frame that it wasn't sent has a path to a root

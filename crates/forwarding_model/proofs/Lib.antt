@@ -21,4 +21,11 @@ pub mod Outgoings
 pub mod Histories
 pub mod Rows
 pub mod WorkedPackets
+pub mod WorkedFormats
 pub mod Links
+pub mod Decisions
+pub mod Claimed
+pub mod Accepting
+pub mod Making
+pub mod Takings
+pub mod Outcomes

@@ -9,17 +9,17 @@ use Rattle.sfu_base.specs.Frame.{IsValid}
 use Rattle.forwarding_model.specs.Numbers.{is_above, number_above}
 use Rattle.forwarding_model.specs.Timeline.{Packet, Frame, meaning_of, rest_of}
 use Rattle.forwarding_model.specs.TrackFrames.{Precedes, IsOneTrack}
-use Rattle.forwarding_model.specs.Reading.{Descriptor, Format, IsDescriptor, IsFormat, Joins, Payload, Showing, is_key_start, keeps_structure, shown}
+use Rattle.forwarding_model.specs.Reading.{Descriptor, Format, IsCarried, IsDescriptor, IsFormat, Joins, MayBeInForce, Payload, Showing, is_key_start, keeps_structure, shown}
 use Rattle.forwarding_model.specs.Reading.Payload.{Empty, Broken, Elements}
 use Rattle.forwarding_model.specs.Reading.Showing.{LacksStructure, Unread, Shows}
 use Rattle.forwarding_model.specs.Cuts.{Part, Mark, Run, begun, continued, extended, whole, cut_by, parts_of}
 use Rattle.forwarding_model.specs.Cuts.Mark.{Gone, Padding, Unreadable, Read}
 use Rattle.forwarding_model.specs.Frames.{Item, Force, ReadPacket, TrackState, Made, key_number, seen_as, after_descriptor, part_of, is_padding, number_of, meaning_by, packet_of, framed, frame_of, with_frame, made_by, made_by_packet, made_by_item, state_after, in_front, frames_after}
 use Rattle.forwarding_model.specs.Frames.Item.{Missing, Arrived}
-use Rattle.forwarding_model.specs.WholeFrames.{ReadsAs, AreContinuations, IsFirst, IsWholeFrame, HaveEpochStructures, IsTrack}
+use Rattle.forwarding_model.specs.WholeFrames.{ReadsAs, AreContinuations, IsFirst, IsReadFrame, IsWholeFrame, HaveEpochStructures, IsTrack}
 use Rattle.forwarding_model.proofs.Members.{each_member, each_of, each_weaker}
 use Rattle.forwarding_model.proofs.WrapNumbers.{is_above-lt, least_above-lt, key_number-mod, number_above-own}
-use Rattle.forwarding_model.proofs.Readings.{IsInForce, carried, key_in_force, key_start_references, key_start_start, key_start_structure, other_in_force, shown_parts, shown-key, shown-none}
+use Rattle.forwarding_model.proofs.Readings.{IsInForce, carried, key_in_force, key_start_references, key_start_start, key_start_structure, other_in_force, shown_carried, shown_parts, shown-key, shown-none}
 use Rattle.forwarding_model.proofs.Runs.{AreBelow, IsEnded, IsRun, KeepsOpen, KeepsRun, begun_run, continued_run, joins_of}
 
 -- ---- what is in force, and the frames so far
@@ -32,6 +32,7 @@ pub record IsForced {S : Type 0} (format : Format S) (force : Force S) (frames :
   pub numbers : IsOneTrack (map meaning_of frames)
   pub structures : HaveEpochStructures frames
   pub whole : AllByRecursion (IsWholeFrame format) frames
+  pub read : AllByRecursion (IsReadFrame format) frames
   pub start : force.start ≤ force.newest
   pub earlier : AllByRecursion (IsEarlierThan force) frames
   pub none : force.structure ≡ None → frames ≡ []
@@ -48,14 +49,15 @@ key_above (Some s) newest n frames none low = each_weaker _ _ frames (λ x l. le
 
 -- a key start comes
 forced_key : {S : Type 0} (format : Format S) (force : Force S) (frames : List (Frame S)) (d : Descriptor S) → IsForced format force frames → IsDescriptor format force.structure d
-    → (s : S) → d.structure ≡ Some s
+    → (s : S) → IsCarried format s → d.structure ≡ Some s
     → IsForced format (seen_as format force d true) frames × AreBelow (seen_as format force d true).start frames
-forced_key {S} format force frames d h valid s has =
+forced_key {S} format force frames d h valid s came has =
     let up = key_above force.structure force.newest d.number frames h.none (each_weaker _ _ frames (λ x e. e.low) h.earlier) in (
       record {
         numbers = h.numbers;
         structures = h.structures;
         whole = h.whole;
+        read = h.read;
         start = omega arith;
         earlier = each_of _ frames (λ x m.
             let lt : x.meaning.number < key_number force.structure force.newest d.number = each_member (λ (x : Frame S). x.meaning.number < key_number force.structure force.newest d.number) frames x up m in
@@ -64,23 +66,25 @@ forced_key {S} format force frames d h valid s has =
         none = λ e. absurd (let no_structure : None ≡ Some s = sym e ∙ has in grind arith);
         in_force = λ t e.
             let same : Some s ≡ Some t = sym has ∙ e in
-            key_in_force format force.structure d t force.mask valid (has ∙ same);
+            key_in_force format force.structure d t force.mask (subst (IsCarried format) (let e : s ≡ t = cc in e) came) valid (has ∙ same);
       },
       up,
     )
 
-forced_other : {S : Type 0} (format : Format S) (force : Force S) (frames : List (Frame S)) (d : Descriptor S) → IsFormat format → IsForced format force frames → IsDescriptor format force.structure d
+forced_other : {S : Type 0} (format : Format S) (force : Force S) (frames : List (Frame S)) (d : Descriptor S) → IsFormat format → IsForced format force frames
+    → ((t : S) → d.structure ≡ Some t → IsCarried format t) → IsDescriptor format force.structure d
     → keeps_structure format force.structure d.structure ≡ true → IsForced format (seen_as format force d false) frames
-forced_other format force frames d facts h valid keeps =
+forced_other format force frames d facts h came valid keeps =
     record {
       numbers = h.numbers;
       structures = h.structures;
       whole = h.whole;
+      read = h.read;
       start = h.start;
       earlier = each_weaker _ _ frames (λ x e. record { low = e.low; epochs = e.epochs }) h.earlier;
       none = h.none;
       in_force = λ s e.
-          other_in_force format d s force.mask facts
+          other_in_force format d s force.mask facts came
           (subst (λ o. IsDescriptor format o d) e valid)
           (subst (λ o. keeps_structure format o d.structure ≡ true) e keeps)
           (h.in_force s e);
@@ -129,6 +133,7 @@ forced_frame {S} format force frames run number h g ended low rises key wire =
         h.structures,
       );
       whole = ((d, joins, first, tail ended), h.whole);
+      read = (record { carried = (h.in_force g.s g.head.has).carried; targets = refl; pairs = refl; chains = refl; guards = refl }, h.read);
       start = low;
       earlier = (
         record { low = omega arith; epochs = inl (refl, refl, g.head.has) },
@@ -337,8 +342,15 @@ made_packet {S} format state frames p (Shows d payload) facts h opens e = by_pay
     force : Force S
     force = state.force
 
+    may_be : (o : Option S) → force.structure ≡ o → MayBeInForce format o
+    may_be None e = tt
+    may_be (Some s) e = (h.in_force s e).carried
+
     valid : (payload : Payload) → shown format force.structure p.rest ≡ Shows d payload → IsDescriptor format force.structure d
-    valid payload e = facts.valid force.structure p.rest d (shown_parts format force.structure p.rest d payload e).reads
+    valid payload e = facts.valid force.structure p.rest d (may_be force.structure refl) (shown_parts format force.structure p.rest d payload e).reads
+
+    came : (payload : Payload) → shown format force.structure p.rest ≡ Shows d payload → (t : S) → d.structure ≡ Some t → IsCarried format t
+    came payload e t has = shown_carried format force.structure p.rest d payload t facts e has
 
     keeps : (payload : Payload) → shown format force.structure p.rest ≡ Shows d payload → is_key_start d ≡ false → keeps_structure format force.structure d.structure ≡ true
     keeps payload e k =
@@ -347,15 +359,15 @@ made_packet {S} format state frames p (Shows d payload) facts h opens e = by_pay
     forced : (payload : Payload) → shown format force.structure p.rest ≡ Shows d payload → (b : Bool) → is_key_start d ≡ b → IsForced format (seen_as format force d b) frames
     forced payload e true k =
         let c = carried d.structure (key_start_structure d k) in
-        (forced_key format force frames d h (valid payload e) c.0 c.1).0
-    forced payload e false k = forced_other format force frames d facts h (valid payload e) (keeps payload e k)
+        (forced_key format force frames d h (valid payload e) c.0 (came payload e c.0 c.1) c.1).0
+    forced payload e false k = forced_other format force frames d facts h (came payload e) (valid payload e) (keeps payload e k)
 
     run_after : (joins : Joins) → shown format force.structure p.rest ≡ Shows d (Elements joins) → (b : Bool) → is_key_start d ≡ b → (o : Option S) → force.structure ≡ o
         → KeepsRun format (seen_as format force d b) frames (extended state.run (Read (part_of d joins p)))
     run_after joins e true k o eq =
         let c = carried d.structure (key_start_structure d k) in
         key_run format force frames state.run d joins p facts e k (valid (Elements joins) e) c.0 c.1
-        (forced_key format force frames d h (valid (Elements joins) e) c.0 c.1).1
+        (forced_key format force frames d h (valid (Elements joins) e) c.0 (came (Elements joins) e c.0 c.1) c.1).1
     run_after joins e false k None eq =
         absurd (true≢false (sym (shown-none format p.rest d (Elements joins) facts (ap (λ x. shown format x p.rest) (sym eq) ∙ e)) ∙ k))
     run_after joins e false k (Some s) eq =
@@ -381,7 +393,7 @@ pub forced_after : {S : Type 0} (format : Format S) (items : List Item) → IsFo
     → IsForced format (state_after format items).force (frames_after format items)
     × KeepsOpen format (state_after format items).force (frames_after format items) (state_after format items).run
 forced_after format [] facts =
-    (record { numbers = tt; structures = tt; whole = tt; start = omega arith; earlier = tt; none = λ e. refl; in_force = λ s e. absurd (grind arith) }, tt)
+    (record { numbers = tt; structures = tt; whole = tt; read = tt; start = omega arith; earlier = tt; none = λ e. refl; in_force = λ s e. absurd (grind arith) }, tt)
 forced_after format (item ∷ past) facts =
     let h = forced_after format past facts in
     let m = made_item format (state_after format past) (frames_after format past) item facts h.0 h.1 in
@@ -391,3 +403,6 @@ pub frames_are_track : {S : Type 0} (format : Format S) (items : List Item) → 
 frames_are_track format items facts =
     let h = (forced_after format items facts).0 in
     record { numbers = h.numbers; structures = h.structures; whole = h.whole }
+
+pub frames_are_read : {S : Type 0} (format : Format S) (items : List Item) → IsFormat format → AllByRecursion (IsReadFrame format) (frames_after format items)
+frames_are_read format items facts = (forced_after format items facts).0.read

@@ -13,7 +13,7 @@ use Rattle.forwarding_model.specs.Timeline.Event.{WholeFrame, PlainPacket, WishC
 use Rattle.forwarding_model.specs.Standing.{Standing, passes_at, candidate_at, plain_passes, admitted, after_plain, standing}
 use Rattle.forwarding_model.specs.Outgoing.{Sender, Subscriber, marked, is_top_layer, send_marked, forwarded, numbered, outgoing, queue, kept, next_packet, resent, AreConsecutive, FindPackets, KeepsCount}
 use Rattle.forwarding_model.specs.Reading.{Format}
-use Rattle.forwarding_model.specs.WholeFrames.{AreWhole, KeepsWhole}
+use Rattle.forwarding_model.specs.WholeFrames.{AreWhole, IsWholeFrame, IsSentWhole, KeepsWhole}
 use Rattle.forwarding_model.proofs.StrictReceiver.{numbered-append}
 
 -- ---- the marker rule
@@ -28,9 +28,12 @@ length-marked is_last [] = refl
 length-marked is_last (p ∷ []) = refl
 length-marked is_last (p ∷ q ∷ ps) = ap suc (length-marked is_last (q ∷ ps))
 
-pub marked_keeps_whole : {S : Type 0} (format : Format S) → KeepsWhole format send_marked
-marked_keeps_whole format frame target whole =
+pub marked_sent_whole : {S : Type 0} (format : Format S) (frame : Frame S) → IsWholeFrame format frame → IsSentWhole format send_marked frame
+marked_sent_whole format frame whole target =
     subst (AreWhole format frame.structure frame.meaning) (sym (rests-marked (is_top_layer frame.meaning target) frame.packets)) whole
+
+pub marked_keeps_whole : {S : Type 0} (format : Format S) → KeepsWhole format send_marked
+marked_keeps_whole format frame valid read whole = marked_sent_whole format frame whole
 
 pub marked_keeps_count : {S : Type 0} (frame : Frame S) (target : CurrentTarget) → length (send_marked frame target) ≡ length frame.packets
 marked_keeps_count frame target = length-marked (is_top_layer frame.meaning target) frame.packets
@@ -46,7 +49,7 @@ pub length-numbered : (n ssrc : ℕ) (ps : List Packet) → length (numbered n s
 length-numbered n ssrc [] = refl
 length-numbered n ssrc (p ∷ ps) = ap suc (length-numbered (n + 1) ssrc ps)
 
-take-numbered : (i n ssrc : ℕ) (ps : List Packet) → take i (numbered n ssrc ps) ≡ numbered n ssrc (take i ps)
+pub take-numbered : (i n ssrc : ℕ) (ps : List Packet) → take i (numbered n ssrc ps) ≡ numbered n ssrc (take i ps)
 take-numbered zero n ssrc ps = refl
 take-numbered (suc i) n ssrc [] = refl
 take-numbered (suc i) n ssrc (p ∷ ps) =
@@ -59,11 +62,11 @@ drop-numbered (suc i) n ssrc (p ∷ ps) =
     drop-numbered i (n + 1) ssrc ps ∙ ap (λ k. numbered k ssrc (drop i ps)) (let e : (n + 1) + i ≡ n + suc i = omega arith in e)
 
 -- the first packet from a place on
-abbrev numbered_as : ℕ → ℕ → Packet → Packet
+abbrev pub numbered_as : ℕ → ℕ → Packet → Packet
 numbered_as n ssrc p = record { sequence_number = n % 65536; ssrc = ssrc; marker = p.marker; rest = p.rest }
 
 -- of fewer than 65,536 packets, the number of one finds that one
-find-numbered : (ps : List Packet) (n ssrc j : ℕ) (q : Packet) (rest : List Packet) → drop j ps ≡ q ∷ rest → j < 65536
+pub find-numbered : (ps : List Packet) (n ssrc j : ℕ) (q : Packet) (rest : List Packet) → drop j ps ≡ q ∷ rest → j < 65536
     → find (λ p. p.sequence_number == ((n + j) % 65536)) (numbered n ssrc ps) ≡ Some (numbered_as (n + j) ssrc q)
 find-numbered [] n ssrc zero q rest e lt = absurd (grind arith)
 find-numbered [] n ssrc (suc j) q rest e lt = absurd (grind arith)
@@ -139,7 +142,7 @@ drop_taken zero (suc t) (x ∷ xs) rest q e lt = let same : x ≡ q = cc in (tak
 drop_taken (suc i) (suc t) [] rest q e lt = absurd (grind arith)
 drop_taken (suc i) (suc t) (x ∷ xs) rest q e lt = drop_taken i t xs rest q e (omega arith)
 
-drop_within : (i : ℕ) (xs rest : List Packet) (q : Packet) → drop i xs ≡ q ∷ rest → i < length xs
+pub drop_within : (i : ℕ) (xs rest : List Packet) (q : Packet) → drop i xs ≡ q ∷ rest → i < length xs
 drop_within zero [] rest q e = absurd (grind arith)
 drop_within zero (x ∷ xs) rest q e = omega arith
 drop_within (suc i) [] rest q e = absurd (grind arith)
@@ -151,7 +154,7 @@ length_le_take (suc t) [] = omega arith
 length_le_take (suc t) (x ∷ xs) = let h = length_le_take t xs in omega arith
 
 -- what is numbered and stands first from a place on was numbered there
-first_numbered : (i n ssrc : ℕ) (ps : List Packet) (p : Packet) → first_of (drop i (numbered n ssrc ps)) ≡ Some p
+pub first_numbered : (i n ssrc : ℕ) (ps : List Packet) (p : Packet) → first_of (drop i (numbered n ssrc ps)) ≡ Some p
     → (q : Packet) × (rest : List Packet) × (drop i ps ≡ q ∷ rest) × (p ≡ numbered_as (n + i) ssrc q)
 first_numbered i n ssrc ps p h = go (drop i ps) refl (sym (ap first_of (drop-numbered i n ssrc ps)) ∙ h)
   where
@@ -161,7 +164,7 @@ first_numbered i n ssrc ps p h = go (drop i ps) refl (sym (ap first_of (drop-num
     go (q ∷ rest) e k = (q, rest, e, cc)
 
 -- the last 1,024 of the first t, numbered
-kept-numbered : (t n ssrc : ℕ) (ps : List Packet) → last_part 1024 (take t (numbered n ssrc ps)) ≡ numbered (n + (length (take t ps) - 1024)) ssrc (last_part 1024 (take t ps))
+pub kept-numbered : (t n ssrc : ℕ) (ps : List Packet) → last_part 1024 (take t (numbered n ssrc ps)) ≡ numbered (n + (length (take t ps) - 1024)) ssrc (last_part 1024 (take t ps))
 kept-numbered t n ssrc ps =
     ap (last_part 1024) (take-numbered t n ssrc ps)
     ∙ ap (λ k. drop (k - 1024) (numbered n ssrc (take t ps))) (length-numbered n ssrc (take t ps))

@@ -1,5 +1,5 @@
 -- A path of causes ends at a root.
-use Rattle.std.proofs.Common.{◌≡◌, ◌≢◌, ◌+◌, ◌<◌, ℕ, zero, suc, arith, List, refl, subst, ap}
+use Rattle.std.proofs.Common.{◌≡◌, ◌≢◌, ◌+◌, ◌<◌, ℕ, zero, suc, arith, List, ◌∷◌, refl, subst, ap}
 use Rattle.std.specs.declared.option.Option.{Option}
 use Rattle.std.specs.declared.option.Option.TheVariants.{None, Some}
 use Rattle.sfu_base.specs.declared.frame.Wish.{Wish}
@@ -75,3 +75,7 @@ withheld_unpassed wish events n track w = hole_or (verdict_among (verdicts wish 
 pub withheld_path : {S : Type 0} (wish : Wish) (events : List (Event S)) (n : ℕ) → IsOneTrack (meanings_of events) → IsWithheld wish events n
     → IsPath (path (cause wish events) n)
 withheld_path wish events n track w = unpassed_path wish events n track (withheld_unpassed wish events n track w)
+
+pub path_begins : (causes : ℕ → Verdict) (n : ℕ) → (steps : List Step) × (path causes n ≡ record { number = n; verdict = causes n } ∷ steps)
+path_begins causes n =
+    (path_on (followed (causes n)) (path_within n causes), ap (λ limit. path_within limit causes n) (let e : n + 1 ≡ suc n = omega arith in e))

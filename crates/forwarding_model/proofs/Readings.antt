@@ -4,7 +4,7 @@ use Rattle.std.proofs.lemmas.Bool.{eqb-true, and_parts}
 use Rattle.std.proofs.Math.Pow.{pow_pos}
 use Rattle.std.specs.declared.option.Option.{Option}
 use Rattle.std.specs.declared.option.Option.TheVariants.{None, Some}
-use Rattle.forwarding_model.specs.Reading.{Descriptor, DescriptorReading, Format, Layout, Payload, IsDescriptor, IsFormat, IsLayout, has_structure, is_key_start, keeps_structure, obeys_structure, read_by, referred_distances, shown, shown_by}
+use Rattle.forwarding_model.specs.Reading.{Descriptor, DescriptorReading, Format, Layout, Payload, IsCarried, IsDescriptor, IsFormat, IsLayout, has_structure, is_key_start, keeps_structure, obeys_structure, read_by, referred_distances, shown, shown_by}
 use Rattle.forwarding_model.specs.Reading.DescriptorReading.{NeedsStructure, Faulty, Reads}
 use Rattle.forwarding_model.specs.Reading.Showing.{Unread, Shows}
 use Rattle.forwarding_model.specs.Frames.{all_targets, mask_by}
@@ -72,15 +72,29 @@ shown-none format rest d payload facts h =
 pub all_targets-lt : (layout : Layout) → all_targets layout < 2 ^ layout.target_count
 all_targets-lt layout = let pos : 0 < 2 ^ layout.target_count = pow_pos layout.target_count in omega arith
 
--- the structure in force is a layout that the mask fits
+-- a structure that a shown descriptor carries was carried
+pub shown_carried : {S : Type 0} (format : Format S) (force : Option S) (rest : List ℕ) (d : Descriptor S) (payload : Payload) (s : S) → IsFormat format
+    → shown format force rest ≡ Shows d payload → d.structure ≡ Some s → IsCarried format s
+shown_carried format force rest d payload s facts h has =
+    let p = shown_parts format force rest d payload h in
+    record {
+      rest = rest;
+      descriptor = d;
+      reads = facts.independent force None rest d p.reads (ap has_structure has);
+      carries = has;
+    }
+
+-- the structure in force was carried, and is a layout that the mask fits
 pub record IsInForce {S : Type 0} (format : Format S) (s : S) (mask : ℕ) : Type 0 where
+  pub carried : IsCarried format s
   pub layout : IsLayout (format.layout s)
   pub fits : mask < 2 ^ (format.layout s).target_count
 
-pub key_in_force : {S : Type 0} (format : Format S) (force : Option S) (d : Descriptor S) (s : S) (old : ℕ) → IsDescriptor format force d → d.structure ≡ Some s
+pub key_in_force : {S : Type 0} (format : Format S) (force : Option S) (d : Descriptor S) (s : S) (old : ℕ) → IsCarried format s → IsDescriptor format force d → d.structure ≡ Some s
     → IsInForce format s (mask_by format d.mask d.structure old)
-key_in_force format force d s old valid has =
+key_in_force format force d s old came valid has =
     record {
+      carried = came;
       layout = valid.layout s has;
       fits = subst (λ o. mask_by format d.mask o old < 2 ^ (format.layout s).target_count) (sym has)
           (go d.mask (λ m e. valid.mask s m (ap (read_by force) has) e));
@@ -90,10 +104,11 @@ key_in_force format force d s old valid has =
     go None own = all_targets-lt (format.layout s)
     go (Some m) own = own m refl
 
-pub other_in_force : {S : Type 0} (format : Format S) (d : Descriptor S) (s : S) (old : ℕ) → IsFormat format → IsDescriptor format (Some s) d
+pub other_in_force : {S : Type 0} (format : Format S) (d : Descriptor S) (s : S) (old : ℕ) → IsFormat format
+    → ((t : S) → d.structure ≡ Some t → IsCarried format t) → IsDescriptor format (Some s) d
     → keeps_structure format (Some s) d.structure ≡ true → IsInForce format s old → IsInForce format s (mask_by format d.mask d.structure old)
-other_in_force {S} format d s old facts valid keeps h =
-    record { layout = h.layout; fits = structured d.structure refl keeps (λ t m has e. valid.mask t m (ap (read_by (Some s)) has) e) (λ m none e. valid.mask s m (ap (read_by (Some s)) none) e) }
+other_in_force {S} format d s old facts came valid keeps h =
+    record { carried = h.carried; layout = h.layout; fits = structured d.structure refl keeps (λ t m has e. valid.mask t m (ap (read_by (Some s)) has) e) (λ m none e. valid.mask s m (ap (read_by (Some s)) none) e) }
   where
     alone : (o : Option ℕ) → ((m : ℕ) → o ≡ Some m → m < 2 ^ (format.layout s).target_count) → mask_by format o None old < 2 ^ (format.layout s).target_count
     alone None own = h.fits
@@ -108,4 +123,4 @@ other_in_force {S} format d s old facts valid keeps h =
         → ((m : ℕ) → d.structure ≡ None → d.mask ≡ Some m → m < 2 ^ (format.layout s).target_count)
         → mask_by format d.mask o old < 2 ^ (format.layout s).target_count
     structured None e keeps own other = alone d.mask (λ m k. other m e k)
-    structured (Some t) e keeps own other = again t (sym (facts.same t s keeps)) d.mask (λ m k. own t m e k)
+    structured (Some t) e keeps own other = again t (sym (facts.same t s (came t e) h.carried keeps)) d.mask (λ m k. own t m e k)

@@ -32,7 +32,7 @@ receive_packets-append format r (x ∷ xs) ys = receive_packets-append format (r
 abbrev pub between : {S : Type 0} → ℕ → ℕ → S → Received → Receiver S
 between ssrc last s received = Receiving (record { ssrc = ssrc; sequence_number = last; structure = Some s; frame = None; received = received })
 
-not_key : {S : Type 0} (d : Descriptor S) → d.start ≡ false → is_key_start d ≡ false
+pub not_key : {S : Type 0} (d : Descriptor S) → d.start ≡ false → is_key_start d ≡ false
 not_key d e = rw e (go (has_structure d.structure))
   where
     go : (b : Bool) → (b && false) ≡ false

@@ -1,6 +1,6 @@
 -- The worked timelines compute.
 use Rattle.std.proofs.Common.{refl}
-use Rattle.forwarding_model.specs.Rows.{BrokenChainCauses, BrokenChainNumbers, UpperLostCauses, UpperLostMarkers, MaskMarkers, WishCauses, WishMarkers, WishCauseUnpassed, FullCauses, FullTakenCauses, LateJoinCauses, BehindCause, HoldCauses, PlainResend}
+use Rattle.forwarding_model.specs.Rows.{BrokenChainCauses, BrokenChainNumbers, UpperLostCauses, UpperLostMarkers, MaskMarkers, WishCauses, WishMarkers, WishCauseUnpassed, FullCauses, FullTakenCauses, LateJoinCauses, BehindCause, HoldCauses, PlainResend, BrokenLinkCauses, UnlinkedCause, EarlyLinkCauses, MaskedCauses, IntactUpperMarkers, LoweredWishCause, ThreePacketMarkers, KeptMarkers, AskedNumbers, HoleBounds}
 
 pub broken_chain_causes : BrokenChainCauses
 broken_chain_causes = refl
@@ -43,3 +43,33 @@ hold_causes = refl
 
 pub plain_resend : PlainResend
 plain_resend = refl
+
+pub broken_link_causes : BrokenLinkCauses
+broken_link_causes = refl
+
+pub unlinked_cause : UnlinkedCause
+unlinked_cause = refl
+
+pub early_link_causes : EarlyLinkCauses
+early_link_causes = refl
+
+pub masked_causes : MaskedCauses
+masked_causes = refl
+
+pub intact_upper_markers : IntactUpperMarkers
+intact_upper_markers = refl
+
+pub lowered_wish_cause : LoweredWishCause
+lowered_wish_cause = refl
+
+pub three_packet_markers : ThreePacketMarkers
+three_packet_markers = refl
+
+pub kept_markers : KeptMarkers
+kept_markers = refl
+
+pub asked_numbers : AskedNumbers
+asked_numbers = refl
+
+pub hole_bounds : HoleBounds
+hole_bounds = refl

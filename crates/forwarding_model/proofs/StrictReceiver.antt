@@ -15,7 +15,7 @@ use Rattle.forwarding_model.specs.Reading.{Format}
 use Rattle.forwarding_model.specs.Receiver.{Received, Judged, judge, nothing_received, Reception, Receiver, accepted, new_reception, receive_packet, complaint, complaint_of}
 use Rattle.forwarding_model.specs.Receiver.Judged.{Complete, Lacks}
 use Rattle.forwarding_model.specs.Receiver.Receiver.{Waiting, Receiving, Complaining}
-use Rattle.forwarding_model.specs.WholeFrames.{AreWhole, IsWholeFrame, KeepsWhole, IsTrack, IsLayered}
+use Rattle.forwarding_model.specs.WholeFrames.{AreWhole, IsSentWhole, IsTrack, IsLayered}
 use Rattle.forwarding_model.proofs.Members.{each_member, each_weaker, any_member}
 use Rattle.forwarding_model.proofs.EpochStructures.{structure_of, epoch_structures}
 use Rattle.forwarding_model.proofs.ReceivedNumbers.{header, judge_next, judge_all, IsComplete}
@@ -132,16 +132,16 @@ complete_is (Complete k) c = (k, refl)
 complete_is (Lacks fdiff) c = absurd c
 
 received_step : {S : Type 0} (send : Sender S) (format : Format S) (structures : ℕ → Option S) (wish : Wish) (first ssrc : ℕ) (past : List (Event S)) (x : Frame S) (b : Bool)
-    → KeepsWhole format send → IsOneTrack (x.meaning ∷ meanings_of past) → IsWholeFrame format x → structures x.meaning.epoch ≡ Some x.structure
+    → IsSentWhole format send x → IsOneTrack (x.meaning ∷ meanings_of past) → structures x.meaning.epoch ≡ Some x.structure
     → passes_at (standing wish past) x.meaning (length x.packets) ≡ b
     → IsReceiving structures (first + length (forwarded send wish past)) ssrc (standing wish past).epoch_passed (standing wish past).passed
     (receive_packets format Waiting (numbered first ssrc (forwarded send wish past)))
     → IsReceiving structures (first + length (cond b (forwarded send wish past ++ send x (candidate_at (standing wish past) x.meaning)) (forwarded send wish past))) ssrc
     (admitted b (standing wish past) x.meaning (length x.packets)).epoch_passed (admitted b (standing wish past) x.meaning (length x.packets)).passed
     (receive_packets format Waiting (numbered first ssrc (cond b (forwarded send wish past ++ send x (candidate_at (standing wish past) x.meaning)) (forwarded send wish past))))
-received_step send format structures wish first ssrc past x false keeps track whole has e h =
+received_step send format structures wish first ssrc past x false sent_whole track has e h =
     fewer structures _ ssrc (standing wish past) x.meaning _ h
-received_step send format structures wish first ssrc past x true keeps track whole has e h =
+received_step send format structures wish first ssrc past x true sent_whole track has e h =
     let s : Standing = standing wish past in
     let f : FrameMeaning = x.meaning in
     let sound_before = sound wish past track.2 in
@@ -154,22 +154,22 @@ received_step send format structures wish first ssrc past x true keeps track who
     received_more format structures first ssrc (f ∷ passed_at s f) (f ∷ s.passed) out sent
     (frame_received format structures (first + length out) ssrc (passed_at s f) s.passed f x.structure complete.0 _ sent
     (fewer structures _ ssrc s f _ h) at.one_epoch p.has_key has
-    (keeps x (candidate_at s f) whole) complete.1)
+    (sent_whole (candidate_at s f)) complete.1)
 
 pub received : {S : Type 0} (send : Sender S) (format : Format S) (structures : ℕ → Option S) (wish : Wish) (first ssrc : ℕ) (events : List (Event S))
-    → KeepsWhole format send → IsLayered events → IsOneTrack (meanings_of events) → AllByRecursion (IsWholeFrame format) (frames_of events)
+    → AllByRecursion (IsSentWhole format send) (frames_of events) → IsLayered events → IsOneTrack (meanings_of events)
     → AllByRecursion (λ x. structures x.meaning.epoch ≡ Some x.structure) (frames_of events)
     → IsReceiving structures (first + length (forwarded send wish events)) ssrc (standing wish events).epoch_passed (standing wish events).passed
     (receive_packets format Waiting (numbered first ssrc (forwarded send wish events)))
-received send format structures wish first ssrc [] keeps layered track whole has = (refl, refl)
-received send format structures wish first ssrc (WholeFrame x ∷ past) keeps layered track whole has =
-    received_step send format structures wish first ssrc past x (passes_at (standing wish past) x.meaning (length x.packets)) keeps track whole.0 has.0 refl
-    (received send format structures wish first ssrc past keeps layered track.2 whole.1 has.1)
-received send format structures wish first ssrc (PlainPacket p ∷ past) keeps layered track whole has = absurd layered
-received send format structures wish first ssrc (WishChange w ∷ past) keeps layered track whole has =
-    received send format structures wish first ssrc past keeps layered track whole has
-received send format structures wish first ssrc (Take ∷ past) keeps layered track whole has =
-    received send format structures wish first ssrc past keeps layered track whole has
+received send format structures wish first ssrc [] sent_whole layered track has = (refl, refl)
+received send format structures wish first ssrc (WholeFrame x ∷ past) sent_whole layered track has =
+    received_step send format structures wish first ssrc past x (passes_at (standing wish past) x.meaning (length x.packets)) sent_whole.0 track has.0 refl
+    (received send format structures wish first ssrc past sent_whole.1 layered track.2 has.1)
+received send format structures wish first ssrc (PlainPacket p ∷ past) sent_whole layered track has = absurd layered
+received send format structures wish first ssrc (WishChange w ∷ past) sent_whole layered track has =
+    received send format structures wish first ssrc past sent_whole layered track has
+received send format structures wish first ssrc (Take ∷ past) sent_whole layered track has =
+    received send format structures wish first ssrc past sent_whole layered track has
 
 no_complaint : {S : Type 0} (structures : ℕ → Option S) (next ssrc : ℕ) (epoch_passed passed : List FrameMeaning) (r : Receiver S)
     → IsReceiving structures next ssrc epoch_passed passed r → complaint_of r ≡ None
@@ -194,16 +194,16 @@ complaint-prefix format xs ys h =
     (ap complaint_of (sym (receive_packets-append format Waiting xs ys)) ∙ sym (complaint-packets format (xs ++ ys)) ∙ h)
 
 pub never_complains : {S : Type 0} (format : Format S) (send : Sender S) (subscriber : Subscriber) (events : List (Event S))
-    → KeepsWhole format send → IsLayered events → IsTrack format (frames_of events) → complaint format (map Some (outgoing send subscriber events)) ≡ None
-never_complains format send subscriber events keeps layered track =
+    → AllByRecursion (IsSentWhole format send) (frames_of events) → IsLayered events → IsTrack format (frames_of events) → complaint format (map Some (outgoing send subscriber events)) ≡ None
+never_complains format send subscriber events sent_whole layered track =
     complaint-packets format (outgoing send subscriber events)
     ∙ no_complaint (structure_of (frames_of events)) _ subscriber.ssrc _ _ _
-    (received send format (structure_of (frames_of events)) subscriber.wish subscriber.first subscriber.ssrc events keeps layered track.numbers track.whole
+    (received send format (structure_of (frames_of events)) subscriber.wish subscriber.first subscriber.ssrc events sent_whole layered track.numbers
     (epoch_structures (frames_of events) track.structures))
 
 -- and so of each prefix
 pub prefix_never_complains : {S : Type 0} (format : Format S) (send : Sender S) (subscriber : Subscriber) (events : List (Event S)) (sent queued : List Packet)
-    → KeepsWhole format send → IsLayered events → IsTrack format (frames_of events) → sent ++ queued ≡ outgoing send subscriber events
+    → AllByRecursion (IsSentWhole format send) (frames_of events) → IsLayered events → IsTrack format (frames_of events) → sent ++ queued ≡ outgoing send subscriber events
     → complaint format (map Some sent) ≡ None
-prefix_never_complains format send subscriber events sent queued keeps layered track e =
-    complaint-prefix format sent queued (ap (λ ps. complaint format (map Some ps)) e ∙ never_complains format send subscriber events keeps layered track)
+prefix_never_complains format send subscriber events sent queued sent_whole layered track e =
+    complaint-prefix format sent queued (ap (λ ps. complaint format (map Some ps)) e ∙ never_complains format send subscriber events sent_whole layered track)

@@ -12,7 +12,7 @@ use Rattle.forwarding_model.proofs.Runs.{beq-true}
 
 -- ---- lists that grow at their end
 
-all-append : {X : Type 0} (P : X → Type 0) (xs : List X) (x : X) → AllByRecursion P xs → P x → AllByRecursion P (xs ++ x ∷ [])
+pub all-append : {X : Type 0} (P : X → Type 0) (xs : List X) (x : X) → AllByRecursion P xs → P x → AllByRecursion P (xs ++ x ∷ [])
 all-append P [] x h p = (p, tt)
 all-append P (y ∷ ys) x h p = (h.0, all-append P ys x h.1 p)
 
@@ -20,12 +20,12 @@ length-append_one : {X : Type 0} (xs : List X) (x : X) → length (xs ++ x ∷ [
 length-append_one [] x = refl
 length-append_one (y ∷ ys) x = let e = length-append_one ys x in omega arith
 
-newest_first-append : {X : Type 0} (xs : List (Part X)) (x : Part X) → newest_first (xs ++ x ∷ []) ≡ Read x ∷ newest_first xs
+pub newest_first-append : {X : Type 0} (xs : List (Part X)) (x : Part X) → newest_first (xs ++ x ∷ []) ≡ Read x ∷ newest_first xs
 newest_first-append [] x = refl
 newest_first-append (y ∷ ys) x = ap (λ l. l ++ Read y ∷ []) (newest_first-append ys x)
 
 -- elements join up to here; `now` says whether one is open
-abbrev JoinsTo : {X : Type 0} → Bool → List (Part X) → Bool → Type 0
+abbrev pub JoinsTo : {X : Type 0} → Bool → List (Part X) → Bool → Type 0
 JoinsTo open_element [] now = open_element ≡ now
 JoinsTo open_element (part ∷ more) now = (part.continues ≡ open_element) × JoinsTo part.carries more now
 
@@ -33,12 +33,12 @@ joins_to-append : {X : Type 0} (o : Bool) (xs : List (Part X)) (x : Part X) (now
 joins_to-append o [] x now h e = (e ∙ sym h, refl)
 joins_to-append o (y ∷ ys) x now h e = (h.0, joins_to-append y.carries ys x now h.1 e)
 
-join_closed : {X : Type 0} (o : Bool) (xs : List (Part X)) (now : Bool) → JoinsTo o xs now → now ≡ false → Join o xs
+pub join_closed : {X : Type 0} (o : Bool) (xs : List (Part X)) (now : Bool) → JoinsTo o xs now → now ≡ false → Join o xs
 join_closed o [] now h e = h ∙ e
 join_closed o (x ∷ xs) now h e = (h.0, join_closed x.carries xs now h.1 e)
 
 -- no part but the last has an end; `now` is the last one's
-abbrev EndsWith : {X : Type 0} → List (Part X) → Bool → Type 0
+abbrev pub EndsWith : {X : Type 0} → List (Part X) → Bool → Type 0
 EndsWith [] now = ⊥
 EndsWith (part ∷ []) now = part.end ≡ now
 EndsWith (part ∷ next ∷ more) now = (part.end ≡ false) × EndsWith (next ∷ more) now
@@ -48,7 +48,7 @@ ends_with-append [] x h = absurd h
 ends_with-append (y ∷ []) x h = (h, refl)
 ends_with-append (y ∷ z ∷ zs) x h = (h.0, ends_with-append (z ∷ zs) x h.1)
 
-last_ends : {X : Type 0} (xs : List (Part X)) (now : Bool) → EndsWith xs now → now ≡ true → LastAloneEnds xs
+pub last_ends : {X : Type 0} (xs : List (Part X)) (now : Bool) → EndsWith xs now → now ≡ true → LastAloneEnds xs
 last_ends [] now h e = h
 last_ends (x ∷ []) now h e = h ∙ e
 last_ends (x ∷ y ∷ ys) now h e = (h.0, last_ends (y ∷ ys) now h.1 e)
@@ -70,7 +70,7 @@ pub record IsRunOf {X : Type 0} (marks : List (Mark X)) (run : Run X) : Type 0 w
   pub older : List (Mark X)
   pub adjacent : without_padding marks ≡ newest_first (parts_of run) ++ older
 
-abbrev IsRunFound : {X : Type 0} → List (Mark X) → Option (Run X) → Type 0
+abbrev pub IsRunFound : {X : Type 0} → List (Mark X) → Option (Run X) → Type 0
 IsRunFound marks None = Unit {0}
 IsRunFound marks (Some run) = IsRunOf marks run
 

@@ -1,6 +1,6 @@
 -- Why each frame was or wasn't passed, and the path from a withheld frame to a root. Own rules.
 -- The code keeps the verdicts of the last 4,096 numbers as they fell.
-use Rattle.std.specs.Prelude.{◌≡◌, ◌⊎◌, ◌<◌, ◌+◌, ℕ, zero, suc, List, [], ◌∷◌, Bool, true, false, if◌then◌else◌, ◌==◌, nat_lt, nat_le, length}
+use Rattle.std.specs.Prelude.{◌≡◌, ◌⊎◌, ◌<◌, ◌+◌, ◌-◌, ℕ, zero, suc, List, [], ◌∷◌, Bool, true, false, if◌then◌else◌, ◌==◌, nat_lt, nat_le, length}
 use Rattle.std.specs.List.{AllByRecursion}
 use Rattle.std.specs.declared.option.Option.{Option}
 use Rattle.std.specs.declared.option.Option.TheVariants.{None, Some}
@@ -59,6 +59,10 @@ is_ahead (Some newest) n = nat_lt newest n
 abbrev pub is_too_old : Option ℕ → ℕ → Bool
 is_too_old None n = false
 is_too_old (Some newest) n = nat_le (n + 4096) newest
+
+-- the oldest number that can be asked for, or 0
+abbrev pub oldest_asked : ℕ → ℕ
+oldest_asked newest = newest - 4095
 
 -- ---- causes over a timeline
 

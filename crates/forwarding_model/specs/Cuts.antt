@@ -1,6 +1,6 @@
 -- Whole cuts: which packets in a row are one whole frame.
--- AV1 RTP payload format (Z and Y of the aggregation header) and its Appendix A (start_of_frame, end_of_frame, frame_number). That a
--- frame has at most 512 packets, and that everything else tears it, are own rules.
+-- AV1 RTP payload format, section 4.4 (Z and Y of the aggregation header), and Appendix A (start_of_frame, end_of_frame, frame_number).
+-- That a frame has at most 512 packets, and that everything else tears it, are own rules.
 -- The whole cut is said twice. `IsWholeCut` has the words, over a list of parts. A run is built mark by mark, which is how the frames of
 -- a track are defined and what code keeps; a law says that the runs that end are the whole cuts, no more and no fewer.
 -- X is the type of what a part brings with it.

@@ -1,5 +1,6 @@
 -- Which frames a decoder can decode, given the frames that it gets.
--- AV1 RTP payload format, Appendix A (frame dependencies). No part of the program computes it.
+-- AV1 RTP payload format, Appendix A (frame dependencies). That the frames given must have a key frame is an own rule, as a frame may
+-- refer to nothing without being one. No part of the program computes it.
 use Rattle.std.specs.Prelude.{◌≡◌, ◌⊎◌, ◌+◌, ℕ, List, true, ◌==◌}
 use Rattle.std.specs.List.{list_any, filter}
 use Rattle.sfu_base.specs.declared.frame.FrameMeaning.{FrameMeaning}

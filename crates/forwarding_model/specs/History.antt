@@ -1,5 +1,5 @@
 -- Histories of one layered track and its subscribers, and what happens to each subscriber in one. Own rules.
--- A history has the newest first. The code keeps no history.
+-- A history has the newest first. No answer of the code needs one, and only a room that records keeps its calls.
 use Rattle.std.specs.Prelude.{ℕ, List, [], ◌∷◌, ◌++◌, if◌then◌else◌, ◌==◌, nat_lt, length, map}
 use Rattle.std.specs.declared.option.Option.{Option}
 use Rattle.std.specs.declared.option.Option.TheVariants.{None, Some}

@@ -1,10 +1,13 @@
--- The laws of forwarding, over every timeline. S is the type of template dependency structures.
-use Rattle.std.specs.Prelude.{◌≡◌, ◌≢◌, ◌+◌, ◌≤◌, ℕ, List, ◌∷◌, ◌++◌, Bool, true, map, length}
+-- The laws of forwarding, over every timeline: own statements. The laws that tie definitions to their words stand in `Decisions`, `Taken`,
+-- `Making` and `Accepted`. S is the type of template dependency structures.
+use Rattle.std.specs.Prelude.{◌≡◌, ◌≢◌, ◌⊎◌, ◌+◌, ◌<◌, ◌≤◌, ℕ, List, ◌∷◌, ◌++◌, Bool, true, false, map, length}
 use Rattle.std.specs.List.{AllByRecursion}
+use Rattle.std.specs.declared.option.Option.{Option}
 use Rattle.std.specs.declared.option.Option.TheVariants.{None, Some}
 use Rattle.sfu_base.specs.declared.frame.FrameMeaning.{FrameMeaning}
 use Rattle.sfu_base.specs.declared.frame.Wish.{Wish}
 use Rattle.sfu_base.specs.declared.frame.Verdict.TheVariants.{Passed}
+use Rattle.sfu_base.specs.declared.frame.Step.{Step}
 use Rattle.forwarding_model.specs.declared.target.CurrentTarget.{CurrentTarget}
 use Rattle.forwarding_model.specs.Lists.{IsMember}
 use Rattle.forwarding_model.specs.Targets.{aim, best, is_allowed, IsBest}
@@ -15,21 +18,24 @@ use Rattle.forwarding_model.specs.Standing.{standing, passes_at}
 use Rattle.forwarding_model.specs.TrackFrames.{IsOneTrack}
 use Rattle.forwarding_model.specs.Decodable.{IsDecodable, of_epoch}
 use Rattle.forwarding_model.specs.Restart.{BreaksAt, IsOpenAndLinked, IsRestart}
-use Rattle.forwarding_model.specs.Causes.{cause, path, IsPath, IsWithheld, TellsCauses}
+use Rattle.forwarding_model.specs.Causes.{is_ahead, is_too_old, oldest_asked, cause, path, IsPath, IsWithheld, TellsCauses}
 use Rattle.forwarding_model.specs.Outgoing.{Sender, Subscriber, outgoing, taken, queue, kept, next_packet, resent, send_marked, AreConsecutive, FindPackets, KeepsCount}
 use Rattle.forwarding_model.specs.Reading.{Format, IsFormat}
-use Rattle.forwarding_model.specs.Cuts.{Part, Mark, Run, parts_of, cut_of, IsWholeCut, EndsIn}
+use Rattle.forwarding_model.specs.Cuts.{Part, Mark, Run, parts_of, cut_by, cut_of, extended, outcome, IsWholeCut, EndsIn}
+use Rattle.forwarding_model.specs.Cuts.Mark.{Padding}
+use Rattle.forwarding_model.specs.Cuts.Outcome.{IsPadding, IsWhole, IsPartial, IsTorn}
 use Rattle.forwarding_model.specs.Frames.{Item, frames_after, frames_since}
 use Rattle.forwarding_model.specs.Receiver.{complaint}
-use Rattle.forwarding_model.specs.WholeFrames.{KeepsWhole, IsTrack, IsLayered}
+use Rattle.forwarding_model.specs.WholeFrames.{IsWholeFrame, IsReadFrame, IsSentWhole, KeepsWhole, IsTrack, IsLayered}
 use Rattle.forwarding_model.specs.History.{Entry, subscriber_of, timeline}
 
 -- ---- the headline
 
--- a strict receiver of what goes out, and of each prefix of it, has no complaint
+-- where each frame is sent whole, a strict receiver of what goes out, and of each prefix of it, has no complaint
 abbrev pub NeverComplains : Type 0 → Type 0
 NeverComplains S = (format : Format S) (send : Sender S) (subscriber : Subscriber) (events : List (Event S)) (sent queued : List Packet)
-    → KeepsWhole format send → IsLayered events → IsTrack format (frames_of events) → sent ++ queued ≡ outgoing send subscriber events
+    → AllByRecursion (IsSentWhole format send) (frames_of events) → IsLayered events → IsTrack format (frames_of events)
+    → sent ++ queued ≡ outgoing send subscriber events
     → complaint format (map Some sent) ≡ None
 
 -- each frame that passed is decodable in the passed frames of its epoch
@@ -58,6 +64,19 @@ abbrev pub EndsAtRootUnpassed : Type 0 → Type 0
 EndsAtRootUnpassed S = (wish : Wish) (events : List (Event S)) (n : ℕ) → IsOneTrack (meanings_of events) → cause wish events n ≢ Passed
     → IsPath (path (cause wish events) n)
 
+-- a path begins at its number
+abbrev pub PathsBegin : Type 0 → Type 0
+PathsBegin S = (wish : Wish) (events : List (Event S)) (n : ℕ)
+    → (steps : List Step) × (path (cause wish events) n ≡ record { number = n; verdict = cause wish events n } ∷ steps)
+
+-- a number is too old where it lies below the oldest that can be asked for, and ahead where it lies above the newest frame
+abbrev pub TooOldIsBelow : Type 0
+TooOldIsBelow = (newest n : ℕ)
+    → (is_too_old (Some newest) n ≡ true → n < oldest_asked newest) × (is_too_old (Some newest) n ≡ false → oldest_asked newest ≤ n)
+
+abbrev pub AheadIsAbove : Type 0
+AheadIsAbove = (newest n : ℕ) → (is_ahead (Some newest) n ≡ true → newest < n) × (is_ahead (Some newest) n ≡ false → n ≤ newest)
+
 -- each step of a path has the cause of its number
 abbrev pub PathsTellCauses : Type 0 → Type 0
 PathsTellCauses S = (wish : Wish) (events : List (Event S)) (n : ℕ) → TellsCauses (cause wish events) (path (cause wish events) n)
@@ -68,6 +87,12 @@ PathsTellCauses S = (wish : Wish) (events : List (Event S)) (n : ℕ) → TellsC
 abbrev pub TakenNeverComplains : Type 0 → Type 0
 TakenNeverComplains S = (format : Format S) (send : Sender S) (number : ℕ) (history : List Entry) (subscriber : Subscriber) → IsFormat format → KeepsWhole format send
     → complaint format (map Some (taken send subscriber (timeline format send number history))) ≡ None
+
+-- nor has one of what goes out to it, or of a prefix of that
+abbrev pub OutgoingNeverComplains : Type 0 → Type 0
+OutgoingNeverComplains S = (format : Format S) (send : Sender S) (number : ℕ) (history : List Entry) (subscriber : Subscriber) (sent queued : List Packet)
+    → IsFormat format → KeepsWhole format send → sent ++ queued ≡ outgoing send subscriber (timeline format send number history)
+    → complaint format (map Some sent) ≡ None
 
 -- and the path of each frame that was withheld from it ends at a root
 abbrev pub EndsAtRootInHistories : Type 0 → Type 0
@@ -108,7 +133,11 @@ TakesFindPackets S = (format : Format S) (send : Sender S) (number : ℕ) (histo
 
 -- setting the marker of a frame's last packet changes nothing of what is read, nor how many packets there are
 abbrev pub MarkingKeepsWhole : Type 0 → Type 0
-MarkingKeepsWhole S = (format : Format S) → KeepsWhole format send_marked
+MarkingKeepsWhole S = (format : Format S) (frame : Frame S) → IsWholeFrame format frame → IsSentWhole format send_marked frame
+
+-- so that it is a sender of which the laws over histories hold
+abbrev pub MarkingIsASender : Type 0 → Type 0
+MarkingIsASender S = (format : Format S) → KeepsWhole format send_marked
 
 abbrev pub MarkingKeepsCount : Type 0 → Type 0
 MarkingKeepsCount S = (frame : Frame S) (target : CurrentTarget) → length (send_marked frame target) ≡ length frame.packets
@@ -118,6 +147,10 @@ MarkingKeepsCount S = (frame : Frame S) (target : CurrentTarget) → length (sen
 -- the frames that come out of items are one track's frames, each whole
 abbrev pub FramesAreTrack : Type 0 → Type 0
 FramesAreTrack S = (format : Format S) (items : List Item) → IsFormat format → IsTrack format (frames_after format items)
+
+-- and what each means is told by a structure that was carried
+abbrev pub FramesAreRead : Type 0 → Type 0
+FramesAreRead S = (format : Format S) (items : List Item) → IsFormat format → AllByRecursion (IsReadFrame format) (frames_after format items)
 
 -- the frames of items that came after others are added in front
 abbrev pub FramesAreAdded : Type 0 → Type 0
@@ -136,6 +169,25 @@ EndedRunsAreWhole X = (marks : List (Mark X)) (run : Run X) → cut_of marks ≡
 abbrev pub WholeCutsAreFound : Type 0 → Type 0
 WholeCutsAreFound X = (marks : List (Mark X)) (part : Part X) (more : List (Part X)) → EndsIn marks (part ∷ more) → IsWholeCut (part ∷ more)
     → (run : Run X) × (cut_of marks ≡ Some run) × (parts_of run ≡ part ∷ more)
+
+-- a mark makes a frame whole exactly where it ends a whole cut
+abbrev pub WholeOutcomesAreCuts : Type 0 → Type 0
+WholeOutcomesAreCuts X = (run : Option (Run X)) (mark : Mark X)
+    → (outcome run mark ≡ IsWhole → (ended : Run X) × (cut_by run mark ≡ Some ended))
+    × ((ended : Run X) → cut_by run mark ≡ Some ended → outcome run mark ≡ IsWhole)
+
+-- a frame is partial where a run goes on, which hasn't ended; and padding alone is padding
+abbrev pub PartialOutcomesGoOn : Type 0 → Type 0
+PartialOutcomesGoOn X = (run : Option (Run X)) (mark : Mark X) → outcome run mark ≡ IsPartial
+    → (ongoing : Run X) × (extended run mark ≡ Some ongoing) × (ongoing.newest.end ≡ false)
+
+abbrev pub PaddingOutcomesArePadding : Type 0 → Type 0
+PaddingOutcomesArePadding X = (run : Option (Run X)) (mark : Mark X) → outcome run mark ≡ IsPadding → mark ≡ Padding
+
+-- a torn frame leaves no run, or one that has ended with an element open
+abbrev pub TornOutcomesAreTorn : Type 0 → Type 0
+TornOutcomesAreTorn X = (run : Option (Run X)) (mark : Mark X) → outcome run mark ≡ IsTorn
+    → (extended run mark ≡ None) ⊎ ((ended : Run X) × (extended run mark ≡ Some ended) × (ended.newest.end ≡ true) × (ended.newest.carries ≡ true))
 
 -- ---- selection
 

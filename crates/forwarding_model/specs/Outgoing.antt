@@ -1,6 +1,7 @@
 -- What goes out to a subscriber, what of it was taken, and what is kept for a resend.
--- Sequence number, SSRC and marker: RFC 3550, section 5.1; the marker of a layer's last packet: AV1 RTP payload format, RTP marker bit.
--- Which packets go out is this project's rule. The code has one ring of packets, of which the older are kept and the newer are queued.
+-- Sequence number, SSRC and marker: RFC 3550, section 5.1. Own rules: which packets go out, and that the last packet of a frame of the
+-- target's spatial layer gets the marker, over AV1 RTP payload format, section 4.2 (the marker ends a temporal unit).
+-- The definitions have the list of all that went out; the code has the packets that are queued and the last that were taken.
 use Rattle.std.specs.Prelude.{◌≡◌, ◌<◌, ◌+◌, ◌%◌, ℕ, List, [], ◌∷◌, ◌++◌, Bool, false, if◌then◌else◌, ◌==◌, ◌||◌, length, take, drop}
 use Rattle.std.specs.List.{find}
 use Rattle.std.specs.declared.option.Option.{Option}
@@ -24,7 +25,7 @@ abbrev pub has_spatial : ℕ → Option Wish → Bool
 has_spatial spatial None = false
 has_spatial spatial (Some pair) = spatial == pair.spatial
 
--- f has the spatial id of the target's pair, so that its last packet ends the picture for this subscriber
+-- own rule: f has the spatial id of the target's pair, so that its last packet ends the temporal unit for this subscriber
 abbrev pub is_top_layer : FrameMeaning → CurrentTarget → Bool
 is_top_layer f (Open target opened) = has_spatial f.spatial (layers f target)
 is_top_layer f (Closed reason) = false

@@ -1,6 +1,7 @@
 -- What a packet says: its dependency descriptor and its payload's flags.
--- AV1 RTP payload format, Appendix A (dependency descriptor) and the aggregation header. How bits are read is told by a `Format`, which
--- the crates of those grammars give; here stand the rules over what was read. The structure rule is this project's own.
+-- AV1 RTP payload format, Appendix A (dependency descriptor) and section 4.4 (aggregation header). How bits are read is told by a
+-- `Format`, which the crates of those grammars give; here stand the rules over what was read. The structure rule is this project's own.
+-- The code reads bytes; here a packet's rest is what a reader answers for.
 -- S is the type of template dependency structures.
 use Rattle.std.specs.Prelude.{◌≡◌, ◌≢◌, ◌<◌, ◌≤◌, ◌^◌, ℕ, List, Bool, true, false, if◌then◌else◌, ◌==◌, ◌&&◌, ◌||◌, slice_index, take}
 use Rattle.std.specs.declared.option.Option.{Option}
@@ -45,7 +46,8 @@ pub record Layout : Type 0 where
   pub chain_count : ℕ
   pub guards : List ℕ
 
--- How the packets of a track are read, given its extension id. All of it looks at a packet's rest, and at nothing that a forwarder changes.
+-- How the packets of a track are read, given its extension id. All of it looks at a packet's rest, and not at its sequence number, SSRC
+-- and marker.
 pub record Format (S : Type 0) : Type 0 where
   -- the descriptor in the first header extension element of the track's id, with the structure in force; faulty where there is none
   pub descriptor : Option S → List ℕ → DescriptorReading S
@@ -110,11 +112,25 @@ pub record IsDescriptor {S : Type 0} (format : Format S) (force : Option S) (d :
   pub layout : (s : S) → d.structure ≡ Some s → IsLayout (format.layout s)
   pub mask : (s : S) (m : ℕ) → read_by force d.structure ≡ Some s → d.mask ≡ Some m → m < 2 ^ (format.layout s).target_count
 
+-- a descriptor that reads carries this structure; other values of S needn't be structures at all
+pub record IsCarried {S : Type 0} (format : Format S) (s : S) : Type 0 where
+  pub rest : List ℕ
+  pub descriptor : Descriptor S
+  pub reads : format.descriptor None rest ≡ Reads descriptor
+  pub carries : descriptor.structure ≡ Some s
+
+-- no structure, or one that was carried
+abbrev pub MayBeInForce : {S : Type 0} → Format S → Option S → Type 0
+MayBeInForce format None = Unit {0}
+MayBeInForce format (Some s) = IsCarried format s
+
 -- The facts about reading on which the laws rest: each descriptor that reads is one, a descriptor that reads with no structure in force
--- carries one, a descriptor that carries a structure reads the same whatever is in force, and same structures are equal.
+-- carries one, a descriptor that carries a structure reads the same whatever is in force, and structures are the same where they are equal.
 pub record IsFormat {S : Type 0} (format : Format S) : Type 0 where
-  pub valid : (force : Option S) (rest : List ℕ) (d : Descriptor S) → format.descriptor force rest ≡ Reads d → IsDescriptor format force d
+  pub valid : (force : Option S) (rest : List ℕ) (d : Descriptor S) → MayBeInForce format force → format.descriptor force rest ≡ Reads d
+      → IsDescriptor format force d
   pub carries : (rest : List ℕ) (d : Descriptor S) → format.descriptor None rest ≡ Reads d → has_structure d.structure ≡ true
   pub independent : (force other : Option S) (rest : List ℕ) (d : Descriptor S)
       → format.descriptor force rest ≡ Reads d → has_structure d.structure ≡ true → format.descriptor other rest ≡ Reads d
-  pub same : (s t : S) → format.same s t ≡ true → s ≡ t
+  pub same : (s t : S) → IsCarried format s → IsCarried format t → format.same s t ≡ true → s ≡ t
+  pub itself : (s : S) → IsCarried format s → format.same s s ≡ true

@@ -1,7 +1,8 @@
 -- A strict receiver, which sees packets alone and complains of the first thing that is wrong.
 -- Own rules, over RFC 3550, section 5.1 (SSRC, sequence number) and AV1 RTP payload format with Appendix A (frame_number, frame_fdiff, Z, Y).
--- None of the forwarder's definitions occurs in it but how packets are read. The code keeps the newest number modulo 65,536, and the
--- received numbers as distances below it.
+-- It shares with the forwarder what a packet is and how one is read (the structure rule and the key start among it), and which of the
+-- numbers that are congruent modulo 65,536 is the nearest; no other definition of the forwarder occurs in it. The code keeps the newest
+-- number modulo 65,536, and the received numbers as distances below it.
 use Rattle.std.specs.Prelude.{◌+◌, ◌%◌, ℕ, List, [], ◌∷◌, Bool, true, false, if◌then◌else◌, ◌==◌, ◌&&◌, not, nat_lt}
 use Rattle.std.specs.Bool.{beq}
 use Rattle.std.specs.List.{list_any}

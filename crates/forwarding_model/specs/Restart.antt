@@ -23,7 +23,7 @@ WasClosed (Open target opened) (Closed reason) = Unit {0}
 WasClosed (Open target opened) (Open later reopened) = ⊥
 WasClosed (Closed reason) after = ⊥
 
--- rule (iii) closes the target at f: it was open when f's epoch and mask had been looked at, and isn't once f's chain link was
+-- the rule on the link closes the target at f: it was open when f's epoch and mask had been looked at, and isn't once f's link was
 abbrev pub BreaksAt : Standing → FrameMeaning → Type 0
 BreaksAt s f = WasClosed (target_under_mask f (target_at s f)) (kept_target_at s f)
 

@@ -9,7 +9,7 @@ use Rattle.sfu_base.specs.declared.frame.Wish.{Wish}
 use Rattle.sfu_base.specs.declared.frame.Verdict.TheVariants.{Passed, NotOfTarget, Behind, Reference, Full, Link, Unopened, Hole}
 use Rattle.forwarding_model.specs.Timeline.{Event, Packet}
 use Rattle.forwarding_model.specs.Timeline.Event.{WholeFrame, PlainPacket, WishChange, Take}
-use Rattle.forwarding_model.specs.Causes.{cause}
+use Rattle.forwarding_model.specs.Causes.{cause, is_ahead, is_too_old}
 use Rattle.forwarding_model.specs.Outgoing.{Subscriber, outgoing, resent, send_marked}
 
 abbrev pub layers_wish : ℕ → ℕ → Wish
@@ -106,6 +106,29 @@ BrokenChainCauses = map (cause (layers_wish 1 0) broken_chain) (1 ∷ 2 ∷ 3 �
 abbrev pub BrokenChainNumbers : Type 0
 BrokenChainNumbers = sequence_numbers (outgoing send_marked joined_at_10 broken_chain) ≡ 10 ∷ 11 ∷ []
 
+-- frame 3 has a broken link and lacks its reference; frame 4 has no link, and all that it refers to passed, but it is no restart
+abbrev pub broken_link : List (Event ℕ)
+broken_link =
+    one_target 4 1 1 false Required 0 (3 ∷ []) (packet true ∷ [])
+    ∷ one_target 3 1 1 false Required 1 (1 ∷ []) (packet true ∷ [])
+    ∷ key_a 1 1
+    ∷ []
+
+abbrev pub BrokenLinkCauses : Type 0
+BrokenLinkCauses = map (cause (layers_wish 1 0) broken_link) (3 ∷ 4 ∷ []) ≡ Reference 2 ∷ Link 3 2 ∷ []
+
+-- such a frame passes where no broken link was seen
+abbrev pub UnlinkedCause : Type 0
+UnlinkedCause = cause (layers_wish 1 0) (one_target 4 1 1 false Required 0 (3 ∷ []) (packet true ∷ []) ∷ key_a 1 1 ∷ []) 4 ≡ Passed
+
+-- a link to a frame before the one that opened the target closes nothing
+abbrev pub EarlyLinkCauses : Type 0
+EarlyLinkCauses =
+    map
+    (cause (layers_wish 1 0) (one_target 4 2 1 false Required 2 (1 ∷ []) (packet true ∷ []) ∷ one_target 3 2 1 false Required 2 (1 ∷ []) (packet true ∷ []) ∷ key_a 2 1 ∷ []))
+    (3 ∷ 4 ∷ [])
+    ≡ Passed ∷ Passed ∷ []
+
 -- ---- the upper layer is lost: frame 3 opens the lower target, and ends the picture for the subscriber
 
 abbrev pub upper_lost : List (Event ℕ)
@@ -123,6 +146,19 @@ UpperLostCauses = map (cause (layers_wish 1 0) upper_lost) (3 ∷ 4 ∷ 5 ∷ 6 
 abbrev pub UpperLostMarkers : Type 0
 UpperLostMarkers = markers (outgoing send_marked joined_at_10 upper_lost) ≡ false ∷ true ∷ false ∷ true ∷ []
 
+-- ---- a frame of three packets of the target's layer ends the picture with its last packet; markers that stand are kept
+
+abbrev pub three_packets : List Packet → List (Event ℕ)
+three_packets packets = one_target 2 1 1 false Switch 1 (1 ∷ []) packets ∷ key_a 1 1 ∷ []
+
+abbrev pub ThreePacketMarkers : Type 0
+ThreePacketMarkers =
+    markers (outgoing send_marked joined_at_10 (three_packets (packet false ∷ packet false ∷ packet false ∷ []))) ≡ true ∷ false ∷ false ∷ true ∷ []
+
+abbrev pub KeptMarkers : Type 0
+KeptMarkers =
+    markers (outgoing send_marked joined_at_10 (three_packets (packet true ∷ packet false ∷ packet true ∷ []))) ≡ true ∷ true ∷ false ∷ true ∷ []
+
 -- ---- the mask takes the upper target away at frame 3, which then ends the picture
 
 abbrev pub masked_upper : List (Event ℕ)
@@ -135,6 +171,51 @@ masked_upper =
 
 abbrev pub MaskMarkers : Type 0
 MaskMarkers = markers (outgoing send_marked joined_at_10 masked_upper) ≡ false ∷ true ∷ true ∷ true ∷ []
+
+-- ---- the mask takes the only target away at frame 2 and gives it back at frame 3, which is no switch and opens nothing
+
+abbrev pub masked : (number mask : ℕ) → Dti → Event ℕ
+masked number mask dti =
+    WholeFrame (record {
+      meaning = record {
+        number = number;
+        start = 1;
+        epoch = 1;
+        spatial = 0;
+        temporal = 0;
+        key = false;
+        mask = mask;
+        target_count = 1;
+        dtis = dti ∷ [];
+        pairs = Some (layers_wish 0 0) ∷ [];
+        chain_count = 1;
+        guards = 0 ∷ [];
+        links = 0 ∷ [];
+        ref_count = 0;
+        refs = [];
+      };
+      structure = 0;
+      packets = packet true ∷ [];
+    })
+
+abbrev pub MaskedCauses : Type 0
+MaskedCauses =
+    map (cause (layers_wish 1 0) (masked 5 1 Required ∷ masked 4 1 Switch ∷ masked 3 1 Required ∷ masked 2 0 Switch ∷ key_a 1 1 ∷ [])) (2 ∷ 3 ∷ 4 ∷ 5 ∷ [])
+    ≡ NotOfTarget None ∷ Unopened 2 ∷ Passed ∷ Passed ∷ []
+
+-- ---- an intact upper target stays where frame 3 could open the lower one, so that frame 3 doesn't end the picture
+
+abbrev pub intact_upper : List (Event ℕ)
+intact_upper = lower_c 3 1 1 3 ∷ upper_c 2 1 1 (1 ∷ []) ∷ key_c 1 1 ∷ []
+
+abbrev pub IntactUpperMarkers : Type 0
+IntactUpperMarkers = markers (outgoing send_marked joined_at_10 intact_upper) ≡ false ∷ true ∷ false ∷ []
+
+-- ---- a lowered wish alone closes nothing: frame 3 opens no lower target, and passes in the upper one
+
+abbrev pub LoweredWishCause : Type 0
+LoweredWishCause =
+    cause (layers_wish 1 0) (upper_c 3 1 1 (1 ∷ []) ∷ WishChange (layers_wish 0 0) ∷ upper_c 2 1 1 (1 ∷ []) ∷ key_c 1 1 ∷ []) 3 ≡ Passed
 
 -- ---- the wish goes down before frame 3, and up before frame 5; frame 6 opens the upper target again only where what it refers to passed
 
@@ -209,3 +290,17 @@ plain_taken = Take ∷ PlainPacket (packet true) ∷ Take ∷ PlainPacket (packe
 
 abbrev pub PlainResend : Type 0
 PlainResend = resent send_marked joined_at_10 plain_taken 11 ≡ Some (record { sequence_number = 11; ssrc = 2; marker = true; rest = [] })
+
+-- ---- what can be asked for, and how far down a hole is seen: a number is too old that lies 4,096 or more below the newest
+
+abbrev pub AskedNumbers : Type 0
+AskedNumbers =
+    is_ahead None 0 ∷ is_ahead (Some 5) 5 ∷ is_ahead (Some 5) 6 ∷ is_too_old (Some 4095) 0 ∷ is_too_old (Some 4096) 0 ∷ is_too_old (Some 4097) 2 ∷ []
+    ≡ true ∷ false ∷ true ∷ false ∷ true ∷ false ∷ []
+
+abbrev pub HoleBounds : Type 0
+HoleBounds =
+    cause (layers_wish 1 0) (one_target 4096 1 1 false Switch 0 [] (packet true ∷ []) ∷ key_a 1 1 ∷ []) 2
+    ∷ cause (layers_wish 1 0) (one_target 4097 1 1 false Switch 0 [] (packet true ∷ []) ∷ key_a 1 1 ∷ []) 2
+    ∷ []
+    ≡ Hole (Some 1) 4096 ∷ Hole None 4097 ∷ []

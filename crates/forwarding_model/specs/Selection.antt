@@ -1,4 +1,4 @@
--- Whether a frame goes to a subscriber: the five rules for one frame, and the verdict on it.
+-- Whether a frame goes to a subscriber: the rules on another epoch, the mask, the link, opening and passing, and the verdict on a frame.
 -- Own rules, over the fields of AV1 RTP payload format, Appendix A. Two readings are fixed here: a frame that is a switch for a target
 -- may open it, and a chain distance of 0 (frame_chain_fdiff) closes nothing.
 -- What was passed before is seen through two things alone: a test `has`, where `has d` says that the frame d below f was passed in f's
@@ -28,9 +28,9 @@ abbrev pub open_target : CurrentTarget → Option ℕ
 open_target (Open target opened) = Some target
 open_target (Closed reason) = None
 
--- (i), that a frame of another epoch closes the target, is a rule on the standing
+-- The rule on another epoch, that a frame of one closes the target, is a rule on the standing.
 
--- (ii) A target whose bit f's mask hasn't is closed.
+-- The rule on the mask: a target whose bit f's mask hasn't is closed.
 abbrev pub target_under_mask : FrameMeaning → CurrentTarget → CurrentTarget
 target_under_mask f (Open target opened) = if is_active f target then Open target opened else Closed (NotOpened f.number)
 target_under_mask f (Closed reason) = Closed reason
@@ -47,13 +47,13 @@ is_link_broken has f target opened =
     && (nat_le (opened + chain_link f target) f.number
     && not (has (chain_link f target))))
 
--- (iii) A target whose chain is broken at f is closed.
+-- The rule on the link: a target whose chain is broken at f is closed.
 abbrev pub target_after_link : (ℕ → Bool) → FrameMeaning → CurrentTarget → CurrentTarget
 target_after_link has f (Open target opened) =
     if is_link_broken has f target opened then Closed (BrokenLink f.number (f.number - chain_link f target)) else Open target opened
 target_after_link has f (Closed reason) = Closed reason
 
--- what (ii) and (iii) leave of the target; where f doesn't pass, this is the target after f
+-- what the rules on the mask and the link leave of the target; where f doesn't pass, this is the target after f
 abbrev pub kept_target : (ℕ → Bool) → FrameMeaning → CurrentTarget → CurrentTarget
 kept_target has f target = target_after_link has f (target_under_mask f target)
 
@@ -62,8 +62,8 @@ abbrev pub is_upgrade : Wish → FrameMeaning → CurrentTarget → ℕ → Bool
 is_upgrade wish f (Open target opened) other = not (is_allowed wish f target) || is_better f other target
 is_upgrade wish f (Closed reason) other = true
 
--- (iv) f can open a target that is allowed, where f is a switch for it, or a key frame that is present in it; all references of f were
--- passed (`complete`); f is a key frame or its epoch's was passed (`keyed`); and the target is an upgrade.
+-- The rule on opening: f can open a target that is allowed, where f is a switch for it, or a key frame that is present in it; all
+-- references of f were passed (`complete`); f is a key frame or its epoch's was passed (`keyed`); and the target is an upgrade.
 abbrev pub can_open : Wish → Bool → Bool → FrameMeaning → CurrentTarget → ℕ → Bool
 can_open wish complete keyed f current target =
     is_allowed wish f target
@@ -94,7 +94,7 @@ is_present_in f (Closed reason) = false
 abbrev pub has_room : ℕ → ℕ → Bool
 has_room queued packets = nat_le (queued + packets) 512
 
--- (v) f passes exactly where there is a candidate, f is present in it, all its references were passed, and there is room.
+-- The rule on passing: f passes exactly where there is a candidate, f is present in it, all its references were passed, and there is room.
 abbrev pub passes : (ℕ → Bool) → Bool → Wish → FrameMeaning → CurrentTarget → ℕ → ℕ → Bool
 passes has key_passed wish f current queued packets =
     is_present_in f (candidate has key_passed wish f current)

@@ -38,7 +38,7 @@ is_key f = f.key
 abbrev pub has_below : List FrameMeaning → ℕ → ℕ → Bool
 has_below frames n d = list_any (λ g. (g.number + d) == n) frames
 
--- (i) At a frame of another epoch nothing of it was passed, and no target is open.
+-- The rule on another epoch: at a frame of one nothing of it was passed, and no target is open.
 abbrev pub passed_at : Standing → FrameMeaning → List FrameMeaning
 passed_at s f = if is_epoch s.epoch f.epoch then s.epoch_passed else []
 
@@ -53,7 +53,7 @@ has_passed s f d = has_below (passed_at s f) f.number d
 abbrev pub key_passed : Standing → FrameMeaning → Bool
 key_passed s f = list_any is_key (passed_at s f)
 
--- ---- the rules of selection (ii) to (v), and the verdict, at a standing
+-- ---- the rules on the mask, the link, opening and passing, and the verdict, at a standing
 
 abbrev pub kept_target_at : Standing → FrameMeaning → CurrentTarget
 kept_target_at s f = kept_target (has_passed s f) f (target_at s f)

@@ -1,10 +1,9 @@
--- Packets, frames, and what happens to a subscriber.
+-- Packets, frames, and what happens to a subscriber. Own rules, but for the fields of a packet.
 use Rattle.std.specs.Prelude.{◌+◌, ℕ, List, [], ◌∷◌, Bool, map}
 use Rattle.sfu_base.specs.declared.frame.FrameMeaning.{FrameMeaning}
 use Rattle.sfu_base.specs.declared.frame.Wish.{Wish}
 
--- An RTP packet (RFC 3550, section 5.1) as a forwarder sees it: the three fields that it changes, and everything else.
--- The code has the packet's bytes.
+-- An RTP packet (RFC 3550, section 5.1): its sequence number, SSRC and marker, and everything else. The code has the packet's bytes.
 pub record Packet : Type 0 where
   pub sequence_number : ℕ
   pub ssrc : ℕ

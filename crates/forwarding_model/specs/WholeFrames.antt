@@ -1,17 +1,19 @@
 -- What the packets of a whole frame guarantee to whoever reads them.
--- AV1 RTP payload format with Appendix A. Own statement: a frame is whole under the structure that it was read by.
+-- AV1 RTP payload format, section 4.4 and Appendix A. Own statement: a frame is whole under the structure that it was read by. The code
+-- doesn't compute it; it is what laws say of the frames that come out of a track's packets.
 use Rattle.std.specs.Prelude.{◌≡◌, ◌⊎◌, ◌+◌, ◌%◌, ◌<◌, ℕ, List, [], ◌∷◌, Bool, true, false, map}
 use Rattle.std.specs.List.{AllByRecursion}
 use Rattle.std.specs.declared.option.Option.{Option}
 use Rattle.std.specs.declared.option.Option.TheVariants.{Some}
 use Rattle.sfu_base.specs.declared.frame.FrameMeaning.{FrameMeaning}
+use Rattle.sfu_base.specs.Frame.{IsValid}
 use Rattle.forwarding_model.specs.declared.target.CurrentTarget.{CurrentTarget}
 use Rattle.forwarding_model.specs.Targets.{references}
 use Rattle.forwarding_model.specs.Timeline.{Frame, Event, rest_of, meaning_of}
 use Rattle.forwarding_model.specs.Timeline.Event.{WholeFrame, PlainPacket, WishChange, Take}
 use Rattle.forwarding_model.specs.TrackFrames.{IsOneTrack}
 use Rattle.forwarding_model.specs.Outgoing.{Sender}
-use Rattle.forwarding_model.specs.Reading.{Descriptor, Format, Joins, is_key_start, referred_distances, shown}
+use Rattle.forwarding_model.specs.Reading.{Descriptor, Format, IsCarried, Joins, is_key_start, referred_distances, shown}
 use Rattle.forwarding_model.specs.Reading.Payload.{Elements}
 use Rattle.forwarding_model.specs.Reading.Showing.{Shows}
 
@@ -55,10 +57,24 @@ AreWhole format s f (rest ∷ more) =
 abbrev pub IsWholeFrame : {S : Type 0} → Format S → Frame S → Type 0
 IsWholeFrame format frame = AreWhole format frame.structure frame.meaning (map rest_of frame.packets)
 
--- what is sent of a whole frame reads as that frame still
+-- the frame's structure was carried, and the frame's meaning says of targets and chains what the structure says
+pub record IsReadBy {S : Type 0} (format : Format S) (s : S) (f : FrameMeaning) : Type 0 where
+  pub carried : IsCarried format s
+  pub targets : f.target_count ≡ (format.layout s).target_count
+  pub pairs : f.pairs ≡ (format.layout s).pairs
+  pub chains : f.chain_count ≡ (format.layout s).chain_count
+  pub guards : f.guards ≡ (format.layout s).guards
+
+abbrev pub IsReadFrame : {S : Type 0} → Format S → Frame S → Type 0
+IsReadFrame format frame = IsReadBy format frame.structure frame.meaning
+
+-- whatever the target, what is sent of the frame reads as that frame, whole
+abbrev pub IsSentWhole : {S : Type 0} → Format S → Sender S → Frame S → Type 0
+IsSentWhole format send frame = (target : CurrentTarget) → AreWhole format frame.structure frame.meaning (map rest_of (send frame target))
+
+-- the sender does that with each frame that is valid, whole, and read by a structure that was carried
 abbrev pub KeepsWhole : {S : Type 0} → Format S → Sender S → Type 0
-KeepsWhole format send = (frame : Frame _) (target : CurrentTarget) → IsWholeFrame format frame
-    → AreWhole format frame.structure frame.meaning (map rest_of (send frame target))
+KeepsWhole format send = (frame : Frame _) → IsValid frame.meaning → IsReadFrame format frame → IsWholeFrame format frame → IsSentWhole format send frame
 
 -- frames of one epoch were read by one structure
 abbrev pub HaveEpochStructures : {S : Type 0} → List (Frame S) → Type 0

@@ -1,59 +1,21 @@
 -- Worked packets: small lists of packets whose frames, and whose complaints at a strict receiver, were worked out by hand. They compute.
--- They are read by a format of their own, in which a packet's rest is a list of numbers: start and end bit, frame number, whether a
--- structure is carried, the mask plus one or 0 for none, the payload (0 and 1 for Z and Y each, or 2 for none), and the distances.
-use Rattle.std.specs.Prelude.{◌≡◌, ◌+◌, ◌-◌, ℕ, List, [], ◌∷◌, false, if◌then◌else◌, ◌==◌, map, length}
+-- They are read by the format of `WorkedFormat`.
+use Rattle.std.specs.Prelude.{◌≡◌, ◌+◌, ℕ, List, [], ◌∷◌, ◌++◌, false, if◌then◌else◌, map, length, replicate}
 use Rattle.std.specs.declared.option.Option.{Option}
 use Rattle.std.specs.declared.option.Option.TheVariants.{None, Some}
-use Rattle.sfu_base.specs.declared.frame.Dti.TheVariants.{Switch}
 use Rattle.forwarding_model.specs.declared.complaint.Complaint.{Complaint}
+use Rattle.sfu_base.specs.declared.frame.Wish.{Wish}
 use Rattle.sfu_base.specs.declared.frame.Verdict.TheVariants.{Passed, Reference, Hole}
 use Rattle.forwarding_model.specs.Timeline.{Event, Frame, Packet}
-use Rattle.forwarding_model.specs.Reading.{DescriptorReading, Format, Layout, Payload}
-use Rattle.forwarding_model.specs.Reading.DescriptorReading.{NeedsStructure, Faulty, Reads}
-use Rattle.forwarding_model.specs.Reading.Payload.{Empty, Broken, Elements}
+use Rattle.forwarding_model.specs.WorkedFormat.{worked_format}
 use Rattle.forwarding_model.specs.Frames.{Item, frames_after}
 use Rattle.forwarding_model.specs.Frames.Item.{Missing, Arrived}
 use Rattle.forwarding_model.specs.Causes.{cause}
 use Rattle.forwarding_model.specs.Outgoing.{Subscriber, outgoing, send_marked, taken}
 use Rattle.forwarding_model.specs.History.{Entry, timeline}
-use Rattle.forwarding_model.specs.History.Entry.{Released, Joined, Asked}
+use Rattle.forwarding_model.specs.History.Entry.{Released, Joined, Aimed, Asked}
 use Rattle.forwarding_model.specs.Receiver.{complaint, frames_accepted, packets_accepted}
 use Rattle.forwarding_model.specs.Receiver.Receiver.{Waiting}
-
--- structures are told apart by a number; each has two decode targets, of the layers (1, 0) and (0, 0), and no chain
-abbrev pub worked_layout : ℕ → Layout
-worked_layout s = record { target_count = 2; pairs = Some (record { spatial = 1; temporal = 0 }) ∷ Some (record { spatial = 0; temporal = 0 }) ∷ []; chain_count = 0; guards = [] }
-
-abbrev pub reads_as : (start end number : ℕ) → Option ℕ → (mask : ℕ) → List ℕ → DescriptorReading ℕ
-reads_as start end number structure mask refs =
-    Reads (record {
-      start = start == 1;
-      end = end == 1;
-      number = number;
-      structure = structure;
-      mask = if mask == 0 then None else Some (mask - 1);
-      spatial = 0;
-      temporal = 0;
-      dtis = Switch ∷ Switch ∷ [];
-      ref_count = length refs;
-      refs = refs;
-      links = [];
-    })
-
-abbrev pub worked_descriptor : Option ℕ → List ℕ → DescriptorReading ℕ
-worked_descriptor None (start ∷ end ∷ number ∷ carried ∷ mask ∷ z ∷ y ∷ refs) =
-    if carried == 0 then NeedsStructure else reads_as start end number (Some carried) mask refs
-worked_descriptor (Some force) (start ∷ end ∷ number ∷ carried ∷ mask ∷ z ∷ y ∷ refs) =
-    reads_as start end number (if carried == 0 then None else Some carried) mask refs
-worked_descriptor force rest = Faulty
-
-abbrev pub worked_payload : List ℕ → Payload
-worked_payload (start ∷ end ∷ number ∷ carried ∷ mask ∷ z ∷ y ∷ refs) =
-    if z == 2 then Empty else Elements (record { continues = z == 1; carries = y == 1 })
-worked_payload rest = Broken
-
-abbrev pub worked_format : Format ℕ
-worked_format = record { descriptor = worked_descriptor; payload = worked_payload; same = λ s t. s == t; layout = worked_layout }
 
 abbrev pub sent_as : ℕ → List ℕ → Packet
 sent_as sequence_number rest = record { sequence_number = sequence_number; ssrc = 1; marker = false; rest = rest }
@@ -125,6 +87,58 @@ OtherStructure =
     told (came (frame_rest 3 1) ∷ came (1 ∷ 1 ∷ 2 ∷ 8 ∷ 0 ∷ 0 ∷ 0 ∷ 1 ∷ []) ∷ came (key_rest 1) ∷ [])
     ≡ (3 ∷ 1 ∷ 3 ∷ []) ∷ (1 ∷ 1 ∷ 3 ∷ []) ∷ []
 
+-- a packet that doesn't read tears the frame that it lies in, and so do a broken payload and another structure
+abbrev pub UnreadInside : Type 0
+UnreadInside = told (came (last_rest 2) ∷ came (0 ∷ 0 ∷ 2 ∷ 0 ∷ 9 ∷ 1 ∷ 1 ∷ []) ∷ came (first_rest 2) ∷ came (key_rest 1) ∷ []) ≡ (1 ∷ 1 ∷ 3 ∷ []) ∷ []
+
+abbrev pub BrokenInside : Type 0
+BrokenInside = told (came (last_rest 2) ∷ came (0 ∷ 0 ∷ 2 ∷ 0 ∷ 0 ∷ 3 ∷ 1 ∷ []) ∷ came (first_rest 2) ∷ came (key_rest 1) ∷ []) ≡ (1 ∷ 1 ∷ 3 ∷ []) ∷ []
+
+abbrev pub OtherStructureInside : Type 0
+OtherStructureInside = told (came (last_rest 2) ∷ came (0 ∷ 0 ∷ 2 ∷ 8 ∷ 0 ∷ 1 ∷ 1 ∷ []) ∷ came (first_rest 2) ∷ came (key_rest 1) ∷ []) ≡ (1 ∷ 1 ∷ 3 ∷ []) ∷ []
+
+-- a key start acts though its payload is broken: number 4 doesn't lie above it, and number 6 does
+abbrev pub BrokenKeyStart : Type 0
+BrokenKeyStart = told (came (frame_rest 6 1) ∷ came (frame_rest 4 1) ∷ came (1 ∷ 1 ∷ 5 ∷ 7 ∷ 0 ∷ 3 ∷ 0 ∷ []) ∷ came (key_rest 1) ∷ []) ≡ (6 ∷ 1 ∷ 3 ∷ []) ∷ (1 ∷ 1 ∷ 3 ∷ []) ∷ []
+
+-- and though its frame is torn
+abbrev pub TornKeyFrame : Type 0
+TornKeyFrame = told (came (frame_rest 6 1) ∷ came (frame_rest 4 1) ∷ Missing ∷ came (1 ∷ 0 ∷ 5 ∷ 7 ∷ 0 ∷ 0 ∷ 1 ∷ []) ∷ came (key_rest 1) ∷ []) ≡ (6 ∷ 1 ∷ 3 ∷ []) ∷ (1 ∷ 1 ∷ 3 ∷ []) ∷ []
+
+-- so does a mask
+abbrev pub BrokenMask : Type 0
+BrokenMask = told (came (frame_rest 3 1) ∷ came (1 ∷ 1 ∷ 2 ∷ 0 ∷ 3 ∷ 3 ∷ 0 ∷ 1 ∷ []) ∷ came (key_rest 1) ∷ []) ≡ (3 ∷ 1 ∷ 2 ∷ []) ∷ (1 ∷ 1 ∷ 3 ∷ []) ∷ []
+
+-- a packet without a payload says nothing, whether a mask or a key start
+abbrev pub PaddingSaysNothing : Type 0
+PaddingSaysNothing = told (came (frame_rest 2 1) ∷ came (1 ∷ 1 ∷ 5 ∷ 8 ∷ 0 ∷ 2 ∷ 0 ∷ []) ∷ came (0 ∷ 0 ∷ 1 ∷ 0 ∷ 3 ∷ 2 ∷ 0 ∷ []) ∷ came (key_rest 1) ∷ []) ≡ (2 ∷ 1 ∷ 3 ∷ []) ∷ (1 ∷ 1 ∷ 3 ∷ []) ∷ []
+
+-- a frame has the mask in force once its last packet was read
+abbrev pub LastMask : Type 0
+LastMask = told (came (0 ∷ 1 ∷ 2 ∷ 0 ∷ 3 ∷ 1 ∷ 0 ∷ []) ∷ came (first_rest 2) ∷ came (key_rest 1) ∷ []) ≡ (2 ∷ 2 ∷ 2 ∷ []) ∷ (1 ∷ 1 ∷ 3 ∷ []) ∷ []
+
+-- the same structure without a mask makes all targets active again
+abbrev pub MaskAgain : Type 0
+MaskAgain = told (came (1 ∷ 1 ∷ 3 ∷ 7 ∷ 0 ∷ 0 ∷ 0 ∷ 1 ∷ []) ∷ came (1 ∷ 1 ∷ 2 ∷ 0 ∷ 3 ∷ 0 ∷ 0 ∷ 1 ∷ []) ∷ came (key_rest 1) ∷ []) ≡ (3 ∷ 1 ∷ 3 ∷ []) ∷ (2 ∷ 1 ∷ 2 ∷ []) ∷ (1 ∷ 1 ∷ 3 ∷ []) ∷ []
+
+-- the first key frame may have the number 0
+abbrev pub FirstNumberZero : Type 0
+FirstNumberZero = told (came (frame_rest 1 1) ∷ came (key_rest 0) ∷ []) ≡ (1 ∷ 1 ∷ 3 ∷ []) ∷ (0 ∷ 1 ∷ 3 ∷ []) ∷ []
+
+-- a number 32,767 ahead lies above, and one 32,768 ahead doesn't
+abbrev pub FarthestAbove : Type 0
+FarthestAbove = told (came (1 ∷ 1 ∷ 32768 ∷ 0 ∷ 0 ∷ 0 ∷ 0 ∷ []) ∷ came (key_rest 1) ∷ []) ≡ (32768 ∷ 1 ∷ 3 ∷ []) ∷ (1 ∷ 1 ∷ 3 ∷ []) ∷ []
+
+abbrev pub NearestBehind : Type 0
+NearestBehind = told (came (1 ∷ 1 ∷ 32769 ∷ 0 ∷ 0 ∷ 0 ∷ 0 ∷ []) ∷ came (key_rest 1) ∷ []) ≡ (1 ∷ 1 ∷ 3 ∷ []) ∷ []
+
+-- 512 packets are a frame, and 513 are none
+abbrev pub LongFrame : Type 0
+LongFrame = told (came (last_rest 2) ∷ replicate 510 (came (middle_rest 2)) ++ came (first_rest 2) ∷ came (key_rest 1) ∷ []) ≡ (2 ∷ 512 ∷ 3 ∷ []) ∷ (1 ∷ 1 ∷ 3 ∷ []) ∷ []
+
+abbrev pub TooLongFrame : Type 0
+TooLongFrame = told (came (last_rest 2) ∷ replicate 511 (came (middle_rest 2)) ++ came (first_rest 2) ∷ came (key_rest 1) ∷ []) ≡ (1 ∷ 1 ∷ 3 ∷ []) ∷ []
+
 -- ---- a history: a key frame comes before the join; then a frame, another key frame, and a frame of three packets, of which one call
 -- releases the last two; three askings find two packets
 
@@ -157,6 +171,58 @@ HistoryTaken = map (λ (p : Packet). p.sequence_number) (taken send_marked worke
 
 abbrev pub HistoryCauses : Type 0
 HistoryCauses = map (cause worked_subscriber.wish worked_timeline) (1 ∷ 2 ∷ 3 ∷ 4 ∷ []) ≡ Hole None 2 ∷ Reference 1 ∷ Passed ∷ Passed ∷ []
+
+-- ---- a history of three subscribers: 1 joins first, and lowers its wish before frame 4; 2 joins after the key frame 1; 3 joins between
+-- the packets of frame 2
+
+abbrev pub layered_wish : ℕ → Wish
+layered_wish spatial = record { spatial = spatial; temporal = 0 }
+
+abbrev pub joined_as : (ssrc first spatial : ℕ) → Subscriber
+joined_as ssrc first spatial = record { ssrc = ssrc; first = first; wish = layered_wish spatial }
+
+abbrev pub three_subscribers : List Entry
+three_subscribers =
+    Asked 2
+    ∷ Released (came (frame_rest 4 1) ∷ [])
+    ∷ Aimed 1 (layered_wish 0)
+    ∷ Released (came (key_rest 3) ∷ [])
+    ∷ Released (came (last_rest 2) ∷ [])
+    ∷ Joined 3 (joined_as 4 7 1)
+    ∷ Released (came (first_rest 2) ∷ [])
+    ∷ Joined 2 (joined_as 3 100 0)
+    ∷ Released (came (key_rest 1) ∷ [])
+    ∷ Joined 1 (joined_as 2 65535 1)
+    ∷ []
+
+abbrev pub sent_to : ℕ → Subscriber → List Packet
+sent_to number subscriber = outgoing send_marked subscriber (timeline worked_format send_marked number three_subscribers)
+
+-- of each packet with the marker its number
+abbrev pub numbers_and_markers : List Packet → List (Option ℕ)
+numbers_and_markers packets = map (λ (p : Packet). if p.marker then Some p.sequence_number else None) packets
+
+abbrev pub FirstSubscriber : Type 0
+FirstSubscriber =
+    map (λ (p : Packet). p.sequence_number) (sent_to 1 (joined_as 2 65535 1)) ≡ 65535 ∷ 0 ∷ 1 ∷ 2 ∷ 3 ∷ []
+
+-- all frames are of the lower layer, so that the marker is set for those of the lower target alone; of the others stands none
+abbrev pub FirstSubscriberMarkers : Type 0
+FirstSubscriberMarkers = numbers_and_markers (sent_to 1 (joined_as 2 65535 1)) ≡ None ∷ None ∷ None ∷ None ∷ Some 3 ∷ []
+
+abbrev pub SecondSubscriber : Type 0
+SecondSubscriber = numbers_and_markers (sent_to 2 (joined_as 3 100 0)) ≡ Some 100 ∷ Some 101 ∷ []
+
+abbrev pub SecondSubscriberTaken : Type 0
+SecondSubscriberTaken =
+    map (λ (p : Packet). p.ssrc) (taken send_marked (joined_as 3 100 0) (timeline worked_format send_marked 2 three_subscribers)) ≡ 3 ∷ []
+
+abbrev pub ThirdSubscriber : Type 0
+ThirdSubscriber = map (λ (p : Packet). p.sequence_number) (sent_to 3 (joined_as 4 7 1)) ≡ 7 ∷ 8 ∷ []
+
+-- frame 2 got whole after subscriber 3 joined, and what it refers to before
+abbrev pub ThirdSubscriberCauses : Type 0
+ThirdSubscriberCauses = map (cause (layered_wish 1) (timeline worked_format send_marked 3 three_subscribers)) (1 ∷ 2 ∷ 3 ∷ 4 ∷ []) ≡ Hole None 2 ∷ Reference 1 ∷ Passed ∷ Passed ∷ []
 
 -- ---- a strict receiver: the packets stand with the oldest first
 
@@ -218,3 +284,64 @@ LacksReference = complaint_at (read_from 10 (key_rest 1 ∷ frame_rest 3 1 ∷ [
 -- a key frame empties the received numbers
 abbrev pub LostReference : Type 0
 LostReference = complaint_at (read_from 10 (key_rest 1 ∷ key_rest 3 ∷ frame_rest 4 3 ∷ [])) ≡ Some (Complaint.MissingReference 4 3)
+
+-- ---- and what it is strict about
+
+-- another frame number inside a frame
+abbrev pub OtherNumber : Type 0
+OtherNumber = complaint_at (read_from 10 (key_rest 1 ∷ first_rest 2 ∷ last_rest 3 ∷ [])) ≡ Some Complaint.NotWhole
+
+-- an end that leaves an element open
+abbrev pub EndCarries : Type 0
+EndCarries = complaint_at (read_from 10 (key_rest 1 ∷ first_rest 2 ∷ (0 ∷ 1 ∷ 2 ∷ 0 ∷ 0 ∷ 1 ∷ 1 ∷ []) ∷ [])) ≡ Some Complaint.NotWhole
+
+-- a start that continues an element
+abbrev pub StartContinues : Type 0
+StartContinues = complaint_at (read_from 10 (key_rest 1 ∷ (1 ∷ 1 ∷ 2 ∷ 0 ∷ 0 ∷ 1 ∷ 0 ∷ 1 ∷ []) ∷ [])) ≡ Some Complaint.NotWhole
+
+-- 512 packets are a frame
+abbrev pub LongestFrame : Type 0
+LongestFrame = complaint_at (read_from 10 (key_rest 1 ∷ first_rest 2 ∷ replicate 510 (middle_rest 2) ++ last_rest 2 ∷ [])) ≡ None
+
+-- and a 513th packet is too many
+abbrev pub TooManyPackets : Type 0
+TooManyPackets = complaint_at (read_from 10 (key_rest 1 ∷ first_rest 2 ∷ replicate 511 (middle_rest 2) ++ last_rest 2 ∷ [])) ≡ Some Complaint.NotWhole
+
+-- a descriptor that is missing or doesn't read, here by its mask
+abbrev pub FaultyDescriptor : Type 0
+FaultyDescriptor = complaint_at (read_from 10 (key_rest 1 ∷ (1 ∷ 1 ∷ 2 ∷ 0 ∷ 9 ∷ 0 ∷ 0 ∷ 1 ∷ []) ∷ [])) ≡ Some Complaint.Unread
+
+-- a payload that is broken
+abbrev pub BrokenPayload : Type 0
+BrokenPayload = complaint_at (read_from 10 (key_rest 1 ∷ (1 ∷ 1 ∷ 2 ∷ 0 ∷ 0 ∷ 3 ∷ 0 ∷ 1 ∷ []) ∷ [])) ≡ Some Complaint.Unread
+
+-- another structure in a frame that is no key frame, where the same one does no harm
+abbrev pub StructureRule : Type 0
+StructureRule = complaint_at (read_from 10 (key_rest 1 ∷ (1 ∷ 1 ∷ 2 ∷ 7 ∷ 0 ∷ 0 ∷ 0 ∷ 1 ∷ []) ∷ (1 ∷ 1 ∷ 3 ∷ 8 ∷ 0 ∷ 0 ∷ 0 ∷ 1 ∷ []) ∷ [])) ≡ Some Complaint.Unread
+
+abbrev pub SameStructure : Type 0
+SameStructure = complaint_at (read_from 10 (key_rest 1 ∷ (1 ∷ 1 ∷ 2 ∷ 7 ∷ 0 ∷ 0 ∷ 0 ∷ 1 ∷ []) ∷ [])) ≡ None
+
+-- that there is no structure comes before the payload
+abbrev pub NoStructureFirst : Type 0
+NoStructureFirst = complaint_at (read_from 10 ((1 ∷ 1 ∷ 2 ∷ 0 ∷ 0 ∷ 2 ∷ 0 ∷ 1 ∷ []) ∷ [])) ≡ Some Complaint.NoStructure
+
+-- the source comes before the number
+abbrev pub SourceFirst : Type 0
+SourceFirst = complaint_at (Some (sent_as 10 (key_rest 1)) ∷ Some (record { sequence_number = 13; ssrc = 2; marker = false; rest = frame_rest 2 1 }) ∷ []) ≡ Some (Complaint.OtherSource 1 2)
+
+-- and the number before what the packet says
+abbrev pub NumberBeforeContent : Type 0
+NumberBeforeContent = complaint_at (Some (sent_as 10 (key_rest 1)) ∷ Some (sent_as 12 padding_rest) ∷ []) ≡ Some (Complaint.Sequence 10 12)
+
+-- the first complaint stays, whatever comes
+abbrev pub FirstComplaintStays : Type 0
+FirstComplaintStays = complaint_at (Some (sent_as 10 (frame_rest 2 1)) ∷ Some (sent_as 13 (key_rest 1)) ∷ None ∷ []) ≡ Some Complaint.NoStructure
+
+-- a number that isn't above the newest empties the received numbers: frame 3 came after key frame 5, so that frame 6 lacks frame 5
+abbrev pub StaleEmpties : Type 0
+StaleEmpties = complaint_at (read_from 10 (key_rest 5 ∷ (1 ∷ 1 ∷ 3 ∷ 0 ∷ 0 ∷ 0 ∷ 0 ∷ []) ∷ frame_rest 6 1 ∷ [])) ≡ Some (Complaint.MissingReference 6 1)
+
+-- and is a number to count from
+abbrev pub StaleCounts : Type 0
+StaleCounts = complaint_at (read_from 10 (key_rest 5 ∷ (1 ∷ 1 ∷ 3 ∷ 0 ∷ 0 ∷ 0 ∷ 0 ∷ []) ∷ frame_rest 4 1 ∷ frame_rest 6 3 ∷ [])) ≡ None

@@ -1,17 +1,30 @@
 // The laws of forwarding: each is the contract of a function that does nothing. A crate above takes a law by a call of its function, or
 // by naming the lemma of `proofs/` that proves it. `Structure` is the type of template dependency structures.
 
-ghost use Rattle.forwarding_model.specs.Laws.{NeverComplains, AreDecodable, RestartsAtOnce, RestartsLater, EndsAtRoot, EndsAtRootUnpassed, PathsTellCauses, TakenNeverComplains, EndsAtRootInHistories, AreNumberedInOrder, OnlyGrows, ResendsFirstBytes, ResendsKept, QueuesTheRest, TakesFindPackets, MarkingKeepsWhole, MarkingKeepsCount, FramesAreTrack, FramesAreAdded, NewestAreTrack, EndedRunsAreWhole, WholeCutsAreFound, AimIsBest, OpeningIsBest, PassedWherePasses, PassesLinked, PassesWherePassed, KeepAlike, OpenAlike, PassAlike, JudgeAlike};
-ghost use Rattle.forwarding_model.specs.Rows.{BrokenChainCauses, BrokenChainNumbers, UpperLostCauses, UpperLostMarkers, MaskMarkers, WishCauses, WishMarkers, WishCauseUnpassed, FullCauses, FullTakenCauses, LateJoinCauses, BehindCause, HoldCauses, PlainResend};
-ghost use Rattle.forwarding_model.specs.WorkedPackets.{HistoryNumbers, HistoryTaken, HistoryCauses, PaddedFrame, TornFrame, EarlyStart, WrappedNumbers, StaleNumber, NewMask, OtherStructure, Accepted, AcceptedCounts, NotRtp, OtherSource, RepeatedNumber, WrappedSequence, LacksKeyFrame, EmptyPayload, LacksStart, SecondStart, BrokenJoin, LacksReference, LostReference};
+ghost use Rattle.forwarding_model.specs.Laws.{NeverComplains, AreDecodable, RestartsAtOnce, RestartsLater, EndsAtRoot, EndsAtRootUnpassed, PathsBegin, PathsTellCauses, TakenNeverComplains, OutgoingNeverComplains, EndsAtRootInHistories, AreNumberedInOrder, OnlyGrows, ResendsFirstBytes, ResendsKept, QueuesTheRest, TakesFindPackets, MarkingKeepsWhole, MarkingIsASender, MarkingKeepsCount, FramesAreTrack, FramesAreRead, FramesAreAdded, NewestAreTrack, EndedRunsAreWhole, WholeCutsAreFound, WholeOutcomesAreCuts, PartialOutcomesGoOn, PaddingOutcomesArePadding, TornOutcomesAreTorn, TooOldIsBelow, AheadIsAbove, AimIsBest, OpeningIsBest, PassedWherePasses, PassesLinked, PassesWherePassed, KeepAlike, OpenAlike, PassAlike, JudgeAlike};
+ghost use Rattle.forwarding_model.specs.Accepted.{NoComplaintAccepts};
+ghost use Rattle.forwarding_model.specs.Decisions.{BrokenLinksClose, OtherLinksKeep, BrokenLinksBreak, ReasonsHold, OpensTheBest, OpensWhatItCan, PassesInTarget, FullClaims, BehindClaims, ReferenceClaims, OtherTargetClaims, NoTargetClaims, LinkClaims, UnopenedClaims, NoFrameIsAHole};
+ghost use Rattle.forwarding_model.specs.Making.{WhatWasReadIsInForce, KeyStartsAreNumbered, ItemsHaveMarks, FramesAreCuts, CutsAreFrames};
+ghost use Rattle.forwarding_model.specs.Reading.{IsFormat};
+ghost use Rattle.forwarding_model.specs.Taken.{TakesGiveWhatWasTaken, NextHasNextNumber, KeepsTheLast, OldestIsKept, ResendsTheKeptNumbers};
+ghost use Rattle.forwarding_model.specs.WorkedFormat.{worked_format};
+ghost use Rattle.forwarding_model.specs.Rows.{BrokenChainCauses, BrokenChainNumbers, UpperLostCauses, UpperLostMarkers, MaskMarkers, WishCauses, WishMarkers, WishCauseUnpassed, FullCauses, FullTakenCauses, LateJoinCauses, BehindCause, HoldCauses, PlainResend, BrokenLinkCauses, UnlinkedCause, EarlyLinkCauses, MaskedCauses, IntactUpperMarkers, LoweredWishCause, ThreePacketMarkers, KeptMarkers, AskedNumbers, HoleBounds};
+ghost use Rattle.forwarding_model.specs.WorkedPackets.{UnreadInside, BrokenInside, OtherStructureInside, BrokenKeyStart, TornKeyFrame, BrokenMask, PaddingSaysNothing, LastMask, MaskAgain, FirstNumberZero, FarthestAbove, NearestBehind, LongFrame, TooLongFrame, FirstSubscriber, FirstSubscriberMarkers, SecondSubscriber, SecondSubscriberTaken, ThirdSubscriber, ThirdSubscriberCauses, HistoryNumbers, HistoryTaken, HistoryCauses, PaddedFrame, TornFrame, EarlyStart, WrappedNumbers, StaleNumber, NewMask, OtherStructure, Accepted, AcceptedCounts, NotRtp, OtherSource, RepeatedNumber, WrappedSequence, LacksKeyFrame, EmptyPayload, LacksStart, SecondStart, BrokenJoin, LacksReference, LostReference, OtherNumber, EndCarries, StartContinues, LongestFrame, TooManyPackets, FaultyDescriptor, BrokenPayload, StructureRule, SameStructure, NoStructureFirst, SourceFirst, NumberBeforeContent, FirstComplaintStays, StaleEmpties, StaleCounts};
 
 // ---- the headline
 
 /// A strict receiver of the packets that go out to a subscriber of a layered track, and of each prefix of them, has no complaint. In
-/// whatever history of a track, it has none of what a subscriber has taken.
+/// whatever history of a track, it has none of those, nor of what a subscriber has taken.
 pub fn strict_receiver_never_complains<Structure>()
     ensures prefix { NeverComplains Structure }
-    ensures history { TakenNeverComplains Structure }
+    ensures history { OutgoingNeverComplains Structure }
+    ensures taken { TakenNeverComplains Structure }
+{}
+
+/// What a strict receiver has no complaint of is of one source, consecutive in number, and whole frames one after another, of which each
+/// refers to frames that came since the newest key frame.
+pub fn accepted_packets_are_whole_frames<Structure>()
+    ensures { NoComplaintAccepts Structure }
 {}
 
 /// Each frame that passed is decodable in the passed frames of its epoch.
@@ -26,12 +39,19 @@ pub fn broken_links_end_at_a_restart<Structure>()
     ensures later { RestartsLater Structure }
 {}
 
-/// The path of each withheld frame falls strictly, ends at a root, and tells the cause of each of its numbers.
+/// The path of each withheld frame begins at it, falls strictly, ends at a root, and tells the cause of each of its numbers.
 pub fn withheld_frames_have_a_path_to_a_root<Structure>()
     ensures root { EndsAtRoot Structure }
     ensures unpassed { EndsAtRootUnpassed Structure }
+    ensures begins { PathsBegin Structure }
     ensures causes { PathsTellCauses Structure }
     ensures history { EndsAtRootInHistories Structure }
+{}
+
+/// Causes can be asked for of the 4,096 numbers up to the newest frame's.
+pub fn causes_are_known_up_to_the_newest()
+    ensures too_old { TooOldIsBelow }
+    ensures ahead { AheadIsAbove }
 {}
 
 /// A packet that was taken, and is still kept, is resent as it was.
@@ -58,25 +78,63 @@ pub fn queued_packets_are_those_not_taken<Structure>()
     ensures history { TakesFindPackets Structure }
 {}
 
+/// What the takes gave, one after another, is what was taken, and the next packet has the next number.
+pub fn takes_give_what_was_taken<Structure>()
+    ensures given { TakesGiveWhatWasTaken Structure }
+    ensures next { NextHasNextNumber Structure }
+{}
+
+/// The last 1,024 packets that were taken are kept, and exactly their numbers are resent.
+pub fn the_last_that_were_taken_are_kept<Structure>()
+    ensures last { KeepsTheLast Structure }
+    ensures oldest { OldestIsKept Structure }
+    ensures numbers { ResendsTheKeptNumbers Structure }
+{}
+
 /// A frame is sent whole, in as many packets as it has, when the marker of its last packet is set.
 pub fn marking_keeps_frames_whole<Structure>()
     ensures whole { MarkingKeepsWhole Structure }
+    ensures sender { MarkingIsASender Structure }
     ensures count { MarkingKeepsCount Structure }
 {}
 
 // ---- frames
 
-/// The frames that come out of a track's packets are one track's frames, and whole.
+/// The frames that come out of a track's packets are one track's frames, whole, and read by structures that were carried.
 pub fn frames_of_items_are_one_track<Structure>()
     ensures track { FramesAreTrack Structure }
+    ensures read { FramesAreRead Structure }
     ensures added { FramesAreAdded Structure }
     ensures newest { NewestAreTrack Structure }
+{}
+
+/// An item makes a frame exactly where it ends a whole cut whose number isn't stale, and the frame has the packets of that cut, and the
+/// meaning that its first descriptor, the structure and what is in force give it.
+pub fn items_make_the_frames_of_their_cuts<Structure>()
+    ensures marks { ItemsHaveMarks Structure }
+    ensures frames { FramesAreCuts Structure }
+    ensures cuts { CutsAreFrames Structure }
+{}
+
+/// Structure, mask and epoch in force are those of the descriptors that were read, and key starts are numbered above all before.
+pub fn what_was_read_is_in_force<Structure>()
+    ensures in_force { WhatWasReadIsInForce Structure }
+    ensures numbers { KeyStartsAreNumbered Structure }
 {}
 
 /// The runs of parts that end are the whole cuts of the list of marks. `Brought` is the type of what a part brings with it.
 pub fn ended_runs_are_the_whole_cuts<Brought>()
     ensures whole { EndedRunsAreWhole Brought }
     ensures found { WholeCutsAreFound Brought }
+{}
+
+/// A mark makes a frame whole exactly where it ends a whole cut, and partial, padded or torn as the run that it leaves says. `Brought`
+/// is the type of what a part brings with it.
+pub fn outcomes_are_those_of_runs<Brought>()
+    ensures whole { WholeOutcomesAreCuts Brought }
+    ensures partial { PartialOutcomesGoOn Brought }
+    ensures padding { PaddingOutcomesArePadding Brought }
+    ensures torn { TornOutcomesAreTorn Brought }
 {}
 
 // ---- selection
@@ -98,6 +156,38 @@ pub fn passed_frames_are_linked()
     ensures { PassesLinked }
 {}
 
+/// A broken link closes the open target, and no other link does. Where a target is closed, a frame of the timeline closed it for the
+/// reason that it has, and no frame passed since.
+pub fn targets_are_closed_for_their_reasons<Structure>()
+    ensures broken { BrokenLinksClose }
+    ensures other { OtherLinksKeep }
+    ensures breaks { BrokenLinksBreak }
+    ensures reasons { ReasonsHold Structure }
+{}
+
+/// What a frame opens is the best of the targets that it can open, and it opens one where it can open any.
+pub fn frames_open_the_best_that_they_can()
+    ensures best { OpensTheBest }
+    ensures any { OpensWhatItCan }
+{}
+
+/// A frame that passes is present in its target, and its mask has that target.
+pub fn passed_frames_are_in_their_target()
+    ensures { PassesInTarget }
+{}
+
+/// What each verdict says of a frame is so.
+pub fn verdicts_are_true()
+    ensures full { FullClaims }
+    ensures behind { BehindClaims }
+    ensures reference { ReferenceClaims }
+    ensures other_target { OtherTargetClaims }
+    ensures no_target { NoTargetClaims }
+    ensures link { LinkClaims }
+    ensures unopened { UnopenedClaims }
+    ensures hole { NoFrameIsAHole }
+{}
+
 /// Whoever knows, of each frame that a frame refers to or is linked to, whether it was passed, decides as one who knows all of them.
 pub fn decisions_rest_on_named_frames()
     ensures kept { KeepAlike }
@@ -110,9 +200,15 @@ pub fn decisions_rest_on_named_frames()
 pub fn worked_timelines()
     ensures broken_chain { BrokenChainCauses }
     ensures broken_chain_numbers { BrokenChainNumbers }
+    ensures broken_link { BrokenLinkCauses }
+    ensures unlinked { UnlinkedCause }
+    ensures early_link { EarlyLinkCauses }
     ensures upper_lost { UpperLostCauses }
     ensures upper_lost_markers { UpperLostMarkers }
     ensures mask { MaskMarkers }
+    ensures masked { MaskedCauses }
+    ensures intact_upper { IntactUpperMarkers }
+    ensures lowered_wish { LoweredWishCause }
     ensures wish { WishCauses }
     ensures wish_markers { WishMarkers }
     ensures wish_unpassed { WishCauseUnpassed }
@@ -122,6 +218,15 @@ pub fn worked_timelines()
     ensures behind { BehindCause }
     ensures hold { HoldCauses }
     ensures plain_resend { PlainResend }
+    ensures three_packet_markers { ThreePacketMarkers }
+    ensures kept_markers { KeptMarkers }
+    ensures asked_numbers { AskedNumbers }
+    ensures hole_bounds { HoleBounds }
+{}
+
+/// The worked packets are read by a format that has all the facts on which the laws rest.
+pub fn worked_packets_have_a_format()
+    ensures { IsFormat worked_format }
 {}
 
 /// Worked packets, with the frames that they make, worked out by hand.
@@ -133,13 +238,33 @@ pub fn worked_frames()
     ensures stale_number { StaleNumber }
     ensures new_mask { NewMask }
     ensures other_structure { OtherStructure }
+    ensures unread_inside { UnreadInside }
+    ensures broken_inside { BrokenInside }
+    ensures other_structure_inside { OtherStructureInside }
+    ensures broken_key_start { BrokenKeyStart }
+    ensures torn_key_frame { TornKeyFrame }
+    ensures broken_mask { BrokenMask }
+    ensures padding_says_nothing { PaddingSaysNothing }
+    ensures last_mask { LastMask }
+    ensures mask_again { MaskAgain }
+    ensures first_number_zero { FirstNumberZero }
+    ensures farthest_above { FarthestAbove }
+    ensures nearest_behind { NearestBehind }
+    ensures long_frame { LongFrame }
+    ensures too_long_frame { TooLongFrame }
 {}
 
-/// A worked history: a join, packets, and what goes out, is taken and is withheld, worked out by hand.
+/// Worked histories: joins, packets, a wish that changes, and what goes out, is taken and is withheld, worked out by hand.
 pub fn worked_history()
     ensures numbers { HistoryNumbers }
     ensures taken { HistoryTaken }
     ensures causes { HistoryCauses }
+    ensures first_subscriber { FirstSubscriber }
+    ensures first_subscriber_markers { FirstSubscriberMarkers }
+    ensures second_subscriber { SecondSubscriber }
+    ensures second_subscriber_taken { SecondSubscriberTaken }
+    ensures third_subscriber { ThirdSubscriber }
+    ensures third_subscriber_causes { ThirdSubscriberCauses }
 {}
 
 /// Worked packets, with the complaint of a strict receiver, worked out by hand.
@@ -157,4 +282,19 @@ pub fn worked_complaints()
     ensures broken_join { BrokenJoin }
     ensures lacks_reference { LacksReference }
     ensures lost_reference { LostReference }
+    ensures other_number { OtherNumber }
+    ensures end_carries { EndCarries }
+    ensures start_continues { StartContinues }
+    ensures longest_frame { LongestFrame }
+    ensures too_many_packets { TooManyPackets }
+    ensures faulty_descriptor { FaultyDescriptor }
+    ensures broken_payload { BrokenPayload }
+    ensures structure_rule { StructureRule }
+    ensures same_structure { SameStructure }
+    ensures no_structure_first { NoStructureFirst }
+    ensures source_first { SourceFirst }
+    ensures number_before_content { NumberBeforeContent }
+    ensures first_complaint_stays { FirstComplaintStays }
+    ensures stale_empties { StaleEmpties }
+    ensures stale_counts { StaleCounts }
 {}

@@ -2,7 +2,9 @@
 //!
 //! The definitions stand in `specs/`, one topic a file. `Targets`, `Selection` and `Standing` say which frames pass to a subscriber,
 //! `Outgoing` what goes out, `Causes` why a frame was withheld, `Reading`, `Cuts` and `Frames` how packets become frames, and `Receiver`
-//! what a strict receiver makes of packets. `Laws` has the laws, and the functions of this crate carry them. There is no other code here.
+//! what a strict receiver makes of packets. `Decisions`, `Taken`, `Making` and `Accepted` tell decisions, takes, frames and reception in
+//! words, with the laws that tie them to the definitions, and `Laws` has the other laws. The functions of this crate carry all of them.
+//! There is no other code here.
 #![tactic(auto)]
 
 mod complaint;
@@ -11,12 +13,17 @@ mod target;
 
 pub use complaint::Complaint;
 pub use laws::{
-    broken_links_end_at_a_restart, chosen_targets_are_the_best, decisions_rest_on_named_frames,
-    ended_runs_are_the_whole_cuts, frames_of_items_are_one_track, marking_keeps_frames_whole,
-    outgoing_numbers_are_consecutive, outgoing_packets_only_grow, passed_frames_are_decodable,
+    accepted_packets_are_whole_frames, broken_links_end_at_a_restart,
+    causes_are_known_up_to_the_newest, chosen_targets_are_the_best, decisions_rest_on_named_frames,
+    ended_runs_are_the_whole_cuts, frames_of_items_are_one_track,
+    frames_open_the_best_that_they_can, items_make_the_frames_of_their_cuts,
+    marking_keeps_frames_whole, outcomes_are_those_of_runs, outgoing_numbers_are_consecutive,
+    outgoing_packets_only_grow, passed_frames_are_decodable, passed_frames_are_in_their_target,
     passed_frames_are_linked, queued_packets_are_those_not_taken, resends_give_first_bytes,
-    strict_receiver_never_complains, verdicts_are_passed_where_frames_pass,
+    strict_receiver_never_complains, takes_give_what_was_taken,
+    targets_are_closed_for_their_reasons, the_last_that_were_taken_are_kept,
+    verdicts_are_passed_where_frames_pass, verdicts_are_true, what_was_read_is_in_force,
     withheld_frames_have_a_path_to_a_root, worked_complaints, worked_frames, worked_history,
-    worked_timelines,
+    worked_packets_have_a_format, worked_timelines,
 };
 pub use target::{CurrentTarget, Reason};

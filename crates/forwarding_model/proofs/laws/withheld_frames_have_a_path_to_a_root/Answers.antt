@@ -1,5 +1,5 @@
 use Rattle.forwarding_model.specs.Causes.{cause}
-use Rattle.forwarding_model.proofs.Paths.{withheld_path, unpassed_path, path_tells}
+use Rattle.forwarding_model.proofs.Paths.{withheld_path, unpassed_path, path_begins, path_tells}
 use Rattle.forwarding_model.proofs.Histories.{withheld_path_in_history}
 use Rattle.forwarding_model.proofs.laws.withheld_frames_have_a_path_to_a_root.Goals as goal
 
@@ -8,6 +8,9 @@ returns-clause-root g c = withheld_path
 
 pub returns-clause-unpassed : goal.returns-clause-unpassed
 returns-clause-unpassed g c = unpassed_path
+
+pub returns-clause-begins : goal.returns-clause-begins
+returns-clause-begins g c = λ wish events n. path_begins (cause wish events) n
 
 pub returns-clause-causes : goal.returns-clause-causes
 returns-clause-causes g c = λ wish events n. path_tells (cause wish events) n
