@@ -1,0 +1,9 @@
+pub mod Events
+pub mod Order
+pub mod Items
+pub mod Missing
+pub mod Laws
+pub mod Slots
+pub mod Steps
+pub mod Window
+pub mod Kept

@@ -1,0 +1,157 @@
+// The window over a track's packets.
+ghost use Rattle.std.specs.Prelude.{◌≡◌, ◌≤◌, ◌∷◌, ◌^◌, [], IfOk, IsNone, List, ◌↔◌, max, OnErr, OnOk, drop, length, slice_get};
+ghost use Rattle.std.specs.Option.{option_map};
+ghost use Rattle.reorder_window.specs.Events.{Event, Arrives, Ticks};
+ghost use Rattle.reorder_window.specs.Missing.{missing_sequences};
+ghost use Rattle.reorder_window.specs.Order.{added, after, before_all, judged_sequence, number_of};
+ghost use Rattle.reorder_window.specs.Steps.{in_range, newest_below};
+ghost use Rattle.reorder_window.specs.Window.{IsAfter, filled, item_of, refusal};
+
+use crate::arrival::{Arrival, Item};
+use crate::ring::{Ring, SPAN};
+use sfu_base::{NoMemory, PacketBuf, SeqList};
+use std::alloc::Global;
+use std::marker::Model;
+use wrap_number::place;
+
+/// The order of one track. Clauses see it as its hold, the order, and the pieces that are still to be fetched.
+#[derive(Drop)]
+pub struct Window {
+    ring: Ring,
+    hold: u32,
+    moment: u64,
+    // one above the newest accepted number, and 0 before the first
+    end: u64,
+    next: u64,
+    // the first number that wasn't fetched
+    given: u64,
+}
+
+impl Model for Window {
+    ghost use Rattle.reorder_window.specs.Window.{Seen};
+
+    ghost Value = { Seen };
+
+    ghost use Rattle.reorder_window.specs.Kept.{IsKept, seen};
+
+    ghost view = { seen };
+
+    ghost invariant = { IsKept };
+}
+
+impl Window {
+    /// A window before the first packet, that holds a packet behind a gap for so many milliseconds. All its memory is taken here.
+    pub fn new(alloc: Global, hold: u32) -> Result<Window, NoMemory>
+        ensures { IfOk result (λ window. window ≡ record { hold = hold; order = before_all; waiting = [] }) }
+    {
+        Ok(Window {
+            ring: Ring::new(alloc)?,
+            hold,
+            moment: 0,
+            end: 0,
+            next: 0,
+            given: 0,
+        })
+    }
+
+    /// Takes in a packet that arrives at this moment, in milliseconds. Its bytes are copied once. A refusal changes nothing.
+    pub fn arrive(&mut self, seq: u16, moment: u64, bytes: &[u8]) -> Result<(), Arrival>
+        requires length { length bytes.now ≤ 1500 }
+        requires fetched { self.old.waiting ≡ [] }
+        ensures refusal { refusal result ≡ refusal (judged_sequence self.old.order seq) }
+        ensures unchanged { OnErr result (self.new ≡ self.old) }
+        ensures order { self.new.order ≡ after self.old.hold self.old.order (Arrives seq moment bytes.now) }
+        ensures items { self.new.waiting ≡ added self.old.hold self.old.order (Arrives seq moment bytes.now) }
+        ensures hold { self.new.hold ≡ self.old.hold }
+        ensures stands { (past : List Event) → IsAfter self.old past → IsAfter self.new (Arrives seq moment bytes.now ∷ past) }
+    {
+        let number = number_in_range(self.end, self.next, seq)?;
+        if self.ring.holds(number) {
+            return Err(Arrival::Repeat);
+        }
+        let first = if self.end == 0 { number } else { self.next };
+        let room = first.max(number.saturating_sub(SPAN - 1));
+        let now = self.moment.max(moment);
+        self.ring.keep(number, now, bytes);
+        self.moment = now;
+        self.end = self.end.max(number + 1);
+        self.given = first;
+        self.next = self.ring.run_end(room, self.end);
+        Ok(())
+    }
+
+    /// Time has come to this moment, in milliseconds: gaps before packets that were held for the hold are given up.
+    pub fn tick(&mut self, moment: u64)
+        requires { self.old.waiting ≡ [] }
+        ensures order { self.new.order ≡ after self.old.hold self.old.order (Ticks moment) }
+        ensures items { self.new.waiting ≡ added self.old.hold self.old.order (Ticks moment) }
+        ensures hold { self.new.hold ≡ self.old.hold }
+        ensures stands { (past : List Event) → IsAfter self.old past → IsAfter self.new (Ticks moment ∷ past) }
+    {
+        self.moment = self.moment.max(moment);
+        self.ring.clear_spare();
+        self.given = self.next;
+        self.next = self
+            .ring
+            .due_end(self.next, self.end, self.moment, self.hold);
+    }
+
+    /// The next item that waits, or none. A packet's bytes are copied into the buffer; else it stays as it was.
+    pub fn next_item(&mut self, buf: &mut PacketBuf) -> Option<Item>
+        ensures none { IsNone result ↔ (self.old.waiting ≡ []) }
+        ensures length { length buf.new ≤ max (length buf.old) 1500 }
+        ensures item { result ≡ option_map item_of (slice_get self.old.waiting 0) }
+        ensures bytes { buf.new ≡ filled (slice_get self.old.waiting 0) buf.old }
+        ensures rest { self.new ≡ record self.old { waiting = drop 1 self.old.waiting } }
+    {
+        let from = self.given;
+        if from == self.next {
+            return None;
+        }
+        if let Some(moment) = self.ring.give(from, buf) {
+            self.given = from + 1;
+            return Some(Item::Got {
+                number: from,
+                moment,
+            });
+        }
+        // Behind the newest packet before the last one, at most SPAN numbers on, nothing waits.
+        let near = self.next.min(from + SPAN + 1);
+        let found = self.ring.first_waiting(from + 1, near);
+        let end = if found < near { found } else { self.next };
+        self.given = end;
+        Some(Item::Gone { from, to: end - 1 })
+    }
+
+    /// The missing sequence numbers, ascending by their unwrapped numbers.
+    pub fn missing(&self, out: &mut SeqList)
+        ensures { out.new ≡ missing_sequences self.now.order }
+    {
+        out.clear();
+        for n in self.next..self.end {
+            if !self.ring.holds(n) {
+                out.push((n % 65536) as u16);
+            }
+        }
+    }
+}
+
+// The number of an arrival, unless it is too great or behind.
+pub fn number_in_range(end: u64, next: u64, seq: u16) -> Result<u64, Arrival>
+    requires bounded { end ≤ 2 ^ 46 }
+    requires within { next ≤ end }
+    ensures { result ≡ in_range next (number_of (newest_below end) seq) }
+{
+    let number = if end == 0 {
+        i64::from(seq)
+    } else {
+        place((end - 1) as i64, seq)
+    };
+    if number >= 1 << 46 {
+        Err(Arrival::Spent)
+    } else if number < next as i64 {
+        Err(Arrival::Late { next })
+    } else {
+        Ok(number as u64)
+    }
+}
