@@ -20,7 +20,7 @@ pub record Packet : Type 0 where
   pub block : List ℕ
   pub payload : List ℕ
 
--- each number of a packet fits its field, and the block is whole words
+-- each number of a packet fits its field, and without a profile there is no block
 pub record Fits (p : Packet) : Type 0 where
   pub payload_type : p.payload_type < 128
   pub sequence : p.sequence < 2 ^ 16
