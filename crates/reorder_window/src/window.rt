@@ -136,7 +136,7 @@ impl Window {
     }
 }
 
-// The number of an arrival, unless it is too great or behind.
+/// The number of an arrival, unless it is too great or behind.
 pub fn number_in_range(end: u64, next: u64, seq: u16) -> Result<u64, Arrival>
     requires bounded { end ≤ 2 ^ 46 }
     requires within { next ≤ end }
