@@ -247,6 +247,35 @@ pub record Found (bytes : List ℕ) : Type 0 where
   pub fits : PacketFits packet
   pub laid : packet_bytes packet ++ drop (length_of bytes) bytes ≡ bytes
 
+-- a packet put together of its header, its content and its padding
+assembled : (a b c d n w : ℕ) (xs : List ℕ) (padded : Bool) → a < 256 → a / 64 ≡ 2 → (a / 32 % 2 == 1) ≡ padded → c < 256 → d < 256
+    → w ≡ words_of (a ∷ b ∷ c ∷ d ∷ xs) → n ≤ 4 * w → length (take (4 * w - n) xs) ≡ 4 * w - n
+    → HasFiller padded n (4 * w) xs → HasContent b (a % 32) (take (4 * w - n) xs) → Found (a ∷ b ∷ c ∷ d ∷ xs)
+assembled a b c d n w xs padded fits_a version is_padded_ fits_c fits_d words within size f k =
+    let bytes : List ℕ = a ∷ b ∷ c ∷ d ∷ xs in
+    let content = take (4 * w - n) xs in
+    let rest = drop (4 * w) xs in
+    let packet : Packet = record { words = w; content = k.content; filler = f.filler } in
+    let behind : drop (length_of bytes) bytes ≡ rest = ap (λ (m : ℕ). drop (4 + 4 * m) bytes) (sym words) ∙ sym (drop-drop (4 * w) 4 bytes) in
+    let body : (content_bytes k.content ++ padding_bytes f.filler) ++ rest ≡ xs =
+    ap (λ (x : List ℕ). (x ++ padding_bytes f.filler) ++ rest) k.laid
+    ∙ append_assoc content (padding_bytes f.filler) rest
+    ∙ ap (λ (x : List ℕ). content ++ x) (sym f.laid)
+    ∙ take-append-drop (4 * w - n) xs in
+    record {
+      packet = packet;
+      fits = record {
+        content = k.fits;
+        words = omega (arith, words, fits_2 c d xs fits_c fits_d);
+        whole = omega (arith, ap (λ (x : List ℕ). length x) k.laid, size, f.size, within);
+        filler = f.short;
+      };
+      laid =
+          ap (λ (x : List ℕ). packet_bytes packet ++ x) behind
+          ∙ joined packet a b c d xs rest (ap (first_byte f.filler) k.format_is ∙ first_is f.filler a fits_a version (is_padded_ ∙ f.is)) k.kind_is
+          (ap (big_bytes 2) words ∙ bytes_2 c d xs fits_c fits_d) body;
+    }
+
 pub find_packet : (bytes : List ℕ) → AreBytes bytes → packet_fault bytes ≡ None → Found bytes
 find_packet (a ∷ b ∷ c ∷ d ∷ xs) are none =
     let bytes : List ℕ = a ∷ b ∷ c ∷ d ∷ xs in
@@ -264,25 +293,7 @@ find_packet (a ∷ b ∷ c ∷ d ∷ xs) are none =
     let size : length (take (4 * w - n) xs) ≡ 4 * w - n = length-take-le (4 * w - n) xs (omega (arith, h.whole)) in
     let k = find_content b (a % 32) (take (4 * w - n) xs) (bytes_take (4 * w - n) xs (λ i. are (suc (suc (suc (suc i)))))) (omega arith)
     (λ is. omega (arith, size, sources_there (one_test 205 b (a % 32) || one_test 206 b (a % 32)) (length_of bytes) (12 + n) is h.sources)) in
-    let behind : drop (length_of bytes) bytes ≡ drop (4 * w) xs = sym (drop-drop (4 * w) 4 bytes) in
-    let packet : Packet = record { words = w; content = k.content; filler = f.filler } in
-    record {
-      packet = packet;
-      fits = record {
-        content = k.fits;
-        words = fits_2 c d xs (are 2) (are 3);
-        whole = omega (arith, ap (λ (x : List ℕ). length x) k.laid, size, f.size, within);
-        filler = f.short;
-      };
-      laid =
-          ap (λ (x : List ℕ). packet_bytes packet ++ x) behind
-          ∙ joined packet a b c d xs (drop (4 * w) xs)
-          (ap (first_byte f.filler) k.format_is ∙ first_is f.filler a (are 0) h.version f.is) k.kind_is (bytes_2 c d xs (are 2) (are 3))
-          (ap (λ (x : List ℕ). (x ++ padding_bytes f.filler) ++ drop (4 * w) xs) k.laid
-          ∙ append_assoc (take (4 * w - n) xs) (padding_bytes f.filler) (drop (4 * w) xs)
-          ∙ ap (λ (x : List ℕ). take (4 * w - n) xs ++ x) (sym f.laid)
-          ∙ take-append-drop (4 * w - n) xs);
-    }
+    assembled a b c d n w xs (is_padded bytes) (are 0) h.version refl (are 2) (are 3) refl within size f k
   where
     sources_there : (t : Bool) (total n : ℕ) → t ≡ true → (t && nat_lt total n) ≡ false → n ≤ total
     sources_there true total n is h = ltb-false total n h

@@ -1,4 +1,5 @@
--- What is left to an iterator over a datagram's feedback.
+-- What is left to an iterator over a datagram's feedback (own rule, over RFC 4585, sections 6.2.1 and 6.3.1). The code
+-- keeps the bytes that are left and the bits of one pair.
 use Rattle.std.specs.Prelude.{ℕ, zero, suc, ◌+◌, ◌/◌, ◌%◌, ◌==◌, if◌then◌else◌, List, [], ◌∷◌, ◌++◌, length}
 use Rattle.rtcp_feedback.specs.declared.feedback.Feedback.{Feedback}
 use Rattle.rtcp_feedback.specs.declared.feedback.Feedback.TheVariants.{Pli}

@@ -16,6 +16,178 @@ const fn nack(seq: u16) -> Feedback {
 
 const PLI: Feedback = Feedback::Pli { media: MEDIA };
 
+// Datagrams and the feedback of each.
+const FEEDBACK: [(&[u8], &[Feedback]); 13] = [
+    // the names of a pair wrap
+    (
+        &[
+            0x81, 205, 0, 3, 0, 0, 0, 1, 0x11, 0x11, 0x11, 0x11, 0xFF, 0xFF, 0, 3,
+        ],
+        &[
+            Feedback::Nack {
+                media: MEDIA,
+                seq: 65535,
+            },
+            Feedback::Nack {
+                media: MEDIA,
+                seq: 0,
+            },
+            Feedback::Nack {
+                media: MEDIA,
+                seq: 1,
+            },
+        ],
+    ),
+    // the lowest bit and the highest, and a second pair
+    (
+        &[
+            0x81, 205, 0, 4, 0, 0, 0, 1, 0x11, 0x11, 0x11, 0x11, 0, 100, 0x80, 1, 0, 7, 0, 0,
+        ],
+        &[
+            Feedback::Nack {
+                media: MEDIA,
+                seq: 100,
+            },
+            Feedback::Nack {
+                media: MEDIA,
+                seq: 101,
+            },
+            Feedback::Nack {
+                media: MEDIA,
+                seq: 116,
+            },
+            Feedback::Nack {
+                media: MEDIA,
+                seq: 7,
+            },
+        ],
+    ),
+    // no pairs
+    (&[0x81, 205, 0, 2, 0, 0, 0, 1, 0x11, 0x11, 0x11, 0x11], &[]),
+    // a receiver report in front of a PLI, and a PLI in front of a sender report
+    (
+        &[
+            0x81, 202, 0, 1, 0, 0, 0, 1, 0x81, 206, 0, 2, 0, 0, 0, 1, 0x11, 0x11, 0x11, 0x11,
+        ],
+        &[PLI],
+    ),
+    (
+        &[
+            0x81, 206, 0, 2, 0, 0, 0, 1, 0x11, 0x11, 0x11, 0x11, 0x80, 200, 0, 0,
+        ],
+        &[PLI],
+    ),
+    // padding of 4 and of 8 bytes is no pair
+    (
+        &[
+            0xA1, 205, 0, 4, 0, 0, 0, 1, 0x11, 0x11, 0x11, 0x11, 3, 0xE9, 0, 0, 0, 0, 0, 4,
+        ],
+        &[Feedback::Nack {
+            media: MEDIA,
+            seq: 1001,
+        }],
+    ),
+    (
+        &[
+            0xA1, 205, 0, 5, 0, 0, 0, 1, 0x11, 0x11, 0x11, 0x11, 3, 0xE9, 0, 0, 0, 9, 0, 9, 0, 0,
+            0, 8,
+        ],
+        &[Feedback::Nack {
+            media: MEDIA,
+            seq: 1001,
+        }],
+    ),
+    // padding of 1 byte leaves three bytes, which are no pair
+    (
+        &[
+            0xA1, 205, 0, 3, 0, 0, 0, 1, 0x11, 0x11, 0x11, 0x11, 3, 0xE9, 0, 1,
+        ],
+        &[],
+    ),
+    // a padded packet of another type that is padding to its first word
+    (&[0xA0, 201, 0, 1, 0, 0, 0, 4], &[]),
+    // other formats of both types are stepped over, however short
+    (&[0x8F, 205, 0, 0, 0x84, 206, 0, 1, 0, 0, 0, 1], &[]),
+    // words behind the SSRCs of a PLI are stepped over
+    (
+        &[
+            0x81, 206, 0, 3, 0, 0, 0, 1, 0x11, 0x11, 0x11, 0x11, 1, 2, 3, 4,
+        ],
+        &[PLI],
+    ),
+    // a NACK of another media source in front of a PLI
+    (
+        &[
+            0x81, 205, 0, 3, 0x11, 0x11, 0x11, 0x11, 0, 0, 0, 2, 0, 9, 0, 0, 0x81, 206, 0, 2, 0, 0,
+            0, 1, 0x11, 0x11, 0x11, 0x11,
+        ],
+        &[Feedback::Nack { media: 2, seq: 9 }, PLI],
+    ),
+    // two NACKs
+    (
+        &[
+            0x81, 205, 0, 3, 0, 0, 0, 1, 0x11, 0x11, 0x11, 0x11, 0, 9, 0, 2, 0x81, 205, 0, 3, 0, 0,
+            0, 1, 0x11, 0x11, 0x11, 0x11, 0, 8, 0, 0,
+        ],
+        &[
+            Feedback::Nack {
+                media: MEDIA,
+                seq: 9,
+            },
+            Feedback::Nack {
+                media: MEDIA,
+                seq: 11,
+            },
+            Feedback::Nack {
+                media: MEDIA,
+                seq: 8,
+            },
+        ],
+    ),
+];
+
+// Datagrams and the fault of each.
+const FAULTS: [(&[u8], RtcpFault); 19] = [
+    (&[], RtcpFault::Short),
+    (&[0x81, 205, 0], RtcpFault::Short),
+    (&[0x81, 205, 0x00, 0xFF], RtcpFault::Short),
+    // a length that fits in bytes and doesn't in words
+    (&[0x80, 201, 0, 4, 0, 0, 0, 1], RtcpFault::Short),
+    // the fault of an earlier place first: short, version, padding, feedback
+    (&[0x41, 205, 0, 9], RtcpFault::Short),
+    (&[0x41, 205, 0, 0], RtcpFault::Version),
+    (&[0xC0, 201, 0, 0], RtcpFault::Version),
+    (&[0x61, 205, 0, 1, 0, 0, 0, 0], RtcpFault::Version),
+    (&[0xA1, 205, 0, 1, 0, 0, 0, 0], RtcpFault::Padding),
+    (&[0xA1, 205, 0, 1, 0, 0, 0, 5], RtcpFault::Padding),
+    (&[0xA0, 201, 0, 0], RtcpFault::Padding),
+    (&[0xA1, 205, 0, 1, 0, 0, 0, 4], RtcpFault::Feedback),
+    // fewer than 12 bytes, with and without padding
+    (&[0x81, 205, 0, 1, 0, 0, 0, 1], RtcpFault::Feedback),
+    (&[0x81, 206, 0, 1, 0, 0, 0, 1], RtcpFault::Feedback),
+    (&[0x81, 206, 0, 0], RtcpFault::Feedback),
+    (
+        &[0xA1, 206, 0, 2, 0, 0, 0, 1, 0x11, 0x11, 0x11, 1],
+        RtcpFault::Feedback,
+    ),
+    // a NACK in front of a broken packet gives nothing, nor does one in front of half a header
+    (
+        &[
+            0x81, 205, 0, 3, 0, 0, 0, 1, 0x11, 0x11, 0x11, 0x11, 0, 9, 0, 0, 0x81, 206, 0, 1, 0, 0,
+            0, 1,
+        ],
+        RtcpFault::Feedback,
+    ),
+    (
+        &[
+            0x81, 205, 0, 3, 0, 0, 0, 1, 0x11, 0x11, 0x11, 0x11, 0, 9, 0, 0, 0x81, 206,
+        ],
+        RtcpFault::Short,
+    ),
+    // the first packet's fault and not the second's
+    (&[0x40, 201, 0, 0, 0x81, 206], RtcpFault::Version),
+];
+
 // The datagram has this feedback and no other, in this order.
 fn check_feedback(rt: &impl Abort, bytes: &[u8], wanted: &[Feedback]) {
     match read(bytes) {
@@ -31,133 +203,14 @@ fn check_feedback(rt: &impl Abort, bytes: &[u8], wanted: &[Feedback]) {
 
 #[test]
 fn each_datagram_has_its_feedback(rt: HostRuntime) {
-    let rows: [(&[u8], &[Feedback]); 13] = [
-        // the names of a pair wrap
-        (
-            &[
-                0x81, 205, 0, 3, 0, 0, 0, 1, 0x11, 0x11, 0x11, 0x11, 0xFF, 0xFF, 0, 3,
-            ],
-            &[nack(65535), nack(0), nack(1)],
-        ),
-        // the lowest bit and the highest, and a second pair
-        (
-            &[
-                0x81, 205, 0, 4, 0, 0, 0, 1, 0x11, 0x11, 0x11, 0x11, 0, 100, 0x80, 1, 0, 7, 0, 0,
-            ],
-            &[nack(100), nack(101), nack(116), nack(7)],
-        ),
-        // no pairs
-        (&[0x81, 205, 0, 2, 0, 0, 0, 1, 0x11, 0x11, 0x11, 0x11], &[]),
-        // a receiver report in front of a PLI, and a PLI in front of a sender report
-        (
-            &[
-                0x81, 202, 0, 1, 0, 0, 0, 1, 0x81, 206, 0, 2, 0, 0, 0, 1, 0x11, 0x11, 0x11, 0x11,
-            ],
-            &[PLI],
-        ),
-        (
-            &[
-                0x81, 206, 0, 2, 0, 0, 0, 1, 0x11, 0x11, 0x11, 0x11, 0x80, 200, 0, 0,
-            ],
-            &[PLI],
-        ),
-        // padding of 4 and of 8 bytes is no pair
-        (
-            &[
-                0xA1, 205, 0, 4, 0, 0, 0, 1, 0x11, 0x11, 0x11, 0x11, 3, 0xE9, 0, 0, 0, 0, 0, 4,
-            ],
-            &[nack(1001)],
-        ),
-        (
-            &[
-                0xA1, 205, 0, 5, 0, 0, 0, 1, 0x11, 0x11, 0x11, 0x11, 3, 0xE9, 0, 0, 0, 9, 0, 9, 0,
-                0, 0, 8,
-            ],
-            &[nack(1001)],
-        ),
-        // padding of 1 byte leaves three bytes, which are no pair
-        (
-            &[
-                0xA1, 205, 0, 3, 0, 0, 0, 1, 0x11, 0x11, 0x11, 0x11, 3, 0xE9, 0, 1,
-            ],
-            &[],
-        ),
-        // a padded packet of another type that is padding to its first word
-        (&[0xA0, 201, 0, 1, 0, 0, 0, 4], &[]),
-        // other formats of both types are stepped over, however short
-        (&[0x8F, 205, 0, 0, 0x84, 206, 0, 1, 0, 0, 0, 1], &[]),
-        // words behind the SSRCs of a PLI are stepped over
-        (
-            &[
-                0x81, 206, 0, 3, 0, 0, 0, 1, 0x11, 0x11, 0x11, 0x11, 1, 2, 3, 4,
-            ],
-            &[PLI],
-        ),
-        // a NACK of another media source in front of a PLI
-        (
-            &[
-                0x81, 205, 0, 3, 0x11, 0x11, 0x11, 0x11, 0, 0, 0, 2, 0, 9, 0, 0, 0x81, 206, 0, 2,
-                0, 0, 0, 1, 0x11, 0x11, 0x11, 0x11,
-            ],
-            &[Feedback::Nack { media: 2, seq: 9 }, PLI],
-        ),
-        // two NACKs
-        (
-            &[
-                0x81, 205, 0, 3, 0, 0, 0, 1, 0x11, 0x11, 0x11, 0x11, 0, 9, 0, 2, 0x81, 205, 0, 3,
-                0, 0, 0, 1, 0x11, 0x11, 0x11, 0x11, 0, 8, 0, 0,
-            ],
-            &[nack(9), nack(11), nack(8)],
-        ),
-    ];
-    for (bytes, wanted) in rows {
+    for (bytes, wanted) in FEEDBACK {
         check_feedback(&rt, bytes, wanted);
     }
 }
 
 #[test]
 fn the_first_fault_of_the_first_broken_packet_is_told(rt: HostRuntime) {
-    let rows: [(&[u8], RtcpFault); 19] = [
-        (&[], RtcpFault::Short),
-        (&[0x81, 205, 0], RtcpFault::Short),
-        (&[0x81, 205, 0x00, 0xFF], RtcpFault::Short),
-        // a length that fits in bytes and doesn't in words
-        (&[0x80, 201, 0, 4, 0, 0, 0, 1], RtcpFault::Short),
-        // the fault of an earlier place first: short, version, padding, feedback
-        (&[0x41, 205, 0, 9], RtcpFault::Short),
-        (&[0x41, 205, 0, 0], RtcpFault::Version),
-        (&[0xC0, 201, 0, 0], RtcpFault::Version),
-        (&[0x61, 205, 0, 1, 0, 0, 0, 0], RtcpFault::Version),
-        (&[0xA1, 205, 0, 1, 0, 0, 0, 0], RtcpFault::Padding),
-        (&[0xA1, 205, 0, 1, 0, 0, 0, 5], RtcpFault::Padding),
-        (&[0xA0, 201, 0, 0], RtcpFault::Padding),
-        (&[0xA1, 205, 0, 1, 0, 0, 0, 4], RtcpFault::Feedback),
-        // fewer than 12 bytes, with and without padding
-        (&[0x81, 205, 0, 1, 0, 0, 0, 1], RtcpFault::Feedback),
-        (&[0x81, 206, 0, 1, 0, 0, 0, 1], RtcpFault::Feedback),
-        (&[0x81, 206, 0, 0], RtcpFault::Feedback),
-        (
-            &[0xA1, 206, 0, 2, 0, 0, 0, 1, 0x11, 0x11, 0x11, 1],
-            RtcpFault::Feedback,
-        ),
-        // a NACK in front of a broken packet gives nothing, nor does one in front of half a header
-        (
-            &[
-                0x81, 205, 0, 3, 0, 0, 0, 1, 0x11, 0x11, 0x11, 0x11, 0, 9, 0, 0, 0x81, 206, 0, 1,
-                0, 0, 0, 1,
-            ],
-            RtcpFault::Feedback,
-        ),
-        (
-            &[
-                0x81, 205, 0, 3, 0, 0, 0, 1, 0x11, 0x11, 0x11, 0x11, 0, 9, 0, 0, 0x81, 206,
-            ],
-            RtcpFault::Short,
-        ),
-        // the first packet's fault and not the second's
-        (&[0x40, 201, 0, 0, 0x81, 206], RtcpFault::Version),
-    ];
-    for (bytes, wanted) in rows {
+    for (bytes, wanted) in FAULTS {
         assert_eq!(rt; read(bytes).err(), Some(wanted));
     }
 }
