@@ -6,7 +6,8 @@ use Rattle.std.specs.List.{flat_map}
 use Rattle.rtp_extension.specs.declared.form.Form.{Form}
 use Rattle.rtp_extension.specs.declared.form.Form.TheVariants.{OneByte, TwoByte}
 use Rattle.rtp_extension.specs.Forms.{PlainElement, Fits, element_bytes}
-use Rattle.rtp_extension.specs.Blocks.{AreBytes, Piece, PaddingByte, AnElement, piece_bytes, PiecesFit, elements_among, IsWhole, Ends, IsBlock}
+use Rattle.sfu_base.specs.Bytes.{AreBytes}
+use Rattle.rtp_extension.specs.Blocks.{Piece, PaddingByte, AnElement, piece_bytes, PiecesFit, elements_among, IsWhole, Ends, IsBlock}
 use Rattle.rtp_extension.specs.Reading.{elements_in, one_byte_from, two_byte_from, ends_one}
 use Rattle.rtp_extension.proofs.Steps.{one_skips, two_skips, one_ends, one_more, two_ends, two_ends_at_id, two_more, none_in, pads, ends_at_zero, ends_at_reserved, ends_past, goes_on}
 

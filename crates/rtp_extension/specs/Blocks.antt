@@ -1,14 +1,10 @@
 -- The block of a header extension, laid end to end (RFC 8285, sections 4.2 and 4.3): elements and bytes of padding in
 -- any order, and then what ends processing. The code goes over the bytes from the front.
-use Rattle.std.specs.Prelude.{◌≡◌, ℕ, ◌+◌, ◌/◌, ◌%◌, ◌<◌, ◌⊎◌, List, [], ◌∷◌, ◌++◌, length, slice_index, Option, Some, None}
+use Rattle.std.specs.Prelude.{◌≡◌, ℕ, ◌+◌, ◌/◌, ◌%◌, ◌<◌, ◌⊎◌, List, [], ◌∷◌, ◌++◌, length, Option, Some, None}
 use Rattle.std.specs.List.{flat_map}
 use Rattle.rtp_extension.specs.declared.form.Form.{Form}
 use Rattle.rtp_extension.specs.declared.form.Form.TheVariants.{OneByte, TwoByte}
 use Rattle.rtp_extension.specs.Forms.{PlainElement, Fits, element_bytes}
-
--- each item of a list is a byte
-abbrev pub AreBytes : List ℕ → Type 0
-AreBytes xs = (i : ℕ) → slice_index xs i < 256
 
 -- a byte of padding, or an element
 pub data Piece : Type 0 where

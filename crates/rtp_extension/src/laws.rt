@@ -2,7 +2,8 @@
 
 ghost use Rattle.std.specs.Prelude.{◌≡◌, ◌++◌, ◌∷◌, [], ℕ, List};
 ghost use Rattle.rtp_extension.specs.declared.form.Form.{Form};
-ghost use Rattle.rtp_extension.specs.Blocks.{AreBytes, IsBlock, IsWhole};
+ghost use Rattle.sfu_base.specs.Bytes.{AreBytes};
+ghost use Rattle.rtp_extension.specs.Blocks.{IsBlock, IsWhole};
 ghost use Rattle.rtp_extension.specs.Forms.{PlainElement, Fits, element_bytes};
 ghost use Rattle.rtp_extension.specs.Reading.{elements_in};
 

@@ -3,7 +3,8 @@ use Rattle.std.proofs.Common.{◌≡◌, ℕ, List, Result, Ok, Err, IfOk, IfErr
 use Rattle.sfu_base.specs.declared.call.RtpFault.{RtpFault}
 use Rattle.rtp_packet.specs.declared.packet.Rtp.{Rtp}
 use Rattle.rtp_packet.specs.Faults.{first_fault}
-use Rattle.rtp_packet.specs.Packet.{AreBytes, IsPacket, Packet, packet_of}
+use Rattle.sfu_base.specs.Bytes.{AreBytes}
+use Rattle.rtp_packet.specs.Packet.{IsPacket, Packet, packet_of}
 use Rattle.rtp_packet.specs.Seen.{parts}
 use Rattle.rtp_packet.proofs.Found.{packet_found}
 use Rattle.rtp_packet.proofs.Taken.{faulty_is_none}

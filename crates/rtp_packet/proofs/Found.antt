@@ -7,7 +7,8 @@ use Rattle.byteorder.specs.Endian.{big_bytes, big_number}
 use Rattle.byteorder.specs.Numbers.{big_from-lt}
 use Rattle.rtp_packet.specs.Fields.{version_of, is_extended, is_padded, csrc_count, marker_of, payload_type_of, sequence_of, timestamp_of, ssrc_of, behind_csrcs, behind_header, block_words, last_byte, profile_in, block_in, behind_extension, payload_in}
 use Rattle.rtp_packet.specs.Faults.{first_fault, lacks_extension, has_bad_padding}
-use Rattle.rtp_packet.specs.Packet.{AreBytes, IsPacket, Fits, first_byte, second_byte, extension_bytes, padding_bytes, packet_of}
+use Rattle.sfu_base.specs.Bytes.{AreBytes}
+use Rattle.rtp_packet.specs.Packet.{IsPacket, Fits, first_byte, second_byte, extension_bytes, padding_bytes, packet_of}
 use Rattle.rtp_packet.proofs.Faultless.{has_none}
 
 drop_bytes : (n : ℕ) (xs : List ℕ) → AreBytes xs → AreBytes (drop n xs)

@@ -1,13 +1,9 @@
 -- A whole RTP packet, laid end to end (RFC 3550, sections 5.1 and 5.3.1): the fixed header, the CSRC words, the
 -- header extension, the payload, the padding. The relation says how a packet is put together, and the code takes one
 -- apart.
-use Rattle.std.specs.Prelude.{◌≡◌, ℕ, ◌+◌, ◌*◌, ◌^◌, ◌<◌, Bool, if◌then◌else◌, List, [], ◌∷◌, ◌++◌, length, slice_index, Option, Some, None, is_some, IfSome, IfNone}
+use Rattle.std.specs.Prelude.{◌≡◌, ℕ, ◌+◌, ◌*◌, ◌^◌, ◌<◌, Bool, if◌then◌else◌, List, [], ◌∷◌, ◌++◌, length, Option, Some, None, is_some, IfSome, IfNone}
 use Rattle.byteorder.specs.Endian.{big_bytes}
 use Rattle.rtp_packet.specs.Fields.{marker_of, payload_type_of, sequence_of, timestamp_of, ssrc_of, profile_of, block_of, payload_of}
-
--- each item of a list is a byte
-abbrev pub AreBytes : List ℕ → Type 0
-AreBytes xs = (i : ℕ) → slice_index xs i < 256
 
 -- what a packet says, without where it lies in memory. A packet with no profile has no header extension.
 pub record Packet : Type 0 where

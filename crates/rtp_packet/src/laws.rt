@@ -2,7 +2,8 @@
 
 ghost use Rattle.std.specs.Prelude.{◌≡◌, ◌<◌, ◌≤◌, ◌^◌, ℕ, Bool, List, None, length, slice_index};
 ghost use Rattle.rtp_packet.specs.Faults.{first_fault};
-ghost use Rattle.rtp_packet.specs.Packet.{AreBytes, IsPacket, Packet, packet_of};
+ghost use Rattle.sfu_base.specs.Bytes.{AreBytes};
+ghost use Rattle.rtp_packet.specs.Packet.{IsPacket, Packet, packet_of};
 ghost use Rattle.rtp_packet.specs.Rewritten.{readdressed, rewritten};
 
 /// Bytes that begin with 80 (version 2, no padding, no extension, no CSRC words) and have a whole fixed header are
