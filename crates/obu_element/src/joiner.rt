@@ -1,0 +1,70 @@
+// Whether the elements of packets join.
+
+ghost use Rattle.std.specs.Prelude.{◌≡◌, ◌≢◌, ◌↔◌, ◌++◌, ◌∷◌, [], IfErr, List, OnErr, OnOk, false, not, true};
+ghost use Rattle.obu_element.specs.Joins.{AreJoined, Flags, IsAfter, Join};
+
+use std::marker::Model;
+
+/// Why a packet doesn't go on where the one before ended: one of the two flags is set, and the other isn't.
+#[derive(Clone, Copy, Debug, PartialEq, Eq)]
+pub struct JoinFault {
+    /// Y of the packet before, or false before the first: its last element goes on.
+    pub carried: bool,
+    /// Z of this packet: its first element continues one.
+    pub continues: bool,
+}
+
+/// The packets of a frame as far as their elements join (RTP Payload Format For AV1, section 4.4), seen as whether an element is open:
+/// Y of the last packet, and false before the first.
+#[derive(Clone, Copy, Debug)]
+pub struct Joiner {
+    carries: bool,
+}
+
+impl Model for Joiner {
+    ghost use Rattle.std.specs.Prelude.{Bool};
+
+    ghost Value = { Bool };
+
+    ghost view = { λ joiner. joiner.carries };
+
+    ghost inverse = { λ carries. record { carries = carries } };
+}
+
+impl Joiner {
+    /// No packet yet.
+    pub fn new() -> Joiner
+        ensures flag { result ≡ false }
+        ensures packets { IsAfter result [] }
+    {
+        Joiner { carries: false }
+    }
+
+    /// The next packet, with its Z and Y. It is refused exactly where its Z differs from the former Y, and nothing changes then.
+    pub fn feed(&mut self, continues: bool, carries: bool) -> Result<(), JoinFault>
+        ensures ok { OnOk result ((continues ≡ self.old) × (self.new ≡ carries)) }
+        ensures fault { IfErr result (λ e. (continues ≢ self.old) × (e ≡ record { carried = self.old; continues = continues })) }
+        ensures unchanged { OnErr result (self.new ≡ self.old) }
+        ensures joined { (packets : List Flags) → IsAfter self.old packets
+            → OnOk result (IsAfter self.new (packets ++ record { continues = continues; carries = carries } ∷ [])) }
+        ensures apart { (packets : List Flags) → IsAfter self.old packets
+            → OnErr result (AreJoined (packets ++ record { continues = continues; carries = carries } ∷ []) → ⊥) }
+    {
+        if continues != self.carries {
+            return Err(JoinFault {
+                carried: self.carries,
+                continues,
+            });
+        }
+        self.carries = carries;
+        Ok(())
+    }
+
+    /// Whether no element is open: the packets so far may be a whole frame.
+    pub fn is_closed(&self) -> bool
+        ensures flag { result ≡ not self.now }
+        ensures packets { (packets : List Flags) → IsAfter self.now packets → (result ≡ true) ↔ Join packets }
+    {
+        !self.carries
+    }
+}

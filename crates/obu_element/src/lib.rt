@@ -1,0 +1,13 @@
+//! Open bitstream units (OBUs) of AV1 as RTP payloads carry them: whether the elements of packets join, and the header of an OBU. No
+//! call takes memory.
+#![tactic(auto)]
+
+mod joiner;
+mod laws;
+mod obu_header;
+#[cfg(test)]
+mod tests;
+
+pub use joiner::{JoinFault, Joiner};
+pub use laws::{a_header_has_one_reading, faultless_bytes_begin_with_a_header};
+pub use obu_header::{ObuFault, ObuHeader, header};

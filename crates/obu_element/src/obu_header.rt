@@ -1,0 +1,76 @@
+// The header of an OBU.
+
+ghost use Rattle.std.specs.Prelude.{◌≡◌, IfErr, IfOk, None, Some};
+ghost use Rattle.obu_element.specs.Header.{BeginsWith};
+ghost use Rattle.obu_element.specs.Reading.{first_fault, header_of};
+
+/// What the header of an OBU says (AV1 Bitstream Specification, sections 5.3.2 and 5.3.3).
+#[derive(Clone, Copy, Debug, PartialEq, Eq)]
+pub struct ObuHeader {
+    /// obu_type, below 16: 1 is a sequence header, 2 a temporal delimiter, 3 a frame header, 4 a tile group, 5 metadata, 6 a frame,
+    /// 7 a redundant frame header, 8 a tile list, 15 padding.
+    pub kind: u8,
+    /// temporal_id, below 8, and 0 where there is no extension byte.
+    pub temporal: u8,
+    /// spatial_id, below 4, and 0 where there is no extension byte.
+    pub spatial: u8,
+    /// Whether the size of the OBU follows the header.
+    pub has_size: bool,
+    /// The bytes of the header: 2 with an extension byte, and else 1.
+    pub len: u8,
+}
+
+/// Why bytes begin with no OBU header.
+#[derive(Clone, Copy, Debug, PartialEq, Eq)]
+pub enum ObuFault {
+    /// There is no byte.
+    Empty,
+    /// obu_forbidden_bit, the first bit, is 1.
+    Forbidden,
+    /// The extension byte is missing.
+    Cut,
+}
+
+/// Reads the header that the bytes begin with (AV1 Bitstream Specification, sections 5.3.2 and 5.3.3). Reserved bits are ignored. It is
+/// refused by the first fault that stands: `Empty`, `Forbidden`, `Cut`.
+pub fn header(bytes: &[u8]) -> Result<ObuHeader, ObuFault>
+    ensures found { IfOk result (λ h. BeginsWith bytes.now h) }
+    ensures none { IfErr result (λ _. (h : ObuHeader) → BeginsWith bytes.now h → ⊥) }
+    ensures fields { IfOk result (λ h. h ≡ header_of bytes.now) }
+    ensures ok { IfOk result (λ _. first_fault bytes.now ≡ None) }
+    ensures fault { IfErr result (λ e. first_fault bytes.now ≡ Some e) }
+{
+    located(bytes)
+}
+
+/// Each field where it lies, or the first fault.
+#[tactic(auto, unfolding(crate::specs::Reading::first_fault))]
+fn located(bytes: &[u8]) -> Result<ObuHeader, ObuFault>
+    ensures fields { IfOk result (λ h. h ≡ header_of bytes.now) }
+    ensures ok { IfOk result (λ _. first_fault bytes.now ≡ None) }
+    ensures fault { IfErr result (λ e. first_fault bytes.now ≡ Some e) }
+{
+    let (first, rest) = bytes.split_first().ok_or(ObuFault::Empty)?;
+    if *first >= 128 {
+        return Err(ObuFault::Forbidden);
+    }
+    let kind = first / 8;
+    let has_size = first / 2 % 2 == 1;
+    if first / 4 % 2 == 0 {
+        return Ok(ObuHeader {
+            kind,
+            temporal: 0,
+            spatial: 0,
+            has_size,
+            len: 1,
+        });
+    }
+    let extension = rest.first().ok_or(ObuFault::Cut)?;
+    Ok(ObuHeader {
+        kind,
+        temporal: extension / 32,
+        spatial: extension / 8 % 4,
+        has_size,
+        len: 2,
+    })
+}
