@@ -1,11 +1,12 @@
 -- What a mark makes of a run, and which numbers can be asked for.
-use Rattle.std.proofs.Common.{◌≡◌, ◌⊎◌, inl, inr, ◌+◌, ◌<◌, ◌≤◌, ℕ, arith, Bool, true, false, refl, cond, ◌&&◌, not}
+use Rattle.std.proofs.Common.{List, ◌∷◌, ◌≡◌, ◌⊎◌, inl, inr, ◌+◌, ◌<◌, ◌≤◌, ℕ, arith, Bool, true, false, refl, cond, ◌&&◌, not}
 use Rattle.std.proofs.lemmas.Bool.{ltb-true, ltb-false, leb-true, leb-false}
 use Rattle.std.specs.declared.option.Option.{Option}
 use Rattle.std.specs.declared.option.Option.TheVariants.{None, Some}
 use Rattle.forwarding_model.specs.Causes.{is_ahead, is_too_old, oldest_asked}
-use Rattle.forwarding_model.specs.Cuts.{Mark, Run, cut_by, extended, outcome, run_outcome, whole}
+use Rattle.forwarding_model.specs.Cuts.{Part, Mark, Run, cut_by, extended, outcome, run_of, run_outcome, whole, IsUnfinishedCut, EndsIn}
 use Rattle.forwarding_model.specs.Cuts.Mark.{Gone, Padding, Unreadable, Read}
+use Rattle.forwarding_model.proofs.WholeCuts.{run_is_unfinished, unfinished_is_run}
 use Rattle.forwarding_model.specs.Cuts.Outcome.{IsPadding, IsWhole, IsPartial, IsTorn}
 
 pub too_old_is_below : (newest n : ℕ)
@@ -92,3 +93,24 @@ torn_outcomes_are_torn run Gone h = inl refl
 torn_outcomes_are_torn run Padding h = absurd (cc)
 torn_outcomes_are_torn run Unreadable h = inl refl
 torn_outcomes_are_torn run (Read part) h = torn_run (extended run (Read part)) h
+
+pub partial_is_unfinished : {X : Type 0} (mark : Mark X) (past : List (Mark X)) → outcome (run_of past) mark ≡ IsPartial
+    → (first : Part X) × (more : List (Part X)) × IsUnfinishedCut (first ∷ more) × EndsIn (mark ∷ past) (first ∷ more)
+partial_is_unfinished Gone past h = absurd (cc)
+partial_is_unfinished Padding past h = absurd (cc)
+partial_is_unfinished Unreadable past h = absurd (cc)
+partial_is_unfinished (Read part) past h =
+    let run = ongoing_run (extended (run_of past) (Read part)) h in
+    let cut = run_is_unfinished past part run.0 run.1 run.2 in
+    (run.0.first, run.0.more, cut.0, cut.1)
+
+goes_on : {X : Type 0} (o : Option (Run X)) (run : Run X) → o ≡ Some run → run.newest.end ≡ false → run_outcome o ≡ IsPartial
+goes_on o run found open_end = rw (found, open_end) refl
+
+pub unfinished_is_partial : {X : Type 0} (mark : Mark X) (past : List (Mark X)) (first : Part X) (more : List (Part X))
+    → IsUnfinishedCut (first ∷ more) → EndsIn (mark ∷ past) (first ∷ more) → outcome (run_of past) mark ≡ IsPartial
+unfinished_is_partial Gone past first more cut at = absurd at.newest
+unfinished_is_partial Padding past first more cut at = absurd at.newest
+unfinished_is_partial Unreadable past first more cut at = absurd at.newest
+unfinished_is_partial (Read part) past first more cut at =
+    let h = unfinished_is_run (Read part ∷ past) first more at cut in goes_on (run_of (Read part ∷ past)) h.run h.found h.goes_on

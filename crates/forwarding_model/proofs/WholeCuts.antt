@@ -6,7 +6,7 @@ use Rattle.std.proofs.lemmas.Bool.{eqb-true, eq-eqb, ltb-true, lt-ltb, and_parts
 use Rattle.std.specs.List.{AllByRecursion}
 use Rattle.std.specs.declared.option.Option.{Option}
 use Rattle.std.specs.declared.option.Option.TheVariants.{None, Some}
-use Rattle.forwarding_model.specs.Cuts.{Part, Mark, Run, parts_of, is_next, begun, continued, extended, run_of, whole, cut_of, LastAloneEnds, Join, IsWholeCut, without_padding, NewestIsPart, newest_first, EndsIn}
+use Rattle.forwarding_model.specs.Cuts.{Part, Mark, Run, parts_of, is_next, begun, continued, extended, run_of, whole, cut_of, LastAloneEnds, Join, JoinSoFar, IsWholeCut, IsUnfinishedCut, without_padding, NewestIsPart, newest_first, EndsIn}
 use Rattle.forwarding_model.specs.Cuts.Mark.{Gone, Padding, Unreadable, Read}
 use Rattle.forwarding_model.proofs.Runs.{beq-true}
 
@@ -259,22 +259,38 @@ reads-onto : {X : Type 0} (back parts : List (Part X)) (rest : List (Mark X)) �
 reads-onto back [] rest = refl
 reads-onto back (part ∷ more) rest = append_assoc (newest_first more) (Read part ∷ []) (map Read back ++ rest) ∙ reads-onto (part ∷ back) more rest
 
-pub record IsWholeBack {X : Type 0} (back : List (Part X)) : Type 0 where
+-- parts with the newest first, which the run of a list of marks can be, and something that is true of the newest
+pub record IsBack {X : Type 0} (P : Part X → Type 0) (back : List (Part X)) : Type 0 where
   pub newest : Part X
   pub older : List (Part X)
   pub is : back ≡ newest ∷ older
   pub run : IsRunBack (newest ∷ older)
-  pub end : newest.end ≡ true
-  pub carries : newest.carries ≡ false
+  pub last : P newest
 
-whole_back : {X : Type 0} (number : ℕ) (newest : Part X) (older parts : List (Part X)) → IsRunBack (newest ∷ older) → newest.number ≡ number
+-- of a part and those after it none but the last has an end, and this is true of the last
+abbrev pub LastHas : {X : Type 0} → (Part X → Type 0) → Part X → List (Part X) → Type 0
+LastHas P part [] = P part
+LastHas P part (next ∷ more) = (part.end ≡ false) × LastHas P next more
+
+run_back : {X : Type 0} (P : Part X → Type 0) (number : ℕ) (newest : Part X) (older parts : List (Part X)) → IsRunBack (newest ∷ older) → newest.number ≡ number
     → length older + 1 + length parts ≤ 512 → AllByRecursion (λ p. p.start ≡ false) parts → AllByRecursion (λ p. p.number ≡ number) parts
-    → LastAloneEnds (newest ∷ parts) → Join newest.carries parts → IsWholeBack (onto (newest ∷ older) parts)
-whole_back number newest older [] run n few starts numbers ends joins =
-    record { newest = newest; older = older; is = refl; run = run; end = ends; carries = joins }
-whole_back number newest older (part ∷ more) run n few starts numbers ends joins =
-    whole_back number part (newest ∷ older) more (starts.0, numbers.0 ∙ sym n, joins.0, ends.0, omega arith, run) numbers.0
-    (omega arith) starts.1 numbers.1 ends.1 joins.1
+    → LastHas P newest parts → JoinSoFar newest.carries parts → IsBack P (onto (newest ∷ older) parts)
+run_back P number newest older [] run n few starts numbers last joins = record { newest = newest; older = older; is = refl; run = run; last = last }
+run_back P number newest older (part ∷ more) run n few starts numbers last joins =
+    run_back P number part (newest ∷ older) more (starts.0, numbers.0 ∙ sym n, joins.0, last.0, omega arith, run) numbers.0
+    (omega arith) starts.1 numbers.1 last.1 joins.1
+
+-- the newest part of a whole cut ends it, with no element open
+abbrev pub EndsClosed : {X : Type 0} → Part X → Type 0
+EndsClosed part = (part.end ≡ true) × (part.carries ≡ false)
+
+last_closed : {X : Type 0} (part : Part X) (more : List (Part X)) → LastAloneEnds (part ∷ more) → Join part.carries more → LastHas EndsClosed part more
+last_closed part [] ends joins = (ends, joins)
+last_closed part (next ∷ more) ends joins = (ends.0, last_closed next more ends.1 joins.1)
+
+join_so_far : {X : Type 0} (o : Bool) (parts : List (Part X)) → Join o parts → JoinSoFar o parts
+join_so_far o [] joins = tt
+join_so_far o (part ∷ more) joins = (joins.0, join_so_far part.carries more joins.1)
 
 pub record IsCutFound {X : Type 0} (marks : List (Mark X)) (parts : List (Part X)) : Type 0 where
   pub run : Run X
@@ -297,14 +313,67 @@ found_cut {X} marks newest older parts n h end carries e =
       is = h.parts ∙ e;
     }
 
+-- parts at the end of the marks, the newest first, are found as a run
+marks_found : {X : Type 0} (marks : List (Mark X)) (part : Part X) (more : List (Part X)) → EndsIn marks (part ∷ more) → (newest : Part X) (older : List (Part X))
+    → onto (part ∷ []) more ≡ newest ∷ older → IsRunBack (newest ∷ older) → IsFound marks newest older
+marks_found marks part more at newest older is run =
+    let marked : without_padding marks ≡ map Read (onto (part ∷ []) more) ++ at.older
+    = at.adjacent ∙ append_assoc (newest_first more) (Read part ∷ []) at.older ∙ reads-onto (part ∷ []) more at.older in
+    back_found marks newest older at.older (marked ∙ ap (λ l. map Read l ++ at.older) is) run
+
 pub whole_is_cut : {X : Type 0} (marks : List (Mark X)) (part : Part X) (more : List (Part X)) → EndsIn marks (part ∷ more) → IsWholeCut (part ∷ more)
     → IsCutFound marks (part ∷ more)
 whole_is_cut {X} marks part more at cut =
-    let back : IsWholeBack (onto (part ∷ []) more) = whole_back part.number part [] more (cut.starts.0, cut.joins.0) refl
-    (let few = cut.few in omega arith) cut.starts.1 cut.number cut.ends cut.joins.1 in
-    let marked : without_padding marks ≡ map Read (onto (part ∷ []) more) ++ at.older
-    = at.adjacent ∙ append_assoc (newest_first more) (Read part ∷ []) at.older ∙ reads-onto (part ∷ []) more at.older in
-    found_cut marks back.newest back.older (part ∷ more) at.newest
-    (back_found marks back.newest back.older at.older (marked ∙ ap (λ l. map Read l ++ at.older) back.is) back.run)
-    back.end back.carries
+    let back : IsBack EndsClosed (onto (part ∷ []) more) = run_back EndsClosed part.number part [] more (cut.starts.0, cut.joins.0) refl
+    (let few = cut.few in omega arith) cut.starts.1 cut.number (last_closed part more cut.ends cut.joins.1) (join_so_far part.carries more cut.joins.1) in
+    found_cut marks back.newest back.older (part ∷ more) at.newest (marks_found marks part more at back.newest back.older back.is back.run)
+    back.last.0 back.last.1
     (ap oldest_first (sym back.is) ∙ oldest_first-onto (part ∷ []) more)
+
+-- ---- and what goes on is an unfinished cut
+
+none_ends : {X : Type 0} (parts : List (Part X)) → EndsWith parts false → AllByRecursion (λ p. p.end ≡ false) parts
+none_ends [] h = absurd h
+none_ends (part ∷ []) h = (h, tt)
+none_ends (part ∷ next ∷ more) h = (h.0, none_ends (next ∷ more) h.1)
+
+joined_so_far : {X : Type 0} (o : Bool) (parts : List (Part X)) (now : Bool) → JoinsTo o parts now → JoinSoFar o parts
+joined_so_far o [] now h = tt
+joined_so_far o (part ∷ more) now h = (h.0, joined_so_far part.carries more now h.1)
+
+pub run_is_unfinished : {X : Type 0} (past : List (Mark X)) (part : Part X) (run : Run X) → run_of (Read part ∷ past) ≡ Some run → run.newest.end ≡ false
+    → IsUnfinishedCut (parts_of run) × EndsIn (Read part ∷ past) (parts_of run)
+run_is_unfinished past part run e goes_on =
+    let h : IsRunOf (Read part ∷ past) run = subst (IsRunFound (Read part ∷ past)) e (run_found (Read part ∷ past)) in (
+      record {
+        few = (let few = h.few in omega arith);
+        starts = (h.start, h.more_start);
+        ends = none_ends (parts_of run) (subst (EndsWith (parts_of run)) goes_on h.ends);
+        number = h.number;
+        joins = joined_so_far false (parts_of run) run.newest.carries h.joins;
+      },
+      record { newest = tt; older = h.older; adjacent = h.adjacent },
+    )
+
+last_open : {X : Type 0} (part : Part X) (more : List (Part X)) → AllByRecursion (λ p. p.end ≡ false) (part ∷ more) → LastHas (λ p. p.end ≡ false) part more
+last_open part [] h = h.0
+last_open part (next ∷ more) h = (h.0, last_open next more h.1)
+
+pub record IsOngoing {X : Type 0} (marks : List (Mark X)) (parts : List (Part X)) : Type 0 where
+  pub run : Run X
+  pub found : run_of marks ≡ Some run
+  pub is : parts_of run ≡ parts
+  pub goes_on : run.newest.end ≡ false
+
+pub unfinished_is_run : {X : Type 0} (marks : List (Mark X)) (part : Part X) (more : List (Part X)) → EndsIn marks (part ∷ more) → IsUnfinishedCut (part ∷ more)
+    → IsOngoing marks (part ∷ more)
+unfinished_is_run {X} marks part more at cut =
+    let back : IsBack (λ p. p.end ≡ false) (onto (part ∷ []) more) = run_back (λ p. p.end ≡ false) part.number part [] more (cut.starts.0, cut.joins.0) refl
+    (let few = cut.few in omega arith) cut.starts.1 cut.number (last_open part more cut.ends) cut.joins.1 in
+    let h = marks_found marks part more at back.newest back.older back.is back.run in
+    record {
+      run = h.run;
+      found = h.found;
+      is = h.parts ∙ ap oldest_first (sym back.is) ∙ oldest_first-onto (part ∷ []) more;
+      goes_on = ap (λ (p : Part X). p.end) h.newest_is ∙ back.last;
+    }

@@ -124,6 +124,19 @@ pub record IsWholeCut {X : Type 0} (parts : List (Part X)) : Type 0 where
   pub number : HaveOneNumber parts
   pub joins : Join false parts
 
+-- each Z equals the Y before it, and the last Y is 0 or 1
+abbrev pub JoinSoFar : {X : Type 0} → Bool → List (Part X) → Type 0
+JoinSoFar open_element [] = Unit {0}
+JoinSoFar open_element (part ∷ more) = (part.continues ≡ open_element) × JoinSoFar part.carries more
+
+-- the parts of a frame that hasn't ended, the oldest first: all that makes a whole cut, but that none ends it, and an element may be open
+pub record IsUnfinishedCut {X : Type 0} (parts : List (Part X)) : Type 0 where
+  pub few : length parts ≤ 512
+  pub starts : FirstAloneStarts parts
+  pub ends : AllByRecursion (λ p. p.end ≡ false) parts
+  pub number : HaveOneNumber parts
+  pub joins : JoinSoFar false parts
+
 abbrev pub without_padding : {X : Type 0} → List (Mark X) → List (Mark X)
 without_padding [] = []
 without_padding (Gone ∷ past) = Gone ∷ without_padding past

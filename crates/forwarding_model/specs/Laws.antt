@@ -21,7 +21,7 @@ use Rattle.forwarding_model.specs.Restart.{BreaksAt, IsOpenAndLinked, IsRestart}
 use Rattle.forwarding_model.specs.Causes.{is_ahead, is_too_old, oldest_asked, cause, path, IsPath, IsWithheld, TellsCauses}
 use Rattle.forwarding_model.specs.Outgoing.{Sender, Subscriber, outgoing, taken, queue, kept, next_packet, resent, send_marked, AreConsecutive, FindPackets, KeepsCount}
 use Rattle.forwarding_model.specs.Reading.{Format, IsFormat}
-use Rattle.forwarding_model.specs.Cuts.{Part, Mark, Run, parts_of, cut_by, cut_of, extended, outcome, IsWholeCut, EndsIn}
+use Rattle.forwarding_model.specs.Cuts.{Part, Mark, Run, parts_of, cut_by, cut_of, extended, outcome, run_of, IsWholeCut, IsUnfinishedCut, EndsIn}
 use Rattle.forwarding_model.specs.Cuts.Mark.{Padding}
 use Rattle.forwarding_model.specs.Cuts.Outcome.{IsPadding, IsWhole, IsPartial, IsTorn}
 use Rattle.forwarding_model.specs.Frames.{Item, frames_after, frames_since}
@@ -175,6 +175,15 @@ abbrev pub WholeOutcomesAreCuts : Type 0 → Type 0
 WholeOutcomesAreCuts X = (run : Option (Run X)) (mark : Mark X)
     → (outcome run mark ≡ IsWhole → (ended : Run X) × (cut_by run mark ≡ Some ended))
     × ((ended : Run X) → cut_by run mark ≡ Some ended → outcome run mark ≡ IsWhole)
+
+-- a mark leaves a frame partial exactly where the marks end in an unfinished cut
+abbrev pub PartialFramesAreUnfinished : Type 0 → Type 0
+PartialFramesAreUnfinished X = (mark : Mark X) (past : List (Mark X)) → outcome (run_of past) mark ≡ IsPartial
+    → (first : Part X) × (more : List (Part X)) × IsUnfinishedCut (first ∷ more) × EndsIn (mark ∷ past) (first ∷ more)
+
+abbrev pub UnfinishedCutsArePartial : Type 0 → Type 0
+UnfinishedCutsArePartial X = (mark : Mark X) (past : List (Mark X)) (first : Part X) (more : List (Part X))
+    → IsUnfinishedCut (first ∷ more) → EndsIn (mark ∷ past) (first ∷ more) → outcome (run_of past) mark ≡ IsPartial
 
 -- a frame is partial where a run goes on, which hasn't ended; and padding alone is padding
 abbrev pub PartialOutcomesGoOn : Type 0 → Type 0

@@ -1,7 +1,7 @@
 // The laws of forwarding: each is the contract of a function that does nothing. A crate above takes a law by a call of its function, or
 // by naming the lemma of `proofs/` that proves it. `Structure` is the type of template dependency structures.
 
-ghost use Rattle.forwarding_model.specs.Laws.{NeverComplains, AreDecodable, RestartsAtOnce, RestartsLater, EndsAtRoot, EndsAtRootUnpassed, PathsBegin, PathsTellCauses, TakenNeverComplains, OutgoingNeverComplains, EndsAtRootInHistories, AreNumberedInOrder, OnlyGrows, ResendsFirstBytes, ResendsKept, QueuesTheRest, TakesFindPackets, MarkingKeepsWhole, MarkingIsASender, MarkingKeepsCount, FramesAreTrack, FramesAreRead, FramesAreAdded, NewestAreTrack, EndedRunsAreWhole, WholeCutsAreFound, WholeOutcomesAreCuts, PartialOutcomesGoOn, PaddingOutcomesArePadding, TornOutcomesAreTorn, TooOldIsBelow, AheadIsAbove, AimIsBest, OpeningIsBest, PassedWherePasses, PassesLinked, PassesWherePassed, KeepAlike, OpenAlike, PassAlike, JudgeAlike};
+ghost use Rattle.forwarding_model.specs.Laws.{NeverComplains, AreDecodable, RestartsAtOnce, RestartsLater, EndsAtRoot, EndsAtRootUnpassed, PathsBegin, PathsTellCauses, TakenNeverComplains, OutgoingNeverComplains, EndsAtRootInHistories, AreNumberedInOrder, OnlyGrows, ResendsFirstBytes, ResendsKept, QueuesTheRest, TakesFindPackets, MarkingKeepsWhole, MarkingIsASender, MarkingKeepsCount, FramesAreTrack, FramesAreRead, FramesAreAdded, NewestAreTrack, EndedRunsAreWhole, WholeCutsAreFound, WholeOutcomesAreCuts, PartialOutcomesGoOn, PartialFramesAreUnfinished, UnfinishedCutsArePartial, PaddingOutcomesArePadding, TornOutcomesAreTorn, TooOldIsBelow, AheadIsAbove, AimIsBest, OpeningIsBest, PassedWherePasses, PassesLinked, PassesWherePassed, KeepAlike, OpenAlike, PassAlike, JudgeAlike};
 ghost use Rattle.forwarding_model.specs.Accepted.{NoComplaintAccepts};
 ghost use Rattle.forwarding_model.specs.Decisions.{BrokenLinksClose, OtherLinksKeep, BrokenLinksBreak, ReasonsHold, OpensTheBest, OpensWhatItCan, PassesInTarget, FullClaims, BehindClaims, ReferenceClaims, OtherTargetClaims, NoTargetClaims, LinkClaims, UnopenedClaims, NoFrameIsAHole};
 ghost use Rattle.forwarding_model.specs.Making.{WhatWasReadIsInForce, KeyStartsAreNumbered, ItemsHaveMarks, FramesAreCuts, CutsAreFrames};
@@ -135,6 +135,12 @@ pub fn outcomes_are_those_of_runs<Brought>()
     ensures partial { PartialOutcomesGoOn Brought }
     ensures padding { PaddingOutcomesArePadding Brought }
     ensures torn { TornOutcomesAreTorn Brought }
+{}
+
+/// A mark leaves a frame partial exactly where the marks end in an unfinished cut. `Brought` is the type of what a part brings with it.
+pub fn partial_frames_are_the_unfinished_cuts<Brought>()
+    ensures unfinished { PartialFramesAreUnfinished Brought }
+    ensures found { UnfinishedCutsArePartial Brought }
 {}
 
 // ---- selection
