@@ -16,7 +16,7 @@ pub struct JoinFault {
 
 /// The packets of a frame as far as their elements join (RTP Payload Format For AV1, section 4.4), seen as whether an element is open:
 /// Y of the last packet, and false before the first.
-#[derive(Clone, Copy, Debug)]
+#[derive(Debug, Drop)]
 pub struct Joiner {
     carries: bool,
 }
@@ -27,8 +27,6 @@ impl Model for Joiner {
     ghost Value = { Bool };
 
     ghost view = { λ joiner. joiner.carries };
-
-    ghost inverse = { λ carries. record { carries = carries } };
 }
 
 impl Joiner {

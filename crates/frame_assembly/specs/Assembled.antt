@@ -1,0 +1,62 @@
+-- What contracts see of an assembly, and which packets it stands for. Lists of marks have the newest first, lists of packets the oldest.
+-- Which marks make a frame is said in `forwarding_model`, of whole lists of marks.
+use Rattle.std.specs.Prelude.{◌≡◌, [], ℕ, Bool, if◌then◌else◌, List, Option, None, Some, map}
+use Rattle.forwarding_model.specs.Cuts.{Part, Mark as CutMark, Run, Outcome as CutOutcome, parts_of, run_of, cut_of, IsWholeCut, IsUnfinishedCut, EndsIn}
+use Rattle.forwarding_model.specs.Cuts.Mark.{Gone, Padding, Unreadable, Read}
+use Rattle.forwarding_model.specs.Cuts.Outcome.{IsPadding, IsWhole, IsPartial, IsTorn}
+use Rattle.frame_assembly.specs.declared.mark.Mark.{Mark}
+use Rattle.frame_assembly.specs.declared.mark.Mark.TheVariants as mark
+use Rattle.frame_assembly.specs.declared.mark.Outcome.{Outcome}
+use Rattle.frame_assembly.specs.declared.mark.Outcome.TheVariants as made
+
+-- a mark with its packet: a part brings its bytes
+abbrev pub marked : Mark → List ℕ → CutMark (List ℕ)
+marked mark.Gone bytes = Gone
+marked mark.Pad bytes = Padding
+marked mark.Unread bytes = Unreadable
+marked (mark.Part start end number continues carries) bytes =
+    Read (record { start = start; end = end; number = number; continues = continues; carries = carries; brings = bytes })
+
+-- what is answered
+abbrev pub answer : CutOutcome → Outcome
+answer IsPadding = made.Pad
+answer IsWhole = made.Whole
+answer IsPartial = made.Partial
+answer IsTorn = made.Torn
+
+-- the marks end in a whole cut, or in an unfinished one
+abbrev pub EndsWhole : List (CutMark (List ℕ)) → Type 0
+EndsWhole marks = (parts : List (Part (List ℕ))) × IsWholeCut parts × EndsIn marks parts
+
+abbrev pub EndsUnfinished : List (CutMark (List ℕ)) → Type 0
+EndsUnfinished marks = (parts : List (Part (List ℕ))) × IsUnfinishedCut parts × EndsIn marks parts
+
+-- a frame that goes on: its frame number, whether an element is open, and the bytes of its packets
+pub record Unfinished : Type 0 where
+  pub number : ℕ
+  pub open_element : Bool
+  pub packets : List (List ℕ)
+
+-- The frame under assembly, if there is one, and the packets of the frame that the last call made whole, or none.
+pub record Seen : Type 0 where
+  pub unfinished : Option Unfinished
+  pub frame : List (List ℕ)
+
+abbrev pub packets_of : Run (List ℕ) → List (List ℕ)
+packets_of run = map (λ p. p.brings) (parts_of run)
+
+-- what goes on of a run
+abbrev pub unfinished_of : Option (Run (List ℕ)) → Option Unfinished
+unfinished_of None = None
+unfinished_of (Some run) =
+    if run.newest.end then None
+    else Some (record { number = run.first.number; open_element = run.newest.carries; packets = packets_of run })
+
+abbrev pub frame_of : Option (Run (List ℕ)) → List (List ℕ)
+frame_of None = []
+frame_of (Some run) = packets_of run
+
+-- the assembly stands for these marks with their packets
+pub record IsAfter (assembly : Seen) (past : List (CutMark (List ℕ))) : Type 0 where
+  pub unfinished : assembly.unfinished ≡ unfinished_of (run_of past)
+  pub frame : assembly.frame ≡ frame_of (cut_of past)

@@ -1,0 +1,4 @@
+pub mod Assembled
+pub mod Steps
+pub mod Slots
+pub mod Kept

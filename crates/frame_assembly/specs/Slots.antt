@@ -1,0 +1,10 @@
+-- The packets that the slots hold.
+use Rattle.std.specs.Prelude.{◌≡◌, ◌≤◌, ℕ, List, take, length}
+use Rattle.frame_assembly.specs.declared.packets.Packets.TheInside.{Inside}
+
+abbrev pub kept_packets : Inside → List (List ℕ)
+kept_packets p = take p.count p.slots.items
+
+pub record HasSlots (p : Inside) : Type 0 where
+  pub slots : length p.slots.items ≡ 512
+  pub few : p.count ≤ 512

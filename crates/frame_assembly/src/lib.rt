@@ -1,0 +1,11 @@
+//! Whole frames out of the packets of a layered track, one packet after another. Only the constructor takes memory.
+#![tactic(auto)]
+
+mod assembly;
+mod mark;
+mod packets;
+#[cfg(test)]
+mod tests;
+
+pub use assembly::Assembly;
+pub use mark::{Mark, Outcome};

@@ -1,0 +1,38 @@
+// What a packet is to the frame under assembly, and what comes of it.
+
+/// A packet of a layered track, in order, as far as the frame that it belongs to goes.
+#[derive(Clone, Copy, Debug, PartialEq, Eq)]
+pub enum Mark {
+    /// Packets that were given up.
+    Gone,
+    /// A packet without a payload.
+    Pad,
+    /// A packet whose descriptor or payload wasn't read.
+    Unread,
+    /// A part of a frame.
+    Part {
+        /// start_of_frame of the dependency descriptor.
+        start: bool,
+        /// end_of_frame of the dependency descriptor.
+        end: bool,
+        /// frame_number of the dependency descriptor.
+        number: u16,
+        /// Z: its first element continues the last one of the packet before.
+        continues: bool,
+        /// Y: its last element goes on in the next packet.
+        carries: bool,
+    },
+}
+
+/// What a packet made of the frame under assembly.
+#[derive(Clone, Copy, Debug, PartialEq, Eq)]
+pub enum Outcome {
+    /// The frame so far goes on.
+    Partial,
+    /// The frame is whole.
+    Whole,
+    /// No frame is under assembly any more: what there was is dropped, with this packet.
+    Torn,
+    /// Nothing: the packet is padding, and the frame so far goes on.
+    Pad,
+}
