@@ -29,3 +29,5 @@ pub mod Accepting
 pub mod Making
 pub mod Takings
 pub mod Outcomes
+pub mod SelectionRows
+pub mod Words

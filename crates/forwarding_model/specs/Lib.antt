@@ -22,4 +22,6 @@ pub mod History
 pub mod Rows
 pub mod WorkedFormat
 pub mod WorkedPackets
+pub mod SelectionRows
+pub mod Words
 pub mod Laws

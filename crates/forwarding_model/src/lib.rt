@@ -9,6 +9,7 @@
 
 mod complaint;
 mod laws;
+mod selection_laws;
 mod target;
 
 pub use complaint::Complaint;
@@ -26,4 +27,5 @@ pub use laws::{
     what_was_read_is_in_force, withheld_frames_have_a_path_to_a_root, worked_complaints,
     worked_frames, worked_history, worked_packets_have_a_format, worked_timelines,
 };
+pub use selection_laws::{tests_on_targets_mean_what_they_say, worked_selection};
 pub use target::{CurrentTarget, Reason};
