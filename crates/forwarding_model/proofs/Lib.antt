@@ -29,5 +29,7 @@ pub mod Accepting
 pub mod Making
 pub mod Takings
 pub mod Outcomes
-pub mod SelectionRows
 pub mod Words
+pub mod Steps
+pub mod Openings
+pub mod SelectionRows

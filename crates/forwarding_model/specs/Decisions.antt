@@ -17,6 +17,7 @@ use Rattle.forwarding_model.specs.Timeline.{Event, Frame, frames_of}
 use Rattle.forwarding_model.specs.Timeline.Event.{WholeFrame}
 use Rattle.forwarding_model.specs.Standing.{Standing, has_passed, key_passed, kept_target_at, candidate_at, verdict_at, standing}
 use Rattle.forwarding_model.specs.Restart.{BreaksAt}
+use Rattle.forwarding_model.specs.Since.{EachFrameSince}
 
 -- ---- where a target is closed
 
@@ -57,7 +58,10 @@ ClosesAt s f (NotOpened since) =
     (since ≡ f.number)
     × ((s.epoch ≢ Some f.epoch) ⊎ ((target : ℕ) × (opened : ℕ) × IsOpenAt s f target opened × (is_active f target ≡ false)))
 
--- a frame of the timeline closed the target for this reason, and no frame passed since
+abbrev pub ClosesNone : Standing → FrameMeaning → Type 0
+ClosesNone s f = (reason : Reason) → ClosesAt s f reason → ⊥
+
+-- a frame of the timeline closed the target for this reason, no frame passed since, and none closed a target since: it was the last to do so
 pub record WasClosedFor {S : Type 0} (wish : Wish) (events : List (Event S)) (reason : Reason) : Type 0 where
   pub since : List (Event S)
   pub frame : Frame S
@@ -65,6 +69,7 @@ pub record WasClosedFor {S : Type 0} (wish : Wish) (events : List (Event S)) (re
   pub stands : events ≡ since ++ WholeFrame frame ∷ past
   pub closes : ClosesAt (standing wish past) frame.meaning reason
   pub none_passed : (standing wish events).passed ≡ (standing wish past).passed
+  pub last : EachFrameSince (λ before later. ClosesNone (standing wish before) later.meaning) since (WholeFrame frame ∷ past)
 
 -- once a frame came, a target is closed for the reason that it has
 abbrev pub ReasonsHold : Type 0 → Type 0

@@ -22,6 +22,9 @@ pub mod History
 pub mod Rows
 pub mod WorkedFormat
 pub mod WorkedPackets
-pub mod SelectionRows
+pub mod Since
 pub mod Words
+pub mod Steps
+pub mod Openings
+pub mod SelectionRows
 pub mod Laws

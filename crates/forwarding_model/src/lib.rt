@@ -27,5 +27,8 @@ pub use laws::{
     what_was_read_is_in_force, withheld_frames_have_a_path_to_a_root, worked_complaints,
     worked_frames, worked_history, worked_packets_have_a_format, worked_timelines,
 };
-pub use selection_laws::{tests_on_targets_mean_what_they_say, worked_selection};
+pub use selection_laws::{
+    each_event_changes_the_standing, frames_leave_the_target_or_close_it,
+    open_targets_were_opened_by_their_frame, tests_on_targets_mean_what_they_say, worked_selection,
+};
 pub use target::{CurrentTarget, Reason};

@@ -2,6 +2,8 @@
 // template dependency structures.
 
 ghost use Rattle.forwarding_model.specs.Words.{ActiveInWords, SwitchInWords, PresentInWords, AllowedInWords};
+ghost use Rattle.forwarding_model.specs.Steps.{OtherEpochsBeginAnew, EpochsGoOn, MasksClose, LinksClose, OtherTargetsStay, ClosedTargetsStay, ClosingFramesClose, OtherFramesKeep, PassingFramesAreTakenIn, OtherFramesAreWithheld, PlainPacketsAreQueued, WishesChangeAlone, TakesChangeTheQueue, NewestFramesHaveTheEpoch};
+ghost use Rattle.forwarding_model.specs.Openings.{NothingOpenedIsKept, OpenedTargetsAreCandidates, OpeningsHold};
 ghost use Rattle.forwarding_model.specs.SelectionRows.{PassingOpensNothing, NewEpochGivesTheReason, WithheldFramesBeginEpochs, TemporalWishIsKept, DiscardableFramesPass, DiscardableFramesOpenNothing, FourthBitIsTargetThree, AbsenceComesFirst, NoTargetComesFirst, GreatestBelowIsTold, KeyFramesArentForgotten, LowerMarkersAreKept, FirstNumbers};
 
 // ---- targets
@@ -13,6 +15,39 @@ pub fn tests_on_targets_mean_what_they_say()
     ensures switch { SwitchInWords }
     ensures present { PresentInWords }
     ensures allowed { AllowedInWords }
+{}
+
+// ---- a standing step by step
+
+/// What a frame leaves of the target: another epoch, a mask without it and a broken link close it, each for its reason, and nothing else
+/// does.
+pub fn frames_leave_the_target_or_close_it()
+    ensures other_epoch { OtherEpochsBeginAnew }
+    ensures same_epoch { EpochsGoOn }
+    ensures mask { MasksClose }
+    ensures link { LinksClose }
+    ensures open { OtherTargetsStay }
+    ensures closed { ClosedTargetsStay }
+    ensures closing { ClosingFramesClose }
+    ensures keeping { OtherFramesKeep }
+{}
+
+/// What each event makes of a standing. The epoch is that of the newest frame, whether or not that passed.
+pub fn each_event_changes_the_standing<Structure>()
+    ensures passing { PassingFramesAreTakenIn Structure }
+    ensures withheld { OtherFramesAreWithheld Structure }
+    ensures plain { PlainPacketsAreQueued Structure }
+    ensures wish { WishesChangeAlone Structure }
+    ensures take { TakesChangeTheQueue Structure }
+    ensures epoch { NewestFramesHaveTheEpoch Structure }
+{}
+
+/// Where a frame opens nothing, the target keeps its opening frame; where it opens a target, it is that target's opening frame. Where a
+/// target is open, the frame with its opening number passed and opened it, and since then no frame closed it or opened another.
+pub fn open_targets_were_opened_by_their_frame<Structure>()
+    ensures kept { NothingOpenedIsKept }
+    ensures opened { OpenedTargetsAreCandidates }
+    ensures frame { OpeningsHold Structure }
 {}
 
 // ---- worked timelines
