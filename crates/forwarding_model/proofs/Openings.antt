@@ -1,14 +1,13 @@
 -- An open target was opened by the frame with its opening number.
-use Rattle.std.proofs.Common.{◌≡◌, ◌-◌, ℕ, Bool, true, false, List, [], ◌∷◌, refl, sym, subst, ap, ◌∙◌, cond, true≢false, length}
+use Rattle.std.proofs.Common.{◌≡◌, ℕ, Bool, true, false, List, [], ◌∷◌, refl, sym, subst, ap, ◌∙◌, cond, true≢false, length}
 use Rattle.std.specs.declared.option.Option.{Option}
 use Rattle.std.specs.declared.option.Option.TheVariants.{None, Some}
 use Rattle.sfu_base.specs.declared.frame.FrameMeaning.{FrameMeaning}
 use Rattle.sfu_base.specs.declared.frame.Wish.{Wish}
 use Rattle.forwarding_model.specs.declared.target.CurrentTarget.{CurrentTarget}
 use Rattle.forwarding_model.specs.declared.target.CurrentTarget.TheVariants.{Open, Closed}
-use Rattle.forwarding_model.specs.declared.target.Reason.TheVariants.{BrokenLink, NotOpened}
-use Rattle.forwarding_model.specs.Targets.{is_active}
-use Rattle.forwarding_model.specs.Selection.{chain_link, is_link_broken, target_after_link, kept_target, opening, opened_or, candidate}
+use Rattle.forwarding_model.specs.declared.target.Reason.TheVariants.{NotOpened}
+use Rattle.forwarding_model.specs.Selection.{kept_target, opening, opened_or, candidate}
 use Rattle.forwarding_model.specs.Timeline.{Event}
 use Rattle.forwarding_model.specs.Timeline.Event.{WholeFrame, PlainPacket, WishChange, Take}
 use Rattle.forwarding_model.specs.Since.{EachFrameSince}
@@ -16,6 +15,7 @@ use Rattle.forwarding_model.specs.Standing.{Standing, is_epoch, target_at, has_p
 use Rattle.forwarding_model.specs.Decisions.{ClosesNone}
 use Rattle.forwarding_model.specs.Openings.{OpensAt, LeavesOpen, WasOpenedAt}
 use Rattle.forwarding_model.proofs.Decisions.{opens_the_best, opens_what_it_can}
+use Rattle.forwarding_model.proofs.Links.{kept_open}
 use Rattle.forwarding_model.proofs.Steps.{closing_frames_close}
 
 -- ---- the candidate
@@ -30,21 +30,8 @@ opened_targets_are_candidates has key_passed wish f current target e = ap (λ o.
 
 -- ---- the opening frame
 
--- what mask and link leave open was open before
-kept_open : (has : ℕ → Bool) (f : FrameMeaning) (current : CurrentTarget) (target opened : ℕ) → kept_target has f current ≡ Open target opened → current ≡ Open target opened
-kept_open has f (Closed reason) target opened h = absurd (cc)
-kept_open has f (Open before from) target opened h = go (is_active f before) h
-  where
-    linked : (b : Bool) → cond b (Closed (BrokenLink f.number (f.number - chain_link f before))) (Open before from) ≡ Open target opened → Open before from ≡ Open target opened
-    linked true k = absurd (cc)
-    linked false k = k
-
-    go : (b : Bool) → target_after_link has f (cond b (Open before from) (Closed (NotOpened f.number))) ≡ Open target opened → Open before from ≡ Open target opened
-    go true k = linked (is_link_broken has f before from) k
-    go false k = absurd (cc)
-
 was_open : (s : Standing) (f : FrameMeaning) (target opened : ℕ) → kept_target_at s f ≡ Open target opened → s.target ≡ Open target opened
-was_open s f target opened h = go (is_epoch s.epoch f.epoch) (kept_open (has_passed s f) f (target_at s f) target opened h)
+was_open s f target opened h = go (is_epoch s.epoch f.epoch) (kept_open (has_passed s f) f (target_at s f) target opened h).0
   where
     go : (b : Bool) → cond b s.target (Closed (NotOpened f.number)) ≡ Open target opened → s.target ≡ Open target opened
     go true k = k
