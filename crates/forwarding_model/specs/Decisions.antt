@@ -136,20 +136,24 @@ abbrev pub IsTargetOf : Standing → FrameMeaning → ℕ → Type 0
 IsTargetOf s f target =
     ((opened : ℕ) × (candidate_at s f ≡ Open target opened)) ⊎ ((reason : Reason) × IsClosedAt s f reason × (aim s.wish f ≡ Some target))
 
+-- f is present in its target
+abbrev pub IsOfTarget : Standing → FrameMeaning → Type 0
+IsOfTarget s f = (target : ℕ) × IsTargetOf s f target × (is_present f target ≡ true)
+
 -- the queue was too full
 abbrev pub FullClaims : Type 0
 FullClaims = (s : Standing) (f : FrameMeaning) (packets queued needed : ℕ) → verdict_at s f packets ≡ Full queued needed
     → (queued ≡ s.queued) × (needed ≡ packets) × (512 < queued + needed) × IsComplete s f × IsInTarget f (candidate_at s f)
 
--- the first reference that wasn't passed lies below the epoch's start
+-- f is present in its target, and the first reference that wasn't passed lies below the epoch's start
 abbrev pub BehindClaims : Type 0
 BehindClaims = (s : Standing) (f : FrameMeaning) (packets fdiff start : ℕ) → verdict_at s f packets ≡ Behind fdiff start
-    → IsFirstMissing (has_passed s f) f fdiff × (start ≡ f.start) × (f.number < f.start + fdiff)
+    → IsOfTarget s f × IsFirstMissing (has_passed s f) f fdiff × (start ≡ f.start) × (f.number < f.start + fdiff)
 
--- the first reference that wasn't passed is this frame, of the epoch
+-- f is present in its target, and the first reference that wasn't passed is this frame, of the epoch
 abbrev pub ReferenceClaims : Type 0
 ReferenceClaims = (s : Standing) (f : FrameMeaning) (packets number : ℕ) → verdict_at s f packets ≡ Reference number
-    → (d : ℕ) × IsFirstMissing (has_passed s f) f d × (f.start + d ≤ f.number) × (number + d ≡ f.number)
+    → IsOfTarget s f × ((d : ℕ) × IsFirstMissing (has_passed s f) f d × (f.start + d ≤ f.number) × (number + d ≡ f.number))
 
 -- f isn't present in its target
 abbrev pub OtherTargetClaims : Type 0
@@ -161,13 +165,15 @@ abbrev pub NoTargetClaims : Type 0
 NoTargetClaims = (s : Standing) (f : FrameMeaning) (packets : ℕ) → verdict_at s f packets ≡ NotOfTarget None
     → ((reason : Reason) × IsClosedAt s f reason) × ((target : ℕ) → target < f.target_count → is_allowed s.wish f target ≡ true → ⊥)
 
--- no target is open, since the chain was found broken
+-- f is present in its target, all its references were passed, and no target is open, since the chain was found broken
 abbrev pub LinkClaims : Type 0
-LinkClaims = (s : Standing) (f : FrameMeaning) (packets at number : ℕ) → verdict_at s f packets ≡ Link at number → IsClosedAt s f (BrokenLink at number) × IsComplete s f
+LinkClaims = (s : Standing) (f : FrameMeaning) (packets at number : ℕ) → verdict_at s f packets ≡ Link at number
+    → IsOfTarget s f × IsComplete s f × IsClosedAt s f (BrokenLink at number)
 
--- no target is open, since none was opened
+-- f is present in its target, all its references were passed, and no target is open, since none was opened
 abbrev pub UnopenedClaims : Type 0
-UnopenedClaims = (s : Standing) (f : FrameMeaning) (packets since : ℕ) → verdict_at s f packets ≡ Unopened since → IsClosedAt s f (NotOpened since) × IsComplete s f
+UnopenedClaims = (s : Standing) (f : FrameMeaning) (packets since : ℕ) → verdict_at s f packets ≡ Unopened since
+    → IsOfTarget s f × IsComplete s f × IsClosedAt s f (NotOpened since)
 
 -- a frame that came is no hole
 abbrev pub NoFrameIsAHole : Type 0

@@ -26,5 +26,6 @@ pub mod Since
 pub mod Words
 pub mod Steps
 pub mod Openings
+pub mod VerdictWords
 pub mod SelectionRows
 pub mod Laws

@@ -29,6 +29,7 @@ pub use laws::{
 };
 pub use selection_laws::{
     each_event_changes_the_standing, frames_leave_the_target_or_close_it,
-    open_targets_were_opened_by_their_frame, tests_on_targets_mean_what_they_say, worked_selection,
+    open_targets_were_opened_by_their_frame, tests_on_targets_mean_what_they_say,
+    the_verdict_says_what_is_so, worked_selection,
 };
 pub use target::{CurrentTarget, Reason};

@@ -4,6 +4,7 @@
 ghost use Rattle.forwarding_model.specs.Words.{ActiveInWords, SwitchInWords, PresentInWords, AllowedInWords};
 ghost use Rattle.forwarding_model.specs.Steps.{OtherEpochsBeginAnew, EpochsGoOn, MasksClose, LinksClose, OtherTargetsStay, ClosedTargetsStay, ClosingFramesClose, OtherFramesKeep, PassingFramesAreTakenIn, OtherFramesAreWithheld, PlainPacketsAreQueued, WishesChangeAlone, TakesChangeTheQueue, NewestFramesHaveTheEpoch};
 ghost use Rattle.forwarding_model.specs.Openings.{NothingOpenedIsKept, OpenedTargetsAreCandidates, OpeningsHold};
+ghost use Rattle.forwarding_model.specs.VerdictWords.{VerdictsSayWhatIsSo};
 ghost use Rattle.forwarding_model.specs.SelectionRows.{PassingOpensNothing, NewEpochGivesTheReason, WithheldFramesBeginEpochs, TemporalWishIsKept, DiscardableFramesPass, DiscardableFramesOpenNothing, FourthBitIsTargetThree, AbsenceComesFirst, NoTargetComesFirst, GreatestBelowIsTold, KeyFramesArentForgotten, LowerMarkersAreKept, FirstNumbers};
 
 // ---- targets
@@ -48,6 +49,13 @@ pub fn open_targets_were_opened_by_their_frame<Structure>()
     ensures kept { NothingOpenedIsKept }
     ensures opened { OpenedTargetsAreCandidates }
     ensures frame { OpeningsHold Structure }
+{}
+
+// ---- verdicts and causes
+
+/// What the verdict on a frame says is so, and no other verdict says what is so.
+pub fn the_verdict_says_what_is_so()
+    ensures { VerdictsSayWhatIsSo }
 {}
 
 // ---- worked timelines
