@@ -32,4 +32,6 @@ pub mod Outcomes
 pub mod Words
 pub mod Steps
 pub mod Openings
+pub mod PassedFrames
+pub mod Holes
 pub mod SelectionRows

@@ -27,5 +27,7 @@ pub mod Words
 pub mod Steps
 pub mod Openings
 pub mod VerdictWords
+pub mod PassedFrames
+pub mod Holes
 pub mod SelectionRows
 pub mod Laws

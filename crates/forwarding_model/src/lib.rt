@@ -28,8 +28,9 @@ pub use laws::{
     worked_frames, worked_history, worked_packets_have_a_format, worked_timelines,
 };
 pub use selection_laws::{
-    each_event_changes_the_standing, frames_leave_the_target_or_close_it,
-    open_targets_were_opened_by_their_frame, tests_on_targets_mean_what_they_say,
+    causes_are_verdicts_and_holes, each_event_changes_the_standing,
+    frames_leave_the_target_or_close_it, open_targets_were_opened_by_their_frame,
+    passed_frames_of_the_epoch_count, tests_on_targets_mean_what_they_say,
     the_verdict_says_what_is_so, worked_selection,
 };
 pub use target::{CurrentTarget, Reason};

@@ -5,6 +5,8 @@ ghost use Rattle.forwarding_model.specs.Words.{ActiveInWords, SwitchInWords, Pre
 ghost use Rattle.forwarding_model.specs.Steps.{OtherEpochsBeginAnew, EpochsGoOn, MasksClose, LinksClose, OtherTargetsStay, ClosedTargetsStay, ClosingFramesClose, OtherFramesKeep, PassingFramesAreTakenIn, OtherFramesAreWithheld, PlainPacketsAreQueued, WishesChangeAlone, TakesChangeTheQueue, NewestFramesHaveTheEpoch};
 ghost use Rattle.forwarding_model.specs.Openings.{NothingOpenedIsKept, OpenedTargetsAreCandidates, OpeningsHold};
 ghost use Rattle.forwarding_model.specs.VerdictWords.{VerdictsSayWhatIsSo};
+ghost use Rattle.forwarding_model.specs.PassedFrames.{EpochsFramesCount, HasPassedInWords, KeyPassedInWords};
+ghost use Rattle.forwarding_model.specs.Holes.{FramesHaveTheirVerdicts, OtherNumbersAreHoles, HolesAreNoFrames};
 ghost use Rattle.forwarding_model.specs.SelectionRows.{PassingOpensNothing, NewEpochGivesTheReason, WithheldFramesBeginEpochs, TemporalWishIsKept, DiscardableFramesPass, DiscardableFramesOpenNothing, FourthBitIsTargetThree, AbsenceComesFirst, NoTargetComesFirst, GreatestBelowIsTold, KeyFramesArentForgotten, LowerMarkersAreKept, FirstNumbers};
 
 // ---- targets
@@ -43,6 +45,14 @@ pub fn each_event_changes_the_standing<Structure>()
     ensures epoch { NewestFramesHaveTheEpoch Structure }
 {}
 
+/// At a frame of a track all frames of its epoch that passed count as passed, and no others: its references, links and the epoch's key
+/// frame are looked for among those.
+pub fn passed_frames_of_the_epoch_count<Structure>()
+    ensures frames { EpochsFramesCount Structure }
+    ensures number { HasPassedInWords Structure }
+    ensures key { KeyPassedInWords Structure }
+{}
+
 /// Where a frame opens nothing, the target keeps its opening frame; where it opens a target, it is that target's opening frame. Where a
 /// target is open, the frame with its opening number passed and opened it, and since then no frame closed it or opened another.
 pub fn open_targets_were_opened_by_their_frame<Structure>()
@@ -56,6 +66,14 @@ pub fn open_targets_were_opened_by_their_frame<Structure>()
 /// What the verdict on a frame says is so, and no other verdict says what is so.
 pub fn the_verdict_says_what_is_so()
     ensures { VerdictsSayWhatIsSo }
+{}
+
+/// The cause of a frame's number is the verdict that fell when it came. That of any other number below the newest frame's is a hole between
+/// the least frame number above it and the greatest below it, where that is less than 4,096 below the newest.
+pub fn causes_are_verdicts_and_holes<Structure>()
+    ensures frames { FramesHaveTheirVerdicts Structure }
+    ensures others { OtherNumbersAreHoles Structure }
+    ensures holes { HolesAreNoFrames Structure }
 {}
 
 // ---- worked timelines
