@@ -34,4 +34,5 @@ pub mod Steps
 pub mod Openings
 pub mod PassedFrames
 pub mod Holes
+pub mod OutgoingWords
 pub mod SelectionRows

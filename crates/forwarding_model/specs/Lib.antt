@@ -29,5 +29,6 @@ pub mod Openings
 pub mod VerdictWords
 pub mod PassedFrames
 pub mod Holes
+pub mod OutgoingWords
 pub mod SelectionRows
 pub mod Laws

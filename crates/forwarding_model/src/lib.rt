@@ -29,7 +29,8 @@ pub use laws::{
 };
 pub use selection_laws::{
     causes_are_verdicts_and_holes, each_event_changes_the_standing,
-    frames_leave_the_target_or_close_it, open_targets_were_opened_by_their_frame,
+    frames_leave_the_target_or_close_it, markers_end_the_target_layer,
+    next_numbers_count_the_takes, open_targets_were_opened_by_their_frame,
     passed_frames_of_the_epoch_count, tests_on_targets_mean_what_they_say,
     the_verdict_says_what_is_so, worked_selection,
 };

@@ -7,6 +7,7 @@ ghost use Rattle.forwarding_model.specs.Openings.{NothingOpenedIsKept, OpenedTar
 ghost use Rattle.forwarding_model.specs.VerdictWords.{VerdictsSayWhatIsSo};
 ghost use Rattle.forwarding_model.specs.PassedFrames.{EpochsFramesCount, HasPassedInWords, KeyPassedInWords};
 ghost use Rattle.forwarding_model.specs.Holes.{FramesHaveTheirVerdicts, OtherNumbersAreHoles, HolesAreNoFrames};
+ghost use Rattle.forwarding_model.specs.OutgoingWords.{TopLayerInWords, LastPacketsAreMarked, OtherMarkersAreKept, NextNumbersCountTakes};
 ghost use Rattle.forwarding_model.specs.SelectionRows.{PassingOpensNothing, NewEpochGivesTheReason, WithheldFramesBeginEpochs, TemporalWishIsKept, DiscardableFramesPass, DiscardableFramesOpenNothing, FourthBitIsTargetThree, AbsenceComesFirst, NoTargetComesFirst, GreatestBelowIsTold, KeyFramesArentForgotten, LowerMarkersAreKept, FirstNumbers};
 
 // ---- targets
@@ -74,6 +75,20 @@ pub fn causes_are_verdicts_and_holes<Structure>()
     ensures frames { FramesHaveTheirVerdicts Structure }
     ensures others { OtherNumbersAreHoles Structure }
     ensures holes { HolesAreNoFrames Structure }
+{}
+
+// ---- what goes out
+
+/// A frame of the target's spatial layer goes out with the marker on its last packet, and any other frame with its markers as they stand.
+pub fn markers_end_the_target_layer<Structure>()
+    ensures top_layer { TopLayerInWords }
+    ensures last { LastPacketsAreMarked Structure }
+    ensures kept { OtherMarkersAreKept Structure }
+{}
+
+/// The next number is the subscriber's first, and one more for each take that found a packet, modulo 65,536.
+pub fn next_numbers_count_the_takes<Structure>()
+    ensures { NextNumbersCountTakes Structure }
 {}
 
 // ---- worked timelines
