@@ -29,10 +29,10 @@ pub mod Accepting
 pub mod Making
 pub mod Takings
 pub mod Outcomes
-pub mod Words
-pub mod Steps
+pub mod TargetWords
+pub mod StandingSteps
 pub mod Openings
 pub mod PassedFrames
-pub mod Holes
+pub mod CauseWords
 pub mod OutgoingWords
 pub mod SelectionRows

@@ -16,7 +16,7 @@ use Rattle.forwarding_model.specs.Decisions.{ClosesNone}
 use Rattle.forwarding_model.specs.Openings.{OpensAt, LeavesOpen, WasOpenedAt}
 use Rattle.forwarding_model.proofs.Decisions.{opens_the_best, opens_what_it_can}
 use Rattle.forwarding_model.proofs.Links.{kept_open}
-use Rattle.forwarding_model.proofs.Steps.{closing_frames_close}
+use Rattle.forwarding_model.proofs.StandingSteps.{closing_frames_close}
 
 -- ---- the candidate
 

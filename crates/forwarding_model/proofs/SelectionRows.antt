@@ -1,6 +1,6 @@
 -- The worked timelines for single rules compute.
 use Rattle.std.proofs.Common.{refl}
-use Rattle.forwarding_model.specs.SelectionRows.{PassingOpensNothing, NewEpochGivesTheReason, WithheldFramesBeginEpochs, TemporalWishIsKept, DiscardableFramesPass, DiscardableFramesOpenNothing, FourthBitIsTargetThree, AbsenceComesFirst, NoTargetComesFirst, GreatestBelowIsTold, KeyFramesArentForgotten, LowerMarkersAreKept, FirstNumbers}
+use Rattle.forwarding_model.specs.SelectionRows.{PassingOpensNothing, NewEpochGivesTheReason, WithheldFramesBeginEpochs, TemporalWishIsKept, DiscardableFramesPass, DiscardableFramesOpenNothing, FourthBitIsTargetThree, AbsenceComesFirst, NoTargetComesFirst, GreatestBelowIsTold, OldFramesKeepTheirCauses, KeyFramesArentForgotten, LowerMarkersAreKept, FirstNumbers}
 
 pub passing_opens_nothing : PassingOpensNothing
 passing_opens_nothing = refl
@@ -31,6 +31,9 @@ no_target_comes_first = refl
 
 pub greatest_below_is_told : GreatestBelowIsTold
 greatest_below_is_told = refl
+
+pub old_frames_keep_their_causes : OldFramesKeepTheirCauses
+old_frames_keep_their_causes = refl
 
 pub key_frames_arent_forgotten : KeyFramesArentForgotten
 key_frames_arent_forgotten = refl

@@ -23,12 +23,12 @@ pub mod Rows
 pub mod WorkedFormat
 pub mod WorkedPackets
 pub mod Since
-pub mod Words
-pub mod Steps
+pub mod TargetWords
+pub mod StandingSteps
 pub mod Openings
 pub mod VerdictWords
 pub mod PassedFrames
-pub mod Holes
+pub mod CauseWords
 pub mod OutgoingWords
 pub mod SelectionRows
 pub mod Laws

@@ -1,7 +1,7 @@
 -- Worked timelines for single rules of selection, causes and markers, worked out by hand. They compute. Each has another value where its
 -- rule is another one. Structures A and C are those of `Rows`.
 -- Structure D has four targets with layers (1, 1), (1, 0), (0, 1) and (0, 0), which chains 1, 1, 0 and 0 protect.
-use Rattle.std.specs.Prelude.{◌≡◌, ℕ, List, [], ◌∷◌, Bool, true, false, map, length, replicate}
+use Rattle.std.specs.Prelude.{◌≡◌, ℕ, List, [], ◌∷◌, ◌++◌, Bool, true, false, map, length, replicate}
 use Rattle.std.specs.declared.option.Option.TheVariants.{None, Some}
 use Rattle.sfu_base.specs.declared.frame.Dti.{Dti}
 use Rattle.sfu_base.specs.declared.frame.Dti.TheVariants.{NotPresent, Discardable, Switch, Required}
@@ -140,6 +140,15 @@ GreatestBelowIsTold =
     cause (layers_wish 1 0)
     (one_target 4 1 1 false Switch 0 [] (packet true ∷ []) ∷ one_target 2 1 1 false Switch 0 [] (packet true ∷ []) ∷ key_a 1 1 ∷ []) 3
     ≡ Hole (Some 2) 4
+
+-- nine frames came since the oldest one, which keeps its cause
+abbrev pub OldFramesKeepTheirCauses : Type 0
+OldFramesKeepTheirCauses =
+    map
+    (cause (layers_wish 1 0)
+    (map (λ n. one_target n 1 1 false Switch 0 [] (packet true ∷ [])) (10 ∷ 9 ∷ 8 ∷ 7 ∷ 6 ∷ 5 ∷ 4 ∷ 3 ∷ 2 ∷ []) ++ key_a 1 1 ∷ []))
+    (1 ∷ 2 ∷ [])
+    ≡ Passed ∷ Passed ∷ []
 
 -- the key frame lies 4,999 below frame 5,000, and still counts as passed
 abbrev pub KeyFramesArentForgotten : Type 0

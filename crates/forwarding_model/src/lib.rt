@@ -3,8 +3,9 @@
 //! The definitions stand in `specs/`, one topic a file. `Targets`, `Selection` and `Standing` say which frames pass to a subscriber,
 //! `Outgoing` what goes out, `Causes` why a frame was withheld, `Reading`, `Cuts` and `Frames` how packets become frames, and `Receiver`
 //! what a strict receiver makes of packets. `Decisions`, `Taken`, `Making` and `Accepted` tell decisions, takes, frames and reception in
-//! words, with the laws that tie them to the definitions, and `Laws` has the other laws. The functions of this crate carry all of them.
-//! There is no other code here.
+//! words, with the laws that tie them to the definitions. So do `TargetWords`, `StandingSteps`, `Openings`, `PassedFrames`, `VerdictWords`,
+//! `CauseWords` and `OutgoingWords` with the tests on targets, the events of a timeline, opening frames, what counts as passed, verdicts,
+//! causes and markers. `Laws` has the other laws. The functions of this crate carry all of them. There is no other code here.
 #![tactic(auto)]
 
 mod complaint;

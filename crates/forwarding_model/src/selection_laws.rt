@@ -1,14 +1,14 @@
 // More laws of selection and causes: each is the contract of a function that does nothing, as those of `laws`. `Structure` is the type of
 // template dependency structures.
 
-ghost use Rattle.forwarding_model.specs.Words.{ActiveInWords, SwitchInWords, PresentInWords, AllowedInWords};
-ghost use Rattle.forwarding_model.specs.Steps.{OtherEpochsBeginAnew, EpochsGoOn, MasksClose, LinksClose, OtherTargetsStay, ClosedTargetsStay, ClosingFramesClose, OtherFramesKeep, PassingFramesAreTakenIn, OtherFramesAreWithheld, PlainPacketsAreQueued, WishesChangeAlone, TakesChangeTheQueue, NewestFramesHaveTheEpoch};
+ghost use Rattle.forwarding_model.specs.TargetWords.{ActiveInWords, SwitchInWords, PresentInWords, AllowedInWords};
+ghost use Rattle.forwarding_model.specs.StandingSteps.{OtherEpochsBeginAnew, EpochsGoOn, MasksClose, LinksClose, OtherTargetsStay, ClosedTargetsStay, ClosingFramesClose, OtherFramesKeep, PassingFramesAreTakenIn, OtherFramesAreWithheld, PlainPacketsAreQueued, WishesChangeAlone, TakesChangeTheQueue, NewestFramesHaveTheEpoch};
 ghost use Rattle.forwarding_model.specs.Openings.{NothingOpenedIsKept, OpenedTargetsAreCandidates, OpeningsHold};
 ghost use Rattle.forwarding_model.specs.VerdictWords.{VerdictsSayWhatIsSo};
 ghost use Rattle.forwarding_model.specs.PassedFrames.{EpochsFramesCount, HasPassedInWords, KeyPassedInWords};
-ghost use Rattle.forwarding_model.specs.Holes.{FramesHaveTheirVerdicts, OtherNumbersAreHoles, HolesAreNoFrames};
+ghost use Rattle.forwarding_model.specs.CauseWords.{FramesHaveTheirVerdicts, OtherNumbersAreHoles, HolesAreNoFrames};
 ghost use Rattle.forwarding_model.specs.OutgoingWords.{TopLayerInWords, LastPacketsAreMarked, OtherMarkersAreKept, NextNumbersCountTakes};
-ghost use Rattle.forwarding_model.specs.SelectionRows.{PassingOpensNothing, NewEpochGivesTheReason, WithheldFramesBeginEpochs, TemporalWishIsKept, DiscardableFramesPass, DiscardableFramesOpenNothing, FourthBitIsTargetThree, AbsenceComesFirst, NoTargetComesFirst, GreatestBelowIsTold, KeyFramesArentForgotten, LowerMarkersAreKept, FirstNumbers};
+ghost use Rattle.forwarding_model.specs.SelectionRows.{PassingOpensNothing, NewEpochGivesTheReason, WithheldFramesBeginEpochs, TemporalWishIsKept, DiscardableFramesPass, DiscardableFramesOpenNothing, FourthBitIsTargetThree, AbsenceComesFirst, NoTargetComesFirst, GreatestBelowIsTold, OldFramesKeepTheirCauses, KeyFramesArentForgotten, LowerMarkersAreKept, FirstNumbers};
 
 // ---- targets
 
@@ -30,8 +30,8 @@ pub fn frames_leave_the_target_or_close_it()
     ensures same_epoch { EpochsGoOn }
     ensures mask { MasksClose }
     ensures link { LinksClose }
-    ensures open { OtherTargetsStay }
-    ensures closed { ClosedTargetsStay }
+    ensures stays_open { OtherTargetsStay }
+    ensures stays_closed { ClosedTargetsStay }
     ensures closing { ClosingFramesClose }
     ensures keeping { OtherFramesKeep }
 {}
@@ -105,6 +105,7 @@ pub fn worked_selection()
     ensures absence_first { AbsenceComesFirst }
     ensures no_target_first { NoTargetComesFirst }
     ensures greatest_below { GreatestBelowIsTold }
+    ensures old_frames { OldFramesKeepTheirCauses }
     ensures key_frame_far_back { KeyFramesArentForgotten }
     ensures lower_marker { LowerMarkersAreKept }
     ensures first_numbers { FirstNumbers }

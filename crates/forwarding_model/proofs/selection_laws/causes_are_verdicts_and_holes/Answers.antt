@@ -1,4 +1,4 @@
-use Rattle.forwarding_model.proofs.Holes.{frames_have_their_verdicts, other_numbers_are_holes, holes_are_no_frames}
+use Rattle.forwarding_model.proofs.CauseWords.{frames_have_their_verdicts, other_numbers_are_holes, holes_are_no_frames}
 use Rattle.forwarding_model.proofs.selection_laws.causes_are_verdicts_and_holes.Goals as goal
 
 pub returns-clause-frames : goal.returns-clause-frames

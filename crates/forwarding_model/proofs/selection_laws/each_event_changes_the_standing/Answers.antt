@@ -1,4 +1,4 @@
-use Rattle.forwarding_model.proofs.Steps.{passing_frames_are_taken_in, other_frames_are_withheld, plain_packets_are_queued, wishes_change_alone, takes_change_the_queue, newest_frames_have_the_epoch}
+use Rattle.forwarding_model.proofs.StandingSteps.{passing_frames_are_taken_in, other_frames_are_withheld, plain_packets_are_queued, wishes_change_alone, takes_change_the_queue, newest_frames_have_the_epoch}
 use Rattle.forwarding_model.proofs.selection_laws.each_event_changes_the_standing.Goals as goal
 
 pub returns-clause-passing : goal.returns-clause-passing

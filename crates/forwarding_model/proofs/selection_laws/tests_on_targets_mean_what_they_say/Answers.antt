@@ -1,4 +1,4 @@
-use Rattle.forwarding_model.proofs.Words.{active_in_words, switch_in_words, present_in_words, allowed_in_words}
+use Rattle.forwarding_model.proofs.TargetWords.{active_in_words, switch_in_words, present_in_words, allowed_in_words}
 use Rattle.forwarding_model.proofs.selection_laws.tests_on_targets_mean_what_they_say.Goals as goal
 
 pub returns-clause-active : goal.returns-clause-active

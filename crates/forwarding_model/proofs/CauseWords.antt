@@ -16,7 +16,7 @@ use Rattle.forwarding_model.specs.Timeline.Event.{WholeFrame, PlainPacket, WishC
 use Rattle.forwarding_model.specs.TrackFrames.{Precedes, IsOneTrack}
 use Rattle.forwarding_model.specs.Standing.{standing, verdict_at}
 use Rattle.forwarding_model.specs.Causes.{verdict_among, newest_number, number_or, next_above, next_below, verdict_or_hole, verdicts, cause}
-use Rattle.forwarding_model.specs.Holes.{frame_numbers, IsNextAbove, IsNextBelow}
+use Rattle.forwarding_model.specs.CauseWords.{frame_numbers, IsNextAbove, IsNextBelow}
 use Rattle.forwarding_model.proofs.Members.{each_member}
 use Rattle.forwarding_model.proofs.Claimed.{claimed}
 

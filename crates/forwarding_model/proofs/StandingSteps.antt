@@ -16,7 +16,7 @@ use Rattle.forwarding_model.specs.Timeline.{Packet, Frame, Event, frames_of}
 use Rattle.forwarding_model.specs.Timeline.Event.{WholeFrame, PlainPacket, WishChange, Take}
 use Rattle.forwarding_model.specs.Standing.{Standing, is_epoch, passed_at, has_passed, kept_target_at, passes_at, admitted, plain_passes, after_plain, standing}
 use Rattle.forwarding_model.specs.Decisions.{IsBrokenLink, IsOpenAt, ClosesAt, ClosesNone}
-use Rattle.forwarding_model.specs.Steps.{TakesIn, Withholds}
+use Rattle.forwarding_model.specs.StandingSteps.{TakesIn, Withholds}
 use Rattle.forwarding_model.proofs.Sound.{is_epoch-true}
 use Rattle.forwarding_model.proofs.Decisions.{epoch_test, link_closes, other_links_keep, target_at-open, under_mask-active}
 

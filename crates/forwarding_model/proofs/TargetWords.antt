@@ -11,7 +11,7 @@ use Rattle.sfu_base.specs.declared.frame.Dti.{Dti}
 use Rattle.sfu_base.specs.declared.frame.Dti.TheVariants.{NotPresent, Discardable, Switch, Required}
 use Rattle.sfu_base.specs.declared.frame.Wish.{Wish}
 use Rattle.forwarding_model.specs.Targets.{indication, says_switch, says_present, is_switch, is_present, is_active, is_within, is_allowed, layers}
-use Rattle.forwarding_model.specs.Words.{HasBit, IsAllowed}
+use Rattle.forwarding_model.specs.TargetWords.{HasBit, IsAllowed}
 
 -- ---- a bit
 
