@@ -16,11 +16,12 @@ use Rattle.forwarding_model.specs.declared.target.Reason.TheVariants.{BrokenLink
 use Rattle.forwarding_model.specs.Lists.{first_failing}
 use Rattle.forwarding_model.specs.Targets.{references, is_present, is_allowed, aim, IsBest}
 use Rattle.forwarding_model.specs.Selection.{missing_reference, opening, opened_or, is_present_in, has_room, target_of, reason_verdict, candidate_verdict, reference_verdict, target_verdict}
-use Rattle.forwarding_model.specs.Standing.{Standing, has_passed, key_passed, kept_target_at, candidate_at, target_at, verdict_at}
+use Rattle.forwarding_model.specs.Standing.{Standing, has_passed, key_passed, kept_target_at, candidate_at, target_at, passes_at, verdict_at}
 use Rattle.forwarding_model.specs.Decisions.{IsInTarget, IsFirstMissing, IsComplete, IsClosedAt, IsTargetOf, IsOfTarget}
 use Rattle.forwarding_model.specs.VerdictWords.{Says}
 use Rattle.forwarding_model.proofs.Members.{none_failing, failing_none}
 use Rattle.forwarding_model.proofs.Bests.{aim_is_best}
+use Rattle.forwarding_model.proofs.Verdicts.{verdict_from_passes, passes_from_verdict}
 use Rattle.forwarding_model.proofs.Decisions.{opens_the_best, opens_what_it_can, candidate_in_target}
 
 failing_first : (has : ℕ → Bool) (f : FrameMeaning) (xs : List ℕ) (earlier : List ℕ) (d : ℕ) → references f ≡ earlier ++ xs → AllByRecursion (λ e. has e ≡ true) earlier
@@ -207,3 +208,9 @@ says_verdict s f packets (Hole below above) h = absurd h
 
 pub verdicts_say_what_is_so : (s : Standing) (f : FrameMeaning) (packets : ℕ) (v : Verdict) → (verdict_at s f packets ≡ v) ↔ Says s f packets v
 verdicts_say_what_is_so s f packets v = (claimed s f packets v, says_verdict s f packets v)
+
+pub passing_in_words : (s : Standing) (f : FrameMeaning) (packets : ℕ) → (passes_at s f packets ≡ true) ↔ Says s f packets Passed
+passing_in_words s f packets = (
+  λ e. claimed s f packets Passed (verdict_from_passes (has_passed s f) (key_passed s f) s.wish f (target_at s f) s.queued packets e),
+  λ h. passes_from_verdict (has_passed s f) (key_passed s f) s.wish f (target_at s f) s.queued packets (says_verdict s f packets Passed h),
+)

@@ -8,7 +8,7 @@ use Rattle.sfu_base.specs.declared.frame.Verdict.TheVariants.{Passed, NotOfTarge
 use Rattle.forwarding_model.specs.declared.target.Reason.{Reason}
 use Rattle.forwarding_model.specs.declared.target.Reason.TheVariants.{BrokenLink, NotOpened}
 use Rattle.forwarding_model.specs.Targets.{is_present, is_allowed}
-use Rattle.forwarding_model.specs.Standing.{Standing, has_passed, candidate_at, verdict_at}
+use Rattle.forwarding_model.specs.Standing.{Standing, has_passed, candidate_at, passes_at, verdict_at}
 use Rattle.forwarding_model.specs.Decisions.{IsInTarget, IsFirstMissing, IsComplete, IsClosedAt, IsTargetOf, IsOfTarget}
 
 -- Of a frame f with so many packets, at a standing.
@@ -37,3 +37,7 @@ Says s f packets (Hole below above) = ⊥
 -- what the verdict on f says is so, and no other verdict says what is so
 abbrev pub VerdictsSayWhatIsSo : Type 0
 VerdictsSayWhatIsSo = (s : Standing) (f : FrameMeaning) (packets : ℕ) (v : Verdict) → (verdict_at s f packets ≡ v) ↔ Says s f packets v
+
+-- and f passes exactly where what Passed says is so
+abbrev pub PassingInWords : Type 0
+PassingInWords = (s : Standing) (f : FrameMeaning) (packets : ℕ) → (passes_at s f packets ≡ true) ↔ Says s f packets Passed

@@ -4,7 +4,7 @@
 ghost use Rattle.forwarding_model.specs.TargetWords.{ActiveInWords, SwitchInWords, PresentInWords, AllowedInWords};
 ghost use Rattle.forwarding_model.specs.StandingSteps.{OtherEpochsBeginAnew, EpochsGoOn, MasksClose, LinksClose, OtherTargetsStay, ClosedTargetsStay, ClosingFramesClose, OtherFramesKeep, PassingFramesAreTakenIn, OtherFramesAreWithheld, PlainPacketsAreQueued, WishesChangeAlone, TakesChangeTheQueue, NewestFramesHaveTheEpoch};
 ghost use Rattle.forwarding_model.specs.Openings.{NothingOpenedIsKept, OpenedTargetsAreCandidates, OpeningsHold};
-ghost use Rattle.forwarding_model.specs.VerdictWords.{VerdictsSayWhatIsSo};
+ghost use Rattle.forwarding_model.specs.VerdictWords.{VerdictsSayWhatIsSo, PassingInWords};
 ghost use Rattle.forwarding_model.specs.PassedFrames.{EpochsFramesCount, HasPassedInWords, KeyPassedInWords};
 ghost use Rattle.forwarding_model.specs.CauseWords.{FramesHaveTheirVerdicts, OtherNumbersAreHoles, HolesAreNoFrames};
 ghost use Rattle.forwarding_model.specs.OutgoingWords.{TopLayerInWords, LastPacketsAreMarked, OtherMarkersAreKept, NextNumbersCountTakes};
@@ -64,9 +64,11 @@ pub fn open_targets_were_opened_by_their_frame<Structure>()
 
 // ---- verdicts and causes
 
-/// What the verdict on a frame says is so, and no other verdict says what is so.
+/// What the verdict on a frame says is so, and no other verdict says what is so. A frame passes exactly where it is present in an open
+/// target, all its references were passed, and there is room.
 pub fn the_verdict_says_what_is_so()
-    ensures { VerdictsSayWhatIsSo }
+    ensures verdict { VerdictsSayWhatIsSo }
+    ensures passes { PassingInWords }
 {}
 
 /// The cause of a frame's number is the verdict that fell when it came. That of any other number below the newest frame's is a hole between
