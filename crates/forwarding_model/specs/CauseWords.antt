@@ -36,12 +36,15 @@ IsNextBelow numbers newest n (Some below) = IsNearBelow numbers newest n below
 
 -- the cause of a frame's number is the verdict that fell when it came, whatever came since
 abbrev pub FramesHaveTheirVerdicts : Type 0 → Type 0
-FramesHaveTheirVerdicts S = (wish : Wish) (since past : List (Event S)) (frame : Frame S) → IsOneTrack (meanings_of (since ++ WholeFrame frame ∷ past))
-    → cause wish (since ++ WholeFrame frame ∷ past) frame.meaning.number ≡ verdict_at (standing wish past) frame.meaning (length frame.packets)
+FramesHaveTheirVerdicts S = (wish : Wish) (since past : List (Event S)) (frame : Frame S)
+    → IsOneTrack (meanings_of (since ++ WholeFrame frame ∷ past))
+    → cause wish (since ++ WholeFrame frame ∷ past) frame.meaning.number
+    ≡ verdict_at (standing wish past) frame.meaning (length frame.packets)
 
 -- the cause of a number below the newest frame's, which no frame has, is a hole between the frames beside it
 abbrev pub OtherNumbersAreHoles : Type 0 → Type 0
-OtherNumbersAreHoles S = (wish : Wish) (events : List (Event S)) (newest : Frame S) (older : List (Frame S)) (n : ℕ) → IsOneTrack (meanings_of events)
+OtherNumbersAreHoles S = (wish : Wish) (events : List (Event S)) (newest : Frame S) (older : List (Frame S)) (n : ℕ)
+    → IsOneTrack (meanings_of events)
     → frames_of events ≡ newest ∷ older → n < newest.meaning.number → (IsMember n (frame_numbers events) → ⊥)
     → (below : Option ℕ) × (above : ℕ) × (cause wish events n ≡ Hole below above)
     × IsNextBelow (frame_numbers events) newest.meaning.number n below × IsNextAbove (frame_numbers events) n above

@@ -23,7 +23,8 @@ NothingOpenedIsKept = (has : ℕ → Bool) (key_passed : Bool) (wish : Wish) (f 
 -- where f opens a target, that is the candidate, and f is its opening frame
 abbrev pub OpenedTargetsAreCandidates : Type 0
 OpenedTargetsAreCandidates = (has : ℕ → Bool) (key_passed : Bool) (wish : Wish) (f : FrameMeaning) (current : CurrentTarget) (target : ℕ)
-    → opening has key_passed wish f (kept_target has f current) ≡ Some target → candidate has key_passed wish f current ≡ Open target f.number
+    → opening has key_passed wish f (kept_target has f current) ≡ Some target
+    → candidate has key_passed wish f current ≡ Open target f.number
 
 -- ---- the opening frame
 
@@ -49,7 +50,8 @@ pub record WasOpenedAt {S : Type 0} (wish : Wish) (events : List (Event S)) (tar
   pub number : frame.meaning.number ≡ opened
   pub passes : passes_at (standing wish past) frame.meaning (length frame.packets) ≡ true
   pub opens : OpensAt (standing wish past) frame.meaning target
-  pub last : EachFrameSince (λ before later. LeavesOpen (standing wish before) later.meaning (length later.packets)) since (WholeFrame frame ∷ past)
+  pub last : EachFrameSince (λ before later. LeavesOpen (standing wish before) later.meaning (length later.packets)) since
+      (WholeFrame frame ∷ past)
 
 -- an open target was opened by the frame with its opening number
 abbrev pub OpeningsHold : Type 0 → Type 0

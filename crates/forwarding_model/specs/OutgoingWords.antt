@@ -24,12 +24,14 @@ TopLayerInWords = (f : FrameMeaning) (current : CurrentTarget) → (is_top_layer
 
 -- such a frame goes out with the marker set on its last packet, whether or not it stood there, and with nothing else changed
 abbrev pub LastPacketsAreMarked : Type 0 → Type 0
-LastPacketsAreMarked S = (frame : Frame S) (target : CurrentTarget) (before : List Packet) (last : Packet) → is_top_layer frame.meaning target ≡ true
+LastPacketsAreMarked S = (frame : Frame S) (target : CurrentTarget) (before : List Packet) (last : Packet)
+    → is_top_layer frame.meaning target ≡ true
     → frame.packets ≡ before ++ last ∷ [] → send_marked frame target ≡ before ++ record last { marker = true } ∷ []
 
 -- and any other frame as it is: a marker that stands is kept
 abbrev pub OtherMarkersAreKept : Type 0 → Type 0
-OtherMarkersAreKept S = (frame : Frame S) (target : CurrentTarget) → is_top_layer frame.meaning target ≡ false → send_marked frame target ≡ frame.packets
+OtherMarkersAreKept S = (frame : Frame S) (target : CurrentTarget) → is_top_layer frame.meaning target ≡ false
+    → send_marked frame target ≡ frame.packets
 
 -- the next number is the first one and one more for each take, where each take found a packet; right after the join it is the first
 abbrev pub NextNumbersCountTakes : Type 0 → Type 0

@@ -12,7 +12,8 @@ use Rattle.forwarding_model.specs.Standing.{Standing, target_at, has_passed, key
 
 -- the chain that protects the target has no link in f to the opening frame or a later one, or that frame was passed
 abbrev pub IsLinked : (ℕ → Bool) → FrameMeaning → ℕ → ℕ → Type 0
-IsLinked has f target opened = 0 < f.chain_count → 0 < chain_link f target → opened + chain_link f target ≤ f.number → has (chain_link f target) ≡ true
+IsLinked has f target opened = 0 < f.chain_count → 0 < chain_link f target → opened + chain_link f target ≤ f.number
+    → has (chain_link f target) ≡ true
 
 -- the candidate is a target that f opens, with f as its opening frame; or it was open before f, with its opening frame, and is linked
 abbrev pub IsOpenAndLinked : (ℕ → Bool) → Bool → Wish → FrameMeaning → (current candidate : CurrentTarget) → Type 0
@@ -32,7 +33,8 @@ BreaksAt s f = WasClosed (target_under_mask f (target_at s f)) (kept_target_at s
 
 -- f opens a target, and is a switch for it
 abbrev pub OpensBySwitch : Standing → FrameMeaning → Type 0
-OpensBySwitch s f = (target : ℕ) × (opening (has_passed s f) (key_passed s f) s.wish f (kept_target_at s f) ≡ Some target) × (is_switch f target ≡ true)
+OpensBySwitch s f =
+    (target : ℕ) × (opening (has_passed s f) (key_passed s f) s.wish f (kept_target_at s f) ≡ Some target) × (is_switch f target ≡ true)
 
 -- all references of f were passed, and f is a key frame, or a switch for the target that it opens
 pub record IsRestart (s : Standing) (f : FrameMeaning) : Type 0 where

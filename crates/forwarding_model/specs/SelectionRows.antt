@@ -20,7 +20,10 @@ abbrev pub PassingOpensNothing : Type 0
 PassingOpensNothing =
     map
     (cause (layers_wish 1 0)
-    (one_target 4 1 1 false Required 2 (1 ∷ []) (packet true ∷ []) ∷ one_target 3 1 1 false Required 2 (2 ∷ []) (packet true ∷ []) ∷ key_a 1 1 ∷ []))
+    (one_target 4 1 1 false Required 2 (1 ∷ []) (packet true ∷ [])
+    ∷ one_target 3 1 1 false Required 2 (2 ∷ []) (packet true ∷ [])
+    ∷ key_a 1 1
+    ∷ []))
     (3 ∷ 4 ∷ [])
     ≡ Passed ∷ Link 4 2 ∷ []
 
@@ -42,7 +45,10 @@ NewEpochGivesTheReason =
 -- A subscriber that joined in the middle of an epoch: the first frame that it sees begins the epoch for it, though it doesn't pass.
 abbrev pub WithheldFramesBeginEpochs : Type 0
 WithheldFramesBeginEpochs =
-    map (cause (layers_wish 1 0) (one_target 3 1 1 false Switch 0 [] (packet true ∷ []) ∷ one_target 2 1 1 false Switch 0 [] (packet true ∷ []) ∷ [])) (2 ∷ 3 ∷ [])
+    map
+    (cause (layers_wish 1 0)
+    (one_target 3 1 1 false Switch 0 [] (packet true ∷ []) ∷ one_target 2 1 1 false Switch 0 [] (packet true ∷ []) ∷ []))
+    (2 ∷ 3 ∷ [])
     ≡ Unopened 2 ∷ Unopened 2 ∷ []
 
 -- ---- temporal layers, discardable frames, and targets above the second
@@ -93,7 +99,8 @@ DiscardableFramesOpenNothing = cause (layers_wish 0 0) (odd_d ∷ WishChange (la
 -- the mask 8 leaves target 3 alone, which the frame opens
 abbrev pub FourthBitIsTargetThree : Type 0
 FourthBitIsTargetThree =
-    cause (layers_wish 1 1) (four_targets 2 false 8 (Required ∷ Required ∷ Switch ∷ Switch ∷ []) (2 ∷ 1 ∷ []) (2 ∷ []) ∷ key_d ∷ []) 2 ≡ Passed
+    cause (layers_wish 1 1) (four_targets 2 false 8 (Required ∷ Required ∷ Switch ∷ Switch ∷ []) (2 ∷ 1 ∷ []) (2 ∷ []) ∷ key_d ∷ []) 2
+    ≡ Passed
 
 -- ---- the order of verdicts where no target is open
 

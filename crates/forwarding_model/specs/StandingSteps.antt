@@ -18,7 +18,8 @@ use Rattle.forwarding_model.specs.Decisions.{IsBrokenLink, IsOpenAt, ClosesAt, C
 
 -- at a frame of another epoch nothing was passed of it, and no target is open since that frame
 abbrev pub OtherEpochsBeginAnew : Type 0
-OtherEpochsBeginAnew = (s : Standing) (f : FrameMeaning) → s.epoch ≢ Some f.epoch → (passed_at s f ≡ []) × (kept_target_at s f ≡ Closed (NotOpened f.number))
+OtherEpochsBeginAnew = (s : Standing) (f : FrameMeaning) → s.epoch ≢ Some f.epoch
+    → (passed_at s f ≡ []) × (kept_target_at s f ≡ Closed (NotOpened f.number))
 
 -- within an epoch all that passed of it counts
 abbrev pub EpochsGoOn : Type 0
@@ -32,7 +33,8 @@ MasksClose = (s : Standing) (f : FrameMeaning) (target opened : ℕ) → IsOpenA
 -- one whose link is broken is closed at f, for the frame that the link names
 abbrev pub LinksClose : Type 0
 LinksClose = (s : Standing) (f : FrameMeaning) (target opened number : ℕ) → IsOpenAt s f target opened → is_active f target ≡ true
-    → IsBrokenLink (has_passed s f) f target opened → number + chain_link f target ≡ f.number → kept_target_at s f ≡ Closed (BrokenLink f.number number)
+    → IsBrokenLink (has_passed s f) f target opened → number + chain_link f target ≡ f.number
+    → kept_target_at s f ≡ Closed (BrokenLink f.number number)
 
 -- and any other stays open, with its opening frame
 abbrev pub OtherTargetsStay : Type 0
@@ -41,7 +43,8 @@ OtherTargetsStay = (s : Standing) (f : FrameMeaning) (target opened : ℕ) → I
 
 -- within an epoch a closed target stays closed, for the reason that it has
 abbrev pub ClosedTargetsStay : Type 0
-ClosedTargetsStay = (s : Standing) (f : FrameMeaning) (reason : Reason) → s.epoch ≡ Some f.epoch → s.target ≡ Closed reason → kept_target_at s f ≡ Closed reason
+ClosedTargetsStay = (s : Standing) (f : FrameMeaning) (reason : Reason) → s.epoch ≡ Some f.epoch → s.target ≡ Closed reason
+    → kept_target_at s f ≡ Closed reason
 
 -- in short: a frame that closes a target leaves it closed for that reason
 abbrev pub ClosingFramesClose : Type 0
@@ -72,29 +75,35 @@ pub record Withholds (before : Standing) (f : FrameMeaning) (after : Standing) :
   pub wish : after.wish ≡ before.wish
 
 abbrev pub PassingFramesAreTakenIn : Type 0 → Type 0
-PassingFramesAreTakenIn S = (wish : Wish) (frame : Frame S) (past : List (Event S)) → passes_at (standing wish past) frame.meaning (length frame.packets) ≡ true
+PassingFramesAreTakenIn S = (wish : Wish) (frame : Frame S) (past : List (Event S))
+    → passes_at (standing wish past) frame.meaning (length frame.packets) ≡ true
     → TakesIn (standing wish past) frame.meaning (length frame.packets) (standing wish (WholeFrame frame ∷ past))
 
 abbrev pub OtherFramesAreWithheld : Type 0 → Type 0
-OtherFramesAreWithheld S = (wish : Wish) (frame : Frame S) (past : List (Event S)) → passes_at (standing wish past) frame.meaning (length frame.packets) ≡ false
+OtherFramesAreWithheld S = (wish : Wish) (frame : Frame S) (past : List (Event S))
+    → passes_at (standing wish past) frame.meaning (length frame.packets) ≡ false
     → Withholds (standing wish past) frame.meaning (standing wish (WholeFrame frame ∷ past))
 
 -- a packet of a plain track changes the queue alone, and where it has 512 packets nothing
 abbrev pub PlainPacketsAreQueued : Type 0 → Type 0
 PlainPacketsAreQueued S = (wish : Wish) (packet : Packet) (past : List (Event S))
-    → ((standing wish past).queued < 512 → standing wish (PlainPacket packet ∷ past) ≡ record (standing wish past) { queued = (standing wish past).queued + 1 })
+    → ((standing wish past).queued < 512
+    → standing wish (PlainPacket packet ∷ past) ≡ record (standing wish past) { queued = (standing wish past).queued + 1 })
     × (512 ≤ (standing wish past).queued → standing wish (PlainPacket packet ∷ past) ≡ standing wish past)
 
 -- a change of the wish changes the wish alone
 abbrev pub WishesChangeAlone : Type 0 → Type 0
-WishesChangeAlone S = (wish changed : Wish) (past : List (Event S)) → standing wish (WishChange changed ∷ past) ≡ record (standing wish past) { wish = changed }
+WishesChangeAlone S = (wish changed : Wish) (past : List (Event S))
+    → standing wish (WishChange changed ∷ past) ≡ record (standing wish past) { wish = changed }
 
 -- a take changes the queue alone
 abbrev pub TakesChangeTheQueue : Type 0 → Type 0
-TakesChangeTheQueue S = (wish : Wish) (past : List (Event S)) → standing wish (Take ∷ past) ≡ record (standing wish past) { queued = (standing wish past).queued - 1 }
+TakesChangeTheQueue S = (wish : Wish) (past : List (Event S))
+    → standing wish (Take ∷ past) ≡ record (standing wish past) { queued = (standing wish past).queued - 1 }
 
 -- so the epoch is always that of the newest frame, and there is none before the first
 abbrev pub NewestFramesHaveTheEpoch : Type 0 → Type 0
 NewestFramesHaveTheEpoch S = (wish : Wish) (events : List (Event S))
     → (frames_of events ≡ [] → (standing wish events).epoch ≡ None)
-    × ((frame : Frame S) (older : List (Frame S)) → frames_of events ≡ frame ∷ older → (standing wish events).epoch ≡ Some frame.meaning.epoch)
+    × ((frame : Frame S) (older : List (Frame S)) → frames_of events ≡ frame ∷ older
+    → (standing wish events).epoch ≡ Some frame.meaning.epoch)

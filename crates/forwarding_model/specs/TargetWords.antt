@@ -33,7 +33,8 @@ SwitchInWords = (f : FrameMeaning) (target : ℕ) → (is_switch f target ≡ tr
 
 -- a frame is present in a target that there is, unless its indication says that it isn't: discardable frames are present too
 abbrev pub PresentInWords : Type 0
-PresentInWords = (f : FrameMeaning) (target : ℕ) → (is_present f target ≡ true) ↔ ((target < f.target_count) × (indication f target ≢ NotPresent))
+PresentInWords = (f : FrameMeaning) (target : ℕ)
+    → (is_present f target ≡ true) ↔ ((target < f.target_count) × (indication f target ≢ NotPresent))
 
 abbrev pub AllowedInWords : Type 0
 AllowedInWords = (wish : Wish) (f : FrameMeaning) (target : ℕ) → (is_allowed wish f target ≡ true) ↔ IsAllowed wish f target

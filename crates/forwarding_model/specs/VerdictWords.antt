@@ -21,7 +21,8 @@ Says s f packets (NotOfTarget None) =
 -- f isn't present in its target
 Says s f packets (NotOfTarget (Some target)) = (is_present f target ≡ false) × IsTargetOf s f target
 -- it is, and its first reference that wasn't passed lies below the epoch's start
-Says s f packets (Behind fdiff start) = IsOfTarget s f × IsFirstMissing (has_passed s f) f fdiff × (start ≡ f.start) × (f.number < f.start + fdiff)
+Says s f packets (Behind fdiff start) =
+    IsOfTarget s f × IsFirstMissing (has_passed s f) f fdiff × (start ≡ f.start) × (f.number < f.start + fdiff)
 -- or is this frame, of the epoch
 Says s f packets (Reference number) =
     IsOfTarget s f × ((d : ℕ) × IsFirstMissing (has_passed s f) f d × (f.start + d ≤ f.number) × (number + d ≡ f.number))
