@@ -29,3 +29,7 @@ pub mod Accepting
 pub mod Making
 pub mod Takings
 pub mod Outcomes
+pub mod Newest
+pub mod Plains
+pub mod TrackRows
+pub mod ReceptionRows

@@ -19,7 +19,10 @@ pub mod Accepted
 pub mod WholeFrames
 pub mod Making
 pub mod History
+pub mod Plain
 pub mod Rows
 pub mod WorkedFormat
 pub mod WorkedPackets
+pub mod TrackRows
+pub mod ReceptionRows
 pub mod Laws
