@@ -5,4 +5,6 @@ pub mod Held
 pub mod Events
 pub mod Fetching
 pub mod Missing
+pub mod Stepwise
+pub mod OneStep
 pub mod Slots
