@@ -168,9 +168,10 @@ impl Assembly {
         Outcome::Whole
     }
 
-    /// How many packets the frame has that the last call made whole; 0 where it made none whole.
+    /// How many packets the frame has that the last call made whole, at most 512; 0 where it made none whole.
     pub fn count(&self) -> u16
-        ensures { result ≡ length self.now.frame }
+        ensures count { result ≡ length self.now.frame }
+        ensures few { length self.now.frame ≤ 512 }
     {
         match self.progress {
             Progress::Whole => self.packets.len() as u16,
