@@ -100,7 +100,18 @@ fn check_row(rt: &impl Abort, assembly: &mut Assembly, marks: &[(Mark, Outcome)]
 }
 
 // Marks and what each is answered, and the first bytes of the packets of the frame that the last made whole.
-const ROWS: [(&[(Mark, Outcome)], &[u8]); 15] = [
+const ROWS: [(&[(Mark, Outcome)], &[u8]); 20] = [
+    // before the first frame
+    (
+        &[
+            (Mark::Pad, Outcome::Pad),
+            (Mark::Gone, Outcome::Torn),
+            (Mark::Unread, Outcome::Torn),
+            (LAST, Outcome::Torn),
+        ],
+        &[],
+    ),
+    (&[(Mark::Pad, Outcome::Pad), (ALONE, Outcome::Whole)], &[1]),
     // a packet was given up inside
     (
         &[
@@ -140,6 +151,10 @@ const ROWS: [(&[(Mark, Outcome)], &[u8]); 15] = [
         ],
         &[1, 2],
     ),
+    (
+        &[(OPEN_FIRST, Outcome::Partial), (ALONE, Outcome::Whole)],
+        &[1],
+    ),
     // frames of one and of three packets
     (&[(ALONE, Outcome::Whole)], &[0]),
     (
@@ -152,7 +167,11 @@ const ROWS: [(&[(Mark, Outcome)], &[u8]); 15] = [
     ),
     // another frame number
     (
-        &[(FIRST, Outcome::Partial), (OTHER_LAST, Outcome::Torn)],
+        &[
+            (FIRST, Outcome::Partial),
+            (OTHER_LAST, Outcome::Torn),
+            (LAST, Outcome::Torn),
+        ],
         &[],
     ),
     // broken joins: an element that isn't continued, and one that is though none is open
@@ -169,6 +188,22 @@ const ROWS: [(&[(Mark, Outcome)], &[u8]); 15] = [
             (FIRST, Outcome::Partial),
             (JOINED_LAST, Outcome::Torn),
             (LAST, Outcome::Torn),
+        ],
+        &[],
+    ),
+    (
+        &[
+            (OPEN_FIRST, Outcome::Partial),
+            (MIDDLE, Outcome::Torn),
+            (JOINED_LAST, Outcome::Torn),
+        ],
+        &[],
+    ),
+    (
+        &[
+            (FIRST, Outcome::Partial),
+            (MIDDLE, Outcome::Partial),
+            (JOINED_LAST, Outcome::Torn),
         ],
         &[],
     ),
