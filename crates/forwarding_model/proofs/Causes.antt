@@ -39,7 +39,7 @@ abbrev AtOpening : CurrentTarget → List FrameMeaning → Type 0
 AtOpening (Open t opened) passed = (h : FrameMeaning) × IsMember h passed × (h.number ≡ opened)
 AtOpening (Closed r) passed = Unit {0}
 
-abbrev IsEpochOf : List FrameMeaning → Option ℕ → Type 0
+abbrev pub IsEpochOf : List FrameMeaning → Option ℕ → Type 0
 IsEpochOf [] epoch = epoch ≡ None
 IsEpochOf (h ∷ past) epoch = epoch ≡ Some h.epoch
 
@@ -52,7 +52,7 @@ pub record IsTold (past : List FrameMeaning) (steps : List Step) (s : Standing) 
   pub told : (m : ℕ) → verdict_among steps m ≡ Some Passed → (g : FrameMeaning) × IsMember g s.passed × (g.number ≡ m)
 
 -- the frames of one epoch lie side by side
-epoch_apart : (past : List FrameMeaning) (f g : FrameMeaning) (epoch : Option ℕ) → IsOneTrack (f ∷ past) → IsEpochOf past epoch → IsMember g past
+pub epoch_apart : (past : List FrameMeaning) (f g : FrameMeaning) (epoch : Option ℕ) → IsOneTrack (f ∷ past) → IsEpochOf past epoch → IsMember g past
     → g.epoch ≡ f.epoch → is_epoch epoch f.epoch ≡ false → ⊥
 epoch_apart [] f g epoch track e m same other = elim m [ ]
 epoch_apart (h ∷ past) f g epoch track e m same other = go m

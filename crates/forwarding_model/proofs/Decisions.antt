@@ -17,7 +17,8 @@ use Rattle.forwarding_model.specs.Timeline.{Event, frames_of}
 use Rattle.forwarding_model.specs.Timeline.Event.{WholeFrame, PlainPacket, WishChange, Take}
 use Rattle.forwarding_model.specs.Standing.{Standing, is_epoch, target_at, has_passed, key_passed, kept_target_at, candidate_at, passes_at, admitted, after_plain, plain_passes, standing}
 use Rattle.forwarding_model.specs.Restart.{WasClosed, BreaksAt}
-use Rattle.forwarding_model.specs.Decisions.{IsBrokenLink, IsOpenAt, ClosesAt, WasClosedFor, IsUpgrade, CanOpen, IsInTarget}
+use Rattle.forwarding_model.specs.Since.{EachFrameSince}
+use Rattle.forwarding_model.specs.Decisions.{IsBrokenLink, IsOpenAt, ClosesAt, ClosesNone, WasClosedFor, IsUpgrade, CanOpen, IsInTarget}
 use Rattle.forwarding_model.proofs.Members.{none_failing, failing_none}
 use Rattle.forwarding_model.proofs.Sound.{is_epoch-true, none_is}
 use Rattle.forwarding_model.proofs.Bests.{opening_is_best, better_fact}
@@ -28,7 +29,7 @@ broken_test : (has : ℕ → Bool) (f : FrameMeaning) (target opened : ℕ) → 
 broken_test has f target opened b =
     rw (lt-ltb 0 f.chain_count b.chains, lt-ltb 0 (chain_link f target) b.link, le-leb (opened + chain_link f target) f.number b.late, b.lost) refl
 
-test_broken : (has : ℕ → Bool) (f : FrameMeaning) (target opened : ℕ) → is_link_broken has f target opened ≡ true → IsBrokenLink has f target opened
+pub test_broken : (has : ℕ → Bool) (f : FrameMeaning) (target opened : ℕ) → is_link_broken has f target opened ≡ true → IsBrokenLink has f target opened
 test_broken has f target opened h =
     let a = and_parts (nat_lt 0 f.chain_count) _ h in
     let b = and_parts (nat_lt 0 (chain_link f target)) _ a.1 in
@@ -40,7 +41,7 @@ test_broken has f target opened h =
       lost = not-true (has (chain_link f target)) c.1;
     }
 
-link_closes : (has : ℕ → Bool) (f : FrameMeaning) (target opened : ℕ) → IsBrokenLink has f target opened
+pub link_closes : (has : ℕ → Bool) (f : FrameMeaning) (target opened : ℕ) → IsBrokenLink has f target opened
     → target_after_link has f (Open target opened) ≡ Closed (BrokenLink f.number (f.number - chain_link f target))
 link_closes has f target opened b =
     ap (λ t. cond t (Closed (BrokenLink f.number (f.number - chain_link f target))) (Open target opened)) (broken_test has f target opened b)
@@ -58,14 +59,14 @@ other_links_keep has f target opened whole = go (is_link_broken has f target ope
     go true e = absurd (whole (test_broken has f target opened e))
     go false e = refl
 
-epoch_test : (epoch : Option ℕ) (n : ℕ) → epoch ≡ Some n → is_epoch epoch n ≡ true
+pub epoch_test : (epoch : Option ℕ) (n : ℕ) → epoch ≡ Some n → is_epoch epoch n ≡ true
 epoch_test None n e = absurd (grind arith)
 epoch_test (Some m) n e = eq-eqb m n (let same : m ≡ n = grind arith in same)
 
-target_at-open : (s : Standing) (f : FrameMeaning) (target opened : ℕ) → IsOpenAt s f target opened → target_at s f ≡ Open target opened
+pub target_at-open : (s : Standing) (f : FrameMeaning) (target opened : ℕ) → IsOpenAt s f target opened → target_at s f ≡ Open target opened
 target_at-open s f target opened o = ap (λ b. cond b s.target (Closed (NotOpened f.number))) (epoch_test s.epoch f.epoch o.epoch) ∙ o.target_is
 
-under_mask-active : (f : FrameMeaning) (target opened : ℕ) → is_active f target ≡ true → target_under_mask f (Open target opened) ≡ Open target opened
+pub under_mask-active : (f : FrameMeaning) (target opened : ℕ) → is_active f target ≡ true → target_under_mask f (Open target opened) ≡ Open target opened
 under_mask-active f target opened e = ap (λ b. cond b (Open target opened) (Closed (NotOpened f.number))) e
 
 pub broken_links_break : (s : Standing) (f : FrameMeaning) (target opened : ℕ) → IsOpenAt s f target opened → is_active f target ≡ true
@@ -78,7 +79,7 @@ broken_links_break s f target opened o active b =
 -- ---- why a target is closed
 
 -- it is closed at this frame, or was before
-kept_closed : (s : Standing) (f : FrameMeaning) (reason : Reason) → kept_target_at s f ≡ Closed reason
+pub kept_closed : (s : Standing) (f : FrameMeaning) (reason : Reason) → kept_target_at s f ≡ Closed reason
     → ClosesAt s f reason ⊎ ((s.epoch ≡ Some f.epoch) × (s.target ≡ Closed reason))
 kept_closed s f reason h = by_epoch (is_epoch s.epoch f.epoch) refl h
   where
@@ -136,9 +137,20 @@ no_frames-no_epoch wish (PlainPacket p ∷ past) e = go (plain_passes (standing 
 no_frames-no_epoch wish (WishChange w ∷ past) e = no_frames-no_epoch wish past e
 no_frames-no_epoch wish (Take ∷ past) e = no_frames-no_epoch wish past e
 
+-- where a target is closed already, and no other epoch begins, no frame closes one
+closed_closes_none : (s : Standing) (f : FrameMeaning) (reason : Reason) → s.epoch ≡ Some f.epoch → s.target ≡ Closed reason → ClosesNone s f
+closed_closes_none s f reason here shut (BrokenLink at number) c = let o = c.3.target_is in let both : Closed reason ≡ Open c.1 c.2 = sym shut ∙ o in cc
+closed_closes_none s f reason here shut (NotOpened since) c = elim c.1 [
+  | inl other ↦ other here
+  | inr masked ↦ (let both : Closed reason ≡ Open masked.0 masked.1 = sym shut ∙ masked.2.target_is in cc)
+]
+
+abbrev ClosesNoneSince : {S : Type 0} → Wish → (since past : List (Event S)) → Type 0
+ClosesNoneSince wish since past = EachFrameSince (λ before later. ClosesNone (standing wish before) later.meaning) since past
+
 later_closed : {S : Type 0} (wish : Wish) (event : Event S) (past : List (Event S)) (reason : Reason) → (standing wish (event ∷ past)).passed ≡ (standing wish past).passed
-    → WasClosedFor wish past reason → WasClosedFor wish (event ∷ past) reason
-later_closed wish event past reason same w =
+    → (w : WasClosedFor wish past reason) → ClosesNoneSince wish (event ∷ w.since) (WholeFrame w.frame ∷ w.past) → WasClosedFor wish (event ∷ past) reason
+later_closed wish event past reason same w last =
     record {
       since = event ∷ w.since;
       frame = w.frame;
@@ -146,6 +158,7 @@ later_closed wish event past reason same w =
       stands = ap (λ l. event ∷ l) w.stands;
       closes = w.closes;
       none_passed = same ∙ w.none_passed;
+      last = last;
     }
 
 pub reasons_hold : {S : Type 0} (wish : Wish) (events : List (Event S)) (reason : Reason) → frames_of events ≢ [] → (standing wish events).target ≡ Closed reason
@@ -166,23 +179,29 @@ reasons_hold {S} wish (WholeFrame x ∷ past) reason some h =
     open_candidate (Open target opened) p e = cc
     open_candidate (Closed r) p e = true≢false (sym p)
 
+    further : (s.epoch ≡ Some x.meaning.epoch) × (s.target ≡ Closed reason) → WasClosedFor wish past reason
+        → passes_at s x.meaning (length x.packets) ≡ false → WasClosedFor wish (WholeFrame x ∷ past) reason
+    further c w e =
+        later_closed wish (WholeFrame x) past reason (in_front_of false e refl) w
+        (subst (λ l. ClosesNone (standing wish l) x.meaning) w.stands (closed_closes_none s x.meaning reason c.0 c.1), w.last)
+
     go : (b : Bool) → passes_at s x.meaning (length x.packets) ≡ b → (admitted b s x.meaning (length x.packets)).target ≡ Closed reason
         → (frames_of past ≢ [] → s.target ≡ Closed reason → WasClosedFor wish past reason)
         → WasClosedFor wish (WholeFrame x ∷ past) reason
     go true e k rec = absurd (open_candidate (candidate_at s x.meaning) (and_parts (is_present_in x.meaning (candidate_at s x.meaning)) _ e).0 k)
     go false e k rec = elim (kept_closed s x.meaning reason k) [
-      | inl c ↦ record { since = []; frame = x; past = past; stands = refl; closes = c; none_passed = in_front_of false e refl }
-      | inr c ↦ later_closed wish (WholeFrame x) past reason (in_front_of false e refl)
-          (rec (λ none. let no : None ≡ Some x.meaning.epoch = sym (no_frames-no_epoch wish past none) ∙ c.0 in grind arith) c.1)
+      | inl c ↦ record { since = []; frame = x; past = past; stands = refl; closes = c; none_passed = in_front_of false e refl; last = tt }
+      | inr c ↦ further c (rec (λ none. let no : None ≡ Some x.meaning.epoch = sym (no_frames-no_epoch wish past none) ∙ c.0 in grind arith) c.1) e
     ]
 reasons_hold {S} wish (PlainPacket p ∷ past) reason some h = go (plain_passes (standing wish past)) refl h (λ k. reasons_hold wish past reason some k)
   where
     go : (b : Bool) → plain_passes (standing wish past) ≡ b → (after_plain b (standing wish past)).target ≡ Closed reason
         → ((standing wish past).target ≡ Closed reason → WasClosedFor wish past reason) → WasClosedFor wish (PlainPacket p ∷ past) reason
-    go true e k rec = later_closed wish (PlainPacket p) past reason (ap (λ (c : Bool). (after_plain c (standing wish past)).passed) e) (rec k)
-    go false e k rec = later_closed wish (PlainPacket p) past reason (ap (λ (c : Bool). (after_plain c (standing wish past)).passed) e) (rec k)
-reasons_hold wish (WishChange w ∷ past) reason some h = later_closed wish (WishChange w) past reason refl (reasons_hold wish past reason some h)
-reasons_hold wish (Take ∷ past) reason some h = later_closed wish Take past reason refl (reasons_hold wish past reason some h)
+    go true e k rec = let w = rec k in later_closed wish (PlainPacket p) past reason (ap (λ (c : Bool). (after_plain c (standing wish past)).passed) e) w w.last
+    go false e k rec = let w = rec k in later_closed wish (PlainPacket p) past reason (ap (λ (c : Bool). (after_plain c (standing wish past)).passed) e) w w.last
+reasons_hold wish (WishChange changed ∷ past) reason some h =
+    let w = reasons_hold wish past reason some h in later_closed wish (WishChange changed) past reason refl w w.last
+reasons_hold wish (Take ∷ past) reason some h = let w = reasons_hold wish past reason some h in later_closed wish Take past reason refl w w.last
 
 -- ---- what a frame opens
 

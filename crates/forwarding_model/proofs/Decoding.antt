@@ -18,7 +18,7 @@ use Rattle.forwarding_model.specs.Decodable.IsDecodable.{Decodes}
 use Rattle.forwarding_model.proofs.Members.{each_member, each_weaker, any_member, member_any, failing_none}
 use Rattle.forwarding_model.proofs.Sound.{passing, HasOpenKey, open_key_at, key_among, always_at_open, is_epoch-true}
 
-member_filter : {X : Type 0} (test : X → Bool) (xs : List X) (x : X) → IsMember x xs → test x ≡ true → IsMember x (filter test xs)
+pub member_filter : {X : Type 0} (test : X → Bool) (xs : List X) (x : X) → IsMember x xs → test x ≡ true → IsMember x (filter test xs)
 member_filter test [] x m t = elim m [ ]
 member_filter test (y ∷ ys) x (inl e) t = rw (← e, t) (inl refl)
 member_filter test (y ∷ ys) x (inr m) t = go (test y) refl (member_filter test ys x m t)
@@ -27,7 +27,7 @@ member_filter test (y ∷ ys) x (inr m) t = go (test y) refl (member_filter test
     go true e r = rw e (inr r)
     go false e r = rw e r
 
-filter_member : {X : Type 0} (test : X → Bool) (xs : List X) (x : X) → IsMember x (filter test xs) → IsMember x xs × (test x ≡ true)
+pub filter_member : {X : Type 0} (test : X → Bool) (xs : List X) (x : X) → IsMember x (filter test xs) → IsMember x xs × (test x ≡ true)
 filter_member test [] x m = elim m [ ]
 filter_member test (y ∷ ys) x m = go (test y) refl m (filter_member test ys x)
   where

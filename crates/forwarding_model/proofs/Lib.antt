@@ -33,3 +33,10 @@ pub mod Newest
 pub mod Plains
 pub mod TrackRows
 pub mod ReceptionRows
+pub mod Words
+pub mod Steps
+pub mod Openings
+pub mod PassedFrames
+pub mod Holes
+pub mod OutgoingWords
+pub mod SelectionRows

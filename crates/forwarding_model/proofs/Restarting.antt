@@ -13,7 +13,7 @@ use Rattle.forwarding_model.specs.Standing.{Standing, is_epoch, has_below, passe
 use Rattle.forwarding_model.specs.Timeline.Event.{WholeFrame, PlainPacket, WishChange, Take}
 use Rattle.forwarding_model.specs.declared.target.CurrentTarget.TheVariants.{Open, Closed}
 use Rattle.forwarding_model.specs.declared.target.Reason.TheVariants.{NotOpened}
-use Rattle.forwarding_model.specs.Restart.{WasClosed, BreaksAt, SwitchesTo, IsRestart}
+use Rattle.forwarding_model.specs.Restart.{WasClosed, BreaksAt, OpensBySwitch, IsRestart}
 use Rattle.forwarding_model.specs.Lists.{is_nothing}
 use Rattle.forwarding_model.proofs.Sound.{none_is, best_passes}
 
@@ -59,9 +59,9 @@ restart s f packets closed p =
         elim (or_cases (is_switch f t) _ b.0) [ inl e ↦ inr e | inr e ↦ inl (and_parts f.key _ e).0 ]
 
     go : (o : Option ℕ) → best f (can_open s.wish (is_nothing (missing_reference (has_passed s f) f)) (f.key || key_passed s f) f (kept_target_at s f)) ≡ o
-        → is_present_in f (opened_or f o (kept_target_at s f)) ≡ true → (f.key ≡ true) ⊎ SwitchesTo f (candidate_at s f)
+        → is_present_in f (opened_or f o (kept_target_at s f)) ≡ true → (f.key ≡ true) ⊎ OpensBySwitch s f
     go None e present = absurd (shut (kept_target_at s f) closed present)
-    go (Some t) e present = rw e (elim (opens t (best_passes f _ f.target_count t e)) [ inl k ↦ inl k | inr w ↦ inr (w, refl) ])
+    go (Some t) e present = elim (opens t (best_passes f _ f.target_count t e)) [ inl k ↦ inl k | inr w ↦ inr (t, e, w) ]
 
 -- frames only come to what passed, so where none did, none did on the way
 grows : {S : Type 0} (wish : Wish) (since past : List (Event S)) → length (standing wish past).passed ≤ length (standing wish (since ++ past)).passed

@@ -31,7 +31,7 @@ longer_out send subscriber event past =
     let g = outgoing_grows send subscriber (event ∷ []) past in
     subst (λ l. length (outgoing send subscriber past) ≤ length l) (sym g.1) (omega (arith, length-append (outgoing send subscriber past) g.0))
 
-takes_fit : {S : Type 0} (send : Sender S) (subscriber : Subscriber) (events : List (Event S)) → FindPackets send subscriber events
+pub takes_fit : {S : Type 0} (send : Sender S) (subscriber : Subscriber) (events : List (Event S)) → FindPackets send subscriber events
     → takes_of events ≤ length (outgoing send subscriber events)
 takes_fit send subscriber [] found = omega arith
 takes_fit send subscriber (WholeFrame x ∷ past) found =

@@ -17,6 +17,7 @@ use Rattle.forwarding_model.specs.Timeline.{Event, Frame, frames_of}
 use Rattle.forwarding_model.specs.Timeline.Event.{WholeFrame}
 use Rattle.forwarding_model.specs.Standing.{Standing, has_passed, key_passed, kept_target_at, candidate_at, verdict_at, standing}
 use Rattle.forwarding_model.specs.Restart.{BreaksAt}
+use Rattle.forwarding_model.specs.Since.{EachFrameSince}
 
 -- ---- where a target is closed
 
@@ -57,7 +58,10 @@ ClosesAt s f (NotOpened since) =
     (since ≡ f.number)
     × ((s.epoch ≢ Some f.epoch) ⊎ ((target : ℕ) × (opened : ℕ) × IsOpenAt s f target opened × (is_active f target ≡ false)))
 
--- a frame of the timeline closed the target for this reason, and no frame passed since
+abbrev pub ClosesNone : Standing → FrameMeaning → Type 0
+ClosesNone s f = (reason : Reason) → ClosesAt s f reason → ⊥
+
+-- a frame of the timeline closed the target for this reason, no frame passed since, and none closed a target since: it was the last to do so
 pub record WasClosedFor {S : Type 0} (wish : Wish) (events : List (Event S)) (reason : Reason) : Type 0 where
   pub since : List (Event S)
   pub frame : Frame S
@@ -65,6 +69,7 @@ pub record WasClosedFor {S : Type 0} (wish : Wish) (events : List (Event S)) (re
   pub stands : events ≡ since ++ WholeFrame frame ∷ past
   pub closes : ClosesAt (standing wish past) frame.meaning reason
   pub none_passed : (standing wish events).passed ≡ (standing wish past).passed
+  pub last : EachFrameSince (λ before later. ClosesNone (standing wish before) later.meaning) since (WholeFrame frame ∷ past)
 
 -- once a frame came, a target is closed for the reason that it has
 abbrev pub ReasonsHold : Type 0 → Type 0
@@ -131,20 +136,24 @@ abbrev pub IsTargetOf : Standing → FrameMeaning → ℕ → Type 0
 IsTargetOf s f target =
     ((opened : ℕ) × (candidate_at s f ≡ Open target opened)) ⊎ ((reason : Reason) × IsClosedAt s f reason × (aim s.wish f ≡ Some target))
 
+-- f is present in its target
+abbrev pub IsOfTarget : Standing → FrameMeaning → Type 0
+IsOfTarget s f = (target : ℕ) × IsTargetOf s f target × (is_present f target ≡ true)
+
 -- the queue was too full
 abbrev pub FullClaims : Type 0
 FullClaims = (s : Standing) (f : FrameMeaning) (packets queued needed : ℕ) → verdict_at s f packets ≡ Full queued needed
     → (queued ≡ s.queued) × (needed ≡ packets) × (512 < queued + needed) × IsComplete s f × IsInTarget f (candidate_at s f)
 
--- the first reference that wasn't passed lies below the epoch's start
+-- f is present in its target, and the first reference that wasn't passed lies below the epoch's start
 abbrev pub BehindClaims : Type 0
 BehindClaims = (s : Standing) (f : FrameMeaning) (packets fdiff start : ℕ) → verdict_at s f packets ≡ Behind fdiff start
-    → IsFirstMissing (has_passed s f) f fdiff × (start ≡ f.start) × (f.number < f.start + fdiff)
+    → IsOfTarget s f × IsFirstMissing (has_passed s f) f fdiff × (start ≡ f.start) × (f.number < f.start + fdiff)
 
--- the first reference that wasn't passed is this frame, of the epoch
+-- f is present in its target, and the first reference that wasn't passed is this frame, of the epoch
 abbrev pub ReferenceClaims : Type 0
 ReferenceClaims = (s : Standing) (f : FrameMeaning) (packets number : ℕ) → verdict_at s f packets ≡ Reference number
-    → (d : ℕ) × IsFirstMissing (has_passed s f) f d × (f.start + d ≤ f.number) × (number + d ≡ f.number)
+    → IsOfTarget s f × ((d : ℕ) × IsFirstMissing (has_passed s f) f d × (f.start + d ≤ f.number) × (number + d ≡ f.number))
 
 -- f isn't present in its target
 abbrev pub OtherTargetClaims : Type 0
@@ -156,13 +165,15 @@ abbrev pub NoTargetClaims : Type 0
 NoTargetClaims = (s : Standing) (f : FrameMeaning) (packets : ℕ) → verdict_at s f packets ≡ NotOfTarget None
     → ((reason : Reason) × IsClosedAt s f reason) × ((target : ℕ) → target < f.target_count → is_allowed s.wish f target ≡ true → ⊥)
 
--- no target is open, since the chain was found broken
+-- f is present in its target, all its references were passed, and no target is open, since the chain was found broken
 abbrev pub LinkClaims : Type 0
-LinkClaims = (s : Standing) (f : FrameMeaning) (packets at number : ℕ) → verdict_at s f packets ≡ Link at number → IsClosedAt s f (BrokenLink at number) × IsComplete s f
+LinkClaims = (s : Standing) (f : FrameMeaning) (packets at number : ℕ) → verdict_at s f packets ≡ Link at number
+    → IsOfTarget s f × IsComplete s f × IsClosedAt s f (BrokenLink at number)
 
--- no target is open, since none was opened
+-- f is present in its target, all its references were passed, and no target is open, since none was opened
 abbrev pub UnopenedClaims : Type 0
-UnopenedClaims = (s : Standing) (f : FrameMeaning) (packets since : ℕ) → verdict_at s f packets ≡ Unopened since → IsClosedAt s f (NotOpened since) × IsComplete s f
+UnopenedClaims = (s : Standing) (f : FrameMeaning) (packets since : ℕ) → verdict_at s f packets ≡ Unopened since
+    → IsOfTarget s f × IsComplete s f × IsClosedAt s f (NotOpened since)
 
 -- a frame that came is no hole
 abbrev pub NoFrameIsAHole : Type 0

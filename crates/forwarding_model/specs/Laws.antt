@@ -221,10 +221,12 @@ abbrev pub PassesWherePassed : Type 0
 PassesWherePassed = (has : ℕ → Bool) (key_passed : Bool) (wish : Wish) (f : FrameMeaning) (current : CurrentTarget) (queued packets : ℕ)
     → verdict has key_passed wish f current queued packets ≡ Passed → passes has key_passed wish f current queued packets ≡ true
 
--- a frame that passes opens its target, or the target is open and the chain's link in the frame was passed
+-- a frame that passes opens its target; or the target was open before, and its chain names, in the frame, no frame since the opening one
+-- that wasn't passed
 abbrev pub PassesLinked : Type 0
 PassesLinked = (has : ℕ → Bool) (key_passed : Bool) (wish : Wish) (f : FrameMeaning) (current : CurrentTarget) (queued packets : ℕ)
-    → passes has key_passed wish f current queued packets ≡ true → IsOpenAndLinked has f (candidate has key_passed wish f current)
+    → passes has key_passed wish f current queued packets ≡ true
+    → IsOpenAndLinked has key_passed wish f current (candidate has key_passed wish f current)
 
 -- two tests that agree on what a frame names decide alike
 abbrev pub KeepAlike : Type 0

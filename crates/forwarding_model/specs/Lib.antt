@@ -25,4 +25,13 @@ pub mod WorkedFormat
 pub mod WorkedPackets
 pub mod TrackRows
 pub mod ReceptionRows
+pub mod Since
+pub mod Words
+pub mod Steps
+pub mod Openings
+pub mod VerdictWords
+pub mod PassedFrames
+pub mod Holes
+pub mod OutgoingWords
+pub mod SelectionRows
 pub mod Laws

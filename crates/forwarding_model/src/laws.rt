@@ -186,13 +186,14 @@ pub fn verdicts_are_passed_where_frames_pass()
     ensures passed { PassesWherePassed }
 {}
 
-/// A frame that passes opens its target, or the target is open and the frame that the target's chain names was passed.
+/// A frame that passes opens its target; or the target was open before, and its chain names, in the frame, no frame since the opening one
+/// that wasn't passed.
 pub fn passed_frames_are_linked()
     ensures { PassesLinked }
 {}
 
 /// A broken link closes the open target, and no other link does. Where a target is closed, a frame of the timeline closed it for the
-/// reason that it has, and no frame passed since.
+/// reason that it has, it was the last frame to close one, and no frame passed since.
 pub fn targets_are_closed_for_their_reasons<Structure>()
     ensures broken { BrokenLinksClose }
     ensures other { OtherLinksKeep }

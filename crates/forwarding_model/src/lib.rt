@@ -9,6 +9,7 @@
 
 mod complaint;
 mod laws;
+mod selection_laws;
 mod target;
 
 pub use complaint::Complaint;
@@ -28,5 +29,12 @@ pub use laws::{
     verdicts_are_true, what_was_read_is_in_force, withheld_frames_have_a_path_to_a_root,
     worked_complaints, worked_frames, worked_history, worked_packets_have_a_format,
     worked_receptions, worked_timelines, worked_tracks,
+};
+pub use selection_laws::{
+    causes_are_verdicts_and_holes, each_event_changes_the_standing,
+    frames_leave_the_target_or_close_it, markers_end_the_target_layer,
+    next_numbers_count_the_takes, open_targets_were_opened_by_their_frame,
+    passed_frames_of_the_epoch_count, tests_on_targets_mean_what_they_say,
+    the_verdict_says_what_is_so, worked_selection,
 };
 pub use target::{CurrentTarget, Reason};

@@ -1,0 +1,53 @@
+-- Markers and next numbers are the words.
+use Rattle.std.proofs.Common.{◌≡◌, ◌↔◌, ◌+◌, ◌%◌, true, false, List, [], ◌∷◌, ◌++◌, refl, sym, ap, ◌∙◌, true≢false}
+use Rattle.std.proofs.lemmas.Bool.{eqb-true, eq-eqb}
+use Rattle.std.proofs.lemmas.List.{length-take-le}
+use Rattle.std.specs.declared.option.Option.{Option}
+use Rattle.std.specs.declared.option.Option.TheVariants.{None, Some}
+use Rattle.sfu_base.specs.declared.frame.FrameMeaning.{FrameMeaning}
+use Rattle.sfu_base.specs.declared.frame.Wish.{Wish}
+use Rattle.forwarding_model.specs.declared.target.CurrentTarget.{CurrentTarget}
+use Rattle.forwarding_model.specs.declared.target.CurrentTarget.TheVariants.{Open, Closed}
+use Rattle.forwarding_model.specs.Targets.{layers}
+use Rattle.forwarding_model.specs.Timeline.{Packet, Frame, Event, takes_of}
+use Rattle.forwarding_model.specs.Outgoing.{Sender, Subscriber, has_spatial, is_top_layer, marked, send_marked, next_number, outgoing, FindPackets}
+use Rattle.forwarding_model.specs.OutgoingWords.{EndsThePicture}
+use Rattle.forwarding_model.proofs.Takings.{takes_fit}
+
+top_words : (f : FrameMeaning) (current : CurrentTarget) → is_top_layer f current ≡ true → EndsThePicture f current
+top_words f (Closed reason) e = absurd (true≢false (sym e))
+top_words f (Open target opened) e = go (layers f target) refl e
+  where
+    go : (o : Option Wish) → layers f target ≡ o → has_spatial f.spatial o ≡ true → EndsThePicture f (Open target opened)
+    go None is h = absurd (true≢false (sym h))
+    go (Some pair) is h =
+        record { target = target; opened = opened; is_open = refl; pair = pair; has_layers = is; same = eqb-true f.spatial pair.spatial h }
+
+pub top_layer_in_words : (f : FrameMeaning) (current : CurrentTarget) → (is_top_layer f current ≡ true) ↔ EndsThePicture f current
+top_layer_in_words f current = (
+  top_words f current,
+  λ h. ap (is_top_layer f) h.is_open ∙ ap (has_spatial f.spatial) h.has_layers ∙ eq-eqb f.spatial h.pair.spatial h.same,
+)
+
+marked_last : (before : List Packet) (last : Packet) → marked true (before ++ last ∷ []) ≡ before ++ record last { marker = true } ∷ []
+marked_last [] last = refl
+marked_last (p ∷ []) last = refl
+marked_last (p ∷ q ∷ before) last = ap (λ l. p ∷ l) (marked_last (q ∷ before) last)
+
+marked_none : (packets : List Packet) → marked false packets ≡ packets
+marked_none [] = refl
+marked_none (p ∷ []) = refl
+marked_none (p ∷ q ∷ packets) = ap (λ l. p ∷ l) (marked_none (q ∷ packets))
+
+pub last_packets_are_marked : {S : Type 0} (frame : Frame S) (target : CurrentTarget) (before : List Packet) (last : Packet) → is_top_layer frame.meaning target ≡ true
+    → frame.packets ≡ before ++ last ∷ [] → send_marked frame target ≡ before ++ record last { marker = true } ∷ []
+last_packets_are_marked frame target before last top packets =
+    ap (λ b. marked b frame.packets) top ∙ ap (marked true) packets ∙ marked_last before last
+
+pub other_markers_are_kept : {S : Type 0} (frame : Frame S) (target : CurrentTarget) → is_top_layer frame.meaning target ≡ false → send_marked frame target ≡ frame.packets
+other_markers_are_kept frame target lower = ap (λ b. marked b frame.packets) lower ∙ marked_none frame.packets
+
+pub next_numbers_count_takes : {S : Type 0} (send : Sender S) (subscriber : Subscriber) (events : List (Event S)) → FindPackets send subscriber events
+    → next_number send subscriber events ≡ (subscriber.first + takes_of events) % 65536
+next_numbers_count_takes send subscriber events found =
+    ap (λ k. (subscriber.first + k) % 65536) (length-take-le (takes_of events) (outgoing send subscriber events) (takes_fit send subscriber events found))

@@ -1,0 +1,41 @@
+use Rattle.forwarding_model.proofs.SelectionRows.{passing_opens_nothing, new_epoch_gives_the_reason, withheld_frames_begin_epochs, temporal_wish_is_kept, discardable_frames_pass, discardable_frames_open_nothing, fourth_bit_is_target_three, absence_comes_first, no_target_comes_first, greatest_below_is_told, key_frames_arent_forgotten, lower_markers_are_kept, first_numbers}
+use Rattle.forwarding_model.proofs.selection_laws.worked_selection.Goals as goal
+
+pub returns-clause-passing_opens_nothing : goal.returns-clause-passing_opens_nothing
+returns-clause-passing_opens_nothing c = passing_opens_nothing
+
+pub returns-clause-new_epoch : goal.returns-clause-new_epoch
+returns-clause-new_epoch c = new_epoch_gives_the_reason
+
+pub returns-clause-withheld_frames : goal.returns-clause-withheld_frames
+returns-clause-withheld_frames c = withheld_frames_begin_epochs
+
+pub returns-clause-temporal_wish : goal.returns-clause-temporal_wish
+returns-clause-temporal_wish c = temporal_wish_is_kept
+
+pub returns-clause-discardable_passes : goal.returns-clause-discardable_passes
+returns-clause-discardable_passes c = discardable_frames_pass
+
+pub returns-clause-discardable_opens_nothing : goal.returns-clause-discardable_opens_nothing
+returns-clause-discardable_opens_nothing c = discardable_frames_open_nothing
+
+pub returns-clause-fourth_bit : goal.returns-clause-fourth_bit
+returns-clause-fourth_bit c = fourth_bit_is_target_three
+
+pub returns-clause-absence_first : goal.returns-clause-absence_first
+returns-clause-absence_first c = absence_comes_first
+
+pub returns-clause-no_target_first : goal.returns-clause-no_target_first
+returns-clause-no_target_first c = no_target_comes_first
+
+pub returns-clause-greatest_below : goal.returns-clause-greatest_below
+returns-clause-greatest_below c = greatest_below_is_told
+
+pub returns-clause-key_frame_far_back : goal.returns-clause-key_frame_far_back
+returns-clause-key_frame_far_back c = key_frames_arent_forgotten
+
+pub returns-clause-lower_marker : goal.returns-clause-lower_marker
+returns-clause-lower_marker c = lower_markers_are_kept
+
+pub returns-clause-first_numbers : goal.returns-clause-first_numbers
+returns-clause-first_numbers c = first_numbers

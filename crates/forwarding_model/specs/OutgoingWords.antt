@@ -1,0 +1,37 @@
+-- The marker and the next number of what goes out, in words. RFC 3550, section 5.1; own rule for which packet gets the marker, over AV1 RTP
+-- payload format, section 4.2. Own statements.
+use Rattle.std.specs.Prelude.{◌≡◌, ◌↔◌, ◌+◌, ◌%◌, ℕ, List, [], ◌∷◌, ◌++◌, true, false}
+use Rattle.std.specs.declared.option.Option.TheVariants.{Some}
+use Rattle.sfu_base.specs.declared.frame.FrameMeaning.{FrameMeaning}
+use Rattle.sfu_base.specs.declared.frame.Wish.{Wish}
+use Rattle.forwarding_model.specs.declared.target.CurrentTarget.{CurrentTarget}
+use Rattle.forwarding_model.specs.declared.target.CurrentTarget.TheVariants.{Open}
+use Rattle.forwarding_model.specs.Targets.{layers}
+use Rattle.forwarding_model.specs.Timeline.{Packet, Frame, Event, takes_of}
+use Rattle.forwarding_model.specs.Outgoing.{Sender, Subscriber, is_top_layer, send_marked, next_number, FindPackets}
+
+-- the target is open, and the greatest spatial id of its layers is f's
+pub record EndsThePicture (f : FrameMeaning) (current : CurrentTarget) : Type 0 where
+  pub target : ℕ
+  pub opened : ℕ
+  pub is_open : current ≡ Open target opened
+  pub pair : Wish
+  pub has_layers : layers f target ≡ Some pair
+  pub same : f.spatial ≡ pair.spatial
+
+abbrev pub TopLayerInWords : Type 0
+TopLayerInWords = (f : FrameMeaning) (current : CurrentTarget) → (is_top_layer f current ≡ true) ↔ EndsThePicture f current
+
+-- such a frame goes out with the marker set on its last packet, whether or not it stood there, and with nothing else changed
+abbrev pub LastPacketsAreMarked : Type 0 → Type 0
+LastPacketsAreMarked S = (frame : Frame S) (target : CurrentTarget) (before : List Packet) (last : Packet) → is_top_layer frame.meaning target ≡ true
+    → frame.packets ≡ before ++ last ∷ [] → send_marked frame target ≡ before ++ record last { marker = true } ∷ []
+
+-- and any other frame as it is: a marker that stands is kept
+abbrev pub OtherMarkersAreKept : Type 0 → Type 0
+OtherMarkersAreKept S = (frame : Frame S) (target : CurrentTarget) → is_top_layer frame.meaning target ≡ false → send_marked frame target ≡ frame.packets
+
+-- the next number is the first one and one more for each take, where each take found a packet; right after the join it is the first
+abbrev pub NextNumbersCountTakes : Type 0 → Type 0
+NextNumbersCountTakes S = (send : Sender S) (subscriber : Subscriber) (events : List (Event S)) → FindPackets send subscriber events
+    → next_number send subscriber events ≡ (subscriber.first + takes_of events) % 65536
