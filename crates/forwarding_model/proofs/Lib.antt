@@ -40,3 +40,5 @@ pub mod PassedFrames
 pub mod Holes
 pub mod OutgoingWords
 pub mod SelectionRows
+pub mod LayeredFormats
+pub mod LayeredRows

@@ -11,7 +11,7 @@ use Rattle.forwarding_model.specs.Reading.{Descriptor, IsDescriptor, IsFormat, h
 use Rattle.forwarding_model.specs.Reading.DescriptorReading.{NeedsStructure, Faulty, Reads}
 use Rattle.forwarding_model.specs.WorkedFormat.{WorkedFields, is_distance, are_in_bounds, carried_structure, written_mask, worked_reading, reads_as, described_in_bounds, described, worked_fields, worked_format, worked_layout}
 
-distance_at : (distances : List ℕ) (i : ℕ) → list_all is_distance distances ≡ true → i < length distances → IsDistance (slice_index distances i)
+pub distance_at : (distances : List ℕ) (i : ℕ) → list_all is_distance distances ≡ true → i < length distances → IsDistance (slice_index distances i)
 distance_at distances i all lt = go (is_distance (get_or distances i 0)) refl
   where
     go : (b : Bool) → is_distance (get_or distances i 0) ≡ b → IsDistance (slice_index distances i)

@@ -25,6 +25,8 @@ pub mod WorkedFormat
 pub mod WorkedPackets
 pub mod TrackRows
 pub mod ReceptionRows
+pub mod LayeredFormat
+pub mod LayeredRows
 pub mod Since
 pub mod Words
 pub mod Steps

@@ -13,6 +13,8 @@ ghost use Rattle.forwarding_model.specs.Rows.{BrokenChainCauses, BrokenChainNumb
 ghost use Rattle.forwarding_model.specs.WorkedPackets.{UnreadInside, BrokenInside, OtherStructureInside, BrokenKeyStart, TornKeyFrame, BrokenMask, PaddingSaysNothing, LastMask, MaskAgain, FirstNumberZero, FarthestAbove, NearestBehind, LongFrame, TooLongFrame, FirstSubscriber, FirstSubscriberMarkers, SecondSubscriber, SecondSubscriberTaken, ThirdSubscriber, ThirdSubscriberCauses, HistoryNumbers, HistoryTaken, HistoryCauses, PaddedFrame, TornFrame, EarlyStart, WrappedNumbers, StaleNumber, NewMask, OtherStructure, Accepted, AcceptedCounts, NotRtp, OtherSource, RepeatedNumber, WrappedSequence, LacksKeyFrame, EmptyPayload, LacksStart, SecondStart, BrokenJoin, LacksReference, LostReference, OtherNumber, EndCarries, StartContinues, LongestFrame, TooManyPackets, FaultyDescriptor, BrokenPayload, StructureRule, SameStructure, NoStructureFirst, SourceFirst, NumberBeforeContent, FirstComplaintStays, StaleEmpties, StaleCounts};
 ghost use Rattle.forwarding_model.specs.TrackRows.{TornNumber, EqualNumber, OwnMask, ThreeTargets, LongKeyFrame, EpochsAndStarts, GapTears, PaddingIsPassedOver, StartBeginsAnew, PaddingFirst, PartsOfAFrame, ThirdSubscriberMarkers, OnlyTheSecondTook, PlainContents, PlainQueue, PlainHistory, PlainTaken};
 ghost use Rattle.forwarding_model.specs.ReceptionRows.{OtherNumberAtOnce, BrokenJoinAtOnce, SecondStartAtOnce, BrokenPayloadAtOnce, TooManyAtOnce, ReferenceAtTheEnd, FirstReference, FarthestReference, NotRtpFirst, NoDescriptor, LongKeyFrameAccepted};
+ghost use Rattle.forwarding_model.specs.LayeredFormat.{layered_format};
+ghost use Rattle.forwarding_model.specs.LayeredRows.{BrokenChain, BrokenChainSent, UpperLost, UpperLostSent, MaskSent, WishedCauses, WishedSent, WishedUnmet, OtherTemplate};
 
 // ---- the headline
 
@@ -369,4 +371,19 @@ pub fn worked_receptions()
     ensures not_rtp_first { NotRtpFirst }
     ensures no_descriptor { NoDescriptor }
     ensures long_key_frame_accepted { LongKeyFrameAccepted }
+{}
+
+/// Worked histories of layered tracks with chains, from packets to causes and to what goes out. Their format has all the facts on which
+/// the laws rest.
+pub fn worked_layers()
+    ensures format { IsFormat layered_format }
+    ensures broken_chain { BrokenChain }
+    ensures broken_chain_sent { BrokenChainSent }
+    ensures upper_lost { UpperLost }
+    ensures upper_lost_sent { UpperLostSent }
+    ensures mask_sent { MaskSent }
+    ensures wished_causes { WishedCauses }
+    ensures wished_sent { WishedSent }
+    ensures wished_unmet { WishedUnmet }
+    ensures other_template { OtherTemplate }
 {}

@@ -27,7 +27,7 @@ pub use laws::{
     targets_are_closed_for_their_reasons, the_last_that_were_taken_are_kept,
     the_newest_number_is_that_of_what_came_last, verdicts_are_passed_where_frames_pass,
     verdicts_are_true, what_was_read_is_in_force, withheld_frames_have_a_path_to_a_root,
-    worked_complaints, worked_frames, worked_history, worked_packets_have_a_format,
+    worked_complaints, worked_frames, worked_history, worked_layers, worked_packets_have_a_format,
     worked_receptions, worked_timelines, worked_tracks,
 };
 pub use selection_laws::{
