@@ -1,0 +1,110 @@
+-- What is read from the bytes of a payload: its flags, and its elements up to the first fault (RTP Payload Format For
+-- AV1, section 4.4). The code keeps what is left, and takes one element off its front at a time.
+use Rattle.std.specs.Prelude.{ℕ, zero, suc, ◌-◌, ◌/◌, ◌%◌, ◌^◌, ◌==◌, ◌||◌, nat_lt, not, if◌then◌else◌, List, [], ◌∷◌, length, take, drop, slice_index, Option, Some, None, option_and_then, Result, Ok, Err}
+use Rattle.std.specs.Option.{option_map}
+use Rattle.av1_payload.specs.declared.fault.PayloadFault.{PayloadFault}
+use Rattle.av1_payload.specs.declared.fault.PayloadFault.TheVariants.{Empty, Leb, Length, NoElement}
+use Rattle.av1_payload.specs.declared.left.Layout.{Layout}
+use Rattle.av1_payload.specs.declared.left.Layout.TheVariants.{EachSized, LastBare}
+use Rattle.av1_payload.specs.Leb.{number_of}
+use Rattle.av1_payload.specs.Payloads.{Flags}
+
+-- Lengths (AV1 Bitstream Specification, section 4.10.5).
+
+-- the groups of the bytes up to the first below 128, or none where there is no such byte
+unfoldable pub groups_at : List ℕ → Option (List ℕ)
+groups_at [] = None
+groups_at (byte ∷ rest) =
+    if nat_lt byte 128 then Some (byte ∷ []) else option_map (λ groups. byte % 128 ∷ groups) (groups_at rest)
+
+-- the length that groups spell with the bytes behind them, or none where they are too many or it is too great
+abbrev pub length_of : List ℕ → List ℕ → Option (ℕ × List ℕ)
+length_of bytes groups =
+    if nat_lt 8 (length groups) || not (nat_lt (number_of groups) (2 ^ 32)) then None
+    else Some (number_of groups, drop (length groups) bytes)
+
+-- the length at the front of bytes with the bytes behind it, or none
+unfoldable pub length_at : List ℕ → Option (ℕ × List ℕ)
+length_at bytes = option_and_then (length_of bytes) (groups_at bytes)
+
+-- Elements.
+
+-- an element of this length at the front of bytes, with the bytes behind it
+abbrev pub cut : Option (ℕ × List ℕ) → Result (List ℕ × List ℕ) PayloadFault
+cut None = Err Leb
+cut (Some (n, rest)) = if nat_lt (length rest) n then Err Length else Ok (take n rest, drop n rest)
+
+-- the element with its length before it at the front of bytes, with the bytes behind it; or what is wrong there
+abbrev pub sized_at : List ℕ → Result (List ℕ × List ℕ) PayloadFault
+sized_at bytes = cut (length_at bytes)
+
+-- elements up to the first fault, and that fault or none
+pub record Found : Type 0 where
+  pub elements : List (List ℕ)
+  pub fault : Option PayloadFault
+
+abbrev pub ended : Found
+ended = record { elements = []; fault = None }
+
+abbrev pub failed : PayloadFault → Found
+failed fault = record { elements = []; fault = Some fault }
+
+abbrev pub with_element : List ℕ → Found → Found
+with_element element others = record { elements = element ∷ others.elements; fault = others.fault }
+
+-- an element that was read, and what is found behind it
+abbrev pub and_behind : Result (List ℕ × List ℕ) PayloadFault → (List ℕ → Found) → Found
+and_behind (Err fault) others = failed fault
+and_behind (Ok (element, behind)) others = with_element element (others behind)
+
+-- Each element has its length before it (W = 0). The count says how many bytes still belong to the element before.
+unfoldable pub sized_from : ℕ → List ℕ → Found
+sized_from skipped [] = ended
+sized_from (suc skipped) (byte ∷ rest) = sized_from skipped rest
+sized_from zero (byte ∷ rest) = and_behind (sized_at (byte ∷ rest)) (λ behind. sized_from (length rest - length behind) rest)
+
+-- So many elements have their length before them, and all that follows is the last (W = 1 to 3).
+unfoldable pub counted_from : ℕ → List ℕ → Found
+counted_from zero bytes = record { elements = bytes ∷ []; fault = None }
+counted_from (suc sized) bytes = and_behind (sized_at bytes) (counted_from sized)
+
+-- what is found in the bytes of elements that are laid so
+abbrev pub found_in : Layout → List ℕ → Found
+found_in EachSized bytes = sized_from 0 bytes
+found_in (LastBare sized) bytes = counted_from sized bytes
+
+-- The aggregation header.
+
+-- W
+abbrev pub count_in : ℕ → ℕ
+count_in header = header / 16 % 4
+
+-- how elements are laid that are so many by W
+abbrev pub layout_with : ℕ → Layout
+layout_with zero = EachSized
+layout_with (suc sized) = LastBare sized
+
+-- where W = 0 there is an element at least
+abbrev pub found_behind : Layout → List ℕ → Found
+found_behind EachSized [] = failed NoElement
+found_behind EachSized (byte ∷ rest) = found_in EachSized (byte ∷ rest)
+found_behind (LastBare sized) bytes = found_in (LastBare sized) bytes
+
+-- what is found in a payload
+abbrev pub found_of : List ℕ → Found
+found_of [] = failed Empty
+found_of (header ∷ rest) = found_behind (layout_with (count_in header)) rest
+
+-- the first fault of a payload, or none
+abbrev pub first_fault : List ℕ → Option PayloadFault
+first_fault bytes = (found_of bytes).fault
+
+-- the elements of a payload
+abbrev pub elements_of : List ℕ → List (List ℕ)
+elements_of bytes = (found_of bytes).elements
+
+-- Z, Y and N
+abbrev pub flags_of : List ℕ → Flags
+flags_of bytes =
+    let header = slice_index bytes 0 in
+    record { continues = header / 128 == 1; carries = header / 64 % 2 == 1; new_sequence = header / 8 % 2 == 1 }
