@@ -89,12 +89,12 @@ more bytes place value scale is within high =
       within = omega arith;
     }
 
--- the numbers fit 64 bits
-pub scale_fits : (bytes : List ℕ) (place value scale : ℕ) → IsBegun bytes place value scale → place < 8 → scale ≤ 128 ^ 7
+-- the numbers fit 64 bits, also one place further than a length goes
+pub scale_fits : (bytes : List ℕ) (place value scale : ℕ) → IsBegun bytes place value scale → place ≤ 8 → scale ≤ 128 ^ 8
 scale_fits bytes place value scale is few =
-    let most : 128 ^ place ≤ 128 ^ 7 = pow-le-pow_right {n = 128} (omega arith) {i = place} {j = 7} (omega arith) in omega (arith, most, is.scaled)
+    let most : 128 ^ place ≤ 128 ^ 8 = pow-le-pow_right {n = 128} (omega arith) {i = place} {j = 8} few in omega (arith, most, is.scaled)
 
-pub value_fits : (bytes : List ℕ) (place value scale group : ℕ) → IsBegun bytes place value scale → place < 8 → group < 128
+pub value_fits : (bytes : List ℕ) (place value scale group : ℕ) → IsBegun bytes place value scale → place ≤ 8 → group < 128
     → value + scale * group < 2 ^ 64
 value_fits bytes place value scale group is few small =
     let most = scale_fits bytes place value scale is few in

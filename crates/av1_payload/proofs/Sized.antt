@@ -8,7 +8,7 @@ use Rattle.av1_payload.specs.declared.fault.PayloadFault.TheVariants.{Empty, Leb
 use Rattle.av1_payload.specs.Leb.{leb_bytes, IsLength}
 use Rattle.av1_payload.specs.Payloads.{SizedElement, sized_bytes}
 use Rattle.av1_payload.specs.Faults.{IsNoLength, IsTooLong}
-use Rattle.av1_payload.specs.Reading.{length_at, cut, sized_at}
+use Rattle.av1_payload.specs.Reading.{length_at, front_element, sized_at}
 use Rattle.av1_payload.proofs.Groups.{length-leb_bytes, length_read, length_takes, length_found, no_length_spelled, no_length_read}
 
 -- one bytes, one answer
@@ -24,10 +24,10 @@ same_fault r e f at_e at_f = cc
 
 -- an element whose length is known
 
-cut_whole : (n : ℕ) (rest : List ℕ) → n ≤ length rest → cut (Some (n, rest)) ≡ Ok (take n rest, drop n rest)
+cut_whole : (n : ℕ) (rest : List ℕ) → n ≤ length rest → front_element (Some (n, rest)) ≡ Ok (take n rest, drop n rest)
 cut_whole n rest long = rw (le-ltb (length rest) n long) refl
 
-cut_short : (n : ℕ) (rest : List ℕ) → length rest < n → cut (Some (n, rest)) ≡ Err Length
+cut_short : (n : ℕ) (rest : List ℕ) → length rest < n → front_element (Some (n, rest)) ≡ Err Length
 cut_short n rest short = rw (lt-ltb (length rest) n short) refl
 
 -- an element with its length has a byte at least
@@ -39,8 +39,8 @@ pub sized_read : (s : SizedElement) (rest : List ℕ) → IsLength s.groups (len
 sized_read s rest is =
     let n = length s.element in
     let behind = s.element ++ rest in
-    ap (λ (x : List ℕ). cut (length_at x)) (append_assoc (leb_bytes s.groups) s.element rest)
-    ∙ ap cut (length_read s.groups behind n is)
+    ap (λ (x : List ℕ). front_element (length_at x)) (append_assoc (leb_bytes s.groups) s.element rest)
+    ∙ ap front_element (length_read s.groups behind n is)
     ∙ cut_whole n behind (omega (arith, length-append s.element rest))
     ∙ ap (λ (x : List ℕ). Ok (x, drop n behind)) (take_at s.element rest n refl)
     ∙ ap (λ (x : List ℕ). Ok (s.element, x)) (drop_at s.element rest n refl)
@@ -59,10 +59,10 @@ cut_found bytes element behind read = by_length (length_at bytes) refl
   where
     by_test : (n : ℕ) (rest : List ℕ) (test : Bool) → length_at bytes ≡ Some (n, rest) → nat_lt (length rest) n ≡ test → IsCut bytes element behind
     by_test n rest true at short =
-        absurd (never_both (sized_at bytes) Length (element, behind) (ap cut at ∙ cut_short n rest (ltb-true (length rest) n short)) read)
+        absurd (never_both (sized_at bytes) Length (element, behind) (ap front_element at ∙ cut_short n rest (ltb-true (length rest) n short)) read)
     by_test n rest false at whole =
         let long : n ≤ length rest = ltb-false (length rest) n whole in
-        let same = same_found (sized_at bytes) (take n rest, drop n rest) (element, behind) (ap cut at ∙ cut_whole n rest long) read in
+        let same = same_found (sized_at bytes) (take n rest, drop n rest) (element, behind) (ap front_element at ∙ cut_whole n rest long) read in
         record {
           n = n;
           rest = rest;
@@ -73,7 +73,7 @@ cut_found bytes element behind read = by_length (length_at bytes) refl
         }
 
     by_length : (o : Option (ℕ × List ℕ)) → length_at bytes ≡ o → IsCut bytes element behind
-    by_length None at = absurd (never_both (sized_at bytes) Leb (element, behind) (ap cut at) read)
+    by_length None at = absurd (never_both (sized_at bytes) Leb (element, behind) (ap front_element at) read)
     by_length (Some (n, rest)) at = by_test n rest (nat_lt (length rest) n) at refl
 
 -- it takes a byte at least
@@ -119,10 +119,10 @@ IsWrong Empty bytes = ⊥
 IsWrong NoElement bytes = ⊥
 
 pub wrong_read : (fault : PayloadFault) (bytes : List ℕ) → AreBytes bytes → IsWrong fault bytes → sized_at bytes ≡ Err fault
-wrong_read Leb bytes are wrong = ap cut (no_length_read bytes are wrong)
+wrong_read Leb bytes are wrong = ap front_element (no_length_read bytes are wrong)
 wrong_read Length bytes are wrong =
-    ap (λ (x : List ℕ). cut (length_at x)) wrong.put
-    ∙ ap cut (length_read wrong.groups wrong.behind wrong.n wrong.is)
+    ap (λ (x : List ℕ). front_element (length_at x)) wrong.put
+    ∙ ap front_element (length_read wrong.groups wrong.behind wrong.n wrong.is)
     ∙ cut_short wrong.n wrong.behind wrong.past
 wrong_read Empty bytes are wrong = absurd wrong
 wrong_read NoElement bytes are wrong = absurd wrong
@@ -137,12 +137,12 @@ wrong_found fault bytes are read = by_length (length_at bytes) refl
     by_test n rest true at short =
         let past : length rest < n = ltb-true (length rest) n short in
         let found = length_found bytes rest n are at in
-        along Length (ap cut at ∙ cut_short n rest past)
+        along Length (ap front_element at ∙ cut_short n rest past)
         (record { groups = found.groups; behind = rest; n = n; is = found.is; put = found.put; past = past })
     by_test n rest false at whole =
         let long : n ≤ length rest = ltb-false (length rest) n whole in
-        absurd (never_both (sized_at bytes) fault (take n rest, drop n rest) read (ap cut at ∙ cut_whole n rest long))
+        absurd (never_both (sized_at bytes) fault (take n rest, drop n rest) read (ap front_element at ∙ cut_whole n rest long))
 
     by_length : (o : Option (ℕ × List ℕ)) → length_at bytes ≡ o → IsWrong fault bytes
-    by_length None at = along Leb (ap cut at) (no_length_spelled bytes at)
+    by_length None at = along Leb (ap front_element at) (no_length_spelled bytes at)
     by_length (Some (n, rest)) at = by_test n rest (nat_lt (length rest) n) at refl

@@ -6,12 +6,12 @@ use Rattle.av1_payload.specs.declared.fault.PayloadFault.{PayloadFault}
 use Rattle.av1_payload.specs.declared.left.Layout.{Layout}
 use Rattle.av1_payload.specs.declared.left.Layout.TheVariants.{EachSized, LastBare}
 use Rattle.av1_payload.specs.Payloads.{SizedElement, sized_bytes, all_bytes, AreSized, elements_in}
-use Rattle.av1_payload.specs.Reading.{sized_at, Found, ended, failed, with_element, and_behind, sized_from, counted_from, found_in}
+use Rattle.av1_payload.specs.Reading.{sized_at, Found, no_elements, only_fault, with_element, and_behind, sized_from, counted_from, found_in}
 use Rattle.av1_payload.proofs.Sized.{some_byte, sized_read, sized_takes}
 
 -- ---- each with its length
 
-pub none_found : sized_from 0 [] ≡ ended
+pub none_found : sized_from 0 [] ≡ no_elements
 unfolding sized_from
 none_found = refl
 
@@ -85,7 +85,7 @@ counted_read (s ∷ others) rest (suc n) k fit count =
 
 -- ---- one step in either layout
 
-pub none_left : (layout : Layout) (bytes : List ℕ) → layout ≡ EachSized → true ≡ (length bytes == 0) → found_in layout bytes ≡ ended
+pub none_left : (layout : Layout) (bytes : List ℕ) → layout ≡ EachSized → true ≡ (length bytes == 0) → found_in layout bytes ≡ no_elements
 none_left layout [] is empty = ap (λ (x : Layout). found_in x []) is ∙ none_found
 none_left layout (byte ∷ rest) is empty = absurd (true≢false (empty ∙ ne_eqb (suc (length rest)) 0 (λ e. omega (arith, e))))
 
@@ -100,7 +100,7 @@ each_more layout bytes element behind is some read =
     some_left layout bytes is some ∙ ap (λ (x : Result (List ℕ × List ℕ) PayloadFault). and_behind x (sized_from 0)) read
 
 pub each_fails : (layout : Layout) (bytes : List ℕ) (fault : PayloadFault) → layout ≡ EachSized → false ≡ (length bytes == 0)
-    → sized_at bytes ≡ Err fault → found_in layout bytes ≡ failed fault
+    → sized_at bytes ≡ Err fault → found_in layout bytes ≡ only_fault fault
 each_fails layout bytes fault is some read =
     some_left layout bytes is some ∙ ap (λ (x : Result (List ℕ × List ℕ) PayloadFault). and_behind x (sized_from 0)) read
 
@@ -127,6 +127,6 @@ counted_more layout n bytes element behind is some read =
     counted_left layout n bytes is some ∙ ap (λ (x : Result (List ℕ × List ℕ) PayloadFault). and_behind x (counted_from (n - 1))) read
 
 pub counted_fails : (layout : Layout) (n : ℕ) (bytes : List ℕ) (fault : PayloadFault) → layout ≡ LastBare n → n ≢ 0
-    → sized_at bytes ≡ Err fault → found_in layout bytes ≡ failed fault
+    → sized_at bytes ≡ Err fault → found_in layout bytes ≡ only_fault fault
 counted_fails layout n bytes fault is some read =
     counted_left layout n bytes is some ∙ ap (λ (x : Result (List ℕ × List ℕ) PayloadFault). and_behind x (counted_from (n - 1))) read

@@ -29,37 +29,37 @@ length_at bytes = option_and_then (length_of bytes) (groups_at bytes)
 
 -- Elements.
 
--- an element of this length at the front of bytes, with the bytes behind it
-abbrev pub cut : Option (ℕ × List ℕ) → Result (List ℕ × List ℕ) PayloadFault
-cut None = Err Leb
-cut (Some (n, rest)) = if nat_lt (length rest) n then Err Length else Ok (take n rest, drop n rest)
+-- the element of this length at the front of the bytes, and the bytes behind it; or what is wrong with the length
+abbrev pub front_element : Option (ℕ × List ℕ) → Result (List ℕ × List ℕ) PayloadFault
+front_element None = Err Leb
+front_element (Some (n, rest)) = if nat_lt (length rest) n then Err Length else Ok (take n rest, drop n rest)
 
 -- the element with its length before it at the front of bytes, with the bytes behind it; or what is wrong there
 abbrev pub sized_at : List ℕ → Result (List ℕ × List ℕ) PayloadFault
-sized_at bytes = cut (length_at bytes)
+sized_at bytes = front_element (length_at bytes)
 
 -- elements up to the first fault, and that fault or none
 pub record Found : Type 0 where
   pub elements : List (List ℕ)
   pub fault : Option PayloadFault
 
-abbrev pub ended : Found
-ended = record { elements = []; fault = None }
+abbrev pub no_elements : Found
+no_elements = record { elements = []; fault = None }
 
-abbrev pub failed : PayloadFault → Found
-failed fault = record { elements = []; fault = Some fault }
+abbrev pub only_fault : PayloadFault → Found
+only_fault fault = record { elements = []; fault = Some fault }
 
 abbrev pub with_element : List ℕ → Found → Found
 with_element element others = record { elements = element ∷ others.elements; fault = others.fault }
 
 -- an element that was read, and what is found behind it
 abbrev pub and_behind : Result (List ℕ × List ℕ) PayloadFault → (List ℕ → Found) → Found
-and_behind (Err fault) others = failed fault
+and_behind (Err fault) others = only_fault fault
 and_behind (Ok (element, behind)) others = with_element element (others behind)
 
 -- Each element has its length before it (W = 0). The count says how many bytes still belong to the element before.
 unfoldable pub sized_from : ℕ → List ℕ → Found
-sized_from skipped [] = ended
+sized_from skipped [] = no_elements
 sized_from (suc skipped) (byte ∷ rest) = sized_from skipped rest
 sized_from zero (byte ∷ rest) = and_behind (sized_at (byte ∷ rest)) (λ behind. sized_from (length rest - length behind) rest)
 
@@ -86,13 +86,13 @@ layout_with (suc sized) = LastBare sized
 
 -- where W = 0 there is an element at least
 abbrev pub found_behind : Layout → List ℕ → Found
-found_behind EachSized [] = failed NoElement
+found_behind EachSized [] = only_fault NoElement
 found_behind EachSized (byte ∷ rest) = found_in EachSized (byte ∷ rest)
 found_behind (LastBare sized) bytes = found_in (LastBare sized) bytes
 
 -- what is found in a payload
 abbrev pub found_of : List ℕ → Found
-found_of [] = failed Empty
+found_of [] = only_fault Empty
 found_of (header ∷ rest) = found_behind (layout_with (count_in header)) rest
 
 -- the first fault of a payload, or none

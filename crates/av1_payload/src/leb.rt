@@ -9,6 +9,9 @@ const MOST_BYTES: usize = 8;
 /// What every length is below.
 const BOUND: u64 = 0x1_0000_0000;
 
+/// The highest bit of a byte, which says that more follow.
+const MORE: u8 = 0x80;
+
 /// The length at the front (AV1 Bitstream Specification, section 4.10.5) and the bytes behind it, or `None` where there
 /// is none.
 pub(crate) fn split_length<'a>(bytes: &'a [u8]) -> Option<(usize, &'a [u8])>
@@ -18,8 +21,8 @@ pub(crate) fn split_length<'a>(bytes: &'a [u8]) -> Option<(usize, &'a [u8])>
     let mut scale: u64 = 1;
     for place in 0..MOST_BYTES {
         let byte = *bytes.get(place)?;
-        value += scale * u64::from(byte % 128);
-        if byte < 128 {
+        value += scale * u64::from(byte % MORE);
+        if byte < MORE {
             return if value < BOUND {
                 Some((value as usize, &bytes[place + 1..]))
             } else {

@@ -1,7 +1,7 @@
 // The elements of a payload that are left, and the first of them.
 
 ghost use Rattle.std.specs.Prelude.{◌≡◌, Ok, Err, MatchOption, MatchResult};
-ghost use Rattle.av1_payload.specs.Reading.{count_in, ended, failed, layout_with, sized_at, with_element};
+ghost use Rattle.av1_payload.specs.Reading.{count_in, no_elements, only_fault, layout_with, sized_at, with_element};
 ghost use Rattle.av1_payload.specs.Seen.{found_left};
 
 use crate::fault::PayloadFault;
@@ -38,8 +38,9 @@ pub(crate) fn first_element<'a>(
     left: Left<'a>,
 ) -> Result<Option<(&'a [u8], Left<'a>)>, PayloadFault>
     ensures { MatchResult result
-        (λ o. MatchOption o (found_left left.entry ≡ ended) (λ x. found_left left.entry ≡ with_element x.0.now (found_left x.1)))
-        (λ e. found_left left.entry ≡ failed e) }
+        (λ o. MatchOption o (found_left left.entry ≡ no_elements)
+        (λ x. found_left left.entry ≡ with_element x.0.now (found_left x.1)))
+        (λ e. found_left left.entry ≡ only_fault e) }
 {
     match left.layout {
         Layout::EachSized => {

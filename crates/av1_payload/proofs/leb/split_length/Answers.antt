@@ -13,16 +13,18 @@ returns-in_err-byte c =
 pub overflow_mul-value : goal.overflow_mul-value
 overflow_mul-value c =
     let small : c.from.result < 128 = omega arith in
-    let fits = value_fits c.args.bytes.now c.loop-place.place c.loop-place.value c.loop-place.scale c.from.result c.loop-place.invariant
-    c.loop-place-test.true small in
-    omega (arith, fits)
+    let few : c.loop-place.place ≤ 8 = omega (arith, c.loop-place-test.true) in
+    let scale = scale_fits c.args.bytes.now c.loop-place.place c.loop-place.value c.loop-place.scale c.loop-place.invariant few in
+    let sum = value_fits c.args.bytes.now c.loop-place.place c.loop-place.value c.loop-place.scale c.from.result c.loop-place.invariant few small in
+    omega (arith, scale, sum)
 
 pub overflow_add-value : goal.overflow_add-value
 overflow_add-value c =
     let small : c.from.result < 128 = omega arith in
-    let fits = value_fits c.args.bytes.now c.loop-place.place c.loop-place.value c.loop-place.scale c.from.result c.loop-place.invariant
-    c.loop-place-test.true small in
-    omega (arith, fits)
+    let few : c.loop-place.place ≤ 8 = omega (arith, c.loop-place-test.true) in
+    let scale = scale_fits c.args.bytes.now c.loop-place.place c.loop-place.value c.loop-place.scale c.loop-place.invariant few in
+    let sum = value_fits c.args.bytes.now c.loop-place.place c.loop-place.value c.loop-place.scale c.from.result c.loop-place.invariant few small in
+    omega (arith, scale, sum)
 
 pub returns-then-value-lt-BOUND : goal.returns-then-value-lt-BOUND
 returns-then-value-lt-BOUND c =
@@ -50,7 +52,8 @@ returns-else-value-lt-BOUND c =
 
 pub overflow_mul-scale : goal.overflow_mul-scale
 overflow_mul-scale c =
-    let fits = scale_fits c.args.bytes.now c.loop-place.place c.loop-place.value c.loop-place.scale c.loop-place.invariant c.loop-place-test.true in
+    let few : c.loop-place.place ≤ 8 = omega (arith, c.loop-place-test.true) in
+    let fits = scale_fits c.args.bytes.now c.loop-place.place c.loop-place.value c.loop-place.scale c.loop-place.invariant few in
     omega (arith, fits)
 
 pub loop-place-preserved : goal.loop-place-preserved
