@@ -2,7 +2,7 @@
 use Rattle.std.proofs.Common.{◌≡◌, ◌<◌, ◌==◌, ℕ, zero, suc, ◌/◌, ◌%◌, Bool, true, false, List, [], ◌∷◌, length, refl, ap, ◌∙◌, arith}
 use Rattle.av1_payload.specs.declared.fault.PayloadFault.TheVariants.{NoElement}
 use Rattle.av1_payload.specs.Payloads.{Flags, bit, header_byte}
-use Rattle.av1_payload.specs.Reading.{only_fault, sized_from, counted_from, count_in, layout_with, found_behind, found_of, flags_of}
+use Rattle.av1_payload.specs.Reading.{only_fault, sized_from, counted_from, count_in, found_behind, found_of, flags_of}
 
 -- a bit that is read and put again
 bit_again : (n : ℕ) → n < 2 → bit (n == 1) ≡ n
@@ -51,10 +51,10 @@ flags_read flags count reserved rest few ignored =
 
 pub found_each : (header : ℕ) (rest : List ℕ) → count_in header ≡ 0 → 0 < length rest → found_of (header ∷ rest) ≡ sized_from 0 rest
 found_each header [] none some = absurd (omega arith)
-found_each header (byte ∷ rest) none some = ap (λ (n : ℕ). found_behind (layout_with n) (byte ∷ rest)) none
+found_each header (byte ∷ rest) none some = ap (λ (n : ℕ). found_behind n (byte ∷ rest)) none
 
 pub found_no_element : (header : ℕ) → count_in header ≡ 0 → found_of (header ∷ []) ≡ only_fault NoElement
-found_no_element header none = ap (λ (n : ℕ). found_behind (layout_with n) []) none
+found_no_element header none = ap (λ (n : ℕ). found_behind n []) none
 
 pub found_counted : (header n : ℕ) (rest : List ℕ) → count_in header ≡ suc n → found_of (header ∷ rest) ≡ counted_from n rest
-found_counted header n rest count = ap (λ (n : ℕ). found_behind (layout_with n) rest) count
+found_counted header n rest count = ap (λ (n : ℕ). found_behind n rest) count

@@ -6,7 +6,8 @@ use Rattle.av1_payload.specs.declared.fault.PayloadFault.{PayloadFault}
 use Rattle.av1_payload.specs.declared.left.Layout.{Layout}
 use Rattle.av1_payload.specs.declared.left.Layout.TheVariants.{EachSized, LastBare}
 use Rattle.av1_payload.specs.Payloads.{SizedElement, sized_bytes, all_bytes, AreSized, elements_in}
-use Rattle.av1_payload.specs.Reading.{sized_at, Found, no_elements, only_fault, with_element, and_behind, sized_from, counted_from, found_in}
+use Rattle.av1_payload.specs.Reading.{sized_at, Found, no_elements, only_fault, with_element, and_behind, sized_from, counted_from}
+use Rattle.av1_payload.specs.Seen.{found_in}
 use Rattle.av1_payload.proofs.Sized.{some_byte, sized_read, sized_takes}
 
 -- ---- each with its length

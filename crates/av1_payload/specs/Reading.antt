@@ -1,11 +1,10 @@
 -- What is read from the bytes of a payload: its flags, and its elements up to the first fault (RTP Payload Format For
 -- AV1, section 4.4). The code keeps what is left, and takes one element off its front at a time.
-use Rattle.std.specs.Prelude.{ℕ, zero, suc, ◌-◌, ◌/◌, ◌%◌, ◌^◌, ◌==◌, ◌||◌, nat_lt, not, if◌then◌else◌, List, [], ◌∷◌, length, take, drop, slice_index, Option, Some, None, option_and_then, Result, Ok, Err}
+use Rattle.std.specs.Prelude.{ℕ, zero, suc, ◌-◌, ◌/◌, ◌%◌, ◌^◌, ◌==◌, ◌||◌, nat_lt, not, if◌then◌else◌}
+use Rattle.std.specs.Prelude.{List, [], ◌∷◌, length, take, drop, slice_index, Option, Some, None, option_and_then, Result, Ok, Err}
 use Rattle.std.specs.Option.{option_map}
 use Rattle.av1_payload.specs.declared.fault.PayloadFault.{PayloadFault}
 use Rattle.av1_payload.specs.declared.fault.PayloadFault.TheVariants.{Empty, Leb, Length, NoElement}
-use Rattle.av1_payload.specs.declared.left.Layout.{Layout}
-use Rattle.av1_payload.specs.declared.left.Layout.TheVariants.{EachSized, LastBare}
 use Rattle.av1_payload.specs.Leb.{number_of}
 use Rattle.av1_payload.specs.Payloads.{Flags}
 
@@ -68,32 +67,22 @@ unfoldable pub counted_from : ℕ → List ℕ → Found
 counted_from zero bytes = record { elements = bytes ∷ []; fault = None }
 counted_from (suc sized) bytes = and_behind (sized_at bytes) (counted_from sized)
 
--- what is found in the bytes of elements that are laid so
-abbrev pub found_in : Layout → List ℕ → Found
-found_in EachSized bytes = sized_from 0 bytes
-found_in (LastBare sized) bytes = counted_from sized bytes
-
 -- The aggregation header.
 
 -- W
 abbrev pub count_in : ℕ → ℕ
 count_in header = header / 16 % 4
 
--- how elements are laid that are so many by W
-abbrev pub layout_with : ℕ → Layout
-layout_with zero = EachSized
-layout_with (suc sized) = LastBare sized
-
--- where W = 0 there is an element at least
-abbrev pub found_behind : Layout → List ℕ → Found
-found_behind EachSized [] = only_fault NoElement
-found_behind EachSized (byte ∷ rest) = found_in EachSized (byte ∷ rest)
-found_behind (LastBare sized) bytes = found_in (LastBare sized) bytes
+-- what is found behind a header with this W: where it is 0, each element has its length and there is one at least
+abbrev pub found_behind : ℕ → List ℕ → Found
+found_behind zero [] = only_fault NoElement
+found_behind zero (byte ∷ rest) = sized_from 0 (byte ∷ rest)
+found_behind (suc sized) bytes = counted_from sized bytes
 
 -- what is found in a payload
 abbrev pub found_of : List ℕ → Found
 found_of [] = only_fault Empty
-found_of (header ∷ rest) = found_behind (layout_with (count_in header)) rest
+found_of (header ∷ rest) = found_behind (count_in header) rest
 
 -- the first fault of a payload, or none
 abbrev pub first_fault : List ℕ → Option PayloadFault

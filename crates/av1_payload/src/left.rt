@@ -1,8 +1,8 @@
 // The elements of a payload that are left, and the first of them.
 
 ghost use Rattle.std.specs.Prelude.{◌≡◌, Ok, Err, MatchOption, MatchResult};
-ghost use Rattle.av1_payload.specs.Reading.{count_in, no_elements, only_fault, layout_with, sized_at, with_element};
-ghost use Rattle.av1_payload.specs.Seen.{found_left};
+ghost use Rattle.av1_payload.specs.Reading.{count_in, no_elements, only_fault, sized_at, with_element};
+ghost use Rattle.av1_payload.specs.Seen.{found_left, layout_with};
 
 use crate::fault::PayloadFault;
 use crate::leb::split_length;

@@ -3,8 +3,8 @@
 ghost use Rattle.std.specs.Prelude.{◌≡◌, None, Some, IfOk, IfErr, MatchResult};
 ghost use Rattle.av1_payload.specs.Faults.{HasFault};
 ghost use Rattle.av1_payload.specs.Payloads.{IsPayload};
-ghost use Rattle.av1_payload.specs.Reading.{elements_of, first_fault, flags_of, found_behind};
-ghost use Rattle.av1_payload.specs.Seen.{elements_within, flags_in};
+ghost use Rattle.av1_payload.specs.Reading.{elements_of, first_fault, flags_of};
+ghost use Rattle.av1_payload.specs.Seen.{elements_within, flags_in, found_in_all};
 
 use crate::elements::PayloadElements;
 use crate::fault::PayloadFault;
@@ -22,7 +22,10 @@ pub struct Payload<'a> {
     left: Left<'a>,
 }
 
-/// Reads a payload. Reserved bits are ignored, and an element may be empty (own rule).
+/// Reads a payload (RTP Payload Format For AV1, section 4.4). Reserved bits are ignored, and an element may be empty (own
+/// rule). It is refused by the first fault from the front: `Empty` where there is no byte; `NoElement` where W is 0 and
+/// nothing follows the aggregation header; `Leb` where an element's length is due and the bytes end within it or before it,
+/// it has more than 8 bytes, or it is 2^32 or more; `Length` where a length is more than the bytes behind it.
 pub fn read<'a>(bytes: &'a [u8]) -> Result<Payload<'a>, PayloadFault>
     ensures flags { IfOk result (λ p. flags_in p ≡ flags_of bytes.now) }
     ensures elements { IfOk result (λ p. elements_within p ≡ elements_of bytes.now) }
@@ -52,8 +55,8 @@ pub fn read<'a>(bytes: &'a [u8]) -> Result<Payload<'a>, PayloadFault>
 /// Goes over all elements, to the first fault.
 fn check(elements: Left) -> Result<(), PayloadFault>
     ensures { MatchResult result
-        (λ _. (found_behind elements.entry.layout elements.entry.bytes.now).fault ≡ None)
-        (λ e. (found_behind elements.entry.layout elements.entry.bytes.now).fault ≡ Some e) }
+        (λ _. (found_in_all elements.entry.layout elements.entry.bytes.now).fault ≡ None)
+        (λ e. (found_in_all elements.entry.layout elements.entry.bytes.now).fault ≡ Some e) }
 {
     if elements.layout == Layout::EachSized && elements.bytes.is_empty() {
         return Err(PayloadFault::NoElement);
