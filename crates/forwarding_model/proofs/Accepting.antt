@@ -1,8 +1,8 @@
 -- What a strict receiver has seen when it has no complaint.
-use Rattle.std.proofs.Common.{◌≡◌, ◌⊎◌, inl, inr, ◌+◌, ◌%◌, ◌<◌, ℕ, arith, Bool, true, false, List, [], ◌∷◌, ◌++◌, refl, sym, subst, ap, ◌∙◌, cond, true≢false, ◌&&◌, map, not, length, append_assoc, append-nil}
+use Rattle.std.proofs.Common.{◌≡◌, ◌⊎◌, inl, inr, ◌+◌, ◌-◌, ◌%◌, ◌<◌, ℕ, arith, Bool, true, false, List, [], ◌∷◌, ◌++◌, refl, sym, subst, ap, ◌∙◌, cond, true≢false, ◌&&◌, map, not, length, append_assoc, append-nil}
 use Rattle.std.specs.Prelude.{◌==◌, nat_lt}
 use Rattle.std.specs.Bool.{beq}
-use Rattle.std.proofs.lemmas.Bool.{and_parts, eqb-true, ltb-true, not-true}
+use Rattle.std.proofs.lemmas.Bool.{and_parts, eqb-true, lt-ltb, ltb-true, not-true}
 use Rattle.std.specs.List.{AllByRecursion}
 use Rattle.std.specs.declared.option.Option.{Option}
 use Rattle.std.specs.declared.option.Option.TheVariants.{None, Some}
@@ -14,15 +14,15 @@ use Rattle.forwarding_model.specs.Outgoing.{AreConsecutive}
 use Rattle.forwarding_model.specs.Reading.{Descriptor, Format, Joins, Payload, Showing, shown}
 use Rattle.forwarding_model.specs.Reading.Payload.{Empty, Broken, Elements}
 use Rattle.forwarding_model.specs.Reading.Showing.{LacksStructure, Unread, Shows}
-use Rattle.forwarding_model.specs.Cuts.{Part, Mark, Run, begun, continued, extended, is_next, newest_first, parts_of, run_of, IsWholeCut}
+use Rattle.forwarding_model.specs.Cuts.{Part, Mark, Run, begun, continued, extended, is_next, newest_first, parts_of, run_of, IsWholeCut, IsUnfinishedCut}
 use Rattle.forwarding_model.specs.Cuts.Mark.{Read}
 use Rattle.forwarding_model.specs.Frames.{ReadPacket, packet_of, part_of}
 use Rattle.forwarding_model.specs.Receiver.{Received, FrameHeader, Judged, OpenFrame, Reception, Receiver, accepted, after_end, complaint, complaint_of, first_packet, header_of, is_received, judge, judged, new_reception, next_packet, placed, receive_packet, structure_after, with_frame, with_part, with_payload, with_showing}
 use Rattle.forwarding_model.specs.Receiver.Judged.{Complete, Lacks}
 use Rattle.forwarding_model.specs.Receiver.Receiver.{Waiting, Receiving, Complaining}
-use Rattle.forwarding_model.specs.Accepted.{ReceivedFrame, is_key_frame, references_of, packets_of, structure_in, since_key, IsReadAs, IsThere, IsNextTo, AreReceived, IsBegun, HaveOneSource, AreAccepted}
+use Rattle.forwarding_model.specs.Accepted.{ReceivedFrame, is_key_frame, references_of, packets_of, structure_in, IsReadAs, IsThere, is_next_to, counting, counted, NoneIsNextTo, AreReceived, AreReadAs, HaveOneSource, AreAccepted}
 use Rattle.forwarding_model.proofs.Members.{any_member, each_member, each_weaker, failing_none}
-use Rattle.forwarding_model.proofs.WholeCuts.{EndsWith, IsRunFound, IsRunOf, all-append, join_closed, last_ends, newest_first-append, run_found}
+use Rattle.forwarding_model.proofs.WholeCuts.{open_run_is_unfinished, IsRunFound, IsRunOf, all-append, join_closed, last_ends, newest_first-append, run_found}
 use Rattle.forwarding_model.proofs.Receiving.{receive_packets, not_key}
 use Rattle.forwarding_model.proofs.StrictReceiver.{complaint-packets}
 
@@ -36,47 +36,79 @@ IsNewest [] n = Unit {0}
 IsNewest (g ∷ past) n = g.number ≡ n
 
 record StandsFor {S : Type 0} (frames : List (ReceivedFrame S)) (received : Received) : Type 0 where
-  numbers : AllByRecursion (IsOneOf (since_key frames)) received.numbers
+  numbers : AllByRecursion (IsOneOf (counted frames)) received.numbers
   newest : IsNewest frames received.newest
   none : frames ≡ [] → received.numbers ≡ []
 
 -- where a frame is placed
 record IsPlaced {S : Type 0} (frames : List (ReceivedFrame S)) (h : FrameHeader) (before : Received) : Type 0 where
   numbered : before.newest % 65536 ≡ h.number % 65536
-  numbers : AllByRecursion (IsOneOf (since_key frames)) before.numbers
-  near : (before.numbers ≡ []) ⊎ IsNextTo frames before.newest
-  key : h.key ≡ true → before.numbers ≡ []
+  numbers : AllByRecursion (IsOneOf (counting h.key (is_next_to frames before.newest) (counted frames))) before.numbers
+  near : (h.key ≡ true) ⊎ (is_next_to frames before.newest ≡ true) ⊎ NoneIsNextTo frames before.newest
 
-next_to : {S : Type 0} (frames : List (ReceivedFrame S)) (received : Received) (n : ℕ) → StandsFor frames received → is_above received.newest n ≡ true
-    → (received.numbers ≡ []) ⊎ IsNextTo frames (number_above received.newest n)
-next_to [] received n stands up = inl (stands.none refl)
-next_to (g ∷ past) received n stands up =
+both : (a b : Bool) → a ≡ true → b ≡ true → (a && b) ≡ true
+both a b x y = rw (x, y) refl
+
+next_to : {S : Type 0} (g : ReceivedFrame S) (past : List (ReceivedFrame S)) (received : Received) (n : ℕ) → g.number ≡ received.newest → is_above received.newest n ≡ true
+    → is_next_to (g ∷ past) (number_above received.newest n) ≡ true
+next_to g past received n same up =
     let p = and_parts (nat_lt 0 (distance_ahead received.newest n)) _ up in
     let pos : 0 < distance_ahead received.newest n = ltb-true _ _ p.0 in
     let near : distance_ahead received.newest n < 32768 = ltb-true _ _ p.1 in
-    let same : g.number ≡ received.newest = stands.newest in
-    inr (omega arith, omega arith)
+    let up_to : number_above received.newest n < g.number + 32768 = omega arith in
+    let from : g.number < number_above received.newest n = omega arith in
+    both _ _ (lt-ltb g.number (number_above received.newest n) from) (lt-ltb (number_above received.newest n) (g.number + 32768) up_to)
+
+-- a number next to the newest is as far ahead of it as its remainder
+ahead_by : (r m n : ℕ) → m % 65536 ≡ n % 65536 → r < m → m < r + 32768 → (0 < distance_ahead r n) × (distance_ahead r n < 32768)
+ahead_by r m n same low high =
+    let d : distance_ahead r n ≡ m - r = omega arith in
+    (omega arith, omega arith)
+
+none_next : {S : Type 0} (frames : List (ReceivedFrame S)) (received : Received) (n : ℕ) → IsNewest frames received.newest → is_above received.newest n ≡ false → NoneIsNextTo frames n
+none_next [] received n newest up m same = refl
+none_next (g ∷ past) received n newest up m same = go (is_next_to (g ∷ past) m) refl
+  where
+    go : (b : Bool) → is_next_to (g ∷ past) m ≡ b → is_next_to (g ∷ past) m ≡ false
+    go false e = e
+    go true e =
+        let p = and_parts (nat_lt g.number m) (nat_lt m (g.number + 32768)) e in
+        let low : g.number < m = ltb-true _ _ p.0 in
+        let high : m < g.number + 32768 = ltb-true _ _ p.1 in
+        let by = ahead_by received.newest m n same (omega (arith, newest)) (omega (arith, newest)) in
+        absurd (true≢false (sym (both _ _ (lt-ltb _ _ by.0) (lt-ltb _ _ by.1)) ∙ up))
 
 congruent : (r n : ℕ) → (number_above r n) % 65536 ≡ n % 65536
 congruent r n = omega arith
 
 is_placed : {S : Type 0} (frames : List (ReceivedFrame S)) (received : Received) (h : FrameHeader) → StandsFor frames received → IsPlaced frames h (placed received h)
-is_placed frames received h stands = by_key h.key refl
+is_placed {S} frames received h stands = by_key h.key refl
   where
-    other : h.key ≡ false → (b : Bool) → is_above received.newest h.number ≡ b
-        → IsPlaced frames h (cond b (record { newest = number_above received.newest h.number; numbers = received.numbers }) (record { newest = h.number; numbers = [] }))
-    other k true up =
+    -- a number that lies above the newest
+    above : (frames : List (ReceivedFrame S)) → StandsFor frames received → is_above received.newest h.number ≡ true → h.key ≡ false
+        → IsPlaced frames h (record { newest = number_above received.newest h.number; numbers = received.numbers })
+    above [] stands up k =
         record {
           numbered = congruent received.newest h.number;
-          numbers = stands.numbers;
-          near = next_to frames received h.number stands up;
-          key = λ y. absurd (true≢false (sym y ∙ k));
+          numbers = subst (AllByRecursion (IsOneOf (counting h.key false []))) (sym (stands.none refl)) tt;
+          near = inr (inr (λ m same. refl));
         }
-    other k false up = record { numbered = refl; numbers = tt; near = inl refl; key = λ y. refl }
+    above (g ∷ past) stands up k =
+        let next = next_to g past received h.number stands.newest up in
+        record {
+          numbered = congruent received.newest h.number;
+          numbers = rw (k, next) stands.numbers;
+          near = inr (inl next);
+        }
+
+    other : h.key ≡ false → (b : Bool) → is_above received.newest h.number ≡ b
+        → IsPlaced frames h (cond b (record { newest = number_above received.newest h.number; numbers = received.numbers }) (record { newest = h.number; numbers = [] }))
+    other k true up = above frames stands up k
+    other k false up = record { numbered = refl; numbers = tt; near = inr (inr (none_next frames received h.number stands.newest up)) }
 
     by_key : (b : Bool) → h.key ≡ b → IsPlaced frames h (cond b (record { newest = h.number; numbers = [] })
         (cond (is_above received.newest h.number) (record { newest = number_above received.newest h.number; numbers = received.numbers }) (record { newest = h.number; numbers = [] })))
-    by_key true k = record { numbered = refl; numbers = tt; near = inl refl; key = λ y. refl }
+    by_key true k = record { numbered = refl; numbers = tt; near = inl k }
     by_key false k = other k (is_above received.newest h.number) refl
 
 -- a frame that has all references
@@ -104,18 +136,17 @@ is_judged frames received k h stands e =
     go (Some d) f j = absurd (cc)
 
 there : {S : Type 0} (frames : List (ReceivedFrame S)) (h : FrameHeader) (k : Received) → (j : IsJudged frames h k)
-    → AllByRecursion (IsThere (since_key frames) j.before.newest) h.references
-there {S} frames h k j = each_weaker (λ d. is_received j.before.numbers j.before.newest d ≡ true) (IsThere (since_key frames) j.before.newest) h.references found j.references
+    → AllByRecursion (IsThere (counting h.key (is_next_to frames j.before.newest) (counted frames)) j.before.newest) h.references
+there {S} frames h k j = each_weaker (λ d. is_received j.before.numbers j.before.newest d ≡ true) (IsThere counts j.before.newest) h.references found j.references
   where
-    found : (d : ℕ) → is_received j.before.numbers j.before.newest d ≡ true → IsThere (since_key frames) j.before.newest d
+    counts : List (ReceivedFrame S)
+    counts = counting h.key (is_next_to frames j.before.newest) (counted frames)
+
+    found : (d : ℕ) → is_received j.before.numbers j.before.newest d ≡ true → IsThere counts j.before.newest d
     found d e =
         let m = any_member (λ m. (m + d) == j.before.newest) j.before.numbers e in
-        let g = each_member (IsOneOf (since_key frames)) j.before.numbers m.0 j.at.numbers m.1 in
+        let g = each_member (IsOneOf counts) j.before.numbers m.0 j.at.numbers m.1 in
         (g.0, g.1, ap (λ n. n + d) g.2 ∙ eqb-true (m.0 + d) j.before.newest m.2)
-
-none_there : (numbers : List ℕ) (n : ℕ) (refs : List ℕ) → numbers ≡ [] → AllByRecursion (λ d. is_received numbers n d ≡ true) refs → refs ≡ []
-none_there numbers n [] e h = refl
-none_there numbers n (d ∷ ds) e h = absurd (true≢false (sym h.0 ∙ ap (λ l. is_received l n d) e))
 
 -- the frame that was judged is among those received
 stands_after : {S : Type 0} (frames : List (ReceivedFrame S)) (x : ReceivedFrame S) (h : FrameHeader) (k : Received) → (j : IsJudged frames h k) → x.number ≡ j.before.newest
@@ -123,17 +154,21 @@ stands_after : {S : Type 0} (frames : List (ReceivedFrame S)) (x : ReceivedFrame
 stands_after {S} frames x h k j number key =
     subst (StandsFor (x ∷ frames)) (sym j.is)
     (record {
-      numbers = ((x, inl refl, number), older (is_key_frame x) refl);
+      numbers = ((x, inl refl, number), later older j.before.numbers same);
       newest = number;
       none = λ e. absurd (cc);
     })
   where
+    older : List (ReceivedFrame S)
+    older = counting (is_key_frame x) (is_next_to frames x.number) (counted frames)
+
+    same : AllByRecursion (IsOneOf older) j.before.numbers
+    same =
+        subst (λ b. AllByRecursion (IsOneOf (counting b (is_next_to frames x.number) (counted frames))) j.before.numbers) key
+        (subst (λ n. AllByRecursion (IsOneOf (counting h.key (is_next_to frames n) (counted frames))) j.before.numbers) (sym number) j.at.numbers)
+
     later : (older : List (ReceivedFrame S)) (numbers : List ℕ) → AllByRecursion (IsOneOf older) numbers → AllByRecursion (IsOneOf (x ∷ older)) numbers
     later older numbers h = each_weaker (IsOneOf older) (IsOneOf (x ∷ older)) numbers (λ m o. (o.0, inr o.1, o.2)) h
-
-    older : (b : Bool) → is_key_frame x ≡ b → AllByRecursion (IsOneOf (x ∷ cond b [] (since_key frames))) j.before.numbers
-    older true e = subst (AllByRecursion (IsOneOf (x ∷ []))) (sym (j.at.key (key ∙ e))) tt
-    older false e = later (since_key frames) j.before.numbers j.at.numbers
 
 -- ---- a frame that has begun
 
@@ -202,7 +237,8 @@ grown {S} format so_far frames run frame r laid are o structure stands true end 
     finished (Complete k) e carries =
         let judged = is_judged frames r.received k frame.header stands e in
         let x : ReceivedFrame S = record { number = judged.before.newest; first = run.first; more = run.more } in
-        let refs : frame.header.references ≡ references_of x = ap (λ (h : FrameHeader). h.references) o.header in (
+        let refs : frame.header.references ≡ references_of x = ap (λ (h : FrameHeader). h.references) o.header in
+        let key : frame.header.key ≡ is_key_frame x = ap (λ (h : FrameHeader). h.key) o.header in (
           refl,
           refl,
           record {
@@ -215,17 +251,16 @@ grown {S} format so_far frames run frame r laid are o structure stands true end 
                 more = o.read_more;
                 whole = whole_cut (newest_first (parts_of run)) run (run_is (newest_first (parts_of run)) run o.found) end carries;
                 numbered = judged.at.numbered ∙ ap (λ n. n % 65536) (sym o.number);
-                placed = elim judged.at.near [
-                  | inl none ↦ inl (sym refs ∙ none_there judged.before.numbers judged.before.newest frame.header.references none judged.references)
-                  | inr near ↦ inr near
-                ];
-                references = subst (AllByRecursion (IsThere (since_key frames) judged.before.newest)) refs (there frames frame.header k judged);
+                placed = subst (λ b. (b ≡ true) ⊎ (is_next_to frames x.number ≡ true) ⊎ NoneIsNextTo frames x.number) key judged.at.near;
+                references = subst (AllByRecursion (IsThere (counting (is_key_frame x) (is_next_to frames x.number) (counted frames)) x.number)) refs
+                    (subst (λ b. AllByRecursion (IsThere (counting b (is_next_to frames x.number) (counted frames)) x.number) frame.header.references) key
+                    (there frames frame.header k judged));
               },
               are,
             );
             opens = tt;
             structure_is = structure;
-            stands = stands_after frames x frame.header k judged refl (ap (λ (h : FrameHeader). h.key) o.header);
+            stands = stands_after frames x frame.header k judged refl key;
           },
         )
 
@@ -455,26 +490,18 @@ good_all format so_far r (p ∷ ps) h =
 
 -- ---- what was accepted
 
-none_end : {X : Type 0} (parts : List (Part X)) → EndsWith parts false → AllByRecursion (λ p. p.end ≡ false) parts
-none_end [] h = tt
-none_end (p ∷ []) h = (h, tt)
-none_end (p ∷ q ∷ ps) h = (h.0, none_end (q ∷ ps) h.1)
-
-begun_run : {X : Type 0} (run : Run X) → run_of (newest_first (parts_of run)) ≡ Some run → run.newest.end ≡ false → IsBegun (parts_of run)
-begun_run run found end =
-    let h = run_is (newest_first (parts_of run)) run found in
-    record {
-      few = (let few = h.few in omega arith);
-      starts = (h.start, h.more_start);
-      number = h.number;
-      ends_none = none_end (parts_of run) (subst (EndsWith (parts_of run)) end h.ends);
-    }
-
 begun_parts : {S : Type 0} (format : Format S) (frames : List (ReceivedFrame S)) (run : Option (Run (ReadPacket S))) (frame : Option OpenFrame) → OpensAs format frames run frame
-    → (parts_so_far run ≡ []) ⊎ IsBegun (parts_so_far run)
+    → (parts_so_far run ≡ []) ⊎ IsUnfinishedCut (parts_so_far run)
 begun_parts format frames None frame o = inl refl
 begun_parts format frames (Some run) None o = absurd o
-begun_parts format frames (Some run) (Some frame) o = inr (begun_run run o.0.found o.1)
+begun_parts format frames (Some run) (Some frame) o =
+    inr (open_run_is_unfinished (newest_first (parts_of run)) run (run_is (newest_first (parts_of run)) run o.0.found) o.1)
+
+read_parts : {S : Type 0} (format : Format S) (frames : List (ReceivedFrame S)) (run : Option (Run (ReadPacket S))) (frame : Option OpenFrame) → OpensAs format frames run frame
+    → AreReadAs format (structure_in frames) (parts_so_far run)
+read_parts format frames None frame o = tt
+read_parts format frames (Some run) None o = absurd o
+read_parts format frames (Some run) (Some frame) o = (o.0.read_first, o.0.read_more)
 
 pub no_complaint_accepts : {S : Type 0} (format : Format S) (packets : List Packet) → complaint format (map Some packets) ≡ None → AreAccepted format packets
 no_complaint_accepts {S} format packets h =
@@ -487,6 +514,7 @@ no_complaint_accepts {S} format packets h =
           rest = [];
           laid = g;
           received = tt;
+          read = tt;
           begun = inl refl;
           source = subst HaveOneSource (sym g) tt;
           numbers = subst AreConsecutive (sym g) tt;
@@ -498,6 +526,7 @@ no_complaint_accepts {S} format packets h =
           rest = parts_so_far g.content.run;
           laid = g.content.laid;
           received = g.content.are;
+          read = read_parts format g.content.frames g.content.run r.frame g.content.opens;
           begun = begun_parts format g.content.frames g.content.run r.frame g.content.opens;
           source = one_source packets r.ssrc g.sources;
           numbers = g.consecutive;

@@ -11,10 +11,11 @@ use Rattle.forwarding_model.specs.Timeline.Event.{WishChange, Take}
 use Rattle.forwarding_model.specs.TrackFrames.{Precedes, IsOneTrack}
 use Rattle.forwarding_model.specs.Outgoing.{Sender, Subscriber, outgoing, taken, queue, FindPackets}
 use Rattle.forwarding_model.specs.Reading.{Format, IsFormat}
+use Rattle.forwarding_model.specs.Frames.Item.{Missing, Arrived}
 use Rattle.forwarding_model.specs.Frames.{Item, made_by_item, state_after, in_front, frames_after, frames_since}
 use Rattle.forwarding_model.specs.Receiver.{complaint}
 use Rattle.forwarding_model.specs.WholeFrames.{IsReadFrame, IsSentWhole, IsWholeFrame, KeepsWhole, HaveEpochStructures, IsTrack, IsLayered}
-use Rattle.forwarding_model.specs.History.{Entry, items_of, subscriber_of, frame_events, asked, timeline}
+use Rattle.forwarding_model.specs.History.{Entry, items_of, subscriber_of, frame_events, asked, frames_released, packets_released, timeline_by, timeline, plain_timeline}
 use Rattle.forwarding_model.specs.History.Entry.{Released, Joined, Aimed, Asked}
 use Rattle.sfu_base.specs.declared.frame.Wish.{Wish}
 use Rattle.forwarding_model.specs.Causes.{cause, path, IsPath, IsWithheld}
@@ -165,10 +166,20 @@ withheld_path_in_history format send number history wish n facts w =
 
 -- ---- each take of a timeline found a packet
 
+-- what is released adds no take
+abbrev pub AddsNoTake : {S : Type 0} → Sender S → Subscriber → (List Item → List Item → List (Event S)) → Type 0
+AddsNoTake send subscriber released = (older items : List Item) (events : List (Event _)) → FindPackets send subscriber events
+    → FindPackets send subscriber (released older items ++ events)
+
 finds_frames : {S : Type 0} (send : Sender S) (subscriber : Subscriber) (frames : List (Frame S)) (events : List (Event S)) → FindPackets send subscriber events
     → FindPackets send subscriber (frame_events frames ++ events)
 finds_frames send subscriber [] events h = h
 finds_frames send subscriber (x ∷ xs) events h = finds_frames send subscriber xs events h
+
+finds_packets : {S : Type 0} (send : Sender S) (subscriber : Subscriber) → AddsNoTake {S = S} send subscriber packets_released
+finds_packets send subscriber older [] events h = h
+finds_packets send subscriber older (Missing ∷ items) events h = finds_packets send subscriber older items events h
+finds_packets send subscriber older (Arrived packet ∷ items) events h = finds_packets send subscriber older items events h
 
 finds_asked : {S : Type 0} (send : Sender S) (subscriber : Subscriber) (events : List (Event S)) → FindPackets send subscriber events → FindPackets send subscriber (asked send (Some subscriber) events)
 finds_asked send subscriber events h = go (nat_lt (takes_of events) (length (outgoing send subscriber events))) refl
@@ -177,27 +188,36 @@ finds_asked send subscriber events h = go (nat_lt (takes_of events) (length (out
     go true e = (ltb-true (takes_of events) (length (outgoing send subscriber events)) e, h)
     go false e = h
 
-pub timeline_finds : {S : Type 0} (format : Format S) (send : Sender S) (number : ℕ) (history : List Entry) (subscriber : Subscriber) → subscriber_of number history ≡ Some subscriber
-    → FindPackets send subscriber (timeline format send number history)
-timeline_finds format send number [] subscriber e = tt
-timeline_finds format send number (Released items ∷ past) subscriber e =
-    finds_frames send subscriber (frames_since format (items_of past) items) (timeline format send number past) (timeline_finds format send number past subscriber e)
-timeline_finds format send number (Joined other joined ∷ past) subscriber e = go (other == number) e (timeline_finds format send number past subscriber)
+finds_by : {S : Type 0} (released : List Item → List Item → List (Event S)) (send : Sender S) (number : ℕ) (history : List Entry) (subscriber : Subscriber) → AddsNoTake send subscriber released
+    → subscriber_of number history ≡ Some subscriber → FindPackets send subscriber (timeline_by released send number history)
+finds_by released send number [] subscriber no_take e = tt
+finds_by released send number (Released items ∷ past) subscriber no_take e =
+    no_take (items_of past) items (timeline_by released send number past) (finds_by released send number past subscriber no_take e)
+finds_by released send number (Joined other joined ∷ past) subscriber no_take e = go (other == number) e (finds_by released send number past subscriber no_take)
   where
     go : (b : Bool) → cond b (Some joined) (subscriber_of number past) ≡ Some subscriber
-        → (subscriber_of number past ≡ Some subscriber → FindPackets send subscriber (timeline format send number past))
-        → FindPackets send subscriber (cond b [] (timeline format send number past))
+        → (subscriber_of number past ≡ Some subscriber → FindPackets send subscriber (timeline_by released send number past))
+        → FindPackets send subscriber (cond b [] (timeline_by released send number past))
     go true k h = tt
     go false k h = h k
-timeline_finds format send number (Aimed other wish ∷ past) subscriber e = go (other == number) (timeline_finds format send number past subscriber e)
+finds_by released send number (Aimed other wish ∷ past) subscriber no_take e = go (other == number) (finds_by released send number past subscriber no_take e)
   where
-    go : (b : Bool) → FindPackets send subscriber (timeline format send number past)
-        → FindPackets send subscriber (cond b (WishChange wish ∷ timeline format send number past) (timeline format send number past))
+    go : (b : Bool) → FindPackets send subscriber (timeline_by released send number past)
+        → FindPackets send subscriber (cond b (WishChange wish ∷ timeline_by released send number past) (timeline_by released send number past))
     go true h = h
     go false h = h
-timeline_finds format send number (Asked other ∷ past) subscriber e = go (other == number) (timeline_finds format send number past subscriber e)
+finds_by released send number (Asked other ∷ past) subscriber no_take e = go (other == number) (finds_by released send number past subscriber no_take e)
   where
-    go : (b : Bool) → FindPackets send subscriber (timeline format send number past)
-        → FindPackets send subscriber (cond b (asked send (subscriber_of number past) (timeline format send number past)) (timeline format send number past))
-    go true h = subst (λ o. FindPackets send subscriber (asked send o (timeline format send number past))) (sym e) (finds_asked send subscriber (timeline format send number past) h)
+    go : (b : Bool) → FindPackets send subscriber (timeline_by released send number past)
+        → FindPackets send subscriber (cond b (asked send (subscriber_of number past) (timeline_by released send number past)) (timeline_by released send number past))
+    go true h = subst (λ o. FindPackets send subscriber (asked send o (timeline_by released send number past))) (sym e) (finds_asked send subscriber (timeline_by released send number past) h)
     go false h = h
+
+pub timeline_finds : {S : Type 0} (format : Format S) (send : Sender S) (number : ℕ) (history : List Entry) (subscriber : Subscriber) → subscriber_of number history ≡ Some subscriber
+    → FindPackets send subscriber (timeline format send number history)
+timeline_finds format send number history subscriber e =
+    finds_by (frames_released format) send number history subscriber (λ older items events h. finds_frames send subscriber (frames_since format older items) events h) e
+
+pub plain_timeline_finds : {S : Type 0} (send : Sender S) (number : ℕ) (history : List Entry) (subscriber : Subscriber) → subscriber_of number history ≡ Some subscriber
+    → FindPackets {S = S} send subscriber (plain_timeline send number history)
+plain_timeline_finds send number history subscriber e = finds_by packets_released send number history subscriber (finds_packets send subscriber) e

@@ -29,6 +29,10 @@ pub mod Accepting
 pub mod Making
 pub mod Takings
 pub mod Outcomes
+pub mod Newest
+pub mod Plains
+pub mod TrackRows
+pub mod ReceptionRows
 pub mod TargetWords
 pub mod StandingSteps
 pub mod Openings
@@ -36,3 +40,5 @@ pub mod PassedFrames
 pub mod CauseWords
 pub mod OutgoingWords
 pub mod SelectionRows
+pub mod LayeredFormats
+pub mod LayeredRows

@@ -19,15 +19,15 @@ use Rattle.forwarding_model.proofs.WholeCuts.{cut_is_whole, whole_is_cut}
 
 -- ---- an item's mark, and what is in force after it
 
-abbrev item_mark : {S : Type 0} → Format S → Option S → Item → Mark (ReadPacket S)
+abbrev pub item_mark : {S : Type 0} → Format S → Option S → Item → Mark (ReadPacket S)
 item_mark format force Missing = Gone
 item_mark format force (Arrived p) = cond (is_padding (format.payload p.rest)) Padding (showing_mark (shown format force p.rest) p)
 
-abbrev force_by : {S : Type 0} → Format S → Force S → Item → Force S
+abbrev pub force_by : {S : Type 0} → Format S → Force S → Item → Force S
 force_by format force Missing = force
 force_by format force (Arrived p) = cond (is_padding (format.payload p.rest)) force (after_showing format force (shown format force.structure p.rest))
 
-made_as : {S : Type 0} (format : Format S) (state : TrackState S) (item : Item)
+pub made_as : {S : Type 0} (format : Format S) (state : TrackState S) (item : Item)
     → made_by_item format state item ≡ made_by format (force_by format state.force item) state.run (item_mark format state.force.structure item)
 made_as format state Missing = refl
 made_as {S} format state (Arrived p) = go (is_padding (format.payload p.rest))
@@ -104,10 +104,10 @@ mark_is format force item (Read part) h = ap (item_mark format force) h.came
 
 -- ---- what was read is in force
 
-record IsBy {S : Type 0} (format : Format S) (ds : List (Descriptor S)) (force : Force S) : Type 0 where
-  structure : force.structure ≡ structure_of ds
-  mask : force.mask ≡ mask_of format ds
-  epoch : force.epoch ≡ epochs_of ds
+pub record IsBy {S : Type 0} (format : Format S) (ds : List (Descriptor S)) (force : Force S) : Type 0 where
+  pub structure : force.structure ≡ structure_of ds
+  pub mask : force.mask ≡ mask_of format ds
+  pub epoch : force.epoch ≡ epochs_of ds
 
 seen_by : {S : Type 0} (format : Format S) (ds : List (Descriptor S)) (force : Force S) (d : Descriptor S) → IsBy format ds force → IsBy format (d ∷ ds) (after_descriptor format force d)
 seen_by {S} format ds force d h = go (is_key_start d) refl
@@ -149,7 +149,7 @@ force_at format item past h =
     subst (λ o. IsBy format (and_said (said_by format o item) (said format past)) (force_by format (state_after format past).force item)) h.structure
     (forced_by format (said format past) (state_after format past).force item h)
 
-all_by : {S : Type 0} (format : Format S) (items : List Item) → IsBy format (said format items) (state_after format items).force
+pub all_by : {S : Type 0} (format : Format S) (items : List Item) → IsBy format (said format items) (state_after format items).force
 all_by format [] = record { structure = refl; mask = refl; epoch = refl }
 all_by {S} format (item ∷ past) =
     let h = force_at format item past (all_by format past) in
@@ -159,11 +159,11 @@ all_by {S} format (item ∷ past) =
 pub in_force_by : {S : Type 0} (format : Format S) (items : List Item) → IsInForceBy format items
 in_force_by format items = let h = all_by format items in record { structure = h.structure; mask = h.mask; epoch = h.epoch }
 
-start_is : {S : Type 0} (format : Format S) (item : Item) (past : List Item) → start_number format (item ∷ past) ≡ (force_by format (state_after format past).force item).start
+pub start_is : {S : Type 0} (format : Format S) (item : Item) (past : List Item) → start_number format (item ∷ past) ≡ (force_by format (state_after format past).force item).start
 start_is {S} format item past = ap (λ (m : Made S). m.state.force.start) (made_as format (state_after format past) item)
 
 -- what an item says was seen
-said_seen : {S : Type 0} (format : Format S) (force : Force S) (item : Item) (d : Descriptor S) → said_by format force.structure item ≡ Some d
+pub said_seen : {S : Type 0} (format : Format S) (force : Force S) (item : Item) (d : Descriptor S) → said_by format force.structure item ≡ Some d
     → force_by format force item ≡ after_descriptor format force d
 said_seen format force Missing d h = absurd (cc)
 said_seen {S} format force (Arrived p) d h = go (format.payload p.rest) (shown format force.structure p.rest) h

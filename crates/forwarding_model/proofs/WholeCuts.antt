@@ -341,19 +341,21 @@ joined_so_far : {X : Type 0} (o : Bool) (parts : List (Part X)) (now : Bool) →
 joined_so_far o [] now h = tt
 joined_so_far o (part ∷ more) now h = (h.0, joined_so_far part.carries more now h.1)
 
+pub open_run_is_unfinished : {X : Type 0} (marks : List (Mark X)) (run : Run X) → IsRunOf marks run → run.newest.end ≡ false → IsUnfinishedCut (parts_of run)
+open_run_is_unfinished marks run h goes_on =
+    record {
+      few = (let few = h.few in omega arith);
+      starts = (h.start, h.more_start);
+      ends = none_ends (parts_of run) (subst (EndsWith (parts_of run)) goes_on h.ends);
+      number = h.number;
+      joins = joined_so_far false (parts_of run) run.newest.carries h.joins;
+    }
+
 pub run_is_unfinished : {X : Type 0} (past : List (Mark X)) (part : Part X) (run : Run X) → run_of (Read part ∷ past) ≡ Some run → run.newest.end ≡ false
     → IsUnfinishedCut (parts_of run) × EndsIn (Read part ∷ past) (parts_of run)
 run_is_unfinished past part run e goes_on =
-    let h : IsRunOf (Read part ∷ past) run = subst (IsRunFound (Read part ∷ past)) e (run_found (Read part ∷ past)) in (
-      record {
-        few = (let few = h.few in omega arith);
-        starts = (h.start, h.more_start);
-        ends = none_ends (parts_of run) (subst (EndsWith (parts_of run)) goes_on h.ends);
-        number = h.number;
-        joins = joined_so_far false (parts_of run) run.newest.carries h.joins;
-      },
-      record { newest = tt; older = h.older; adjacent = h.adjacent },
-    )
+    let h : IsRunOf (Read part ∷ past) run = subst (IsRunFound (Read part ∷ past)) e (run_found (Read part ∷ past)) in
+    (open_run_is_unfinished (Read part ∷ past) run h goes_on, record { newest = tt; older = h.older; adjacent = h.adjacent })
 
 last_open : {X : Type 0} (part : Part X) (more : List (Part X)) → AllByRecursion (λ p. p.end ≡ false) (part ∷ more) → LastHas (λ p. p.end ≡ false) part more
 last_open part [] h = h.0

@@ -1,5 +1,5 @@
 -- The worked format has the facts on which the laws rest.
-use Rattle.std.proofs.Common.{◌≡◌, ◌-◌, ◌<◌, ℕ, arith, Bool, true, false, List, refl, sym, subst, ap, ◌∙◌, cond, true≢false, length, get_or}
+use Rattle.std.proofs.Common.{◌≡◌, ◌-◌, ◌<◌, ◌≤◌, ◌^◌, ℕ, arith, Bool, true, false, List, refl, sym, subst, ap, ◌∙◌, cond, true≢false, length, get_or}
 use Rattle.std.specs.Prelude.{◌==◌, nat_lt, nat_le, slice_index}
 use Rattle.std.specs.List.{list_all}
 use Rattle.std.proofs.lemmas.Bool.{and_parts, eqb-true, eq-eqb, ltb-true, leb-true}
@@ -9,9 +9,9 @@ use Rattle.std.specs.declared.option.Option.TheVariants.{None, Some}
 use Rattle.sfu_base.specs.Frame.{IsDistance}
 use Rattle.forwarding_model.specs.Reading.{Descriptor, IsDescriptor, IsFormat, has_structure}
 use Rattle.forwarding_model.specs.Reading.DescriptorReading.{NeedsStructure, Faulty, Reads}
-use Rattle.forwarding_model.specs.WorkedFormat.{WorkedFields, is_distance, are_in_bounds, carried_structure, written_mask, worked_reading, reads_as, described_in_bounds, described, worked_fields, worked_format}
+use Rattle.forwarding_model.specs.WorkedFormat.{WorkedFields, is_distance, are_in_bounds, carried_structure, written_mask, worked_reading, reads_as, described_in_bounds, described, worked_fields, worked_format, worked_layout}
 
-distance_at : (distances : List ℕ) (i : ℕ) → list_all is_distance distances ≡ true → i < length distances → IsDistance (slice_index distances i)
+pub distance_at : (distances : List ℕ) (i : ℕ) → list_all is_distance distances ≡ true → i < length distances → IsDistance (slice_index distances i)
 distance_at distances i all lt = go (is_distance (get_or distances i 0)) refl
   where
     go : (b : Bool) → is_distance (get_or distances i 0) ≡ b → IsDistance (slice_index distances i)
@@ -27,6 +27,21 @@ mask_fits mask m lt e = go (mask == 0) refl e
     go true z h = absurd (grind arith)
     go false z h = let same : mask - 1 ≡ m = grind arith in omega arith
 
+-- two targets, or three
+few_targets : (s : ℕ) → (worked_layout s).target_count ≤ 32
+few_targets s = go (s == 9)
+  where
+    go : (b : Bool) → cond b 3 2 ≤ 32
+    go true = omega arith
+    go false = omega arith
+
+below_all : (s m : ℕ) → m < 4 → m < 2 ^ (worked_layout s).target_count
+below_all s m lt = go (s == 9)
+  where
+    go : (b : Bool) → m < 2 ^ cond b 3 2
+    go true = omega (arith, lt)
+    go false = lt
+
 in_bounds : (force : Option ℕ) (fields : WorkedFields) (d : Descriptor ℕ) → are_in_bounds fields ≡ true → reads_as fields ≡ Reads d → IsDescriptor worked_format force d
 in_bounds force fields d bounds e =
     let a = and_parts (nat_lt fields.number 65536) _ bounds in
@@ -38,8 +53,8 @@ in_bounds force fields d bounds e =
       number = ltb-true fields.number 65536 a.0;
       references = leb-true (length fields.distances) 16 c.0;
       distances = λ i lt. distance_at fields.distances i c.1 lt;
-      layout = λ s has. record { targets = omega arith; chains = omega arith; guards = λ some. absurd (some refl) };
-      mask = λ s m by has. mask_fits fields.mask m (ltb-true fields.mask 5 b.0) has;
+      layout = λ s has. record { targets = few_targets s; chains = omega arith; guards = λ some. absurd (some refl) };
+      mask = λ s m by has. below_all s m (mask_fits fields.mask m (ltb-true fields.mask 5 b.0) has);
     })
 
 -- a descriptor that reads has its fields in bounds, and was read as they say

@@ -1,7 +1,7 @@
 -- What a strict receiver has seen when it has no complaint, in words: one source, consecutive numbers, whole frames, every reference.
 -- Own statements, over RFC 3550, section 5.1, and AV1 RTP payload format, section 4.4 and Appendix A. A receiver that never complains
 -- meets the laws on what goes out; it doesn't meet these. The code keeps none of these lists.
-use Rattle.std.specs.Prelude.{◌≡◌, ◌⊎◌, ◌+◌, ◌%◌, ◌<◌, ◌≤◌, ℕ, List, [], ◌∷◌, ◌++◌, Bool, false, if◌then◌else◌, map, length}
+use Rattle.std.specs.Prelude.{◌≡◌, ◌⊎◌, ◌+◌, ◌%◌, ◌&&◌, ℕ, List, [], ◌∷◌, ◌++◌, Bool, true, false, if◌then◌else◌, nat_lt, map}
 use Rattle.std.specs.List.{AllByRecursion}
 use Rattle.std.specs.declared.option.Option.{Option}
 use Rattle.std.specs.declared.option.Option.TheVariants.{None, Some}
@@ -11,7 +11,7 @@ use Rattle.forwarding_model.specs.Outgoing.{AreConsecutive}
 use Rattle.forwarding_model.specs.Reading.{Format, is_key_start, referred_distances, shown}
 use Rattle.forwarding_model.specs.Reading.Payload.{Elements}
 use Rattle.forwarding_model.specs.Reading.Showing.{Shows}
-use Rattle.forwarding_model.specs.Cuts.{Part, FirstAloneStarts, HaveOneNumber, IsWholeCut}
+use Rattle.forwarding_model.specs.Cuts.{Part, IsWholeCut, IsUnfinishedCut}
 use Rattle.forwarding_model.specs.Frames.{ReadPacket, packet_of}
 use Rattle.forwarding_model.specs.Receiver.{structure_after, complaint}
 
@@ -37,11 +37,6 @@ abbrev pub structure_in : {S : Type 0} → List (ReceivedFrame S) → Option S
 structure_in [] = None
 structure_in (x ∷ past) = structure_after (structure_in past) x.first.brings.descriptor
 
--- the frames from the newest key frame on
-abbrev pub since_key : {S : Type 0} → List (ReceivedFrame S) → List (ReceivedFrame S)
-since_key [] = []
-since_key (x ∷ past) = x ∷ (if is_key_frame x then [] else since_key past)
-
 -- what the part says is what its packet shows by this structure
 pub record IsReadAs {S : Type 0} (format : Format S) (force : Option S) (part : Part (ReadPacket S)) : Type 0 where
   pub reads : shown format force part.brings.packet.rest ≡ Shows part.brings.descriptor (Elements (record { continues = part.continues; carries = part.carries }))
@@ -54,29 +49,42 @@ abbrev pub IsThere : {S : Type 0} → List (ReceivedFrame S) → ℕ → ℕ →
 IsThere frames n d = (g : ReceivedFrame _) × IsMember g frames × (g.number + d ≡ n)
 
 -- n lies above the number of the newest of these frames, by less than 32,768
-abbrev pub IsNextTo : {S : Type 0} → List (ReceivedFrame S) → ℕ → Type 0
-IsNextTo [] n = ⊥
-IsNextTo (g ∷ past) n = (g.number < n) × (n < g.number + 32768)
+abbrev pub is_next_to : {S : Type 0} → List (ReceivedFrame S) → ℕ → Bool
+is_next_to [] n = false
+is_next_to (g ∷ past) n = nat_lt g.number n && nat_lt n (g.number + 32768)
 
--- x is a whole frame, read by the structure in force, with its number; and all that it refers to came since the newest key frame
+-- of the frames that counted as received, those that still do when the next frame comes: none where it is a key frame, and none where its
+-- number isn't next to the newest
+abbrev pub counting : {S : Type 0} → (is_key is_next : Bool) → List (ReceivedFrame S) → List (ReceivedFrame S)
+counting is_key is_next frames = if is_key then [] else (if is_next then frames else [])
+
+-- the frames that count as received
+abbrev pub counted : {S : Type 0} → List (ReceivedFrame S) → List (ReceivedFrame S)
+counted [] = []
+counted (x ∷ past) = x ∷ counting (is_key_frame x) (is_next_to past x.number) (counted past)
+
+-- where its number isn't next to the newest, no other number does that is the same modulo 65,536
+abbrev pub NoneIsNextTo : {S : Type 0} → List (ReceivedFrame S) → ℕ → Type 0
+NoneIsNextTo past n = (m : ℕ) → m % 65536 ≡ n % 65536 → is_next_to past m ≡ false
+
+-- x is a whole frame, read by the structure in force, with its number; and all that it refers to counts as received when it comes
 pub record IsReceived {S : Type 0} (format : Format S) (past : List (ReceivedFrame S)) (x : ReceivedFrame S) : Type 0 where
   pub first : IsReadAs format (structure_in past) x.first
   pub more : AllByRecursion (IsReadAs format (structure_in (x ∷ past))) x.more
   pub whole : IsWholeCut (x.first ∷ x.more)
   pub numbered : x.number % 65536 ≡ x.first.number % 65536
-  pub placed : (references_of x ≡ []) ⊎ IsNextTo past x.number
-  pub references : AllByRecursion (IsThere (since_key past) x.number) (references_of x)
+  pub placed : (is_key_frame x ≡ true) ⊎ (is_next_to past x.number ≡ true) ⊎ NoneIsNextTo past x.number
+  pub references : AllByRecursion (IsThere (counting (is_key_frame x) (is_next_to past x.number) (counted past)) x.number) (references_of x)
 
 abbrev pub AreReceived : {S : Type 0} → Format S → List (ReceivedFrame S) → Type 0
 AreReceived format [] = Unit {0}
 AreReceived format (x ∷ past) = IsReceived format past x × AreReceived format past
 
--- the first parts of a frame, which hasn't ended
-pub record IsBegun {X : Type 0} (parts : List (Part X)) : Type 0 where
-  pub few : length parts ≤ 512
-  pub starts : FirstAloneStarts parts
-  pub number : HaveOneNumber parts
-  pub ends_none : AllByRecursion (λ p. p.end ≡ false) parts
+-- the parts of one frame, which begins when this structure is in force
+abbrev pub AreReadAs : {S : Type 0} → Format S → Option S → List (Part (ReadPacket S)) → Type 0
+AreReadAs format force [] = Unit {0}
+AreReadAs format force (first ∷ more) =
+    IsReadAs format force first × AllByRecursion (IsReadAs format (structure_after force first.brings.descriptor)) more
 
 abbrev pub HaveOneSource : List Packet → Type 0
 HaveOneSource [] = Unit {0}
@@ -88,7 +96,8 @@ pub record AreAccepted {S : Type 0} (format : Format S) (packets : List Packet) 
   pub rest : List (Part (ReadPacket S))
   pub laid : packets ≡ packets_of frames ++ map packet_of rest
   pub received : AreReceived format frames
-  pub begun : (rest ≡ []) ⊎ IsBegun rest
+  pub read : AreReadAs format (structure_in frames) rest
+  pub begun : (rest ≡ []) ⊎ IsUnfinishedCut rest
   pub source : HaveOneSource packets
   pub numbers : AreConsecutive packets
 

@@ -1,14 +1,15 @@
--- Histories of one layered track and its subscribers, and what happens to each subscriber in one. Own rules.
+-- Histories of one track, layered or plain, and its subscribers, and what happens to each subscriber in one. Own rules.
 -- A history has the newest first. No answer of the code needs one, and only a room that records keeps its calls.
 use Rattle.std.specs.Prelude.{ℕ, List, [], ◌∷◌, ◌++◌, if◌then◌else◌, ◌==◌, nat_lt, length, map}
 use Rattle.std.specs.declared.option.Option.{Option}
 use Rattle.std.specs.declared.option.Option.TheVariants.{None, Some}
 use Rattle.sfu_base.specs.declared.frame.Wish.{Wish}
 use Rattle.forwarding_model.specs.Timeline.{Frame, Event, takes_of}
-use Rattle.forwarding_model.specs.Timeline.Event.{WholeFrame, WishChange, Take}
+use Rattle.forwarding_model.specs.Timeline.Event.{WholeFrame, PlainPacket, WishChange, Take}
 use Rattle.forwarding_model.specs.Outgoing.{Sender, Subscriber, outgoing}
 use Rattle.forwarding_model.specs.Reading.{Format}
 use Rattle.forwarding_model.specs.Frames.{Item, frames_since}
+use Rattle.forwarding_model.specs.Frames.Item.{Missing, Arrived}
 
 -- A packet came or time went on, which released these items, the newest first; a subscriber joined, changed its wish, or asked for a
 -- packet.
@@ -42,12 +43,30 @@ abbrev pub asked : {S : Type 0} → Sender S → Option Subscriber → List (Eve
 asked send None events = events
 asked send (Some subscriber) events = if nat_lt (takes_of events) (length (outgoing send subscriber events)) then Take ∷ events else events
 
--- what happened to the subscriber since it joined: the frames that got whole since, and its own changes of wish and takes
+-- what released items, the newest first, are to a subscriber of a layered track: the frames that they made whole
+abbrev pub frames_released : {S : Type 0} → Format S → List Item → List Item → List (Event S)
+frames_released format older items = frame_events (frames_since format older items)
+
+-- and to one of a plain track: each packet that came, whatever was given up before it
+abbrev pub packets_released : {S : Type 0} → List Item → List Item → List (Event S)
+packets_released older [] = []
+packets_released older (Missing ∷ items) = packets_released older items
+packets_released older (Arrived packet ∷ items) = PlainPacket packet ∷ packets_released older items
+
+-- what happened to the subscriber since it joined: what was released since, and its own changes of wish and takes
+abbrev pub timeline_by : {S : Type 0} → (List Item → List Item → List (Event S)) → Sender S → ℕ → List Entry → List (Event S)
+timeline_by released send number [] = []
+timeline_by released send number (Released items ∷ past) = released (items_of past) items ++ timeline_by released send number past
+timeline_by released send number (Joined other subscriber ∷ past) = if other == number then [] else timeline_by released send number past
+timeline_by released send number (Aimed other wish ∷ past) =
+    if other == number then WishChange wish ∷ timeline_by released send number past else timeline_by released send number past
+timeline_by released send number (Asked other ∷ past) =
+    if other == number then asked send (subscriber_of number past) (timeline_by released send number past) else timeline_by released send number past
+
+-- on a layered track
 abbrev pub timeline : {S : Type 0} → Format S → Sender S → ℕ → List Entry → List (Event S)
-timeline format send number [] = []
-timeline format send number (Released items ∷ past) = frame_events (frames_since format (items_of past) items) ++ timeline format send number past
-timeline format send number (Joined other subscriber ∷ past) = if other == number then [] else timeline format send number past
-timeline format send number (Aimed other wish ∷ past) =
-    if other == number then WishChange wish ∷ timeline format send number past else timeline format send number past
-timeline format send number (Asked other ∷ past) =
-    if other == number then asked send (subscriber_of number past) (timeline format send number past) else timeline format send number past
+timeline format send number history = timeline_by (frames_released format) send number history
+
+-- on a plain track
+abbrev pub plain_timeline : {S : Type 0} → Sender S → ℕ → List Entry → List (Event S)
+plain_timeline send number history = timeline_by packets_released send number history

@@ -185,15 +185,18 @@ abbrev pub UnfinishedCutsArePartial : Type 0 → Type 0
 UnfinishedCutsArePartial X = (mark : Mark X) (past : List (Mark X)) (first : Part X) (more : List (Part X))
     → IsUnfinishedCut (first ∷ more) → EndsIn (mark ∷ past) (first ∷ more) → outcome (run_of past) mark ≡ IsPartial
 
--- a frame is partial where a run goes on, which hasn't ended; and padding alone is padding
+-- a frame is partial only where a run goes on, which hasn't ended; and padding, alone, is padding
 abbrev pub PartialOutcomesGoOn : Type 0 → Type 0
 PartialOutcomesGoOn X = (run : Option (Run X)) (mark : Mark X) → outcome run mark ≡ IsPartial
     → (ongoing : Run X) × (extended run mark ≡ Some ongoing) × (ongoing.newest.end ≡ false)
 
+abbrev pub PaddingIsPadded : Type 0 → Type 0
+PaddingIsPadded X = (run : Option (Run X)) → outcome run Padding ≡ IsPadding
+
 abbrev pub PaddingOutcomesArePadding : Type 0 → Type 0
 PaddingOutcomesArePadding X = (run : Option (Run X)) (mark : Mark X) → outcome run mark ≡ IsPadding → mark ≡ Padding
 
--- a torn frame leaves no run, or one that has ended with an element open
+-- only no run, or one that has ended with an element open, is torn
 abbrev pub TornOutcomesAreTorn : Type 0 → Type 0
 TornOutcomesAreTorn X = (run : Option (Run X)) (mark : Mark X) → outcome run mark ≡ IsTorn
     → (extended run mark ≡ None) ⊎ ((ended : Run X) × (extended run mark ≡ Some ended) × (ended.newest.end ≡ true) × (ended.newest.carries ≡ true))

@@ -19,9 +19,14 @@ pub mod Accepted
 pub mod WholeFrames
 pub mod Making
 pub mod History
+pub mod Plain
 pub mod Rows
 pub mod WorkedFormat
 pub mod WorkedPackets
+pub mod TrackRows
+pub mod ReceptionRows
+pub mod LayeredFormat
+pub mod LayeredRows
 pub mod Since
 pub mod TargetWords
 pub mod StandingSteps

@@ -1,17 +1,17 @@
 -- What a track's items make, in words: what each item is, what is in force, and which items end a frame that means what.
 -- Own statements, over AV1 RTP payload format, section 4.4 and Appendix A. `Frames` makes frames item by item; the laws here say of the
 -- whole list that it makes those frames and no others.
-use Rattle.std.specs.Prelude.{◌≡◌, ◌≢◌, ◌⊎◌, ◌+◌, ◌%◌, ◌<◌, ◌≤◌, ℕ, List, [], ◌∷◌, true, false, if◌then◌else◌, map}
+use Rattle.std.specs.Prelude.{◌≡◌, ◌≢◌, ◌⊎◌, ◌+◌, ◌/◌, ◌%◌, ◌^◌, ◌<◌, ◌≤◌, ℕ, List, [], ◌∷◌, true, false, if◌then◌else◌, map}
 use Rattle.std.specs.declared.option.Option.{Option}
 use Rattle.std.specs.declared.option.Option.TheVariants.{None, Some}
 use Rattle.sfu_base.specs.declared.frame.FrameMeaning.{FrameMeaning}
 use Rattle.forwarding_model.specs.Timeline.{Frame}
-use Rattle.forwarding_model.specs.Reading.{Descriptor, Format, IsFormat, Payload, Showing, is_key_start, shown}
+use Rattle.forwarding_model.specs.Reading.{Descriptor, Format, IsFormat, Layout, Payload, Showing, is_key_start, shown}
 use Rattle.forwarding_model.specs.Reading.Payload.{Empty, Broken, Elements}
 use Rattle.forwarding_model.specs.Reading.Showing.{LacksStructure, Unread, Shows}
 use Rattle.forwarding_model.specs.Cuts.{Part, Mark, IsWholeCut, EndsIn}
 use Rattle.forwarding_model.specs.Cuts.Mark.{Gone, Padding, Unreadable, Read}
-use Rattle.forwarding_model.specs.Frames.{Item, ReadPacket, mask_by, packet_of, state_after, frames_since}
+use Rattle.forwarding_model.specs.Frames.{Item, ReadPacket, all_targets, mask_by, packet_of, state_after, frames_since}
 use Rattle.forwarding_model.specs.Frames.Item.{Missing, Arrived}
 
 -- ---- what is in force: the descriptors that were read, of packets that aren't padding, whether or not their payload reads
@@ -61,6 +61,36 @@ newest_number format items = (state_after format items).force.newest
 abbrev pub start_number : {S : Type 0} → Format S → List Item → ℕ
 start_number format items = (state_after format items).force.start
 
+-- the item says no key start
+abbrev pub BeginsNoEpoch : {S : Type 0} → Format S → Item → List Item → Type 0
+BeginsNoEpoch format item past = (d : Descriptor _) → said_by format (structure_of (said format past)) item ≡ Some d → is_key_start d ≡ false
+
+-- Where the newest item makes a frame, that frame's number is the newest. Where it makes none but says a key start, the new epoch's number
+-- is the newest. And where it does neither, the newest stays, whatever is torn. The epoch's number changes at a key start alone.
+pub record NumbersGoOn {S : Type 0} (format : Format S) (item : Item) (past : List Item) : Type 0 where
+  pub frame : (frame : Frame S) → frames_since format past (item ∷ []) ≡ frame ∷ [] → newest_number format (item ∷ past) ≡ frame.meaning.number
+  pub key_start : (d : Descriptor S) → frames_since format past (item ∷ []) ≡ [] → said_by format (structure_of (said format past)) item ≡ Some d
+      → is_key_start d ≡ true → newest_number format (item ∷ past) ≡ start_number format (item ∷ past)
+  pub neither : frames_since format past (item ∷ []) ≡ [] → BeginsNoEpoch format item past → newest_number format (item ∷ past) ≡ newest_number format past
+  pub start : BeginsNoEpoch format item past → start_number format (item ∷ past) ≡ start_number format past
+
+abbrev pub TheNewestIsTheLast : Type 0 → Type 0
+TheNewestIsTheLast S = (format : Format S) (item : Item) (past : List Item) → NumbersGoOn format item past
+
+-- what the newest descriptor says of the mask: its own, or all targets of the structure that it carries, or nothing
+pub record MaskIsSaid {S : Type 0} (format : Format S) (d : Descriptor S) (past : List (Descriptor S)) : Type 0 where
+  pub own : (mask : ℕ) → d.mask ≡ Some mask → mask_of format (d ∷ past) ≡ mask
+  pub all : (s : S) → d.mask ≡ None → d.structure ≡ Some s → mask_of format (d ∷ past) ≡ all_targets (format.layout s)
+  pub neither : d.mask ≡ None → d.structure ≡ None → mask_of format (d ∷ past) ≡ mask_of format past
+
+abbrev pub MasksAreSaid : Type 0 → Type 0
+MasksAreSaid S = (format : Format S) (d : Descriptor S) (past : List (Descriptor S)) → MaskIsSaid format d past
+
+-- all targets: each bit below the count is set, and no other
+abbrev pub AllTargetsAreActive : Type 0
+AllTargetsAreActive = (layout : Layout)
+    → ((target : ℕ) → target < layout.target_count → all_targets layout / 2 ^ target % 2 ≡ 1) × (all_targets layout < 2 ^ layout.target_count)
+
 -- structure, mask and epoch in force are those of what was read
 pub record IsInForceBy {S : Type 0} (format : Format S) (items : List Item) : Type 0 where
   pub structure : (state_after format items).force.structure ≡ structure_of (said format items)
@@ -76,7 +106,7 @@ pub record IsLeastAbove (newest n number : ℕ) : Type 0 where
   pub near : number ≤ newest + 65536
   pub congruent : number % 65536 ≡ n % 65536
 
--- a key start of the first epoch has its own number, and a later one the least above all before
+-- a key start of the first epoch has its own number, and a later one the least above the newest, which lies above all frames before
 abbrev pub KeyStartsAreNumbered : Type 0 → Type 0
 KeyStartsAreNumbered S = (format : Format S) (item : Item) (past : List Item) (d : Descriptor S) → said_by format (structure_of (said format past)) item ≡ Some d
     → is_key_start d ≡ true

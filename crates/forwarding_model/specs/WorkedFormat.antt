@@ -10,11 +10,12 @@ use Rattle.forwarding_model.specs.Reading.{Descriptor, DescriptorReading, Format
 use Rattle.forwarding_model.specs.Reading.DescriptorReading.{NeedsStructure, Faulty, Reads}
 use Rattle.forwarding_model.specs.Reading.Payload.{Empty, Broken, Elements}
 
--- structures are told apart by a number; each has two decode targets, of the layers (1, 0) and (0, 0), and no chain
+-- Structures are told apart by a number. Structure 9 has a third decode target; each other has two, of the layers (1, 0) and (0, 0). None
+-- has a chain.
 abbrev pub worked_layout : ℕ → Layout
 worked_layout s =
     record {
-      target_count = 2;
+      target_count = if s == 9 then 3 else 2;
       pairs = Some (record { spatial = 1; temporal = 0 }) ∷ Some (record { spatial = 0; temporal = 0 }) ∷ [];
       chain_count = 0;
       guards = [];

@@ -1,15 +1,20 @@
 // The laws of forwarding: each is the contract of a function that does nothing. A crate above takes a law by a call of its function, or
 // by naming the lemma of `proofs/` that proves it. `Structure` is the type of template dependency structures.
 
-ghost use Rattle.forwarding_model.specs.Laws.{NeverComplains, AreDecodable, RestartsAtOnce, RestartsLater, EndsAtRoot, EndsAtRootUnpassed, PathsBegin, PathsTellCauses, TakenNeverComplains, OutgoingNeverComplains, EndsAtRootInHistories, AreNumberedInOrder, OnlyGrows, ResendsFirstBytes, ResendsKept, QueuesTheRest, TakesFindPackets, MarkingKeepsWhole, MarkingIsASender, MarkingKeepsCount, FramesAreTrack, FramesAreRead, FramesAreAdded, NewestAreTrack, EndedRunsAreWhole, WholeCutsAreFound, WholeOutcomesAreCuts, PartialOutcomesGoOn, PartialFramesAreUnfinished, UnfinishedCutsArePartial, PaddingOutcomesArePadding, TornOutcomesAreTorn, TooOldIsBelow, AheadIsAbove, AimIsBest, OpeningIsBest, PassedWherePasses, PassesLinked, PassesWherePassed, KeepAlike, OpenAlike, PassAlike, JudgeAlike};
+ghost use Rattle.forwarding_model.specs.Laws.{NeverComplains, AreDecodable, RestartsAtOnce, RestartsLater, EndsAtRoot, EndsAtRootUnpassed, PathsBegin, PathsTellCauses, TakenNeverComplains, OutgoingNeverComplains, EndsAtRootInHistories, AreNumberedInOrder, OnlyGrows, ResendsFirstBytes, ResendsKept, QueuesTheRest, TakesFindPackets, MarkingKeepsWhole, MarkingIsASender, MarkingKeepsCount, FramesAreTrack, FramesAreRead, FramesAreAdded, NewestAreTrack, EndedRunsAreWhole, WholeCutsAreFound, WholeOutcomesAreCuts, PartialOutcomesGoOn, PartialFramesAreUnfinished, UnfinishedCutsArePartial, PaddingIsPadded, PaddingOutcomesArePadding, TornOutcomesAreTorn, TooOldIsBelow, AheadIsAbove, AimIsBest, OpeningIsBest, PassedWherePasses, PassesLinked, PassesWherePassed, KeepAlike, OpenAlike, PassAlike, JudgeAlike};
 ghost use Rattle.forwarding_model.specs.Accepted.{NoComplaintAccepts};
 ghost use Rattle.forwarding_model.specs.Decisions.{BrokenLinksClose, OtherLinksKeep, BrokenLinksBreak, ReasonsHold, OpensTheBest, OpensWhatItCan, PassesInTarget, FullClaims, BehindClaims, ReferenceClaims, OtherTargetClaims, NoTargetClaims, LinkClaims, UnopenedClaims, NoFrameIsAHole};
-ghost use Rattle.forwarding_model.specs.Making.{WhatWasReadIsInForce, KeyStartsAreNumbered, ItemsHaveMarks, FramesAreCuts, CutsAreFrames};
+ghost use Rattle.forwarding_model.specs.Making.{WhatWasReadIsInForce, KeyStartsAreNumbered, TheNewestIsTheLast, MasksAreSaid, AllTargetsAreActive, ItemsHaveMarks, FramesAreCuts, CutsAreFrames};
+ghost use Rattle.forwarding_model.specs.Plain.{PlainPacketsGoOut, FullQueuesTakeNone, PlainTakesFindPackets, QueuesAreShort};
 ghost use Rattle.forwarding_model.specs.Reading.{IsFormat};
 ghost use Rattle.forwarding_model.specs.Taken.{TakesGiveWhatWasTaken, NextHasNextNumber, KeepsTheLast, OldestIsKept, ResendsTheKeptNumbers};
 ghost use Rattle.forwarding_model.specs.WorkedFormat.{worked_format};
 ghost use Rattle.forwarding_model.specs.Rows.{BrokenChainCauses, BrokenChainNumbers, UpperLostCauses, UpperLostMarkers, MaskMarkers, WishCauses, WishMarkers, WishCauseUnpassed, FullCauses, FullTakenCauses, LateJoinCauses, BehindCause, HoldCauses, PlainResend, BrokenLinkCauses, UnlinkedCause, EarlyLinkCauses, MaskedCauses, IntactUpperMarkers, LoweredWishCause, ThreePacketMarkers, KeptMarkers, AskedNumbers, HoleBounds};
 ghost use Rattle.forwarding_model.specs.WorkedPackets.{UnreadInside, BrokenInside, OtherStructureInside, BrokenKeyStart, TornKeyFrame, BrokenMask, PaddingSaysNothing, LastMask, MaskAgain, FirstNumberZero, FarthestAbove, NearestBehind, LongFrame, TooLongFrame, FirstSubscriber, FirstSubscriberMarkers, SecondSubscriber, SecondSubscriberTaken, ThirdSubscriber, ThirdSubscriberCauses, HistoryNumbers, HistoryTaken, HistoryCauses, PaddedFrame, TornFrame, EarlyStart, WrappedNumbers, StaleNumber, NewMask, OtherStructure, Accepted, AcceptedCounts, NotRtp, OtherSource, RepeatedNumber, WrappedSequence, LacksKeyFrame, EmptyPayload, LacksStart, SecondStart, BrokenJoin, LacksReference, LostReference, OtherNumber, EndCarries, StartContinues, LongestFrame, TooManyPackets, FaultyDescriptor, BrokenPayload, StructureRule, SameStructure, NoStructureFirst, SourceFirst, NumberBeforeContent, FirstComplaintStays, StaleEmpties, StaleCounts};
+ghost use Rattle.forwarding_model.specs.TrackRows.{TornNumber, EqualNumber, OwnMask, ThreeTargets, LongKeyFrame, EpochsAndStarts, GapTears, PaddingIsPassedOver, StartBeginsAnew, PaddingFirst, PartsOfAFrame, ThirdSubscriberMarkers, OnlyTheSecondTook, PlainContents, PlainQueue, PlainHistory, PlainTaken};
+ghost use Rattle.forwarding_model.specs.ReceptionRows.{OtherNumberAtOnce, BrokenJoinAtOnce, SecondStartAtOnce, BrokenPayloadAtOnce, TooManyAtOnce, ReferenceAtTheEnd, FirstReference, FarthestReference, NotRtpFirst, NoDescriptor, LongKeyFrameAccepted};
+ghost use Rattle.forwarding_model.specs.LayeredFormat.{layered_format};
+ghost use Rattle.forwarding_model.specs.LayeredRows.{BrokenChain, BrokenChainSent, UpperLost, UpperLostSent, MaskSent, WishedCauses, WishedSent, WishedUnmet, OtherTemplate};
 
 // ---- the headline
 
@@ -21,8 +26,9 @@ pub fn strict_receiver_never_complains<Structure>()
     ensures taken { TakenNeverComplains Structure }
 {}
 
-/// What a strict receiver has no complaint of is of one source, consecutive in number, and whole frames one after another, of which each
-/// refers to frames that came since the newest key frame.
+/// What a strict receiver has no complaint of is of one source, consecutive in number, and whole frames one after another, and then the
+/// first packets of one more, or none. Each frame refers to frames that came since the newest key frame, and since the newest whose number
+/// wasn't above the one before it.
 pub fn accepted_packets_are_whole_frames<Structure>()
     ensures { NoComplaintAccepts Structure }
 {}
@@ -91,6 +97,18 @@ pub fn the_last_that_were_taken_are_kept<Structure>()
     ensures numbers { ResendsTheKeptNumbers Structure }
 {}
 
+/// A packet of a plain track goes out as it came, but for its number and its SSRC, where fewer than 512 packets are queued.
+pub fn plain_packets_go_out_as_they_came<Structure>()
+    ensures passes { PlainPacketsGoOut Structure }
+    ensures full { FullQueuesTakeNone Structure }
+    ensures history { PlainTakesFindPackets Structure }
+{}
+
+/// No more than 512 packets are ever queued.
+pub fn queues_are_short<Structure>()
+    ensures { QueuesAreShort Structure }
+{}
+
 /// A frame is sent whole, in as many packets as it has, when the marker of its last packet is set.
 pub fn marking_keeps_frames_whole<Structure>()
     ensures whole { MarkingKeepsWhole Structure }
@@ -122,18 +140,31 @@ pub fn what_was_read_is_in_force<Structure>()
     ensures numbers { KeyStartsAreNumbered Structure }
 {}
 
+/// The newest frame number is that of the frame or of the key start that came last, and nothing else changes it.
+pub fn the_newest_number_is_that_of_what_came_last<Structure>()
+    ensures { TheNewestIsTheLast Structure }
+{}
+
+/// The mask is what the newest descriptor that says something of it says: its own, or all targets of the structure that it carries.
+pub fn masks_are_what_was_said_last<Structure>()
+    ensures said { MasksAreSaid Structure }
+    ensures all { AllTargetsAreActive }
+{}
+
 /// The runs of parts that end are the whole cuts of the list of marks. `Brought` is the type of what a part brings with it.
 pub fn ended_runs_are_the_whole_cuts<Brought>()
     ensures whole { EndedRunsAreWhole Brought }
     ensures found { WholeCutsAreFound Brought }
 {}
 
-/// A mark makes a frame whole exactly where it ends a whole cut, and partial, padded or torn as the run that it leaves says. `Brought`
-/// is the type of what a part brings with it.
+/// A mark makes a frame whole exactly where it ends a whole cut, and is padding exactly where it is padding. It leaves a frame partial
+/// only where a run goes on, and torn only where none does or one has ended with an element open. `Brought` is the type of what a part
+/// brings with it.
 pub fn outcomes_are_those_of_runs<Brought>()
     ensures whole { WholeOutcomesAreCuts Brought }
     ensures partial { PartialOutcomesGoOn Brought }
     ensures padding { PaddingOutcomesArePadding Brought }
+    ensures padded { PaddingIsPadded Brought }
     ensures torn { TornOutcomesAreTorn Brought }
 {}
 
@@ -304,4 +335,55 @@ pub fn worked_complaints()
     ensures first_complaint_stays { FirstComplaintStays }
     ensures stale_empties { StaleEmpties }
     ensures stale_counts { StaleCounts }
+{}
+
+/// More worked frames, outcomes and histories.
+pub fn worked_tracks()
+    ensures torn_number { TornNumber }
+    ensures equal_number { EqualNumber }
+    ensures own_mask { OwnMask }
+    ensures three_targets { ThreeTargets }
+    ensures long_key_frame { LongKeyFrame }
+    ensures epochs_and_starts { EpochsAndStarts }
+    ensures gap_tears { GapTears }
+    ensures padding_is_passed_over { PaddingIsPassedOver }
+    ensures start_begins_anew { StartBeginsAnew }
+    ensures padding_first { PaddingFirst }
+    ensures parts_of_a_frame { PartsOfAFrame }
+    ensures third_subscriber_markers { ThirdSubscriberMarkers }
+    ensures only_the_second_took { OnlyTheSecondTook }
+    ensures plain_contents { PlainContents }
+    ensures plain_queue { PlainQueue }
+    ensures plain_history { PlainHistory }
+    ensures plain_taken { PlainTaken }
+{}
+
+/// More worked packets at a strict receiver, with the places of its complaints.
+pub fn worked_receptions()
+    ensures other_number_at_once { OtherNumberAtOnce }
+    ensures broken_join_at_once { BrokenJoinAtOnce }
+    ensures second_start_at_once { SecondStartAtOnce }
+    ensures broken_payload_at_once { BrokenPayloadAtOnce }
+    ensures too_many_at_once { TooManyAtOnce }
+    ensures reference_at_the_end { ReferenceAtTheEnd }
+    ensures first_reference { FirstReference }
+    ensures farthest_reference { FarthestReference }
+    ensures not_rtp_first { NotRtpFirst }
+    ensures no_descriptor { NoDescriptor }
+    ensures long_key_frame_accepted { LongKeyFrameAccepted }
+{}
+
+/// Worked histories of layered tracks with chains, from packets to causes and to what goes out. Their format has all the facts on which
+/// the laws rest.
+pub fn worked_layers()
+    ensures format { IsFormat layered_format }
+    ensures broken_chain { BrokenChain }
+    ensures broken_chain_sent { BrokenChainSent }
+    ensures upper_lost { UpperLost }
+    ensures upper_lost_sent { UpperLostSent }
+    ensures mask_sent { MaskSent }
+    ensures wished_causes { WishedCauses }
+    ensures wished_sent { WishedSent }
+    ensures wished_unmet { WishedUnmet }
+    ensures other_template { OtherTemplate }
 {}

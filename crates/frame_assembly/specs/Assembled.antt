@@ -1,6 +1,6 @@
 -- What contracts see of an assembly, and which packets it stands for. Lists of marks have the newest first, lists of packets the oldest.
 -- Which marks make a frame is said in `forwarding_model`, of whole lists of marks.
-use Rattle.std.specs.Prelude.{◌≡◌, [], ℕ, Bool, if◌then◌else◌, List, Option, None, Some, map}
+use Rattle.std.specs.Prelude.{◌≡◌, ◌≢◌, ◌∷◌, [], ℕ, Bool, if◌then◌else◌, List, Option, None, Some, map}
 use Rattle.forwarding_model.specs.Cuts.{Part, Mark as CutMark, Run, Outcome as CutOutcome, parts_of, run_of, cut_of, IsWholeCut, IsUnfinishedCut, EndsIn}
 use Rattle.forwarding_model.specs.Cuts.Mark.{Gone, Padding, Unreadable, Read}
 use Rattle.forwarding_model.specs.Cuts.Outcome.{IsPadding, IsWhole, IsPartial, IsTorn}
@@ -30,6 +30,10 @@ EndsWhole marks = (parts : List (Part (List ℕ))) × IsWholeCut parts × EndsIn
 
 abbrev pub EndsUnfinished : List (CutMark (List ℕ)) → Type 0
 EndsUnfinished marks = (parts : List (Part (List ℕ))) × IsUnfinishedCut parts × EndsIn marks parts
+
+-- the mark isn't padding, and with it the marks end in neither
+abbrev pub EndsNothing : CutMark (List ℕ) → List (CutMark (List ℕ)) → Type 0
+EndsNothing mark past = (mark ≢ Padding) × (EndsWhole (mark ∷ past) → ⊥) × (EndsUnfinished (mark ∷ past) → ⊥)
 
 -- a frame that goes on: its frame number, whether an element is open, and the bytes of its packets
 pub record Unfinished : Type 0 where

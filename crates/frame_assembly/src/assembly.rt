@@ -1,11 +1,11 @@
 // The frame under assembly.
 ghost use Rattle.std.specs.Prelude.{◌≡◌, ◌<◌, ◌≤◌, ◌↔◌, ◌∷◌, [], IfOk, List, None, Some, is_some, length, map, slice_get, true, ℕ};
 ghost use Rattle.forwarding_model.specs.Cuts.{EndsIn, IsWholeCut, Mark as CutMark, Part, outcome, run_of};
-ghost use Rattle.frame_assembly.specs.Assembled.{EndsUnfinished, EndsWhole, IsAfter, answer, marked};
+ghost use Rattle.frame_assembly.specs.Assembled.{EndsNothing, EndsUnfinished, EndsWhole, IsAfter, answer, marked};
 ghost use Rattle.frame_assembly.specs.Steps.{answered, begun, continued, ended, made_of, nothing, pushed};
 
 use crate::mark::{Mark, Outcome};
-use crate::packets::{MOST, Packets};
+use crate::packets::{MOST_PACKETS, Packets};
 use obu_element::Joiner;
 use sfu_base::NoMemory;
 use std::alloc::Global;
@@ -56,27 +56,34 @@ impl Assembly {
     }
 
     /// The next packet, at most 1,500 bytes, which are copied where it is a part of the frame under assembly. It is answered
-    /// - `Whole` where it ends a whole frame: parts in a row, padding left aside, at most 512 of one frame number, of which the first
-    ///   and no other starts, the last and no other ends, and each continues an element exactly where the one before carries one on,
-    /// - `Partial` where such a frame hasn't ended,
-    /// - `Pad` at padding,
-    /// - `Torn` at anything else.
+    /// - `Whole` where it ends a whole frame: parts in a row, padding left aside, of one frame number; the first and no other starts, the
+    ///   last and no other ends; the first continues no element, each next one exactly where the one before carries one on, and the last
+    ///   carries none on. There are at most 512 of them (own rule);
+    /// - `Partial` where such a frame hasn't ended; an element may be open then;
+    /// - `Pad` at padding;
+    /// - `Torn` at anything else: what there was of a frame is dropped (own rule).
     pub fn push(&mut self, mark: &Mark, packet: &[u8]) -> Outcome
         requires { length packet.now ≤ 1500 }
         ensures stands { (past : List (CutMark (List ℕ))) → IsAfter self.old past → IsAfter self.new (marked mark.now packet.now ∷ past) }
-        ensures outcome { (past : List (CutMark (List ℕ))) → IsAfter self.old past → result ≡ answer (outcome (run_of past) (marked mark.now packet.now)) }
-        ensures whole { (past : List (CutMark (List ℕ))) → IsAfter self.old past → (result ≡ Outcome.Whole) ↔ EndsWhole (marked mark.now packet.now ∷ past) }
+        ensures outcome { (past : List (CutMark (List ℕ))) → IsAfter self.old past
+            → result ≡ answer (outcome (run_of past) (marked mark.now packet.now)) }
+        ensures whole { (past : List (CutMark (List ℕ))) → IsAfter self.old past
+            → (result ≡ Outcome.Whole) ↔ EndsWhole (marked mark.now packet.now ∷ past) }
         ensures packets { (past : List (CutMark (List ℕ))) (parts : List (Part (List ℕ))) → IsAfter self.old past → IsWholeCut parts
             → EndsIn (marked mark.now packet.now ∷ past) parts → self.new.frame ≡ map (λ p. p.brings) parts }
-        ensures partial { (past : List (CutMark (List ℕ))) → IsAfter self.old past → (result ≡ Outcome.Partial) ↔ EndsUnfinished (marked mark.now packet.now ∷ past) }
+        ensures partial { (past : List (CutMark (List ℕ))) → IsAfter self.old past
+            → (result ≡ Outcome.Partial) ↔ EndsUnfinished (marked mark.now packet.now ∷ past) }
         ensures pad { (result ≡ Outcome.Pad) ↔ (mark.now ≡ Mark.Pad) }
+        ensures torn { (past : List (CutMark (List ℕ))) → IsAfter self.old past
+            → (result ≡ Outcome.Torn) ↔ EndsNothing (marked mark.now packet.now) past }
         ensures frame { (result ≡ Outcome.Whole → ⊥) → self.new.frame ≡ [] }
     {
-        self.work(mark, packet)
+        // What is made of what is seen is proved there, and here what that says of whole lists of marks.
+        self.take_mark(mark, packet)
     }
 
     // What the mark makes of the frame so far.
-    fn work(&mut self, mark: &Mark, packet: &[u8]) -> Outcome
+    fn take_mark(&mut self, mark: &Mark, packet: &[u8]) -> Outcome
         requires { length packet.now ≤ 1500 }
         ensures seen { self.new ≡ pushed self.old (marked mark.now packet.now) }
         ensures made { result ≡ made_of self.old (marked mark.now packet.now) }
@@ -145,7 +152,7 @@ impl Assembly {
         let Progress::Unfinished = self.progress else {
             return false;
         };
-        if number != self.number || self.packets.len() >= MOST {
+        if number != self.number || self.packets.len() >= MOST_PACKETS {
             return false;
         }
         if self.joiner.feed(continues, carries).is_err() {
@@ -168,9 +175,10 @@ impl Assembly {
         Outcome::Whole
     }
 
-    /// How many packets the frame has that the last call made whole; 0 where it made none whole.
+    /// How many packets the frame has that the last call made whole, at most 512; 0 where it made none whole.
     pub fn count(&self) -> u16
-        ensures { result ≡ length self.now.frame }
+        ensures count { result ≡ length self.now.frame }
+        ensures few { length self.now.frame ≤ 512 }
     {
         match self.progress {
             Progress::Whole => self.packets.len() as u16,
@@ -178,7 +186,7 @@ impl Assembly {
         }
     }
 
-    /// The bytes of one of its packets, from 0, in order.
+    /// The bytes of a packet, by its place from 0, of the frame that the last call made whole. The place is below `count`.
     pub fn packet(&self, place: u16) -> &[u8]
         requires { place < length self.now.frame }
         ensures { slice_get self.now.frame place ≡ Some result.now }

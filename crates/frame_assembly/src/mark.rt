@@ -1,6 +1,6 @@
 // What a packet is to the frame under assembly, and what comes of it.
 
-/// A packet of a layered track, in order, as far as the frame that it belongs to goes.
+/// What comes next in the order of a layered track, as the frame under assembly sees it.
 #[derive(Clone, Copy, Debug, PartialEq, Eq)]
 pub enum Mark {
     /// Packets that were given up.

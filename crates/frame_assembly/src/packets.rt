@@ -5,8 +5,8 @@ use sfu_base::{NoMemory, PacketBuf};
 use std::alloc::Global;
 use std::marker::Model;
 
-/// The packets that a frame has at most.
-pub const MOST: usize = 512;
+/// How many packets a frame has at most (own rule).
+pub const MOST_PACKETS: usize = 512;
 
 /// Up to 512 packets, seen as the list of their bytes, in slots that are made once.
 #[derive(Drop)]
@@ -31,10 +31,10 @@ impl Packets {
     pub fn new(alloc: Global) -> Result<Packets, NoMemory>
         ensures { IfOk result (λ packets. packets ≡ []) }
     {
-        let Ok(mut slots) = Vec::with_capacity(alloc, MOST) else {
+        let Ok(mut slots) = Vec::with_capacity(alloc, MOST_PACKETS) else {
             return Err(NoMemory);
         };
-        while slots.len() < MOST {
+        while slots.len() < MOST_PACKETS {
             slots.push_reserved(PacketBuf::new());
         }
         Ok(Packets { slots, count: 0 })

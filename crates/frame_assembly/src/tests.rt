@@ -4,28 +4,87 @@ use crate::{Assembly, Mark, Outcome};
 use std::process::Abort;
 use std::test::Fail;
 
-fn part(start: bool, end: bool, number: u16, continues: bool, carries: bool) -> Mark {
-    Mark::Part {
-        start,
-        end,
-        number,
-        continues,
-        carries,
-    }
-}
+// Packets of frame 2, by what they begin and end, and by the elements that they continue and carry on.
+const FIRST: Mark = Mark::Part {
+    start: true,
+    end: false,
+    number: 2,
+    continues: false,
+    carries: false,
+};
 
-// A packet in the middle of a frame, and one at its start or its end, that carries or continues no element.
-fn middle() -> Mark {
-    part(false, false, 2, false, false)
-}
+const MIDDLE: Mark = Mark::Part {
+    start: false,
+    end: false,
+    number: 2,
+    continues: false,
+    carries: false,
+};
 
-fn first() -> Mark {
-    part(true, false, 2, false, false)
-}
+const LAST: Mark = Mark::Part {
+    start: false,
+    end: true,
+    number: 2,
+    continues: false,
+    carries: false,
+};
 
-fn last() -> Mark {
-    part(false, true, 2, false, false)
-}
+const ALONE: Mark = Mark::Part {
+    start: true,
+    end: true,
+    number: 2,
+    continues: false,
+    carries: false,
+};
+
+const OPEN_FIRST: Mark = Mark::Part {
+    start: true,
+    end: false,
+    number: 2,
+    continues: false,
+    carries: true,
+};
+
+const JOINED_LAST: Mark = Mark::Part {
+    start: false,
+    end: true,
+    number: 2,
+    continues: true,
+    carries: false,
+};
+
+const OPEN_ALONE: Mark = Mark::Part {
+    start: true,
+    end: true,
+    number: 2,
+    continues: false,
+    carries: true,
+};
+
+const JOINED_FIRST: Mark = Mark::Part {
+    start: true,
+    end: false,
+    number: 2,
+    continues: true,
+    carries: false,
+};
+
+// Packets of frame 3.
+const OTHER_ALONE: Mark = Mark::Part {
+    start: true,
+    end: true,
+    number: 3,
+    continues: false,
+    carries: false,
+};
+
+const OTHER_LAST: Mark = Mark::Part {
+    start: false,
+    end: true,
+    number: 3,
+    continues: false,
+    carries: false,
+};
 
 // Each mark comes with a packet of one byte, its place in the row; `frame` has the bytes of the frame that the last one made whole.
 fn check_row(rt: &impl Abort, assembly: &mut Assembly, marks: &[(Mark, Outcome)], frame: &[u8]) {
@@ -40,86 +99,145 @@ fn check_row(rt: &impl Abort, assembly: &mut Assembly, marks: &[(Mark, Outcome)]
     }
 }
 
+// Marks and what each is answered, and the first bytes of the packets of the frame that the last made whole.
+const ROWS: [(&[(Mark, Outcome)], &[u8]); 20] = [
+    // before the first frame
+    (
+        &[
+            (Mark::Pad, Outcome::Pad),
+            (Mark::Gone, Outcome::Torn),
+            (Mark::Unread, Outcome::Torn),
+            (LAST, Outcome::Torn),
+        ],
+        &[],
+    ),
+    (&[(Mark::Pad, Outcome::Pad), (ALONE, Outcome::Whole)], &[1]),
+    // a packet was given up inside
+    (
+        &[
+            (OPEN_FIRST, Outcome::Partial),
+            (Mark::Gone, Outcome::Torn),
+            (JOINED_LAST, Outcome::Torn),
+        ],
+        &[],
+    ),
+    // padding inside, also between two parts that join
+    (
+        &[
+            (FIRST, Outcome::Partial),
+            (Mark::Pad, Outcome::Pad),
+            (LAST, Outcome::Whole),
+        ],
+        &[0, 2],
+    ),
+    (
+        &[
+            (OPEN_FIRST, Outcome::Partial),
+            (Mark::Pad, Outcome::Pad),
+            (JOINED_LAST, Outcome::Whole),
+        ],
+        &[0, 2],
+    ),
+    // a start drops the frame so far, also one of the same number
+    (
+        &[(FIRST, Outcome::Partial), (OTHER_ALONE, Outcome::Whole)],
+        &[1],
+    ),
+    (
+        &[
+            (FIRST, Outcome::Partial),
+            (FIRST, Outcome::Partial),
+            (LAST, Outcome::Whole),
+        ],
+        &[1, 2],
+    ),
+    (
+        &[(OPEN_FIRST, Outcome::Partial), (ALONE, Outcome::Whole)],
+        &[1],
+    ),
+    // frames of one and of three packets
+    (&[(ALONE, Outcome::Whole)], &[0]),
+    (
+        &[
+            (FIRST, Outcome::Partial),
+            (MIDDLE, Outcome::Partial),
+            (LAST, Outcome::Whole),
+        ],
+        &[0, 1, 2],
+    ),
+    // another frame number
+    (
+        &[
+            (FIRST, Outcome::Partial),
+            (OTHER_LAST, Outcome::Torn),
+            (LAST, Outcome::Torn),
+        ],
+        &[],
+    ),
+    // broken joins: an element that isn't continued, and one that is though none is open
+    (
+        &[
+            (OPEN_FIRST, Outcome::Partial),
+            (LAST, Outcome::Torn),
+            (JOINED_LAST, Outcome::Torn),
+        ],
+        &[],
+    ),
+    (
+        &[
+            (FIRST, Outcome::Partial),
+            (JOINED_LAST, Outcome::Torn),
+            (LAST, Outcome::Torn),
+        ],
+        &[],
+    ),
+    (
+        &[
+            (OPEN_FIRST, Outcome::Partial),
+            (MIDDLE, Outcome::Torn),
+            (JOINED_LAST, Outcome::Torn),
+        ],
+        &[],
+    ),
+    (
+        &[
+            (FIRST, Outcome::Partial),
+            (MIDDLE, Outcome::Partial),
+            (JOINED_LAST, Outcome::Torn),
+        ],
+        &[],
+    ),
+    // an element left open at the end, and a start that continues one
+    (
+        &[(OPEN_ALONE, Outcome::Torn), (JOINED_LAST, Outcome::Torn)],
+        &[],
+    ),
+    (
+        &[
+            (OPEN_FIRST, Outcome::Partial),
+            (JOINED_FIRST, Outcome::Torn),
+            (LAST, Outcome::Torn),
+        ],
+        &[],
+    ),
+    // a packet that wasn't read
+    (
+        &[
+            (FIRST, Outcome::Partial),
+            (Mark::Unread, Outcome::Torn),
+            (LAST, Outcome::Torn),
+        ],
+        &[],
+    ),
+    // a whole frame is over with the next packet, also with padding
+    (&[(ALONE, Outcome::Whole), (LAST, Outcome::Torn)], &[]),
+    (&[(ALONE, Outcome::Whole), (Mark::Pad, Outcome::Pad)], &[]),
+];
+
 #[test]
 fn marks_make_whole_frames_or_tear_them(rt: HostRuntime) -> Result<(), Fail> {
-    use Outcome::{Pad, Partial, Torn, Whole};
-    let (first, middle, last) = (first(), middle(), last());
-    let alone = part(true, true, 2, false, false);
-    let open_first = part(true, false, 2, false, true);
-    let joined_last = part(false, true, 2, true, false);
-    let rows: [(&[(Mark, Outcome)], &[u8]); 15] = [
-        // a packet was given up inside
-        (
-            &[
-                (open_first, Partial),
-                (Mark::Gone, Torn),
-                (joined_last, Torn),
-            ],
-            &[],
-        ),
-        // padding inside, also between two parts that join
-        (
-            &[(first, Partial), (Mark::Pad, Pad), (last, Whole)],
-            &[0, 2],
-        ),
-        (
-            &[
-                (open_first, Partial),
-                (Mark::Pad, Pad),
-                (joined_last, Whole),
-            ],
-            &[0, 2],
-        ),
-        // a start drops the frame so far, also one of the same number
-        (
-            &[(first, Partial), (part(true, true, 3, false, false), Whole)],
-            &[1],
-        ),
-        (
-            &[(first, Partial), (first, Partial), (last, Whole)],
-            &[1, 2],
-        ),
-        // frames of one and of three packets
-        (&[(alone, Whole)], &[0]),
-        (
-            &[(first, Partial), (middle, Partial), (last, Whole)],
-            &[0, 1, 2],
-        ),
-        // another frame number
-        (
-            &[(first, Partial), (part(false, true, 3, false, false), Torn)],
-            &[],
-        ),
-        // broken joins: an element that isn't continued, and one that is though none is open
-        (
-            &[(open_first, Partial), (last, Torn), (joined_last, Torn)],
-            &[],
-        ),
-        (&[(first, Partial), (joined_last, Torn), (last, Torn)], &[]),
-        // an element left open at the end, and a start that continues one
-        (
-            &[
-                (part(true, true, 2, false, true), Torn),
-                (joined_last, Torn),
-            ],
-            &[],
-        ),
-        (
-            &[
-                (open_first, Partial),
-                (part(true, false, 2, true, false), Torn),
-                (last, Torn),
-            ],
-            &[],
-        ),
-        // a packet that wasn't read
-        (&[(first, Partial), (Mark::Unread, Torn), (last, Torn)], &[]),
-        // a whole frame is over with the next packet, also with padding
-        (&[(alone, Whole), (last, Torn)], &[]),
-        (&[(alone, Whole), (Mark::Pad, Pad)], &[]),
-    ];
     let mut assembly = Assembly::new(rt.alloc())?;
-    for (marks, frame) in rows {
+    for (marks, frame) in ROWS {
         check_row(&rt, &mut assembly, marks, frame);
     }
     Ok(())
@@ -127,20 +245,19 @@ fn marks_make_whole_frames_or_tear_them(rt: HostRuntime) -> Result<(), Fail> {
 
 #[test]
 fn a_frame_has_at_most_512_packets(rt: HostRuntime) -> Result<(), Fail> {
-    let (first, middle, last) = (first(), middle(), last());
     let mut assembly = Assembly::new(rt.alloc())?;
-    assert_eq!(rt; assembly.push(&first, &[]), Outcome::Partial);
+    assert_eq!(rt; assembly.push(&FIRST, &[]), Outcome::Partial);
     for _ in 0..510 {
-        assert_eq!(rt; assembly.push(&middle, &[7]), Outcome::Partial);
+        assert_eq!(rt; assembly.push(&MIDDLE, &[7]), Outcome::Partial);
     }
-    assert_eq!(rt; assembly.push(&last, &[]), Outcome::Whole);
+    assert_eq!(rt; assembly.push(&LAST, &[]), Outcome::Whole);
     assert_eq!(rt; assembly.count(), 512);
-    assert_eq!(rt; assembly.push(&first, &[]), Outcome::Partial);
+    assert_eq!(rt; assembly.push(&FIRST, &[]), Outcome::Partial);
     for _ in 0..511 {
-        assert_eq!(rt; assembly.push(&middle, &[]), Outcome::Partial);
+        assert_eq!(rt; assembly.push(&MIDDLE, &[]), Outcome::Partial);
     }
-    assert_eq!(rt; assembly.push(&middle, &[]), Outcome::Torn);
-    assert_eq!(rt; assembly.push(&last, &[]), Outcome::Torn);
+    assert_eq!(rt; assembly.push(&MIDDLE, &[]), Outcome::Torn);
+    assert_eq!(rt; assembly.push(&LAST, &[]), Outcome::Torn);
     assert_eq!(rt; assembly.count(), 0);
     Ok(())
 }

@@ -1,0 +1,9 @@
+pub mod Groups
+pub mod Adding
+pub mod Sized
+pub mod Steps
+pub mod Parts
+pub mod Headers
+pub mod Grammar
+pub mod Faulty
+pub mod Taken

@@ -1,0 +1,71 @@
+-- An RTP payload of AV1, laid end to end (RTP Payload Format For AV1, section 4.4): the aggregation header and the
+-- elements. The relation says how a payload is put together, and the code takes one apart.
+use Rattle.std.specs.Prelude.{◌≡◌, ℕ, ◌+◌, ◌*◌, ◌<◌, ◌≤◌, Bool, if◌then◌else◌, List, [], ◌∷◌, ◌++◌, length, map}
+use Rattle.std.specs.List.{flat_map}
+use Rattle.av1_payload.specs.Leb.{leb_bytes, IsLength}
+
+-- Z, the first element goes on from the packet before; Y, the last goes on in the next; N, a coded video sequence begins
+pub record Flags : Type 0 where
+  pub continues : Bool
+  pub carries : Bool
+  pub new_sequence : Bool
+
+-- an element with its length before it, which is spelled by these groups
+pub record SizedElement : Type 0 where
+  pub groups : List ℕ
+  pub element : List ℕ
+
+abbrev pub sized_bytes : SizedElement → List ℕ
+sized_bytes s = leb_bytes s.groups ++ s.element
+
+-- the bytes of several, one after another
+abbrev pub all_bytes : List SizedElement → List ℕ
+all_bytes sized = flat_map sized_bytes sized
+
+-- each length is the length of its element, which may be empty (own rule)
+abbrev pub AreSized : List SizedElement → Type 0
+AreSized [] = Unit {0}
+AreSized (s ∷ others) = IsLength s.groups (length s.element) × AreSized others
+
+-- How elements are laid: each with its length before it, one or more; or so, and behind them a last one without a length.
+pub data Laid : Type 0 where
+  EachSized : (first : SizedElement) (others : List SizedElement) → Laid
+  LastBare : (sized : List SizedElement) (last : List ℕ) → Laid
+
+-- W says how many elements there are where the last has no length, and is 0 where each has one
+abbrev pub count_said : Laid → ℕ
+count_said (EachSized first others) = 0
+count_said (LastBare sized last) = 1 + length sized
+
+abbrev pub laid_bytes : Laid → List ℕ
+laid_bytes (EachSized first others) = all_bytes (first ∷ others)
+laid_bytes (LastBare sized last) = all_bytes sized ++ last
+
+-- W has two bits, so at most two elements with a length are in front of one without
+abbrev pub LaidFits : Laid → Type 0
+LaidFits (EachSized first others) = AreSized (first ∷ others)
+LaidFits (LastBare sized last) = AreSized sized × (length sized ≤ 2)
+
+abbrev pub elements_in : List SizedElement → List (List ℕ)
+elements_in sized = map (λ (s : SizedElement). s.element) sized
+
+abbrev pub elements_laid : Laid → List (List ℕ)
+elements_laid (EachSized first others) = elements_in (first ∷ others)
+elements_laid (LastBare sized last) = elements_in sized ++ last ∷ []
+
+abbrev pub bit : Bool → ℕ
+bit set = if set then 1 else 0
+
+-- Z, Y, W, N and three reserved bits
+abbrev pub header_byte : Flags → ℕ → ℕ → ℕ
+header_byte flags count reserved =
+    128 * bit flags.continues + 64 * bit flags.carries + 16 * count + 8 * bit flags.new_sequence + reserved
+
+-- the bytes are a payload, and these are its flags and its elements
+pub record IsPayload (bytes : List ℕ) (flags : Flags) (elements : List (List ℕ)) : Type 0 where
+  pub reserved : ℕ
+  pub ignored : reserved < 8
+  pub laid : Laid
+  pub fits : LaidFits laid
+  pub put : bytes ≡ header_byte flags (count_said laid) reserved ∷ laid_bytes laid
+  pub said : elements ≡ elements_laid laid

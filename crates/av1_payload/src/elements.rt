@@ -1,0 +1,39 @@
+// The elements of a payload, one after another.
+
+use crate::left::{Left, first_element};
+use std::marker::Model;
+
+/// An iterator over the elements of a payload, each where it lies there, seen as the list of those that are left.
+#[derive(Drop)]
+pub struct PayloadElements<'a> {
+    pub(crate) left: Left<'a>,
+}
+
+impl<'a> Model for PayloadElements<'a> {
+    ghost use Rattle.std.specs.Prelude.{List, ℕ};
+    ghost use Rattle.av1_payload.specs.Seen.{found_left};
+
+    ghost Value = { List (List ℕ) };
+
+    ghost view = { λ e. (found_left e.left).elements };
+}
+
+impl<'a> Iterator for PayloadElements<'a> {
+    ghost use Rattle.std.specs.Iterator.{YieldsFirstBy, item_count};
+
+    type Item = &'a [u8];
+
+    ghost next_gives = { YieldsFirstBy (λ element. element.now) (λ left. left) };
+
+    ghost remaining = { item_count (λ left. left) };
+
+    fn next(&mut self) -> Option<&'a [u8]> {
+        match first_element(self.left) {
+            Ok(Some((element, others))) => {
+                self.left = others;
+                Some(element)
+            }
+            _ => None,
+        }
+    }
+}

@@ -1,0 +1,32 @@
+// Laws of the grammar that the calls are held to.
+
+ghost use Rattle.std.specs.Prelude.{◌≡◌, ◌↔◌, ℕ, List, None, Some};
+ghost use Rattle.sfu_base.specs.Bytes.{AreBytes};
+ghost use Rattle.av1_payload.specs.declared.fault.PayloadFault.{PayloadFault};
+ghost use Rattle.av1_payload.specs.Faults.{HasFault};
+ghost use Rattle.av1_payload.specs.Payloads.{Flags, IsPayload};
+ghost use Rattle.av1_payload.specs.Reading.{elements_of, first_fault, flags_of};
+
+/// Each payload without a fault is in the grammar, with the flags and the elements that are read from it.
+pub fn each_faultless_payload_is_in_the_grammar()
+    ensures { (bytes : List ℕ) → AreBytes bytes → first_fault bytes ≡ None
+        → IsPayload bytes (flags_of bytes) (elements_of bytes) }
+{}
+
+/// A payload in the grammar has no fault, and its flags and elements are what is read from it, so no bytes have two
+/// readings.
+pub fn a_payload_has_one_reading()
+    ensures faultless { (bytes : List ℕ) (flags : Flags) (elements : List (List ℕ)) → IsPayload bytes flags elements
+        → first_fault bytes ≡ None }
+    ensures flags { (bytes : List ℕ) (flags : Flags) (elements : List (List ℕ)) → IsPayload bytes flags elements
+        → flags_of bytes ≡ flags }
+    ensures elements { (bytes : List ℕ) (flags : Flags) (elements : List (List ℕ)) → IsPayload bytes flags elements
+        → elements_of bytes ≡ elements }
+    ensures one { (bytes : List ℕ) (flags more_flags : Flags) (elements more : List (List ℕ)) → IsPayload bytes flags elements
+        → IsPayload bytes more_flags more → (flags ≡ more_flags) × (elements ≡ more) }
+{}
+
+/// Bytes have a fault exactly where they are put together as it says.
+pub fn faults_are_what_they_say()
+    ensures { (fault : PayloadFault) (bytes : List ℕ) → AreBytes bytes → (first_fault bytes ≡ Some fault) ↔ HasFault fault bytes }
+{}

@@ -1,0 +1,35 @@
+// The length of an element, spelled in leb128.
+
+ghost use Rattle.std.specs.Prelude.{◌≡◌, None, Some, MatchOption};
+ghost use Rattle.av1_payload.specs.Reading.{length_at};
+
+/// The bytes that a length has at most.
+const MOST_BYTES: usize = 8;
+
+/// What every length is below.
+const BOUND: u64 = 0x1_0000_0000;
+
+/// The highest bit of a byte, which says that more follow.
+const MORE: u8 = 0x80;
+
+/// The length at the front (AV1 Bitstream Specification, section 4.10.5) and the bytes behind it, or `None` where there
+/// is none.
+pub(crate) fn split_length<'a>(bytes: &'a [u8]) -> Option<(usize, &'a [u8])>
+    ensures { MatchOption result (length_at bytes.now ≡ None) (λ x. length_at bytes.now ≡ Some (x.0, x.1.now)) }
+{
+    let mut value: u64 = 0;
+    let mut scale: u64 = 1;
+    for place in 0..MOST_BYTES {
+        let byte = *bytes.get(place)?;
+        value += scale * u64::from(byte % MORE);
+        if byte < MORE {
+            return if value < BOUND {
+                Some((value as usize, &bytes[place + 1..]))
+            } else {
+                None
+            };
+        }
+        scale *= 128;
+    }
+    None
+}

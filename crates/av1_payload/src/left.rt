@@ -1,0 +1,80 @@
+// The elements of a payload that are left, and the first of them.
+
+ghost use Rattle.std.specs.Prelude.{◌≡◌, Ok, Err, MatchOption, MatchResult};
+ghost use Rattle.av1_payload.specs.Reading.{count_in, no_elements, only_fault, sized_at, with_element};
+ghost use Rattle.av1_payload.specs.Seen.{found_left, layout_with};
+
+use crate::fault::PayloadFault;
+use crate::leb::split_length;
+
+/// How elements are laid.
+#[derive(Clone, Copy, Debug, PartialEq, Eq)]
+pub(crate) enum Layout {
+    /// Each has its length before it.
+    EachSized,
+    /// So many have their length before them, and then comes the last, without a length.
+    LastBare(u8),
+}
+
+/// The elements that are left.
+#[derive(Clone, Copy, Debug, PartialEq, Eq)]
+pub(crate) struct Left<'a> {
+    pub(crate) layout: Layout,
+    pub(crate) bytes: &'a [u8],
+}
+
+/// How the elements behind an aggregation header are laid.
+pub(crate) fn layout_behind(header: u8) -> Layout
+    ensures { result ≡ layout_with (count_in header) }
+{
+    match header / 16 % 4 {
+        0 => Layout::EachSized,
+        count => Layout::LastBare(count - 1),
+    }
+}
+
+/// The first element that is left, and what is left behind it; `None` where none is left.
+pub(crate) fn first_element<'a>(
+    left: Left<'a>,
+) -> Result<Option<(&'a [u8], Left<'a>)>, PayloadFault>
+    ensures { MatchResult result
+        (λ o. MatchOption o (found_left left.entry ≡ no_elements)
+        (λ x. found_left left.entry ≡ with_element x.0.now (found_left x.1)))
+        (λ e. found_left left.entry ≡ only_fault e) }
+{
+    match left.layout {
+        Layout::EachSized => {
+            if left.bytes.is_empty() {
+                return Ok(None);
+            }
+            let (element, bytes) = split_sized(left.bytes)?;
+            let layout = Layout::EachSized;
+            Ok(Some((element, Left { layout, bytes })))
+        }
+        Layout::LastBare(sized) => {
+            if sized == 0 {
+                let nothing = Left {
+                    layout: Layout::EachSized,
+                    bytes: &[],
+                };
+                return Ok(Some((left.bytes, nothing)));
+            }
+            let (element, bytes) = split_sized(left.bytes)?;
+            let layout = Layout::LastBare(sized - 1);
+            Ok(Some((element, Left { layout, bytes })))
+        }
+    }
+}
+
+/// The element with its length before it at the front, and the bytes behind it.
+fn split_sized<'a>(bytes: &'a [u8]) -> Result<(&'a [u8], &'a [u8]), PayloadFault>
+    ensures { MatchResult result (λ x. sized_at bytes.now ≡ Ok (x.0.now, x.1.now)) (λ e. sized_at bytes.now ≡ Err e) }
+{
+    let Some((length, rest)) = split_length(bytes) else {
+        return Err(PayloadFault::Leb);
+    };
+    if rest.len() < length {
+        return Err(PayloadFault::Length);
+    }
+    Ok(rest.split_at(length))
+}

@@ -1,0 +1,19 @@
+//! The payload of RTP packets of AV1 (RTP Payload Format For AV1, section 4.4): its flags and its elements. No call takes
+//! memory.
+#![tactic(auto)]
+
+mod elements;
+mod fault;
+mod laws;
+mod leb;
+mod left;
+mod payload;
+#[cfg(test)]
+mod tests;
+
+pub use elements::PayloadElements;
+pub use fault::PayloadFault;
+pub use laws::{
+    a_payload_has_one_reading, each_faultless_payload_is_in_the_grammar, faults_are_what_they_say,
+};
+pub use payload::{Payload, read};

@@ -1,0 +1,136 @@
+// Payloads laid out by hand from RTP Payload Format For AV1, section 4.4, and AV1 Bitstream Specification, section 4.10.5.
+
+use crate::{PayloadFault, read};
+use std::process::Abort;
+
+// Z, Y and N of a payload, and its elements.
+type Row<'a> = (&'a [u8], [bool; 3], &'a [&'a [u8]]);
+
+const NO_FLAGS: [bool; 3] = [false, false, false];
+
+const PAYLOADS: [Row; 20] = [
+    // W = 0: each element has its length before it
+    (
+        &[0x00, 2, 0x30, 0xAA, 1, 0x10],
+        NO_FLAGS,
+        &[&[0x30, 0xAA], &[0x10]],
+    ),
+    (
+        &[0x00, 1, 5, 0, 1, 6, 2, 7, 8, 0],
+        NO_FLAGS,
+        &[&[5], &[], &[6], &[7, 8], &[]],
+    ),
+    // W = 1 to 3: the last has none
+    (&[0x10, 2, 0x30, 0xAA], NO_FLAGS, &[&[2, 0x30, 0xAA]]),
+    (&[0x20, 2, 1, 2, 3, 4], NO_FLAGS, &[&[1, 2], &[3, 4]]),
+    (
+        &[0x30, 1, 0xAA, 2, 0xBB, 0xCC, 0xDD],
+        NO_FLAGS,
+        &[&[0xAA], &[0xBB, 0xCC], &[0xDD]],
+    ),
+    // empty elements
+    (&[0x00, 0], NO_FLAGS, &[&[]]),
+    (&[0x10], NO_FLAGS, &[&[]]),
+    (&[0x20, 0], NO_FLAGS, &[&[], &[]]),
+    (&[0x30, 0, 0], NO_FLAGS, &[&[], &[], &[]]),
+    // a last element that is empty because a length takes all bytes
+    (&[0x20, 2, 1, 2], NO_FLAGS, &[&[1, 2], &[]]),
+    // each flag by itself, and all
+    (&[0x90], [true, false, false], &[&[]]),
+    (&[0x50], [false, true, false], &[&[]]),
+    (&[0x18], [false, false, true], &[&[]]),
+    (&[0xD8], [true, true, true], &[&[]]),
+    // reserved bits
+    (&[0x17, 9], NO_FLAGS, &[&[9]]),
+    (&[0x27, 1, 9], NO_FLAGS, &[&[9], &[]]),
+    // lengths that are spelled longer than needed, up to eight bytes
+    (&[0x00, 0x80, 0], NO_FLAGS, &[&[]]),
+    (&[0x00, 0x81, 0x80, 0, 9], NO_FLAGS, &[&[9]]),
+    (
+        &[0x00, 0x80, 0x80, 0x80, 0x80, 0x80, 0x80, 0x80, 0],
+        NO_FLAGS,
+        &[&[]],
+    ),
+    (
+        &[0x20, 0x81, 0x80, 0x80, 0x80, 0x80, 0x80, 0x80, 0, 9, 8],
+        NO_FLAGS,
+        &[&[9], &[8]],
+    ),
+];
+
+const FAULTS: [(&[u8], PayloadFault); 20] = [
+    (&[], PayloadFault::Empty),
+    // W = 0 and nothing behind the header, whatever its other bits
+    (&[0x00], PayloadFault::NoElement),
+    (&[0xCF], PayloadFault::NoElement),
+    // the bytes end where a length is due
+    (&[0x20], PayloadFault::Leb),
+    (&[0x30, 1, 0xAA], PayloadFault::Leb),
+    // or within one
+    (&[0x00, 0x80], PayloadFault::Leb),
+    (&[0x00, 1, 0xAA, 0xFF, 0x80], PayloadFault::Leb),
+    // a length of nine bytes
+    (
+        &[0x00, 0x80, 0x80, 0x80, 0x80, 0x80, 0x80, 0x80, 0x80, 0],
+        PayloadFault::Leb,
+    ),
+    // a length of 2^32, one of 2^56 - 1, and the greatest length
+    (&[0x00, 0x80, 0x80, 0x80, 0x80, 0x10], PayloadFault::Leb),
+    (
+        &[0x00, 0xFF, 0xFF, 0xFF, 0xFF, 0xFF, 0xFF, 0xFF, 0x7F],
+        PayloadFault::Leb,
+    ),
+    (&[0x00, 0xFF, 0xFF, 0xFF, 0xFF, 0x0F], PayloadFault::Length),
+    // a length of one byte more than is left
+    (&[0x00, 1], PayloadFault::Length),
+    (&[0x00, 3, 0xAA, 0xBB], PayloadFault::Length),
+    (&[0x00, 1, 0xAA, 3, 0xBB, 0xCC], PayloadFault::Length),
+    (&[0x20, 3, 0xAA, 0xBB], PayloadFault::Length),
+    (&[0x20, 5, 0x30], PayloadFault::Length),
+    (&[0x30, 1, 0xAA, 2, 0xBB], PayloadFault::Length),
+    // the first fault is the one that counts
+    (&[0x30, 5, 0xAA, 0x80], PayloadFault::Length),
+    (&[0x30, 0x80, 0x80], PayloadFault::Leb),
+    (&[0x30, 0, 0x80], PayloadFault::Leb),
+];
+
+// The payload has these flags, these elements and no others, in this order.
+fn check_payload(rt: &impl Abort, row: Row) {
+    let (bytes, flags, wanted) = row;
+    let payload = read(bytes).expect(rt, "a payload");
+    assert_eq!(rt; payload.continues, flags[0]);
+    assert_eq!(rt; payload.carries, flags[1]);
+    assert_eq!(rt; payload.new_sequence, flags[2]);
+    let mut left = payload.elements();
+    for element in wanted {
+        assert_eq!(rt; left.next(), Some(*element));
+    }
+    assert_eq!(rt; left.next(), None);
+}
+
+#[test]
+fn each_payload_has_its_flags_and_elements(rt: HostRuntime) {
+    for row in PAYLOADS {
+        check_payload(&rt, row);
+    }
+}
+
+#[test]
+fn each_fault_is_named(rt: HostRuntime) {
+    for (bytes, fault) in FAULTS {
+        assert_eq!(rt; read(bytes), Err(fault));
+    }
+}
+
+// 300 is spelled AC 02.
+#[test]
+fn an_element_of_300_bytes_is_read(rt: HostRuntime) {
+    let mut bytes = [7; 304];
+    bytes[0] = 0x20;
+    bytes[1] = 0xAC;
+    bytes[2] = 0x02;
+    bytes[303] = 9;
+    check_payload(&rt, (&bytes, NO_FLAGS, &[&[7; 300], &[9]]));
+    bytes[0] = 0x00;
+    check_payload(&rt, (&bytes[..303], NO_FLAGS, &[&[7; 300]]));
+}

@@ -1,0 +1,54 @@
+-- The rows compute.
+use Rattle.std.proofs.Common.{refl}
+use Rattle.forwarding_model.specs.TrackRows.{TornNumber, EqualNumber, OwnMask, ThreeTargets, LongKeyFrame, EpochsAndStarts, GapTears, PaddingIsPassedOver, StartBeginsAnew, PaddingFirst, PartsOfAFrame, ThirdSubscriberMarkers, OnlyTheSecondTook, PlainContents, PlainQueue, PlainHistory, PlainTaken}
+
+pub torn_number : TornNumber
+torn_number = refl
+
+pub equal_number : EqualNumber
+equal_number = refl
+
+pub own_mask : OwnMask
+own_mask = refl
+
+pub three_targets : ThreeTargets
+three_targets = refl
+
+pub long_key_frame : LongKeyFrame
+long_key_frame = refl
+
+pub epochs_and_starts : EpochsAndStarts
+epochs_and_starts = refl
+
+pub gap_tears : GapTears
+gap_tears = refl
+
+pub padding_is_passed_over : PaddingIsPassedOver
+padding_is_passed_over = refl
+
+pub start_begins_anew : StartBeginsAnew
+start_begins_anew = refl
+
+pub padding_first : PaddingFirst
+padding_first = refl
+
+pub parts_of_a_frame : PartsOfAFrame
+parts_of_a_frame = refl
+
+pub third_subscriber_markers : ThirdSubscriberMarkers
+third_subscriber_markers = refl
+
+pub only_the_second_took : OnlyTheSecondTook
+only_the_second_took = refl
+
+pub plain_contents : PlainContents
+plain_contents = refl
+
+pub plain_queue : PlainQueue
+plain_queue = refl
+
+pub plain_history : PlainHistory
+plain_history = refl
+
+pub plain_taken : PlainTaken
+plain_taken = refl

@@ -1,0 +1,35 @@
+use Rattle.forwarding_model.proofs.ReceptionRows.{other_number_at_once, broken_join_at_once, second_start_at_once, broken_payload_at_once, too_many_at_once, reference_at_the_end, first_reference, farthest_reference, not_rtp_first, no_descriptor, long_key_frame_accepted}
+use Rattle.forwarding_model.proofs.laws.worked_receptions.Goals as goal
+
+pub returns-clause-other_number_at_once : goal.returns-clause-other_number_at_once
+returns-clause-other_number_at_once c = other_number_at_once
+
+pub returns-clause-broken_join_at_once : goal.returns-clause-broken_join_at_once
+returns-clause-broken_join_at_once c = broken_join_at_once
+
+pub returns-clause-second_start_at_once : goal.returns-clause-second_start_at_once
+returns-clause-second_start_at_once c = second_start_at_once
+
+pub returns-clause-broken_payload_at_once : goal.returns-clause-broken_payload_at_once
+returns-clause-broken_payload_at_once c = broken_payload_at_once
+
+pub returns-clause-too_many_at_once : goal.returns-clause-too_many_at_once
+returns-clause-too_many_at_once c = too_many_at_once
+
+pub returns-clause-reference_at_the_end : goal.returns-clause-reference_at_the_end
+returns-clause-reference_at_the_end c = reference_at_the_end
+
+pub returns-clause-first_reference : goal.returns-clause-first_reference
+returns-clause-first_reference c = first_reference
+
+pub returns-clause-farthest_reference : goal.returns-clause-farthest_reference
+returns-clause-farthest_reference c = farthest_reference
+
+pub returns-clause-not_rtp_first : goal.returns-clause-not_rtp_first
+returns-clause-not_rtp_first c = not_rtp_first
+
+pub returns-clause-no_descriptor : goal.returns-clause-no_descriptor
+returns-clause-no_descriptor c = no_descriptor
+
+pub returns-clause-long_key_frame_accepted : goal.returns-clause-long_key_frame_accepted
+returns-clause-long_key_frame_accepted c = long_key_frame_accepted

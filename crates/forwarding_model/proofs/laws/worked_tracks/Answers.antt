@@ -1,0 +1,53 @@
+use Rattle.forwarding_model.proofs.TrackRows.{torn_number, equal_number, own_mask, three_targets, long_key_frame, epochs_and_starts, gap_tears, padding_is_passed_over, start_begins_anew, padding_first, parts_of_a_frame, third_subscriber_markers, only_the_second_took, plain_contents, plain_queue, plain_history, plain_taken}
+use Rattle.forwarding_model.proofs.laws.worked_tracks.Goals as goal
+
+pub returns-clause-torn_number : goal.returns-clause-torn_number
+returns-clause-torn_number c = torn_number
+
+pub returns-clause-equal_number : goal.returns-clause-equal_number
+returns-clause-equal_number c = equal_number
+
+pub returns-clause-own_mask : goal.returns-clause-own_mask
+returns-clause-own_mask c = own_mask
+
+pub returns-clause-three_targets : goal.returns-clause-three_targets
+returns-clause-three_targets c = three_targets
+
+pub returns-clause-long_key_frame : goal.returns-clause-long_key_frame
+returns-clause-long_key_frame c = long_key_frame
+
+pub returns-clause-epochs_and_starts : goal.returns-clause-epochs_and_starts
+returns-clause-epochs_and_starts c = epochs_and_starts
+
+pub returns-clause-gap_tears : goal.returns-clause-gap_tears
+returns-clause-gap_tears c = gap_tears
+
+pub returns-clause-padding_is_passed_over : goal.returns-clause-padding_is_passed_over
+returns-clause-padding_is_passed_over c = padding_is_passed_over
+
+pub returns-clause-start_begins_anew : goal.returns-clause-start_begins_anew
+returns-clause-start_begins_anew c = start_begins_anew
+
+pub returns-clause-padding_first : goal.returns-clause-padding_first
+returns-clause-padding_first c = padding_first
+
+pub returns-clause-parts_of_a_frame : goal.returns-clause-parts_of_a_frame
+returns-clause-parts_of_a_frame c = parts_of_a_frame
+
+pub returns-clause-third_subscriber_markers : goal.returns-clause-third_subscriber_markers
+returns-clause-third_subscriber_markers c = third_subscriber_markers
+
+pub returns-clause-only_the_second_took : goal.returns-clause-only_the_second_took
+returns-clause-only_the_second_took c = only_the_second_took
+
+pub returns-clause-plain_contents : goal.returns-clause-plain_contents
+returns-clause-plain_contents c = plain_contents
+
+pub returns-clause-plain_queue : goal.returns-clause-plain_queue
+returns-clause-plain_queue c = plain_queue
+
+pub returns-clause-plain_history : goal.returns-clause-plain_history
+returns-clause-plain_history c = plain_history
+
+pub returns-clause-plain_taken : goal.returns-clause-plain_taken
+returns-clause-plain_taken c = plain_taken
