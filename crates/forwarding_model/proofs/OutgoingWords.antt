@@ -1,5 +1,5 @@
--- Markers and next numbers are the words.
-use Rattle.std.proofs.Common.{◌≡◌, ◌↔◌, ◌+◌, ◌%◌, true, false, List, [], ◌∷◌, ◌++◌, refl, sym, ap, ◌∙◌, true≢false}
+-- What goes out at a frame, its markers and its numbers are the words.
+use Rattle.std.proofs.Common.{◌≡◌, ◌↔◌, ◌+◌, ◌%◌, ℕ, zero, suc, arith, Bool, true, false, List, [], ◌∷◌, ◌++◌, refl, sym, ap, ◌∙◌, cond, true≢false, length, slice_get, option_map}
 use Rattle.std.proofs.lemmas.Bool.{eqb-true, eq-eqb}
 use Rattle.std.proofs.lemmas.List.{length-take-le}
 use Rattle.std.specs.declared.option.Option.{Option}
@@ -10,8 +10,13 @@ use Rattle.forwarding_model.specs.declared.target.CurrentTarget.{CurrentTarget}
 use Rattle.forwarding_model.specs.declared.target.CurrentTarget.TheVariants.{Open, Closed}
 use Rattle.forwarding_model.specs.Targets.{layers}
 use Rattle.forwarding_model.specs.Timeline.{Packet, Frame, Event, takes_of}
-use Rattle.forwarding_model.specs.Outgoing.{Sender, Subscriber, has_spatial, is_top_layer, marked, send_marked, next_number, outgoing, FindPackets}
+use Rattle.forwarding_model.specs.Timeline.Event.{WholeFrame, WishChange, Take}
+use Rattle.forwarding_model.specs.Standing.{standing, passes_at, candidate_at}
+use Rattle.forwarding_model.specs.Outgoing.{Sender, Subscriber, has_spatial, is_top_layer, marked, send_marked, forwarded, numbered, next_number, outgoing, FindPackets}
+use Rattle.forwarding_model.specs.Plain.{renumbered}
 use Rattle.forwarding_model.specs.OutgoingWords.{EndsThePicture}
+use Rattle.forwarding_model.proofs.Outgoings.{length-numbered}
+use Rattle.forwarding_model.proofs.StrictReceiver.{numbered-append}
 use Rattle.forwarding_model.proofs.Takings.{takes_fit}
 
 top_words : (f : FrameMeaning) (current : CurrentTarget) → is_top_layer f current ≡ true → EndsThePicture f current
@@ -51,3 +56,44 @@ pub next_numbers_count_takes : {S : Type 0} (send : Sender S) (subscriber : Subs
     → next_number send subscriber events ≡ (subscriber.first + takes_of events) % 65536
 next_numbers_count_takes send subscriber events found =
     ap (λ k. (subscriber.first + k) % 65536) (length-take-le (takes_of events) (outgoing send subscriber events) (takes_fit send subscriber events found))
+
+-- ---- what goes out at a frame
+
+at_frame : {S : Type 0} (send : Sender S) (subscriber : Subscriber) (frame : Frame S) (past : List (Event S)) (b : Bool)
+    → passes_at (standing subscriber.wish past) frame.meaning (length frame.packets) ≡ b
+    → outgoing send subscriber (WholeFrame frame ∷ past)
+    ≡ numbered subscriber.first subscriber.ssrc
+    (cond b (forwarded send subscriber.wish past ++ send frame (candidate_at (standing subscriber.wish past) frame.meaning)) (forwarded send subscriber.wish past))
+at_frame send subscriber frame past b e =
+    ap
+    (λ b. numbered subscriber.first subscriber.ssrc
+    (cond b (forwarded send subscriber.wish past ++ send frame (candidate_at (standing subscriber.wish past) frame.meaning)) (forwarded send subscriber.wish past)))
+    e
+
+pub passing_frames_go_out : {S : Type 0} (send : Sender S) (subscriber : Subscriber) (frame : Frame S) (past : List (Event S))
+    → passes_at (standing subscriber.wish past) frame.meaning (length frame.packets) ≡ true
+    → outgoing send subscriber (WholeFrame frame ∷ past)
+    ≡ outgoing send subscriber past
+    ++ numbered (subscriber.first + length (outgoing send subscriber past)) subscriber.ssrc
+    (send frame (candidate_at (standing subscriber.wish past) frame.meaning))
+passing_frames_go_out send subscriber frame past e =
+    let sent : List Packet = send frame (candidate_at (standing subscriber.wish past) frame.meaning) in
+    at_frame send subscriber frame past true e
+    ∙ numbered-append subscriber.first subscriber.ssrc (forwarded send subscriber.wish past) sent
+    ∙ ap (λ n. outgoing send subscriber past ++ numbered (subscriber.first + n) subscriber.ssrc sent)
+    (sym (length-numbered subscriber.first subscriber.ssrc (forwarded send subscriber.wish past)))
+
+pub nothing_else_goes_out : {S : Type 0} (send : Sender S) (subscriber : Subscriber) (frame : Frame S) (wish : Wish) (past : List (Event S))
+    → (passes_at (standing subscriber.wish past) frame.meaning (length frame.packets) ≡ false
+    → outgoing send subscriber (WholeFrame frame ∷ past) ≡ outgoing send subscriber past)
+    × (outgoing send subscriber (WishChange wish ∷ past) ≡ outgoing send subscriber past)
+    × (outgoing send subscriber (Take ∷ past) ≡ outgoing send subscriber past)
+nothing_else_goes_out send subscriber frame wish past = (at_frame send subscriber frame past false, refl, refl)
+
+pub packets_are_renumbered : (n ssrc : ℕ) (packets : List Packet) (i : ℕ)
+    → slice_get (numbered n ssrc packets) i ≡ option_map (renumbered (n + i) ssrc) (slice_get packets i)
+packets_are_renumbered n ssrc [] i = refl
+packets_are_renumbered n ssrc (p ∷ ps) zero = ap (λ k. Some (renumbered k ssrc p)) (let e : n ≡ n + 0 = omega arith in e)
+packets_are_renumbered n ssrc (p ∷ ps) (suc i) =
+    packets_are_renumbered (n + 1) ssrc ps i
+    ∙ ap (λ k. option_map (renumbered k ssrc) (slice_get ps i)) (let e : n + 1 + i ≡ n + suc i = omega arith in e)

@@ -5,7 +5,7 @@
 //! what a strict receiver makes of packets. `Decisions`, `Taken`, `Making` and `Accepted` tell decisions, takes, frames and reception in
 //! words, with the laws that tie them to the definitions. So do `TargetWords`, `StandingSteps`, `Openings`, `PassedFrames`, `VerdictWords`,
 //! `CauseWords` and `OutgoingWords` with the tests on targets, the events of a timeline, opening frames, what counts as passed, verdicts,
-//! causes and markers. `Laws` has the other laws. The functions of this crate carry all of them. There is no other code here.
+//! causes, and what goes out at a frame. `Laws` has the other laws. The functions of this crate carry all of them. There is no other code here.
 #![tactic(auto)]
 
 mod complaint;
@@ -35,7 +35,7 @@ pub use selection_laws::{
     causes_are_verdicts_and_holes, each_event_changes_the_standing,
     frames_leave_the_target_or_close_it, markers_end_the_target_layer,
     next_numbers_count_the_takes, open_targets_were_opened_by_their_frame,
-    passed_frames_of_the_epoch_count, tests_on_targets_mean_what_they_say,
-    the_verdict_says_what_is_so, worked_selection,
+    packets_of_passing_frames_go_out, passed_frames_of_the_epoch_count,
+    tests_on_targets_mean_what_they_say, the_verdict_says_what_is_so, worked_selection,
 };
 pub use target::{CurrentTarget, Reason};

@@ -7,7 +7,7 @@ ghost use Rattle.forwarding_model.specs.Openings.{NothingOpenedIsKept, OpenedTar
 ghost use Rattle.forwarding_model.specs.VerdictWords.{VerdictsSayWhatIsSo, PassingInWords};
 ghost use Rattle.forwarding_model.specs.PassedFrames.{EpochsFramesCount, HasPassedInWords, KeyPassedInWords};
 ghost use Rattle.forwarding_model.specs.CauseWords.{FramesHaveTheirVerdicts, OtherNumbersAreHoles, HolesAreNoFrames};
-ghost use Rattle.forwarding_model.specs.OutgoingWords.{TopLayerInWords, LastPacketsAreMarked, OtherMarkersAreKept, NextNumbersCountTakes};
+ghost use Rattle.forwarding_model.specs.OutgoingWords.{TopLayerInWords, LastPacketsAreMarked, OtherMarkersAreKept, PassingFramesGoOut, NothingElseGoesOut, PacketsAreRenumbered, NextNumbersCountTakes};
 ghost use Rattle.forwarding_model.specs.SelectionRows.{PassingOpensNothing, NewEpochGivesTheReason, WithheldFramesBeginEpochs, TemporalWishIsKept, DiscardableFramesPass, DiscardableFramesOpenNothing, FourthBitIsTargetThree, AbsenceComesFirst, NoTargetComesFirst, GreatestBelowIsTold, OldFramesKeepTheirCauses, KeyFramesArentForgotten, LowerMarkersAreKept, FirstNumbers};
 
 // ---- targets
@@ -86,6 +86,14 @@ pub fn markers_end_the_target_layer<Structure>()
     ensures top_layer { TopLayerInWords }
     ensures last { LastPacketsAreMarked Structure }
     ensures kept { OtherMarkersAreKept Structure }
+{}
+
+/// The packets of a frame that passes go out behind all before them, sent for the frame's candidate and numbered on; at any other frame, at
+/// a change of the wish and at a take nothing goes out.
+pub fn packets_of_passing_frames_go_out<Structure>()
+    ensures passing { PassingFramesGoOut Structure }
+    ensures others { NothingElseGoesOut Structure }
+    ensures numbers { PacketsAreRenumbered }
 {}
 
 /// The next number is the subscriber's first, and one more for each take that found a packet, modulo 65,536.
