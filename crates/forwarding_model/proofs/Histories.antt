@@ -86,7 +86,7 @@ sees_asked send (Some subscriber) events frames h = go (nat_lt (takes_of events)
     go true = record { layered = h.layered; older = h.older; is = h.is }
     go false = h
 
-sees_newest : {S : Type 0} (format : Format S) (send : Sender S) (number : ℕ) (history : List Entry)
+pub sees_newest : {S : Type 0} (format : Format S) (send : Sender S) (number : ℕ) (history : List Entry)
     → SeesNewest (timeline format send number history) (frames_after format (items_of history))
 sees_newest format send number [] = record { layered = tt; older = []; is = refl }
 sees_newest format send number (Released items ∷ past) =

@@ -42,3 +42,5 @@ pub mod OutgoingWords
 pub mod SelectionRows
 pub mod LayeredFormats
 pub mod LayeredRows
+pub mod HistoryWords
+pub mod Refusals

@@ -1,6 +1,6 @@
 -- The rows compute.
 use Rattle.std.proofs.Common.{refl}
-use Rattle.forwarding_model.specs.ReceptionRows.{OtherNumberAtOnce, BrokenJoinAtOnce, SecondStartAtOnce, BrokenPayloadAtOnce, TooManyAtOnce, ReferenceAtTheEnd, FirstReference, FarthestReference, NotRtpFirst, NoDescriptor, LongKeyFrameAccepted}
+use Rattle.forwarding_model.specs.ReceptionRows.{OtherNumberAtOnce, BrokenJoinAtOnce, SecondStartAtOnce, BrokenPayloadAtOnce, TooManyAtOnce, ReferenceAtTheEnd, FirstReference, FarthestReference, NotRtpFirst, NoDescriptor, LongKeyFrameAccepted, OpenEndFirst, BrokenPayloadFirst, OtherStructureFirst, StructureWithoutKey, WrappedFrameNumber}
 
 pub other_number_at_once : OtherNumberAtOnce
 other_number_at_once = refl
@@ -34,3 +34,18 @@ no_descriptor = refl
 
 pub long_key_frame_accepted : LongKeyFrameAccepted
 long_key_frame_accepted = refl
+
+pub open_end_first : OpenEndFirst
+open_end_first = refl
+
+pub broken_payload_first : BrokenPayloadFirst
+broken_payload_first = refl
+
+pub other_structure_first : OtherStructureFirst
+other_structure_first = refl
+
+pub structure_without_key : StructureWithoutKey
+structure_without_key = refl
+
+pub wrapped_frame_number : WrappedFrameNumber
+wrapped_frame_number = refl

@@ -1,6 +1,6 @@
 -- The worked timelines for single rules compute.
 use Rattle.std.proofs.Common.{refl}
-use Rattle.forwarding_model.specs.SelectionRows.{PassingOpensNothing, NewEpochGivesTheReason, WithheldFramesBeginEpochs, TemporalWishIsKept, DiscardableFramesPass, DiscardableFramesOpenNothing, FourthBitIsTargetThree, AbsenceComesFirst, NoTargetComesFirst, GreatestBelowIsTold, OldFramesKeepTheirCauses, KeyFramesArentForgotten, LowerMarkersAreKept, FirstNumbers}
+use Rattle.forwarding_model.specs.SelectionRows.{PassingOpensNothing, NewEpochGivesTheReason, WithheldFramesBeginEpochs, TemporalWishIsKept, DiscardableFramesPass, DiscardableFramesOpenNothing, FourthBitIsTargetThree, AbsenceComesFirst, NoTargetComesFirst, GreatestBelowIsTold, OldFramesKeepTheirCauses, KeyFramesArentForgotten, LowerMarkersAreKept, FirstNumbers, SpatialComesFirst, FirstOfEquals}
 
 pub passing_opens_nothing : PassingOpensNothing
 passing_opens_nothing = refl
@@ -43,3 +43,9 @@ lower_markers_are_kept = refl
 
 pub first_numbers : FirstNumbers
 first_numbers = refl
+
+pub spatial_comes_first : SpatialComesFirst
+spatial_comes_first = refl
+
+pub first_of_equals : FirstOfEquals
+first_of_equals = refl

@@ -1,6 +1,6 @@
 -- The rows compute.
 use Rattle.std.proofs.Common.{refl}
-use Rattle.forwarding_model.specs.TrackRows.{TornNumber, EqualNumber, OwnMask, ThreeTargets, LongKeyFrame, EpochsAndStarts, GapTears, PaddingIsPassedOver, StartBeginsAnew, PaddingFirst, PartsOfAFrame, ThirdSubscriberMarkers, OnlyTheSecondTook, PlainContents, PlainQueue, PlainHistory, PlainTaken}
+use Rattle.forwarding_model.specs.TrackRows.{TornNumber, EqualNumber, OwnMask, ThreeTargets, LongKeyFrame, EpochsAndStarts, StructureInside, StructureFirst, GapTears, PaddingIsPassedOver, StartBeginsAnew, PaddingFirst, PartsOfAFrame, ThirdSubscriberMarkers, OnlyTheSecondTook, OneCallNumbers, OneCallCauses, PlainContents, PlainQueue, PlainHistory, PlainTaken}
 
 pub torn_number : TornNumber
 torn_number = refl
@@ -19,6 +19,12 @@ long_key_frame = refl
 
 pub epochs_and_starts : EpochsAndStarts
 epochs_and_starts = refl
+
+pub structure_inside : StructureInside
+structure_inside = refl
+
+pub structure_first : StructureFirst
+structure_first = refl
 
 pub gap_tears : GapTears
 gap_tears = refl
@@ -40,6 +46,12 @@ third_subscriber_markers = refl
 
 pub only_the_second_took : OnlyTheSecondTook
 only_the_second_took = refl
+
+pub one_call_numbers : OneCallNumbers
+one_call_numbers = refl
+
+pub one_call_causes : OneCallCauses
+one_call_causes = refl
 
 pub plain_contents : PlainContents
 plain_contents = refl

@@ -53,7 +53,8 @@ packets_released older [] = []
 packets_released older (Missing ∷ items) = packets_released older items
 packets_released older (Arrived packet ∷ items) = PlainPacket packet ∷ packets_released older items
 
--- what happened to the subscriber since it joined: what was released since, and its own changes of wish and takes
+-- what happened to the subscriber since it joined: what was released since, and its own changes of wish and takes (for a number that never
+-- joined, since the beginning)
 abbrev pub timeline_by : {S : Type 0} → (List Item → List Item → List (Event S)) → Sender S → ℕ → List Entry → List (Event S)
 timeline_by released send number [] = []
 timeline_by released send number (Released items ∷ past) = released (items_of past) items ++ timeline_by released send number past

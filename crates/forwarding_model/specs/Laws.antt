@@ -139,8 +139,9 @@ MarkingKeepsWhole S = (format : Format S) (frame : Frame S) → IsWholeFrame for
 abbrev pub MarkingIsASender : Type 0 → Type 0
 MarkingIsASender S = (format : Format S) → KeepsWhole format send_marked
 
+-- and one that keeps the number of packets
 abbrev pub MarkingKeepsCount : Type 0 → Type 0
-MarkingKeepsCount S = (frame : Frame S) (target : CurrentTarget) → length (send_marked frame target) ≡ length frame.packets
+MarkingKeepsCount S = KeepsCount {S = S} send_marked
 
 -- ---- frames
 

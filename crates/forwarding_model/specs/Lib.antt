@@ -20,6 +20,7 @@ pub mod WholeFrames
 pub mod Making
 pub mod History
 pub mod Plain
+pub mod HistoryWords
 pub mod Rows
 pub mod WorkedFormat
 pub mod WorkedPackets
@@ -27,6 +28,7 @@ pub mod TrackRows
 pub mod ReceptionRows
 pub mod LayeredFormat
 pub mod LayeredRows
+pub mod Refusals
 pub mod Since
 pub mod TargetWords
 pub mod StandingSteps

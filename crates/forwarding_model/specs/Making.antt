@@ -66,7 +66,7 @@ abbrev pub BeginsNoEpoch : {S : Type 0} → Format S → Item → List Item → 
 BeginsNoEpoch format item past = (d : Descriptor _) → said_by format (structure_of (said format past)) item ≡ Some d → is_key_start d ≡ false
 
 -- Where the newest item makes a frame, that frame's number is the newest. Where it makes none but says a key start, the new epoch's number
--- is the newest. And where it does neither, the newest stays, whatever is torn. The epoch's number changes at a key start alone.
+-- is the newest. And where it does neither, the newest stays, whatever is torn. The epoch's start changes at a key start alone.
 pub record NumbersGoOn {S : Type 0} (format : Format S) (item : Item) (past : List Item) : Type 0 where
   pub frame : (frame : Frame S) → frames_since format past (item ∷ []) ≡ frame ∷ [] → newest_number format (item ∷ past) ≡ frame.meaning.number
   pub key_start : (d : Descriptor S) → frames_since format past (item ∷ []) ≡ [] → said_by format (structure_of (said format past)) item ≡ Some d
@@ -106,7 +106,7 @@ pub record IsLeastAbove (newest n number : ℕ) : Type 0 where
   pub near : number ≤ newest + 65536
   pub congruent : number % 65536 ≡ n % 65536
 
--- a key start of the first epoch has its own number, and a later one the least above the newest, which lies above all frames before
+-- a key start of the first epoch has its own number, and a later one the least above the newest
 abbrev pub KeyStartsAreNumbered : Type 0 → Type 0
 KeyStartsAreNumbered S = (format : Format S) (item : Item) (past : List Item) (d : Descriptor S) → said_by format (structure_of (said format past)) item ≡ Some d
     → is_key_start d ≡ true

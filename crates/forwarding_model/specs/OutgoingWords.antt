@@ -59,7 +59,7 @@ abbrev pub PacketsAreRenumbered : Type 0
 PacketsAreRenumbered = (n ssrc : ℕ) (packets : List Packet) (i : ℕ)
     → slice_get (numbered n ssrc packets) i ≡ option_map (renumbered (n + i) ssrc) (slice_get packets i)
 
--- the next number is the first one and one more for each take, where each take found a packet; right after the join it is the first
+-- the next number is the first one and one more for each take, where each take found a packet; right after the join it is the first, modulo 65,536
 abbrev pub NextNumbersCountTakes : Type 0 → Type 0
 NextNumbersCountTakes S = (send : Sender S) (subscriber : Subscriber) (events : List (Event S)) → FindPackets send subscriber events
     → next_number send subscriber events ≡ (subscriber.first + takes_of events) % 65536

@@ -55,7 +55,7 @@ FirstReference = heard (read_from 10 (key_rest 1 ∷ (1 ∷ 1 ∷ 5 ∷ 0 ∷ 0 
 abbrev pub FarthestReference : Type 0
 FarthestReference = heard (read_from 10 (key_rest 1 ∷ frame_rest 4097 4096 ∷ [])) ≡ record { complaint = None; packets = 2; frames = 2 }
 
--- what isn't RTP comes first of all, and a packet without a descriptor later
+-- bytes that aren't RTP, as the first that comes; and a packet without a descriptor or a payload
 abbrev pub NotRtpFirst : Type 0
 NotRtpFirst = heard (None ∷ []) ≡ complains Complaint.Unread 0 0
 
@@ -67,3 +67,23 @@ abbrev pub LongKeyFrameAccepted : Type 0
 LongKeyFrameAccepted =
     heard (read_from 10 ((1 ∷ 0 ∷ 1 ∷ 7 ∷ 0 ∷ 0 ∷ 1 ∷ []) ∷ (0 ∷ 1 ∷ 1 ∷ 0 ∷ 0 ∷ 1 ∷ 0 ∷ []) ∷ []))
     ≡ record { complaint = None; packets = 2; frames = 1 }
+
+-- an end that leaves an element open comes before a reference that is missing
+abbrev pub OpenEndFirst : Type 0
+OpenEndFirst = heard (read_from 10 (key_rest 1 ∷ (1 ∷ 1 ∷ 3 ∷ 0 ∷ 0 ∷ 0 ∷ 1 ∷ 1 ∷ []) ∷ [])) ≡ complains Complaint.NotWhole 1 1
+
+-- and a payload that is broken, or another structure, before what isn't whole
+abbrev pub BrokenPayloadFirst : Type 0
+BrokenPayloadFirst =
+    heard (read_from 10 (key_rest 1 ∷ first_rest 2 ∷ (1 ∷ 1 ∷ 3 ∷ 0 ∷ 0 ∷ 3 ∷ 0 ∷ 2 ∷ []) ∷ [])) ≡ complains Complaint.Unread 2 1
+
+abbrev pub OtherStructureFirst : Type 0
+OtherStructureFirst = heard (read_from 10 (key_rest 1 ∷ (0 ∷ 1 ∷ 2 ∷ 8 ∷ 0 ∷ 0 ∷ 0 ∷ []) ∷ [])) ≡ complains Complaint.Unread 1 1
+
+-- a structure before the first key frame
+abbrev pub StructureWithoutKey : Type 0
+StructureWithoutKey = heard (read_from 10 ((1 ∷ 1 ∷ 2 ∷ 7 ∷ 0 ∷ 0 ∷ 0 ∷ 1 ∷ []) ∷ [])) ≡ complains Complaint.Unread 0 0
+
+-- a complaint has the 16 bits of the frame number
+abbrev pub WrappedFrameNumber : Type 0
+WrappedFrameNumber = heard (read_from 10 (key_rest 65535 ∷ frame_rest 1 1 ∷ [])) ≡ complains (Complaint.MissingReference 1 1) 1 1

@@ -171,3 +171,44 @@ LowerMarkersAreKept = markers (outgoing send_marked joined_at_10 (two_targets 1 
 abbrev pub FirstNumbers : Type 0
 FirstNumbers =
     next_number {S = ℕ} send_marked joined_at_10 [] ∷ oldest_number {S = ℕ} send_marked joined_at_10 [] ∷ [] ≡ 10 ∷ 10 ∷ []
+
+-- ---- which of two targets is better
+
+-- the mask 6 leaves target 1 of layers (1, 0) and target 2 of layers (0, 1): the spatial layer counts first
+abbrev pub SpatialComesFirst : Type 0
+SpatialComesFirst =
+    cause (layers_wish 1 1)
+    (four_targets 2 false 6 (Required ∷ NotPresent ∷ Discardable ∷ NotPresent ∷ []) (2 ∷ 1 ∷ []) (2 ∷ [])
+    ∷ four_targets 0 true 6 (Required ∷ Required ∷ Switch ∷ Switch ∷ []) (0 ∷ 0 ∷ []) []
+    ∷ [])
+    2
+    ≡ NotOfTarget (Some 1)
+
+-- of two targets of the same layers the first is better
+abbrev pub equal_targets : (number : ℕ) → Bool → (first second : Dti) → List ℕ → Event ℕ
+equal_targets number key first second refs =
+    WholeFrame (record {
+      meaning = record {
+        number = number;
+        start = 1;
+        epoch = 1;
+        spatial = 0;
+        temporal = 0;
+        key = key;
+        mask = 3;
+        target_count = 2;
+        dtis = first ∷ second ∷ [];
+        pairs = Some (layers_wish 0 0) ∷ Some (layers_wish 0 0) ∷ [];
+        chain_count = 0;
+        guards = [];
+        links = [];
+        ref_count = length refs;
+        refs = refs;
+      };
+      structure = 0;
+      packets = packet true ∷ [];
+    })
+
+abbrev pub FirstOfEquals : Type 0
+FirstOfEquals =
+    cause (layers_wish 0 0) (equal_targets 2 false Required NotPresent (1 ∷ []) ∷ equal_targets 1 true Switch Switch [] ∷ []) 2 ≡ Passed

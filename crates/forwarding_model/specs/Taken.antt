@@ -39,6 +39,12 @@ abbrev pub OldestIsKept : Type 0 → Type 0
 OldestIsKept S = (send : Sender S) (subscriber : Subscriber) (events : List (Event S))
     → (oldest_number send subscriber events + length (kept send subscriber events)) % 65536 ≡ next_number send subscriber events
 
+-- and where none is kept it is the next number
+abbrev pub OldestIsTold : Type 0 → Type 0
+OldestIsTold S = (send : Sender S) (subscriber : Subscriber) (events : List (Event S))
+    → (kept send subscriber events ≡ [] → oldest_number send subscriber events ≡ next_number send subscriber events)
+    × ((packet : Packet) (packets : List Packet) → kept send subscriber events ≡ packet ∷ packets → oldest_number send subscriber events ≡ packet.sequence_number)
+
 -- a number that lies behind the kept ones isn't resent, and each kept one is
 abbrev pub ResendsTheKeptNumbers : Type 0 → Type 0
 ResendsTheKeptNumbers S = (send : Sender S) (subscriber : Subscriber) (events : List (Event S)) (i : ℕ)

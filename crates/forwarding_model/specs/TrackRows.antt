@@ -1,7 +1,9 @@
 -- More worked packets: frames of a track, what marks make of a frame, and histories. They were worked out by hand, and compute.
 use Rattle.std.specs.Prelude.{◌≡◌, ℕ, List, [], ◌∷◌, ◌++◌, Bool, true, false, if◌then◌else◌, map, length, replicate}
 use Rattle.std.specs.declared.option.Option.TheVariants.{None}
-use Rattle.forwarding_model.specs.Timeline.{Frame, Packet}
+use Rattle.sfu_base.specs.declared.frame.Verdict.TheVariants.{Passed}
+use Rattle.forwarding_model.specs.Causes.{cause}
+use Rattle.forwarding_model.specs.Timeline.{Event, Frame, Packet}
 use Rattle.forwarding_model.specs.Timeline.Event.{PlainPacket, Take}
 use Rattle.forwarding_model.specs.Cuts.{Mark, Outcome, outcome, run_of}
 use Rattle.forwarding_model.specs.Cuts.Mark.{Gone, Padding, Read}
@@ -42,6 +44,16 @@ EpochsAndStarts =
     map (λ (x : Frame ℕ). x.meaning.epoch ∷ x.meaning.start ∷ (if x.meaning.key then 1 else 0) ∷ [])
     (frames_after worked_format (came (key_rest 5) ∷ came (frame_rest 2 1) ∷ came (key_rest 1) ∷ []))
     ≡ (2 ∷ 5 ∷ 1 ∷ []) ∷ (1 ∷ 1 ∷ 0 ∷ []) ∷ (1 ∷ 1 ∷ 1 ∷ []) ∷ []
+
+-- the structure in force, in a packet that is no start, makes all targets active again
+abbrev pub StructureInside : Type 0
+StructureInside =
+    told (came (0 ∷ 1 ∷ 2 ∷ 7 ∷ 0 ∷ 1 ∷ 0 ∷ []) ∷ came (1 ∷ 0 ∷ 2 ∷ 0 ∷ 3 ∷ 0 ∷ 1 ∷ 1 ∷ []) ∷ came (key_rest 1) ∷ [])
+    ≡ (2 ∷ 2 ∷ 3 ∷ []) ∷ (1 ∷ 1 ∷ 3 ∷ []) ∷ []
+
+-- a structure before the first key start isn't read
+abbrev pub StructureFirst : Type 0
+StructureFirst = told (came (1 ∷ 1 ∷ 2 ∷ 7 ∷ 0 ∷ 0 ∷ 0 ∷ 1 ∷ []) ∷ []) ≡ []
 
 -- ---- what each mark makes of the frame so far; the marks stand with the newest first, and so do the outcomes
 
@@ -86,6 +98,18 @@ OnlyTheSecondTook =
     taken send_marked (joined_as 2 65535 1) (timeline worked_format send_marked 1 three_subscribers)
     ++ taken send_marked (joined_as 4 7 1) (timeline worked_format send_marked 3 three_subscribers)
     ≡ []
+
+-- three frames of one call
+abbrev pub one_call : List (Event ℕ)
+one_call =
+    timeline worked_format send_marked 1
+    (Released (came (frame_rest 3 1) ∷ came (frame_rest 2 1) ∷ came (key_rest 1) ∷ []) ∷ Joined 1 (joined_as 2 10 1) ∷ [])
+
+abbrev pub OneCallNumbers : Type 0
+OneCallNumbers = map (λ (p : Packet). p.sequence_number) (outgoing send_marked (joined_as 2 10 1) one_call) ≡ 10 ∷ 11 ∷ 12 ∷ []
+
+abbrev pub OneCallCauses : Type 0
+OneCallCauses = map (cause (joined_as 2 10 1).wish one_call) (1 ∷ 2 ∷ 3 ∷ []) ≡ Passed ∷ Passed ∷ Passed ∷ []
 
 -- ---- plain tracks: a subscriber that joined with first number 10
 

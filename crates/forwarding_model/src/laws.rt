@@ -7,12 +7,12 @@ ghost use Rattle.forwarding_model.specs.Decisions.{BrokenLinksClose, OtherLinksK
 ghost use Rattle.forwarding_model.specs.Making.{WhatWasReadIsInForce, KeyStartsAreNumbered, TheNewestIsTheLast, MasksAreSaid, AllTargetsAreActive, ItemsHaveMarks, FramesAreCuts, CutsAreFrames};
 ghost use Rattle.forwarding_model.specs.Plain.{PlainPacketsGoOut, FullQueuesTakeNone, PlainTakesFindPackets, QueuesAreShort};
 ghost use Rattle.forwarding_model.specs.Reading.{IsFormat};
-ghost use Rattle.forwarding_model.specs.Taken.{TakesGiveWhatWasTaken, NextHasNextNumber, KeepsTheLast, OldestIsKept, ResendsTheKeptNumbers};
+ghost use Rattle.forwarding_model.specs.Taken.{TakesGiveWhatWasTaken, NextHasNextNumber, KeepsTheLast, OldestIsKept, OldestIsTold, ResendsTheKeptNumbers};
 ghost use Rattle.forwarding_model.specs.WorkedFormat.{worked_format};
 ghost use Rattle.forwarding_model.specs.Rows.{BrokenChainCauses, BrokenChainNumbers, UpperLostCauses, UpperLostMarkers, MaskMarkers, WishCauses, WishMarkers, WishCauseUnpassed, FullCauses, FullTakenCauses, LateJoinCauses, BehindCause, HoldCauses, PlainResend, BrokenLinkCauses, UnlinkedCause, EarlyLinkCauses, MaskedCauses, IntactUpperMarkers, LoweredWishCause, ThreePacketMarkers, KeptMarkers, AskedNumbers, HoleBounds};
 ghost use Rattle.forwarding_model.specs.WorkedPackets.{UnreadInside, BrokenInside, OtherStructureInside, BrokenKeyStart, TornKeyFrame, BrokenMask, PaddingSaysNothing, LastMask, MaskAgain, FirstNumberZero, FarthestAbove, NearestBehind, LongFrame, TooLongFrame, FirstSubscriber, FirstSubscriberMarkers, SecondSubscriber, SecondSubscriberTaken, ThirdSubscriber, ThirdSubscriberCauses, HistoryNumbers, HistoryTaken, HistoryCauses, PaddedFrame, TornFrame, EarlyStart, WrappedNumbers, StaleNumber, NewMask, OtherStructure, Accepted, AcceptedCounts, NotRtp, OtherSource, RepeatedNumber, WrappedSequence, LacksKeyFrame, EmptyPayload, LacksStart, SecondStart, BrokenJoin, LacksReference, LostReference, OtherNumber, EndCarries, StartContinues, LongestFrame, TooManyPackets, FaultyDescriptor, BrokenPayload, StructureRule, SameStructure, NoStructureFirst, SourceFirst, NumberBeforeContent, FirstComplaintStays, StaleEmpties, StaleCounts};
-ghost use Rattle.forwarding_model.specs.TrackRows.{TornNumber, EqualNumber, OwnMask, ThreeTargets, LongKeyFrame, EpochsAndStarts, GapTears, PaddingIsPassedOver, StartBeginsAnew, PaddingFirst, PartsOfAFrame, ThirdSubscriberMarkers, OnlyTheSecondTook, PlainContents, PlainQueue, PlainHistory, PlainTaken};
-ghost use Rattle.forwarding_model.specs.ReceptionRows.{OtherNumberAtOnce, BrokenJoinAtOnce, SecondStartAtOnce, BrokenPayloadAtOnce, TooManyAtOnce, ReferenceAtTheEnd, FirstReference, FarthestReference, NotRtpFirst, NoDescriptor, LongKeyFrameAccepted};
+ghost use Rattle.forwarding_model.specs.TrackRows.{TornNumber, EqualNumber, OwnMask, ThreeTargets, LongKeyFrame, EpochsAndStarts, StructureInside, StructureFirst, GapTears, PaddingIsPassedOver, StartBeginsAnew, PaddingFirst, PartsOfAFrame, ThirdSubscriberMarkers, OnlyTheSecondTook, OneCallNumbers, OneCallCauses, PlainContents, PlainQueue, PlainHistory, PlainTaken};
+ghost use Rattle.forwarding_model.specs.ReceptionRows.{OtherNumberAtOnce, BrokenJoinAtOnce, SecondStartAtOnce, BrokenPayloadAtOnce, TooManyAtOnce, ReferenceAtTheEnd, FirstReference, FarthestReference, NotRtpFirst, NoDescriptor, LongKeyFrameAccepted, OpenEndFirst, BrokenPayloadFirst, OtherStructureFirst, StructureWithoutKey, WrappedFrameNumber};
 ghost use Rattle.forwarding_model.specs.LayeredFormat.{layered_format};
 ghost use Rattle.forwarding_model.specs.LayeredRows.{BrokenChain, BrokenChainSent, UpperLost, UpperLostSent, MaskSent, WishedCauses, WishedSent, WishedUnmet, OtherTemplate};
 
@@ -94,6 +94,7 @@ pub fn takes_give_what_was_taken<Structure>()
 pub fn the_last_that_were_taken_are_kept<Structure>()
     ensures last { KeepsTheLast Structure }
     ensures oldest { OldestIsKept Structure }
+    ensures told { OldestIsTold Structure }
     ensures numbers { ResendsTheKeptNumbers Structure }
 {}
 
@@ -345,6 +346,8 @@ pub fn worked_tracks()
     ensures three_targets { ThreeTargets }
     ensures long_key_frame { LongKeyFrame }
     ensures epochs_and_starts { EpochsAndStarts }
+    ensures structure_inside { StructureInside }
+    ensures structure_first { StructureFirst }
     ensures gap_tears { GapTears }
     ensures padding_is_passed_over { PaddingIsPassedOver }
     ensures start_begins_anew { StartBeginsAnew }
@@ -352,6 +355,8 @@ pub fn worked_tracks()
     ensures parts_of_a_frame { PartsOfAFrame }
     ensures third_subscriber_markers { ThirdSubscriberMarkers }
     ensures only_the_second_took { OnlyTheSecondTook }
+    ensures one_call_numbers { OneCallNumbers }
+    ensures one_call_causes { OneCallCauses }
     ensures plain_contents { PlainContents }
     ensures plain_queue { PlainQueue }
     ensures plain_history { PlainHistory }
@@ -371,6 +376,11 @@ pub fn worked_receptions()
     ensures not_rtp_first { NotRtpFirst }
     ensures no_descriptor { NoDescriptor }
     ensures long_key_frame_accepted { LongKeyFrameAccepted }
+    ensures open_end_first { OpenEndFirst }
+    ensures broken_payload_first { BrokenPayloadFirst }
+    ensures other_structure_first { OtherStructureFirst }
+    ensures structure_without_key { StructureWithoutKey }
+    ensures wrapped_frame_number { WrappedFrameNumber }
 {}
 
 /// Worked histories of layered tracks with chains, from packets to causes and to what goes out. Their format has all the facts on which

@@ -1,4 +1,4 @@
-use Rattle.forwarding_model.proofs.ReceptionRows.{other_number_at_once, broken_join_at_once, second_start_at_once, broken_payload_at_once, too_many_at_once, reference_at_the_end, first_reference, farthest_reference, not_rtp_first, no_descriptor, long_key_frame_accepted}
+use Rattle.forwarding_model.proofs.ReceptionRows.{other_number_at_once, broken_join_at_once, second_start_at_once, broken_payload_at_once, too_many_at_once, reference_at_the_end, first_reference, farthest_reference, not_rtp_first, no_descriptor, long_key_frame_accepted, open_end_first, broken_payload_first, other_structure_first, structure_without_key, wrapped_frame_number}
 use Rattle.forwarding_model.proofs.laws.worked_receptions.Goals as goal
 
 pub returns-clause-other_number_at_once : goal.returns-clause-other_number_at_once
@@ -33,3 +33,18 @@ returns-clause-no_descriptor c = no_descriptor
 
 pub returns-clause-long_key_frame_accepted : goal.returns-clause-long_key_frame_accepted
 returns-clause-long_key_frame_accepted c = long_key_frame_accepted
+
+pub returns-clause-open_end_first : goal.returns-clause-open_end_first
+returns-clause-open_end_first c = open_end_first
+
+pub returns-clause-broken_payload_first : goal.returns-clause-broken_payload_first
+returns-clause-broken_payload_first c = broken_payload_first
+
+pub returns-clause-other_structure_first : goal.returns-clause-other_structure_first
+returns-clause-other_structure_first c = other_structure_first
+
+pub returns-clause-structure_without_key : goal.returns-clause-structure_without_key
+returns-clause-structure_without_key c = structure_without_key
+
+pub returns-clause-wrapped_frame_number : goal.returns-clause-wrapped_frame_number
+returns-clause-wrapped_frame_number c = wrapped_frame_number

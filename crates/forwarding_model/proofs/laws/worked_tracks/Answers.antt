@@ -1,4 +1,4 @@
-use Rattle.forwarding_model.proofs.TrackRows.{torn_number, equal_number, own_mask, three_targets, long_key_frame, epochs_and_starts, gap_tears, padding_is_passed_over, start_begins_anew, padding_first, parts_of_a_frame, third_subscriber_markers, only_the_second_took, plain_contents, plain_queue, plain_history, plain_taken}
+use Rattle.forwarding_model.proofs.TrackRows.{torn_number, equal_number, own_mask, three_targets, long_key_frame, epochs_and_starts, structure_inside, structure_first, gap_tears, padding_is_passed_over, start_begins_anew, padding_first, parts_of_a_frame, third_subscriber_markers, only_the_second_took, one_call_numbers, one_call_causes, plain_contents, plain_queue, plain_history, plain_taken}
 use Rattle.forwarding_model.proofs.laws.worked_tracks.Goals as goal
 
 pub returns-clause-torn_number : goal.returns-clause-torn_number
@@ -18,6 +18,12 @@ returns-clause-long_key_frame c = long_key_frame
 
 pub returns-clause-epochs_and_starts : goal.returns-clause-epochs_and_starts
 returns-clause-epochs_and_starts c = epochs_and_starts
+
+pub returns-clause-structure_inside : goal.returns-clause-structure_inside
+returns-clause-structure_inside c = structure_inside
+
+pub returns-clause-structure_first : goal.returns-clause-structure_first
+returns-clause-structure_first c = structure_first
 
 pub returns-clause-gap_tears : goal.returns-clause-gap_tears
 returns-clause-gap_tears c = gap_tears
@@ -39,6 +45,12 @@ returns-clause-third_subscriber_markers c = third_subscriber_markers
 
 pub returns-clause-only_the_second_took : goal.returns-clause-only_the_second_took
 returns-clause-only_the_second_took c = only_the_second_took
+
+pub returns-clause-one_call_numbers : goal.returns-clause-one_call_numbers
+returns-clause-one_call_numbers c = one_call_numbers
+
+pub returns-clause-one_call_causes : goal.returns-clause-one_call_causes
+returns-clause-one_call_causes c = one_call_causes
 
 pub returns-clause-plain_contents : goal.returns-clause-plain_contents
 returns-clause-plain_contents c = plain_contents

@@ -1,4 +1,4 @@
-use Rattle.forwarding_model.proofs.SelectionRows.{passing_opens_nothing, new_epoch_gives_the_reason, withheld_frames_begin_epochs, temporal_wish_is_kept, discardable_frames_pass, discardable_frames_open_nothing, fourth_bit_is_target_three, absence_comes_first, no_target_comes_first, greatest_below_is_told, old_frames_keep_their_causes, key_frames_arent_forgotten, lower_markers_are_kept, first_numbers}
+use Rattle.forwarding_model.proofs.SelectionRows.{passing_opens_nothing, new_epoch_gives_the_reason, withheld_frames_begin_epochs, temporal_wish_is_kept, discardable_frames_pass, discardable_frames_open_nothing, fourth_bit_is_target_three, absence_comes_first, no_target_comes_first, greatest_below_is_told, old_frames_keep_their_causes, key_frames_arent_forgotten, lower_markers_are_kept, first_numbers, spatial_comes_first, first_of_equals}
 use Rattle.forwarding_model.proofs.selection_laws.worked_selection.Goals as goal
 
 pub returns-clause-passing_opens_nothing : goal.returns-clause-passing_opens_nothing
@@ -42,3 +42,9 @@ returns-clause-first_numbers c = first_numbers
 
 pub returns-clause-old_frames : goal.returns-clause-old_frames
 returns-clause-old_frames c = old_frames_keep_their_causes
+
+pub returns-clause-spatial_first : goal.returns-clause-spatial_first
+returns-clause-spatial_first c = spatial_comes_first
+
+pub returns-clause-first_of_equals : goal.returns-clause-first_of_equals
+returns-clause-first_of_equals c = first_of_equals
