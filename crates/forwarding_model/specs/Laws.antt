@@ -1,5 +1,6 @@
--- The laws of forwarding, over every timeline: own statements. The laws that tie definitions to their words stand in `Decisions`, `Taken`,
--- `Making` and `Accepted`. S is the type of template dependency structures.
+-- The laws of forwarding, over every timeline: own statements. The laws that tie definitions to their words stand beside those words, in
+-- `Decisions`, `Taken`, `Making`, `Accepted`, `Openings` and the files that end in `Words`, among others. S is the type of template
+-- dependency structures.
 use Rattle.std.specs.Prelude.{◌≡◌, ◌≢◌, ◌⊎◌, ◌+◌, ◌<◌, ◌≤◌, ℕ, List, ◌∷◌, ◌++◌, Bool, true, false, map, length}
 use Rattle.std.specs.List.{AllByRecursion}
 use Rattle.std.specs.declared.option.Option.{Option}
