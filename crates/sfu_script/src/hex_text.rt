@@ -10,8 +10,9 @@ use sfu_base::{Blob, NoMemory};
 // How many bytes are written at once: few enough that clearing the room for their digits costs little.
 const CHUNK: usize = 256;
 
-/// Reads the 1 to 2,048 bytes that a word is in hex digits into the front of the room, and says how many they are.
 // Apart from its callers, where the loop would not keep its counts in registers.
+/// Reads the 1 to 2,048 bytes that a word is in hex digits into the front of the room, and says how many they are. `NoLine` where the word
+/// has no digits, more than 4,096, an odd number of them, or anything else.
 #[inline(never)]
 pub fn decode(word: &[u8], room: &mut [u8; 2048]) -> Result<usize, NoLine>
     ensures { MatchResult result (λ count. (count ≤ 2048) × (bytes_of word.now ≡ Some (take count room.new))) (λ _. bytes_of word.now ≡ None) }
