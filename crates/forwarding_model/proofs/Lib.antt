@@ -26,6 +26,7 @@ pub mod Links
 pub mod Decisions
 pub mod Claimed
 pub mod Accepting
+pub mod AcceptedPackets
 pub mod Making
 pub mod Takings
 pub mod Outcomes

@@ -52,7 +52,7 @@ complete_from_tracks [] j t = t
 complete_from_tracks (l ∷ ls) (Complete received) t = tt
 complete_from_tracks (l ∷ ls) (Lacks fdiff) t = t
 
-judged_complete : (before : Received) (refs : List ℕ) → first_failing (is_received before.numbers before.newest) refs ≡ None
+pub judged_complete : (before : Received) (refs : List ℕ) → first_failing (is_received before.numbers before.newest) refs ≡ None
     → judged_at before refs ≡ Complete (record { newest = before.newest; numbers = before.newest ∷ before.numbers })
 judged_complete before refs e = ap (judged before) e
 

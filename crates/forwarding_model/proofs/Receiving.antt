@@ -39,7 +39,7 @@ not_key d e = rw e (go (has_structure d.structure))
     go true = refl
     go false = refl
 
-beq_same : (a b : Bool) → a ≡ b → beq a b ≡ true
+pub beq_same : (a b : Bool) → a ≡ b → beq a b ≡ true
 beq_same true b e = rw (← e) refl
 beq_same false b e = rw (← e) refl
 
@@ -65,11 +65,11 @@ step_rest ssrc last n s b received x marker format d joins seq c count =
 abbrev pub IsThrough : {S : Type 0} → ℕ → ℕ → S → Received → Receiver S → Type 0
 IsThrough ssrc next s received r = (last : ℕ) × ((last + 1) % 65536 ≡ next % 65536) × (r ≡ between ssrc last s received)
 
-with_frame_ended : {S : Type 0} (r : Reception S) (b : OpenFrame) (ended : Bool) (k : Received) → ended ≡ true → b.carries ≡ false
+pub with_frame_ended : {S : Type 0} (r : Reception S) (b : OpenFrame) (ended : Bool) (k : Received) → ended ≡ true → b.carries ≡ false
     → judge r.received b.header ≡ Complete k → with_frame r b ended ≡ Receiving (record r { frame = None; received = k })
 with_frame_ended r b ended k last carries e = rw last (rw carries (ap (after_end r b.header.number) e))
 
-with_frame_open : {S : Type 0} (r : Reception S) (b : OpenFrame) (ended : Bool) → ended ≡ false → with_frame r b ended ≡ Receiving (record r { frame = Some b })
+pub with_frame_open : {S : Type 0} (r : Reception S) (b : OpenFrame) (ended : Bool) → ended ≡ false → with_frame r b ended ≡ Receiving (record r { frame = Some b })
 with_frame_open r b ended last = rw last refl
 
 rest_through : {S : Type 0} (format : Format S) (s : S) (ssrc : ℕ) (received k : Received) (ps : List Packet) (n last : ℕ) (b : OpenFrame)

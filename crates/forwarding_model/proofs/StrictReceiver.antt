@@ -75,7 +75,7 @@ after_frame_on structures next ssrc epoch_passed passed f s k r one has complete
       );
     })
 
-receive_on : {S : Type 0} (format : Format S) (r : Reception S) (p : Packet) → p.ssrc ≡ r.ssrc → p.sequence_number ≡ (r.sequence_number + 1) % 65536
+pub receive_on : {S : Type 0} (format : Format S) (r : Reception S) (p : Packet) → p.ssrc ≡ r.ssrc → p.sequence_number ≡ (r.sequence_number + 1) % 65536
     → receive_packet format (Receiving r) p ≡ accepted format r p
 receive_on format r p source seq = rw (eq-eqb p.ssrc r.ssrc source, eq-eqb p.sequence_number ((r.sequence_number + 1) % 65536) seq) refl
 

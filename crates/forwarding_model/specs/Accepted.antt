@@ -104,3 +104,7 @@ pub record AreAccepted {S : Type 0} (format : Format S) (packets : List Packet) 
 -- of what a strict receiver has no complaint, that is so
 abbrev pub NoComplaintAccepts : Type 0 → Type 0
 NoComplaintAccepts S = (format : Format S) (packets : List Packet) → complaint format (map Some packets) ≡ None → AreAccepted format packets
+
+-- and what is so, a strict receiver has no complaint of
+abbrev pub AcceptedIsNotComplainedOf : Type 0 → Type 0
+AcceptedIsNotComplainedOf S = (format : Format S) (packets : List Packet) → AreAccepted format packets → complaint format (map Some packets) ≡ None

@@ -1,5 +1,9 @@
 use Rattle.forwarding_model.proofs.Accepting.{no_complaint_accepts}
+use Rattle.forwarding_model.proofs.AcceptedPackets.{accepted_is_not_complained_of}
 use Rattle.forwarding_model.proofs.laws.accepted_packets_are_whole_frames.Goals as goal
 
-pub returns : goal.returns
-returns g c = no_complaint_accepts
+pub returns-clause-accepts : goal.returns-clause-accepts
+returns-clause-accepts g c = no_complaint_accepts
+
+pub returns-clause-converse : goal.returns-clause-converse
+returns-clause-converse g c = accepted_is_not_complained_of
