@@ -27,6 +27,7 @@ pub mod Decisions
 pub mod Claimed
 pub mod Accepting
 pub mod AcceptedPackets
+pub mod ComplaintPlaces
 pub mod Making
 pub mod Takings
 pub mod Outcomes
