@@ -5,7 +5,7 @@ use Rattle.std.specs.declared.option.Option.TheVariants.{None, Some}
 use Rattle.forwarding_model.specs.declared.complaint.Complaint.{Complaint}
 use Rattle.forwarding_model.specs.Timeline.{Packet}
 use Rattle.forwarding_model.specs.Reading.{Format}
-use Rattle.forwarding_model.specs.Receiver.{Receiver, complaint, complaint_of, is_content, packets_accepted, receive, receive_all}
+use Rattle.forwarding_model.specs.Receiver.{Receiver, complaint, complaint_of, ends_frame, frames_accepted, is_content, packets_accepted, receive, receive_all}
 use Rattle.forwarding_model.specs.Receiver.Receiver.{Waiting, Receiving, Complaining}
 use Rattle.forwarding_model.specs.Accepted.{IsComplaintOf}
 
@@ -14,6 +14,11 @@ first_stays : {S : Type 0} (format : Format S) (c : Complaint) (came : List (Opt
 first_stays format c [] = refl
 first_stays format c (None ∷ more) = first_stays format c more
 first_stays format c (Some packet ∷ more) = first_stays format c more
+
+none_more : {S : Type 0} (format : Format S) (c : Complaint) (came : List (Option Packet)) → frames_accepted format (Complaining c) came ≡ 0
+none_more format c [] = refl
+none_more format c (None ∷ more) = ap (λ n. 0 + n) (none_more format c more)
+none_more format c (Some packet ∷ more) = ap (λ n. 0 + n) (none_more format c more)
 
 whole_from : {S : Type 0} (format : Format S) (came : List (Option Packet)) (r : Receiver S) → complaint_of (receive_all format r came) ≡ None
     → packets_accepted format r came ≡ length came
@@ -39,6 +44,7 @@ record IsComplaintFrom {S : Type 0} (format : Format S) (r : Receiver S) (came :
   laid : came ≡ before ++ next ∷ after
   place : packets_accepted format r came ≡ length before
   none : complaint_of (receive_all format r before) ≡ None
+  frames : frames_accepted format r came ≡ frames_accepted format r before
   ground : complaint_of (receive_all format r (before ++ next ∷ [])) ≡ Some c
 
 place_from : {S : Type 0} (format : Format S) (came : List (Option Packet)) (r : Receiver S) (c : Complaint) → complaint_of r ≡ None
@@ -57,6 +63,9 @@ place_from {S} format (x ∷ more) r c calm h = go (receive format r x) refl (λ
               ∙ ap (λ b. cond b (packets_accepted format q more + 1) 0) content
               ∙ (let e = i.place in omega arith);
           none = ap (λ p. complaint_of (receive_all format p i.before)) at ∙ i.none;
+          frames = ap (λ p. ends_frame p + frames_accepted format p more) at
+              ∙ ap (λ n. ends_frame q + n) i.frames
+              ∙ ap (λ p. ends_frame p + frames_accepted format p i.before) (sym at);
           ground = ap (λ p. complaint_of (receive_all format p (i.before ++ i.next ∷ []))) at ∙ i.ground;
         }
 
@@ -74,6 +83,7 @@ place_from {S} format (x ∷ more) r c calm h = go (receive format r x) refl (λ
           laid = refl;
           place = ap (λ p. cond (is_content p) (packets_accepted format p more + 1) 0) at;
           none = calm;
+          frames = ap (λ p. ends_frame p + frames_accepted format p more) at ∙ ap (λ n. 0 + n) (none_more format k more);
           ground = ap complaint_of at
               ∙ ap complaint_of (sym (first_stays format k more))
               ∙ ap (λ q. complaint_of (receive_all format q more)) (sym at)
@@ -84,4 +94,4 @@ pub complaints_have_their_place : {S : Type 0} (format : Format S) (came : List 
     → IsComplaintOf format came c
 complaints_have_their_place format came c h =
     let i = place_from format came Waiting c refl h in
-    record { before = i.before; next = i.next; after = i.after; laid = i.laid; place = i.place; none = i.none; ground = i.ground }
+    record { before = i.before; next = i.next; after = i.after; laid = i.laid; place = i.place; none = i.none; frames = i.frames; ground = i.ground }

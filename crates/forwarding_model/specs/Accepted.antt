@@ -14,7 +14,7 @@ use Rattle.forwarding_model.specs.Reading.Payload.{Elements}
 use Rattle.forwarding_model.specs.Reading.Showing.{Shows}
 use Rattle.forwarding_model.specs.Cuts.{Part, IsWholeCut, IsUnfinishedCut}
 use Rattle.forwarding_model.specs.Frames.{ReadPacket, packet_of}
-use Rattle.forwarding_model.specs.Receiver.{structure_after, complaint, packets_accepted}
+use Rattle.forwarding_model.specs.Receiver.{structure_after, complaint, frames_accepted, packets_accepted}
 use Rattle.forwarding_model.specs.Receiver.Receiver.{Waiting}
 
 -- a whole frame that was received: its number without limit, and its parts, the oldest first
@@ -113,14 +113,20 @@ abbrev pub AcceptedIsNotComplainedOf : Type 0 → Type 0
 AcceptedIsNotComplainedOf S = (format : Format S) (packets : List Packet)
     → AreAccepted format packets → complaint format (map Some packets) ≡ None
 
--- ---- the place of a complaint
+-- ---- what was accepted is counted, and a complaint has its place
 
 -- what a strict receiver has no complaint of, it accepts to the last packet
 abbrev pub CountsAreWhole : Type 0 → Type 0
 CountsAreWhole S = (format : Format S) (came : List (Option Packet))
     → complaint format came ≡ None → packets_accepted format Waiting came ≡ length came
 
--- as many came before what is complained of as were accepted; of them alone there is no complaint, and of the next there is this one
+-- and as many frames as the words have
+abbrev pub FramesAreCounted : Type 0 → Type 0
+FramesAreCounted S = (format : Format S) (packets : List Packet) (a : AreAccepted format packets)
+    → frames_accepted format Waiting (map Some packets) ≡ length a.frames
+
+-- What was accepted is what came before what is complained of, and the frames are those of it. Of that alone there is no complaint, and
+-- where the next comes too, there is this one.
 pub record IsComplaintOf {S : Type 0} (format : Format S) (came : List (Option Packet)) (c : Complaint) : Type 0 where
   pub before : List (Option Packet)
   pub next : Option Packet
@@ -128,6 +134,7 @@ pub record IsComplaintOf {S : Type 0} (format : Format S) (came : List (Option P
   pub laid : came ≡ before ++ next ∷ after
   pub place : packets_accepted format Waiting came ≡ length before
   pub none : complaint format before ≡ None
+  pub frames : frames_accepted format Waiting came ≡ frames_accepted format Waiting before
   pub ground : complaint format (before ++ next ∷ []) ≡ Some c
 
 -- a complaint stands at its place
