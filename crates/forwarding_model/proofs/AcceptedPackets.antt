@@ -27,22 +27,22 @@ use Rattle.forwarding_model.proofs.StrictReceiver.{complaint-packets, receive_on
 -- ---- packets in order, of one source
 
 -- a packet, of which neither source nor number is looked at
-abbrev take_packet : {S : Type 0} → Format S → Receiver S → Packet → Receiver S
+abbrev pub take_packet : {S : Type 0} → Format S → Receiver S → Packet → Receiver S
 take_packet format Waiting packet = accepted format (new_reception packet.ssrc) packet
 take_packet format (Receiving r) packet = accepted format r packet
 take_packet format (Complaining complaint) packet = Complaining complaint
 
-abbrev take_packets : {S : Type 0} → Format S → Receiver S → List Packet → Receiver S
+abbrev pub take_packets : {S : Type 0} → Format S → Receiver S → List Packet → Receiver S
 take_packets format r [] = r
 take_packets format r (p ∷ ps) = take_packets format (take_packet format r p) ps
 
-take_packets-append : {S : Type 0} (format : Format S) (r : Receiver S) (xs ys : List Packet)
+pub take_packets-append : {S : Type 0} (format : Format S) (r : Receiver S) (xs ys : List Packet)
     → take_packets format r (xs ++ ys) ≡ take_packets format (take_packets format r xs) ys
 take_packets-append format r [] ys = refl
 take_packets-append format r (x ∷ xs) ys = take_packets-append format (take_packet format r x) xs ys
 
 -- the receiver has a complaint, or else this source and last number
-abbrev IsAt : {S : Type 0} → ℕ → ℕ → Receiver S → Type 0
+abbrev pub IsAt : {S : Type 0} → ℕ → ℕ → Receiver S → Type 0
 IsAt ssrc last Waiting = ⊥
 IsAt ssrc last (Receiving r) = (r.ssrc ≡ ssrc) × (r.sequence_number ≡ last)
 IsAt ssrc last (Complaining complaint) = Unit {0}
@@ -74,7 +74,7 @@ with_part_at {S} r begun d joins = go begun
         tested (next_packet frame joins)
         (not d.start && (d.number == frame.header.number && (beq joins.continues frame.carries && nat_lt frame.packets 512)))
 
-accepted_at : {S : Type 0} (format : Format S) (r : Reception S) (p : Packet) → IsAt r.ssrc p.sequence_number (accepted format r p)
+pub accepted_at : {S : Type 0} (format : Format S) (r : Reception S) (p : Packet) → IsAt r.ssrc p.sequence_number (accepted format r p)
 accepted_at {S} format r p = by_showing (shown format r.structure p.rest)
   where
     here : Reception S
@@ -176,7 +176,7 @@ references_found {S} counts n before references h there =
         member_any (λ m. (m + d) == before.newest) before.numbers i.0 i.1 (eq-eqb _ _ (omega arith))
 
 -- a frame is judged complete, and counts as received from then on
-judged_frame : {S : Type 0} (format : Format S) (past : List (ReceivedFrame S)) (x : ReceivedFrame S) (received : Received) → Covers past received
+pub judged_frame : {S : Type 0} (format : Format S) (past : List (ReceivedFrame S)) (x : ReceivedFrame S) (received : Received) → Covers past received
     → IsReceived format past x
     → (k : Received) × (judge received (header_of x.first.brings.descriptor) ≡ Complete k) × Covers (x ∷ past) k
 judged_frame {S} format past x received covers is = (
@@ -204,16 +204,16 @@ judged_frame {S} format past x received covers is = (
 -- ---- the packets of one frame
 
 -- a receiver between frames
-abbrev between : {S : Type 0} → ℕ → ℕ → Option S → Received → Receiver S
+abbrev pub between : {S : Type 0} → ℕ → ℕ → Option S → Received → Receiver S
 between ssrc last force received =
     Receiving (record { ssrc = ssrc; sequence_number = last; structure = force; frame = None; received = received })
 
 -- once the newest part of a frame came
-abbrev after_part : {S : Type 0} → ℕ → ℕ → Option S → Option OpenFrame → Received → OpenFrame → Part (ReadPacket S) → Receiver S
+abbrev pub after_part : {S : Type 0} → ℕ → ℕ → Option S → Option OpenFrame → Received → OpenFrame → Part (ReadPacket S) → Receiver S
 after_part ssrc last force before received frame part =
     with_frame (record { ssrc = ssrc; sequence_number = last; structure = force; frame = before; received = received }) frame part.end
 
-first_taken : {S : Type 0} (format : Format S) (ssrc last : ℕ) (force : Option S) (received : Received) (part : Part (ReadPacket S))
+pub first_taken : {S : Type 0} (format : Format S) (ssrc last : ℕ) (force : Option S) (received : Received) (part : Part (ReadPacket S))
     → IsReadAs format force part → part.start ≡ true → part.continues ≡ false
     → take_packet format (between ssrc last force received) (packet_of part)
     ≡ after_part ssrc (packet_of part).sequence_number (structure_after force part.brings.descriptor) None received
@@ -221,7 +221,7 @@ first_taken : {S : Type 0} (format : Format S) (ssrc last : ℕ) (force : Option
 first_taken format ssrc last force received part is starts continues =
     rw (is.reads, sym is.start ∙ starts, continues, sym is.end) refl
 
-next_taken : {S : Type 0} (format : Format S) (ssrc last : ℕ) (force : Option S) (frame : OpenFrame) (received : Received) (part : Part (ReadPacket S))
+pub next_taken : {S : Type 0} (format : Format S) (ssrc last : ℕ) (force : Option S) (frame : OpenFrame) (received : Received) (part : Part (ReadPacket S))
     → IsReadAs format force part → part.start ≡ false → part.number ≡ frame.header.number → part.continues ≡ frame.carries → frame.packets < 512
     → take_packet format
     (Receiving (record { ssrc = ssrc; sequence_number = last; structure = force; frame = Some frame; received = received })) (packet_of part)
@@ -239,11 +239,11 @@ next_taken format ssrc last force frame received part is starts number continues
     ) refl
 
 -- what the parts after the newest are, of a frame that has begun
-record AreNext {S : Type 0} (format : Format S) (force : Option S) (frame : OpenFrame) (more : List (Part (ReadPacket S))) : Type 0 where
-  few : frame.packets + length more ≤ 512
-  starts : AllByRecursion (λ p. p.start ≡ false) more
-  number : AllByRecursion (λ p. p.number ≡ frame.header.number) more
-  read : AllByRecursion (IsReadAs format force) more
+pub record AreNext {S : Type 0} (format : Format S) (force : Option S) (frame : OpenFrame) (more : List (Part (ReadPacket S))) : Type 0 where
+  pub few : frame.packets + length more ≤ 512
+  pub starts : AllByRecursion (λ p. p.start ≡ false) more
+  pub number : AllByRecursion (λ p. p.number ≡ frame.header.number) more
+  pub read : AllByRecursion (IsReadAs format force) more
 
 -- the parts up to the last end the frame
 ends_taken : {S : Type 0} (format : Format S) (ssrc last : ℕ) (force : Option S) (before : Option OpenFrame) (received k : Received)
@@ -288,10 +288,10 @@ none_ends_taken {S} format ssrc last force before received frame part (next ∷ 
 -- ---- frame by frame
 
 -- between frames, with the structure in force and numbers that cover those of the frames
-abbrev IsBetween : {S : Type 0} → ℕ → List (ReceivedFrame S) → Receiver S → Type 0
+abbrev pub IsBetween : {S : Type 0} → ℕ → List (ReceivedFrame S) → Receiver S → Type 0
 IsBetween ssrc frames r = (last : ℕ) × (k : Received) × (r ≡ between ssrc last (structure_in frames) k) × Covers frames k
 
-numbers_of_first : {S : Type 0} (format : Format S) (force : Option S) (first : Part (ReadPacket S)) (more : List (Part (ReadPacket S))) → IsReadAs format force first
+pub numbers_of_first : {S : Type 0} (format : Format S) (force : Option S) (first : Part (ReadPacket S)) (more : List (Part (ReadPacket S))) → IsReadAs format force first
     → AllByRecursion (λ p. p.number ≡ first.number) more → AllByRecursion (λ p. p.number ≡ first.brings.descriptor.number) more
 numbers_of_first format force first more is numbers =
     each_weaker (λ p. p.number ≡ first.number) (λ p. p.number ≡ first.brings.descriptor.number) more (λ p e. e ∙ is.number) numbers
@@ -319,7 +319,7 @@ frame_taken {S} format ssrc past x r at is =
       judged.2,
     )
 
-frames_taken : {S : Type 0} (format : Format S) (ssrc : ℕ) (frames : List (ReceivedFrame S)) → AreReceived format frames
+pub frames_taken : {S : Type 0} (format : Format S) (ssrc : ℕ) (frames : List (ReceivedFrame S)) → AreReceived format frames
     → IsBetween ssrc frames (take_packets format (Receiving (new_reception ssrc)) (packets_of frames))
 frames_taken format ssrc [] are = (0, nothing_received, refl, tt)
 frames_taken {S} format ssrc (x ∷ past) are =

@@ -27,6 +27,8 @@ pub mod Decisions
 pub mod Claimed
 pub mod Accepting
 pub mod AcceptedPackets
+pub mod AcceptedFrames
+pub mod ComplaintPlaces
 pub mod Making
 pub mod Takings
 pub mod Outcomes

@@ -1,10 +1,11 @@
 -- What a strict receiver has seen when it has no complaint, in words: one source, consecutive numbers, whole frames, every reference.
 -- Own statements, over RFC 3550, section 5.1, and AV1 RTP payload format, section 4.4 and Appendix A. A receiver that never complains
 -- meets the laws on what goes out; it doesn't meet these. The code keeps none of these lists.
-use Rattle.std.specs.Prelude.{◌≡◌, ◌⊎◌, ◌+◌, ◌%◌, ◌&&◌, ℕ, List, [], ◌∷◌, ◌++◌, Bool, true, false, if◌then◌else◌, nat_lt, map}
+use Rattle.std.specs.Prelude.{◌≡◌, ◌⊎◌, ◌+◌, ◌%◌, ◌&&◌, ℕ, List, [], ◌∷◌, ◌++◌, Bool, true, false, if◌then◌else◌, nat_lt, length, map}
 use Rattle.std.specs.List.{AllByRecursion}
 use Rattle.std.specs.declared.option.Option.{Option}
 use Rattle.std.specs.declared.option.Option.TheVariants.{None, Some}
+use Rattle.forwarding_model.specs.declared.complaint.Complaint.{Complaint}
 use Rattle.forwarding_model.specs.Lists.{IsMember}
 use Rattle.forwarding_model.specs.Timeline.{Packet}
 use Rattle.forwarding_model.specs.Outgoing.{AreConsecutive}
@@ -13,7 +14,8 @@ use Rattle.forwarding_model.specs.Reading.Payload.{Elements}
 use Rattle.forwarding_model.specs.Reading.Showing.{Shows}
 use Rattle.forwarding_model.specs.Cuts.{Part, IsWholeCut, IsUnfinishedCut}
 use Rattle.forwarding_model.specs.Frames.{ReadPacket, packet_of}
-use Rattle.forwarding_model.specs.Receiver.{structure_after, complaint}
+use Rattle.forwarding_model.specs.Receiver.{structure_after, complaint, frames_accepted, packets_accepted}
+use Rattle.forwarding_model.specs.Receiver.Receiver.{Waiting}
 
 -- a whole frame that was received: its number without limit, and its parts, the oldest first
 pub record ReceivedFrame (S : Type 0) : Type 0 where
@@ -39,7 +41,8 @@ structure_in (x ∷ past) = structure_after (structure_in past) x.first.brings.d
 
 -- what the part says is what its packet shows by this structure
 pub record IsReadAs {S : Type 0} (format : Format S) (force : Option S) (part : Part (ReadPacket S)) : Type 0 where
-  pub reads : shown format force part.brings.packet.rest ≡ Shows part.brings.descriptor (Elements (record { continues = part.continues; carries = part.carries }))
+  pub reads : shown format force part.brings.packet.rest
+      ≡ Shows part.brings.descriptor (Elements (record { continues = part.continues; carries = part.carries }))
   pub start : part.start ≡ part.brings.descriptor.start
   pub end : part.end ≡ part.brings.descriptor.end
   pub number : part.number ≡ part.brings.descriptor.number
@@ -107,4 +110,34 @@ NoComplaintAccepts S = (format : Format S) (packets : List Packet) → complaint
 
 -- and what is so, a strict receiver has no complaint of
 abbrev pub AcceptedIsNotComplainedOf : Type 0 → Type 0
-AcceptedIsNotComplainedOf S = (format : Format S) (packets : List Packet) → AreAccepted format packets → complaint format (map Some packets) ≡ None
+AcceptedIsNotComplainedOf S = (format : Format S) (packets : List Packet)
+    → AreAccepted format packets → complaint format (map Some packets) ≡ None
+
+-- ---- what was accepted is counted, and a complaint has its place
+
+-- what a strict receiver has no complaint of, it accepts to the last packet
+abbrev pub CountsAreWhole : Type 0 → Type 0
+CountsAreWhole S = (format : Format S) (came : List (Option Packet))
+    → complaint format came ≡ None → packets_accepted format Waiting came ≡ length came
+
+-- and as many frames as the words have
+abbrev pub FramesAreCounted : Type 0 → Type 0
+FramesAreCounted S = (format : Format S) (packets : List Packet) (a : AreAccepted format packets)
+    → frames_accepted format Waiting (map Some packets) ≡ length a.frames
+
+-- What was accepted is what came before what is complained of, and the frames are those of it. Of that alone there is no complaint, and
+-- where the next comes too, there is this one.
+pub record IsComplaintOf {S : Type 0} (format : Format S) (came : List (Option Packet)) (c : Complaint) : Type 0 where
+  pub before : List (Option Packet)
+  pub next : Option Packet
+  pub after : List (Option Packet)
+  pub laid : came ≡ before ++ next ∷ after
+  pub place : packets_accepted format Waiting came ≡ length before
+  pub none : complaint format before ≡ None
+  pub frames : frames_accepted format Waiting came ≡ frames_accepted format Waiting before
+  pub ground : complaint format (before ++ next ∷ []) ≡ Some c
+
+-- a complaint stands at its place
+abbrev pub ComplaintsHaveTheirPlace : Type 0 → Type 0
+ComplaintsHaveTheirPlace S = (format : Format S) (came : List (Option Packet)) (c : Complaint)
+    → complaint format came ≡ Some c → IsComplaintOf format came c

@@ -2,7 +2,7 @@
 // by naming the lemma of `proofs/` that proves it. `Structure` is the type of template dependency structures.
 
 ghost use Rattle.forwarding_model.specs.Laws.{NeverComplains, AreDecodable, RestartsAtOnce, RestartsLater, EndsAtRoot, EndsAtRootUnpassed, PathsBegin, PathsTellCauses, TakenNeverComplains, OutgoingNeverComplains, EndsAtRootInHistories, AreNumberedInOrder, OnlyGrows, ResendsFirstBytes, ResendsKept, QueuesTheRest, TakesFindPackets, MarkingKeepsWhole, MarkingIsASender, MarkingKeepsCount, FramesAreTrack, FramesAreRead, FramesAreAdded, NewestAreTrack, EndedRunsAreWhole, WholeCutsAreFound, WholeOutcomesAreCuts, PartialOutcomesGoOn, PartialFramesAreUnfinished, UnfinishedCutsArePartial, PaddingIsPadded, PaddingOutcomesArePadding, TornOutcomesAreTorn, TooOldIsBelow, AheadIsAbove, AimIsBest, OpeningIsBest, PassedWherePasses, PassesLinked, PassesWherePassed, KeepAlike, OpenAlike, PassAlike, JudgeAlike};
-ghost use Rattle.forwarding_model.specs.Accepted.{NoComplaintAccepts, AcceptedIsNotComplainedOf};
+ghost use Rattle.forwarding_model.specs.Accepted.{NoComplaintAccepts, AcceptedIsNotComplainedOf, CountsAreWhole, FramesAreCounted, ComplaintsHaveTheirPlace};
 ghost use Rattle.forwarding_model.specs.Decisions.{BrokenLinksClose, OtherLinksKeep, BrokenLinksBreak, ReasonsHold, OpensTheBest, OpensWhatItCan, PassesInTarget, FullClaims, BehindClaims, ReferenceClaims, OtherTargetClaims, NoTargetClaims, LinkClaims, UnopenedClaims, NoFrameIsAHole};
 ghost use Rattle.forwarding_model.specs.Making.{WhatWasReadIsInForce, KeyStartsAreNumbered, TheNewestIsTheLast, MasksAreSaid, AllTargetsAreActive, ItemsHaveMarks, FramesAreCuts, CutsAreFrames};
 ghost use Rattle.forwarding_model.specs.Plain.{PlainPacketsGoOut, FullQueuesTakeNone, PlainTakesFindPackets, QueuesAreShort};
@@ -32,6 +32,14 @@ pub fn strict_receiver_never_complains<Structure>()
 pub fn accepted_packets_are_whole_frames<Structure>()
     ensures accepts { NoComplaintAccepts Structure }
     ensures converse { AcceptedIsNotComplainedOf Structure }
+{}
+
+/// A strict receiver that has no complaint accepts all packets that came, and as many frames as there are whole ones among them. One that
+/// has a complaint accepts the packets before the one that it complains of, and their frames.
+pub fn complaints_come_in_their_place<Structure>()
+    ensures count { CountsAreWhole Structure }
+    ensures frames { FramesAreCounted Structure }
+    ensures place { ComplaintsHaveTheirPlace Structure }
 {}
 
 /// Each frame that passed is decodable in the passed frames of its epoch.
