@@ -1,11 +1,11 @@
 -- The place of a complaint is how many packets came before what it is of.
-use Rattle.std.proofs.Common.{◌≡◌, ◌+◌, arith, true, List, [], ◌∷◌, ◌++◌, refl, sym, ap, ◌∙◌, cond, length}
+use Rattle.std.proofs.Common.{◌≡◌, ◌+◌, arith, true, List, [], ◌∷◌, ◌++◌, refl, sym, ap, ◌∙◌, cond, length, map}
 use Rattle.std.specs.declared.option.Option.{Option}
 use Rattle.std.specs.declared.option.Option.TheVariants.{None, Some}
 use Rattle.forwarding_model.specs.declared.complaint.Complaint.{Complaint}
 use Rattle.forwarding_model.specs.Timeline.{Packet}
 use Rattle.forwarding_model.specs.Reading.{Format}
-use Rattle.forwarding_model.specs.Receiver.{Receiver, complaint, complaint_of, ends_frame, frames_accepted, is_content, packets_accepted, receive, receive_all}
+use Rattle.forwarding_model.specs.Receiver.{Receiver, complaint, complaint_of, ends_frame, frames_accepted, is_content, packets_accepted, receive, receive_all, unread}
 use Rattle.forwarding_model.specs.Receiver.Receiver.{Waiting, Receiving, Complaining}
 use Rattle.forwarding_model.specs.Accepted.{IsComplaintOf}
 
@@ -35,6 +35,23 @@ whole_from {S} format (x ∷ more) r h = go (receive format r x) h (whole_from f
 pub counts_are_whole : {S : Type 0} (format : Format S) (came : List (Option Packet)) → complaint format came ≡ None
     → packets_accepted format Waiting came ≡ length came
 counts_are_whole format came h = whole_from format came Waiting h
+
+packets_from : {S : Type 0} (format : Format S) (came : List (Option Packet)) (r : Receiver S) → complaint_of (receive_all format r came) ≡ None
+    → (packets : List Packet) × (came ≡ map Some packets)
+packets_from format [] r h = ([], refl)
+packets_from {S} format (None ∷ more) r h = absurd (complains r h)
+  where
+    complains : (r : Receiver S) → complaint_of (receive_all format (unread r) more) ≡ None → ⊥
+    complains Waiting h = let no : Some Complaint.Unread ≡ None = sym (ap complaint_of (first_stays format Complaint.Unread more)) ∙ h in absurd (cc)
+    complains (Receiving k) h = let no : Some Complaint.Unread ≡ None = sym (ap complaint_of (first_stays format Complaint.Unread more)) ∙ h in absurd (cc)
+    complains (Complaining c) h = let no : Some c ≡ None = sym (ap complaint_of (first_stays format c more)) ∙ h in absurd (cc)
+packets_from format (Some packet ∷ more) r h =
+    let rest = packets_from format more (receive format r (Some packet)) h in
+    (packet ∷ rest.0, ap (λ l. Some packet ∷ l) rest.1)
+
+pub no_complaint_is_of_packets : {S : Type 0} (format : Format S) (came : List (Option Packet)) → complaint format came ≡ None
+    → (packets : List Packet) × (came ≡ map Some packets)
+no_complaint_is_of_packets format came h = packets_from format came Waiting h
 
 -- what a receiver complains of, which has no complaint yet
 record IsComplaintFrom {S : Type 0} (format : Format S) (r : Receiver S) (came : List (Option Packet)) (c : Complaint) : Type 0 where

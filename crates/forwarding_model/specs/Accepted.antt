@@ -113,6 +113,11 @@ abbrev pub AcceptedIsNotComplainedOf : Type 0 → Type 0
 AcceptedIsNotComplainedOf S = (format : Format S) (packets : List Packet)
     → AreAccepted format packets → complaint format (map Some packets) ≡ None
 
+-- and it complains of bytes that RTP doesn't read, wherever they come: what it has no complaint of is packets
+abbrev pub NoComplaintIsOfPackets : Type 0 → Type 0
+NoComplaintIsOfPackets S = (format : Format S) (came : List (Option Packet))
+    → complaint format came ≡ None → (packets : List Packet) × (came ≡ map Some packets)
+
 -- ---- what was accepted is counted, and a complaint has its place
 
 -- what a strict receiver has no complaint of, it accepts to the last packet

@@ -2,7 +2,7 @@
 // by naming the lemma of `proofs/` that proves it. `Structure` is the type of template dependency structures.
 
 ghost use Rattle.forwarding_model.specs.Laws.{NeverComplains, AreDecodable, RestartsAtOnce, RestartsLater, EndsAtRoot, EndsAtRootUnpassed, PathsBegin, PathsTellCauses, TakenNeverComplains, OutgoingNeverComplains, EndsAtRootInHistories, AreNumberedInOrder, OnlyGrows, ResendsFirstBytes, ResendsKept, QueuesTheRest, TakesFindPackets, MarkingKeepsWhole, MarkingIsASender, MarkingKeepsCount, FramesAreTrack, FramesAreRead, FramesAreAdded, NewestAreTrack, EndedRunsAreWhole, WholeCutsAreFound, WholeOutcomesAreCuts, PartialOutcomesGoOn, PartialFramesAreUnfinished, UnfinishedCutsArePartial, PaddingIsPadded, PaddingOutcomesArePadding, TornOutcomesAreTorn, TooOldIsBelow, AheadIsAbove, AimIsBest, OpeningIsBest, PassedWherePasses, PassesLinked, PassesWherePassed, KeepAlike, OpenAlike, PassAlike, JudgeAlike};
-ghost use Rattle.forwarding_model.specs.Accepted.{NoComplaintAccepts, AcceptedIsNotComplainedOf, CountsAreWhole, FramesAreCounted, ComplaintsHaveTheirPlace};
+ghost use Rattle.forwarding_model.specs.Accepted.{NoComplaintAccepts, AcceptedIsNotComplainedOf, NoComplaintIsOfPackets, CountsAreWhole, FramesAreCounted, ComplaintsHaveTheirPlace};
 ghost use Rattle.forwarding_model.specs.Decisions.{BrokenLinksClose, OtherLinksKeep, BrokenLinksBreak, ReasonsHold, OpensTheBest, OpensWhatItCan, PassesInTarget, FullClaims, BehindClaims, ReferenceClaims, OtherTargetClaims, NoTargetClaims, LinkClaims, UnopenedClaims, NoFrameIsAHole};
 ghost use Rattle.forwarding_model.specs.Making.{WhatWasReadIsInForce, KeyStartsAreNumbered, TheNewestIsTheLast, MasksAreSaid, AllTargetsAreActive, ItemsHaveMarks, FramesAreCuts, CutsAreFrames};
 ghost use Rattle.forwarding_model.specs.Plain.{PlainPacketsGoOut, FullQueuesTakeNone, PlainTakesFindPackets, QueuesAreShort};
@@ -28,10 +28,11 @@ pub fn strict_receiver_never_complains<Structure>()
 
 /// What a strict receiver has no complaint of is of one source, consecutive in number, and whole frames one after another, and then the
 /// first packets of one more, or none. Each frame refers to frames that came since the newest key frame, and since the newest whose number
-/// wasn't above the one before it. And whatever is so, it has no complaint of.
+/// wasn't above the one before it. And whatever is so, it has no complaint of. Bytes that RTP doesn't read it always complains of.
 pub fn accepted_packets_are_whole_frames<Structure>()
     ensures accepts { NoComplaintAccepts Structure }
     ensures converse { AcceptedIsNotComplainedOf Structure }
+    ensures packets { NoComplaintIsOfPackets Structure }
 {}
 
 /// A strict receiver that has no complaint accepts all packets that came, and as many frames as there are whole ones among them. One that
