@@ -1,19 +1,20 @@
 -- What a subscriber sees of a history.
-use Rattle.std.proofs.Common.{◌≡◌, ℕ, Bool, true, false, List, [], ◌∷◌, ◌++◌, refl, sym, ap, ◌∙◌, cond, length, append_assoc}
+use Rattle.std.proofs.Common.{◌≡◌, ℕ, Bool, true, false, List, [], ◌∷◌, ◌++◌, refl, sym, subst, ap, ◌∙◌, cond, length, append_assoc}
 use Rattle.std.specs.Prelude.{◌==◌, nat_lt}
-use Rattle.std.proofs.lemmas.Bool.{eq-eqb, ne_eqb}
+use Rattle.std.proofs.lemmas.Bool.{eq-eqb, le-ltb, lt-ltb, ne_eqb}
 use Rattle.std.specs.declared.option.Option.{Option}
 use Rattle.std.specs.declared.option.Option.TheVariants.{None, Some}
 use Rattle.sfu_base.specs.declared.frame.Wish.{Wish}
-use Rattle.forwarding_model.specs.Timeline.{Event, Frame, frames_of, takes_of}
+use Rattle.forwarding_model.specs.Timeline.{Event, Frame, Packet, frames_of, takes_of}
 use Rattle.forwarding_model.specs.Timeline.Event.{WishChange, Take}
 use Rattle.forwarding_model.specs.Outgoing.{Sender, Subscriber, outgoing}
 use Rattle.forwarding_model.specs.Reading.{Format, IsFormat}
 use Rattle.forwarding_model.specs.Frames.{Item, frames_after, frames_since}
+use Rattle.forwarding_model.specs.Frames.Item.{Missing, Arrived}
 use Rattle.forwarding_model.specs.WholeFrames.{IsTrack, IsLayered}
-use Rattle.forwarding_model.specs.History.{Entry, asked, items_of, subscriber_of, timeline, timeline_by}
+use Rattle.forwarding_model.specs.History.{Entry, asked, items_of, packets_released, plain_timeline, subscriber_of, timeline, timeline_by}
 use Rattle.forwarding_model.specs.History.Entry.{Released, Joined, Aimed, Asked}
-use Rattle.forwarding_model.specs.HistoryWords.{NoneJoins}
+use Rattle.forwarding_model.specs.HistoryWords.{EntriesAdd, NoneJoins, arrived, plain_packets}
 use Rattle.forwarding_model.proofs.Histories.{frames_after-append, frames_of-frame_events, sees_newest, timeline_track}
 
 -- ---- one entry more
@@ -121,3 +122,99 @@ grows {S} released send number (Asked other ∷ since) past none = go (other == 
 pub only_grow : {S : Type 0} (released : List Item → List Item → List (Event S)) (send : Sender S) (number : ℕ) (since past : List Entry) → NoneJoins number since
     → (more : List (Event S)) × (timeline_by released send number (since ++ past) ≡ more ++ timeline_by released send number past)
 only_grow released send number since past none = let h = grows released send number since past none in (h.more, h.is)
+
+-- ---- what each entry adds
+
+pub entries_add : {S : Type 0} (released : List Item → List Item → List (Event S)) (send : Sender S) (number : ℕ) (subscriber : Subscriber) (past : List Entry)
+    → subscriber_of number past ≡ Some subscriber → EntriesAdd released send number subscriber past (timeline_by released send number past)
+entries_add {S} released send number subscriber past known =
+    record {
+      release = λ items. refl;
+      aim = λ wish. ap (λ b. cond b (WishChange wish ∷ events) events) own;
+      take = λ lt.
+          ap (λ b. cond b (asked send (subscriber_of number past) events) events) own
+          ∙ ap (λ o. asked send o events) known
+          ∙ ap (λ b. cond b (Take ∷ events) events) (lt-ltb (takes_of events) (length (outgoing send subscriber events)) lt);
+      empty = λ le.
+          ap (λ b. cond b (asked send (subscriber_of number past) events) events) own
+          ∙ ap (λ o. asked send o events) known
+          ∙ ap (λ b. cond b (Take ∷ events) events) (le-ltb (takes_of events) (length (outgoing send subscriber events)) le);
+      join = λ again. ap (λ b. cond b [] events) own;
+      others = λ other differs.
+          record {
+            aim = λ wish. ap (λ b. cond b (WishChange wish ∷ events) events) (ne_eqb other number differs);
+            ask = ap (λ b. cond b (asked send (subscriber_of number past) events) events) (ne_eqb other number differs);
+            join = λ joined. ap (λ b. cond b [] events) (ne_eqb other number differs);
+          };
+    }
+  where
+    events : List (Event S)
+    events = timeline_by released send number past
+
+    own : (number == number) ≡ true
+    own = eq-eqb number number refl
+
+-- ---- plain tracks
+
+record SeesPackets {S : Type 0} (events : List (Event S)) (packets : List Packet) : Type 0 where
+  all : plain_packets events ≡ packets
+  none : frames_of events ≡ []
+
+sees_released : {S : Type 0} (older items : List Item) (events : List (Event S)) (packets : List Packet) → SeesPackets events packets
+    → SeesPackets (packets_released older items ++ events) (arrived items ++ packets)
+sees_released older [] events packets h = h
+sees_released older (Missing ∷ items) events packets h = sees_released older items events packets h
+sees_released older (Arrived packet ∷ items) events packets h =
+    let rest = sees_released older items events packets h in
+    record { all = ap (λ l. packet ∷ l) rest.all; none = rest.none }
+
+sees_if_asked : {S : Type 0} (b : Bool) (send : Sender S) (o : Option Subscriber) (events : List (Event S)) (packets : List Packet) → SeesPackets events packets
+    → SeesPackets (cond b (asked send o events) events) packets
+sees_if_asked false send o events packets h = h
+sees_if_asked true send None events packets h = h
+sees_if_asked {S} true send (Some subscriber) events packets h = go (nat_lt (takes_of events) (length (outgoing send subscriber events)))
+  where
+    go : (b : Bool) → SeesPackets (cond b (Take ∷ events) events) packets
+    go true = record { all = h.all; none = h.none }
+    go false = h
+
+sees_if_aimed : {S : Type 0} (b : Bool) (wish : Wish) (events : List (Event S)) (packets : List Packet) → SeesPackets events packets
+    → SeesPackets (cond b (WishChange wish ∷ events) events) packets
+sees_if_aimed true wish events packets h = record { all = h.all; none = h.none }
+sees_if_aimed false wish events packets h = h
+
+arrived-append : (items older : List Item) → arrived (items ++ older) ≡ arrived items ++ arrived older
+arrived-append [] older = refl
+arrived-append (Missing ∷ items) older = arrived-append items older
+arrived-append (Arrived packet ∷ items) older = ap (λ l. packet ∷ l) (arrived-append items older)
+
+sees_packets : {S : Type 0} (send : Sender S) (number : ℕ) (subscriber : Subscriber) (since past : List Entry) → NoneJoins number since
+    → SeesPackets (plain_timeline {S = S} send number (since ++ Joined number subscriber ∷ past)) (arrived (items_of since))
+sees_packets {S} send number subscriber [] past none = go (number == number) (eq-eqb number number refl)
+  where
+    go : (b : Bool) → b ≡ true → SeesPackets {S = S} (cond b [] (plain_timeline send number past)) []
+    go true e = record { all = refl; none = refl }
+    go false e = cc
+sees_packets {S} send number subscriber (Released items ∷ since) past none =
+    let later : List Entry = since ++ Joined number subscriber ∷ past in
+    subst (SeesPackets (plain_timeline {S = S} send number (Released items ∷ later))) (sym (arrived-append items (items_of since)))
+    (sees_released (items_of later) items (plain_timeline send number later) (arrived (items_of since)) (sees_packets send number subscriber since past none))
+sees_packets {S} send number subscriber (Joined other joined ∷ since) past none =
+    go (other == number) (ne_eqb other number none.0) (sees_packets send number subscriber since past none.1)
+  where
+    go : (b : Bool) → b ≡ false → SeesPackets (plain_timeline {S = S} send number (since ++ Joined number subscriber ∷ past)) (arrived (items_of since))
+        → SeesPackets {S = S} (cond b [] (plain_timeline send number (since ++ Joined number subscriber ∷ past))) (arrived (items_of since))
+    go true e h = cc
+    go false e h = h
+sees_packets {S} send number subscriber (Aimed other wish ∷ since) past none =
+    let later : List Entry = since ++ Joined number subscriber ∷ past in
+    sees_if_aimed (other == number) wish (plain_timeline {S = S} send number later) (arrived (items_of since)) (sees_packets send number subscriber since past none)
+sees_packets {S} send number subscriber (Asked other ∷ since) past none =
+    let later : List Entry = since ++ Joined number subscriber ∷ past in
+    sees_if_asked (other == number) send (subscriber_of number later) (plain_timeline {S = S} send number later) (arrived (items_of since))
+    (sees_packets send number subscriber since past none)
+
+pub plain_packets_seen : {S : Type 0} (send : Sender S) (number : ℕ) (subscriber : Subscriber) (since past : List Entry) → NoneJoins number since
+    → (plain_packets (plain_timeline {S = S} send number (since ++ Joined number subscriber ∷ past)) ≡ arrived (items_of since))
+    × (frames_of (plain_timeline {S = S} send number (since ++ Joined number subscriber ∷ past)) ≡ [])
+plain_packets_seen send number subscriber since past none = let h = sees_packets send number subscriber since past none in (h.all, h.none)

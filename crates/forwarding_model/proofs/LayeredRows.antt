@@ -1,6 +1,6 @@
 -- The rows compute.
 use Rattle.std.proofs.Common.{refl}
-use Rattle.forwarding_model.specs.LayeredRows.{BrokenChain, BrokenChainSent, UpperLost, UpperLostSent, MaskSent, WishedCauses, WishedSent, WishedUnmet, OtherTemplate}
+use Rattle.forwarding_model.specs.LayeredRows.{BrokenChain, BrokenChainSent, UpperLost, UpperLostSent, MaskSent, WishedCauses, WishedSent, WishedUnmet, OtherTemplate, NewStructureSent, LateJoinCausesOfTwo, LateJoinCausesOfOne}
 
 pub broken_chain : BrokenChain
 broken_chain = refl
@@ -28,3 +28,12 @@ wished_unmet = refl
 
 pub other_template : OtherTemplate
 other_template = refl
+
+pub new_structure_sent : NewStructureSent
+new_structure_sent = refl
+
+pub late_join_causes_of_two : LateJoinCausesOfTwo
+late_join_causes_of_two = refl
+
+pub late_join_causes_of_one : LateJoinCausesOfOne
+late_join_causes_of_one = refl

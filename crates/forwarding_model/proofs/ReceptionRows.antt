@@ -1,6 +1,6 @@
 -- The rows compute.
 use Rattle.std.proofs.Common.{refl}
-use Rattle.forwarding_model.specs.ReceptionRows.{OtherNumberAtOnce, BrokenJoinAtOnce, SecondStartAtOnce, BrokenPayloadAtOnce, TooManyAtOnce, ReferenceAtTheEnd, FirstReference, FarthestReference, NotRtpFirst, NoDescriptor, LongKeyFrameAccepted, OpenEndFirst, BrokenPayloadFirst, OtherStructureFirst, StructureWithoutKey, WrappedFrameNumber}
+use Rattle.forwarding_model.specs.ReceptionRows.{OtherNumberAtOnce, BrokenJoinAtOnce, SecondStartAtOnce, BrokenPayloadAtOnce, TooManyAtOnce, ReferenceAtTheEnd, FirstReference, FarthestReference, NotRtpFirst, NoDescriptor, LongKeyFrameAccepted, OpenEndFirst, BrokenPayloadFirst, OtherStructureFirst, StructureWithoutKey, WrappedFrameNumber, NoStructureBeforeBroken}
 
 pub other_number_at_once : OtherNumberAtOnce
 other_number_at_once = refl
@@ -49,3 +49,6 @@ structure_without_key = refl
 
 pub wrapped_frame_number : WrappedFrameNumber
 wrapped_frame_number = refl
+
+pub no_structure_before_broken : NoStructureBeforeBroken
+no_structure_before_broken = refl

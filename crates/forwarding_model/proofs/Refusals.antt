@@ -1,5 +1,5 @@
 -- What the words of the laws refuse.
-use Rattle.std.proofs.Common.{◌≡◌, ◌⊎◌, inl, inr, ℕ, List, [], ◌∷◌, arith, true, false, refl, ap, ◌+◌}
+use Rattle.std.proofs.Common.{◌≡◌, ◌⊎◌, inl, inr, ℕ, List, [], ◌∷◌, arith, true, false, refl, ap, ◌+◌, subst}
 use Rattle.std.specs.List.{list_any}
 use Rattle.forwarding_model.specs.Standing.{is_key}
 use Rattle.forwarding_model.specs.Targets.{references}
@@ -7,7 +7,7 @@ use Rattle.sfu_base.specs.declared.frame.FrameMeaning.{FrameMeaning}
 use Rattle.forwarding_model.specs.Lists.{IsMember}
 use Rattle.forwarding_model.specs.Decodable.{IsDecodable}
 use Rattle.forwarding_model.specs.Decodable.IsDecodable.{Decodes}
-use Rattle.forwarding_model.specs.Refusals.{EmptyIsNoPath, PassedIsNoRoot, PathsNameTheNext, PathsFall, OthersAreNoCauses, LacksReference, LacksKeyFrame, IsNotThere, OthersAreNoRestart, FramesSinceCount, plain_frame}
+use Rattle.forwarding_model.specs.Refusals.{EmptyIsNoPath, PassedIsNoRoot, ReferenceIsNoRoot, LinkIsNoRoot, LatePassedIsNoRoot, PathsNameTheNext, LaterStepsNameTheNext, EqualNumbersDontFall, PathsFall, OthersAreNoCauses, LacksReference, LacksFartherReference, LacksKeyFrame, IsNotThere, OthersAreNoRestart, IncompleteIsNoRestart, SwitchesMustOpen, LostLinkIsNoLink, FramesSinceCount, OlderFramesSinceCount, FramesBehindEventsCount, OthersMayJoin, JoiningIsNoted, plain_frame}
 
 pub empty_is_no_path : EmptyIsNoPath
 empty_is_no_path h = h
@@ -69,3 +69,72 @@ others_are_no_restart h = elim h.begins [
 
 pub frames_since_count : FramesSinceCount
 frames_since_count h = h.0
+
+pub reference_is_no_root : ReferenceIsNoRoot
+reference_is_no_root h = h
+
+pub link_is_no_root : LinkIsNoRoot
+link_is_no_root h = h
+
+pub late_passed_is_no_root : LatePassedIsNoRoot
+late_passed_is_no_root h = h.2
+
+pub later_steps_name_the_next : LaterStepsNameTheNext
+later_steps_name_the_next h = let e = h.2.0 in cc
+
+pub equal_numbers_dont_fall : EqualNumbersDontFall
+equal_numbers_dont_fall h = let lt = h.1 in omega arith
+
+farther : FrameMeaning
+farther = plain_frame false 4 (1 ∷ [])
+
+pub lacks_farther_reference : LacksFartherReference
+lacks_farther_reference (Decodes f there keyed referred number decodes) =
+    third (referred 1 (inl refl)) (number 1 (inl refl)) (decodes 1 (inl refl))
+  where
+    frames : List FrameMeaning
+    frames = plain_frame false 4 (1 ∷ []) ∷ plain_frame false 3 (1 ∷ []) ∷ plain_frame true 1 [] ∷ []
+
+    none_two : (g : FrameMeaning) → g.number + 1 ≡ 3 → IsMember g frames → ⊥
+    none_two g e (inl same) = let n = ap (λ (x : FrameMeaning). x.number) same in omega arith
+    none_two g e (inr (inl same)) = let n = ap (λ (x : FrameMeaning). x.number) same in omega arith
+    none_two g e (inr (inr (inl same))) = let n = ap (λ (x : FrameMeaning). x.number) same in omega arith
+    none_two g e (inr (inr (inr none))) = none
+
+    is_third : (g : FrameMeaning) → g.number + 1 ≡ 4 → IsMember g frames → g ≡ plain_frame false 3 (1 ∷ [])
+    is_third g e (inl same) = let n = ap (λ (x : FrameMeaning). x.number) same in absurd (omega arith)
+    is_third g e (inr (inl same)) = same
+    is_third g e (inr (inr (inl same))) = let n = ap (λ (x : FrameMeaning). x.number) same in absurd (omega arith)
+    is_third g e (inr (inr (inr none))) = absurd none
+
+    third : (g : FrameMeaning) → g.number + 1 ≡ 4 → IsDecodable frames g → ⊥
+    third g e d =
+        let i = is frames g d in
+        let same = is_third g e i.there in
+        let j = is frames (plain_frame false 3 (1 ∷ [])) (subst (IsDecodable frames) same d) in
+        let r = j.referred 1 (inl refl) in
+        none_two r.0 r.1 r.2
+
+pub incomplete_is_no_restart : IncompleteIsNoRestart
+incomplete_is_no_restart h = let e = h.complete in cc
+
+pub switches_must_open : SwitchesMustOpen
+switches_must_open h = elim h.begins [
+  | inl e ↦ cc
+  | inr e ↦ let found = e.1 in cc
+]
+
+pub lost_link_is_no_link : LostLinkIsNoLink
+lost_link_is_no_link h = let e = h (omega arith) (omega arith) (omega arith) in cc
+
+pub older_frames_since_count : OlderFramesSinceCount
+older_frames_since_count h = let e = h.1.0 in cc
+
+pub frames_behind_events_count : FramesBehindEventsCount
+frames_behind_events_count h = h.0
+
+pub others_may_join : OthersMayJoin
+others_may_join = ((λ e. cc), tt)
+
+pub joining_is_noted : JoiningIsNoted
+joining_is_noted h = h.0 refl

@@ -1,6 +1,6 @@
 -- The worked timelines for single rules compute.
 use Rattle.std.proofs.Common.{refl}
-use Rattle.forwarding_model.specs.SelectionRows.{PassingOpensNothing, NewEpochGivesTheReason, WithheldFramesBeginEpochs, TemporalWishIsKept, DiscardableFramesPass, DiscardableFramesOpenNothing, FourthBitIsTargetThree, AbsenceComesFirst, NoTargetComesFirst, GreatestBelowIsTold, OldFramesKeepTheirCauses, KeyFramesArentForgotten, LowerMarkersAreKept, FirstNumbers, SpatialComesFirst, FirstOfEquals}
+use Rattle.forwarding_model.specs.SelectionRows.{PassingOpensNothing, NewEpochGivesTheReason, WithheldFramesBeginEpochs, TemporalWishIsKept, DiscardableFramesPass, DiscardableFramesOpenNothing, FourthBitIsTargetThree, AbsenceComesFirst, NoTargetComesFirst, GreatestBelowIsTold, OldFramesKeepTheirCauses, KeyFramesArentForgotten, LowerMarkersAreKept, FirstNumbers, SpatialComesFirst, FirstOfEquals, BrokenChainPath}
 
 pub passing_opens_nothing : PassingOpensNothing
 passing_opens_nothing = refl
@@ -49,3 +49,6 @@ spatial_comes_first = refl
 
 pub first_of_equals : FirstOfEquals
 first_of_equals = refl
+
+pub broken_chain_path : BrokenChainPath
+broken_chain_path = refl

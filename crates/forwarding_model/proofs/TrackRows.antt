@@ -1,6 +1,6 @@
 -- The rows compute.
 use Rattle.std.proofs.Common.{refl}
-use Rattle.forwarding_model.specs.TrackRows.{TornNumber, EqualNumber, OwnMask, ThreeTargets, LongKeyFrame, EpochsAndStarts, StructureInside, StructureFirst, GapTears, PaddingIsPassedOver, StartBeginsAnew, PaddingFirst, PartsOfAFrame, ThirdSubscriberMarkers, OnlyTheSecondTook, OneCallNumbers, OneCallCauses, PlainContents, PlainQueue, PlainHistory, PlainTaken}
+use Rattle.forwarding_model.specs.TrackRows.{TornNumber, EqualNumber, OwnMask, ThreeTargets, LongKeyFrame, EpochsAndStarts, StructureInside, StructureFirst, GapTears, PaddingIsPassedOver, StartBeginsAnew, PaddingFirst, PartsOfAFrame, ThirdSubscriberMarkers, OnlyTheSecondTook, OneCallNumbers, OneCallCauses, PlainContents, PlainQueue, PlainHistory, PlainTaken, LongStore, LongStoreResends}
 
 pub torn_number : TornNumber
 torn_number = refl
@@ -64,3 +64,9 @@ plain_history = refl
 
 pub plain_taken : PlainTaken
 plain_taken = refl
+
+pub long_store : LongStore
+long_store = refl
+
+pub long_store_resends : LongStoreResends
+long_store_resends = refl

@@ -125,7 +125,7 @@ abbrev pub CountsAreWhole : Type 0 → Type 0
 CountsAreWhole S = (format : Format S) (came : List (Option Packet))
     → complaint format came ≡ None → packets_accepted format Waiting came ≡ length came
 
--- and as many frames as the words have
+-- and as many frames as the words have; where there is a complaint, those of what came before it (`IsComplaintOf`), of which there is none
 abbrev pub FramesAreCounted : Type 0 → Type 0
 FramesAreCounted S = (format : Format S) (packets : List Packet) (a : AreAccepted format packets)
     → frames_accepted format Waiting (map Some packets) ≡ length a.frames

@@ -39,7 +39,8 @@ pub record Template : Type 0 where
   pub distances : List ℕ
   pub links : List ℕ
 
--- of the two layers: a key frame, the lower layer two after the last, the upper layer above a key frame, and above both layers; of the one
+-- of the two layers: a key frame, the lower layer two after the last, the upper layer above a key frame, and above the lower layer and the
+-- upper layer before; of the one
 -- layer: a key frame, and a frame that refers to the one before
 abbrev pub templates : ℕ → List Template
 templates s =

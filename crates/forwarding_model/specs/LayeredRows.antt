@@ -1,9 +1,9 @@
 -- Worked histories of layered tracks, from packets that come, and packets that are lost, to causes and what goes out. They are read by the
 -- format of `LayeredFormat`, were worked out by hand, and compute. Items and histories stand with the newest first.
 use Rattle.std.specs.Prelude.{◌≡◌, ℕ, List, [], ◌∷◌, Bool, true, false, map}
-use Rattle.std.specs.declared.option.Option.TheVariants.{Some}
+use Rattle.std.specs.declared.option.Option.TheVariants.{None, Some}
 use Rattle.sfu_base.specs.declared.frame.Verdict.{Verdict}
-use Rattle.sfu_base.specs.declared.frame.Verdict.TheVariants.{Passed, NotOfTarget, Reference, Link, Hole}
+use Rattle.sfu_base.specs.declared.frame.Verdict.TheVariants.{Passed, NotOfTarget, Behind, Reference, Link, Unopened, Hole}
 use Rattle.forwarding_model.specs.Timeline.{Event, Packet}
 use Rattle.forwarding_model.specs.Frames.{Item}
 use Rattle.forwarding_model.specs.Frames.Item.{Missing, Arrived}
@@ -20,6 +20,9 @@ frame_of marker number carried mask template own =
 
 abbrev pub subscriber : Subscriber
 subscriber = record { ssrc = 2; first = 10; wish = record { spatial = 1; temporal = 0 } }
+
+abbrev pub late_subscriber : Subscriber
+late_subscriber = record { ssrc = 3; first = 0; wish = record { spatial = 0; temporal = 0 } }
 
 -- what happens to a subscriber that joined before all of these, one call for each
 abbrev pub released : List Item → List Entry
@@ -39,7 +42,7 @@ Told = List (ℕ × Bool)
 abbrev pub told : List (Event ℕ) → Told
 told events = map (λ (p : Packet). (p.sequence_number, p.marker)) (outgoing send_marked subscriber events)
 
--- ---- a broken chain: frame 2 is lost, and frame 3, which refers to frame 1 by a distance of its own, has a chain link to it
+-- ---- a broken chain: frame 2 is lost, and frame 3, which refers to frame 1 by a distance of its own, has a chain link to frame 2
 
 abbrev pub broken_chain : List (Event ℕ)
 broken_chain = happened (frame_of true 5 2 0 0 [] ∷ frame_of true 4 0 0 1 [] ∷ frame_of true 3 0 0 1 (2 ∷ []) ∷ Missing ∷ frame_of true 1 2 0 0 [] ∷ [])
@@ -105,3 +108,29 @@ abbrev pub OtherTemplate : Type 0
 OtherTemplate =
     causes_in (happened (frame_of true 4 0 0 1 [] ∷ frame_of true 3 0 3 1 [] ∷ frame_of true 2 0 0 2 [] ∷ frame_of true 1 2 0 0 [] ∷ [])) (2 ∷ 3 ∷ 4 ∷ [])
     ≡ Hole (Some 1) 4 ∷ Hole (Some 1) 4 ∷ Reference 3 ∷ []
+
+-- ---- a key frame brings another structure: its one target is of the lower layer, so that its frames end the picture
+
+abbrev pub NewStructureSent : Type 0
+NewStructureSent =
+    told (happened (frame_of false 3 0 0 1 [] ∷ frame_of false 2 2 0 0 [] ∷ frame_of false 1 1 0 0 [] ∷ []))
+    ≡ (10, false) ∷ (11, true) ∷ (12, true) ∷ []
+
+-- ---- subscriber 2 joins after key frame 1; frame 2, without references, opens nothing for it; key frame 3 begins another epoch, before
+-- which frame 4 refers by a distance of its own
+
+abbrev pub late_join : List Entry
+late_join =
+    Released (frame_of true 4 0 0 1 (2 ∷ []) ∷ [])
+    ∷ Released (frame_of true 3 2 0 0 [] ∷ [])
+    ∷ Released (frame_of true 2 0 0 0 [] ∷ [])
+    ∷ Joined 2 late_subscriber
+    ∷ Released (frame_of true 1 2 0 0 [] ∷ [])
+    ∷ Joined 1 subscriber
+    ∷ []
+
+abbrev pub LateJoinCausesOfTwo : Type 0
+LateJoinCausesOfTwo = map (cause late_subscriber.wish (timeline layered_format send_marked 2 late_join)) (1 ∷ 2 ∷ []) ≡ Hole None 2 ∷ Unopened 2 ∷ []
+
+abbrev pub LateJoinCausesOfOne : Type 0
+LateJoinCausesOfOne = causes_in (timeline layered_format send_marked 1 late_join) (4 ∷ []) ≡ Behind 2 3 ∷ []

@@ -87,3 +87,7 @@ StructureWithoutKey = heard (read_from 10 ((1 ∷ 1 ∷ 2 ∷ 7 ∷ 0 ∷ 0 ∷ 
 -- a complaint has the 16 bits of the frame number
 abbrev pub WrappedFrameNumber : Type 0
 WrappedFrameNumber = heard (read_from 10 (key_rest 65535 ∷ frame_rest 1 1 ∷ [])) ≡ complains (Complaint.MissingReference 1 1) 1 1
+
+-- that there is no structure comes before a payload that is broken
+abbrev pub NoStructureBeforeBroken : Type 0
+NoStructureBeforeBroken = heard (read_from 10 ((1 ∷ 1 ∷ 2 ∷ 0 ∷ 0 ∷ 3 ∷ 0 ∷ 1 ∷ []) ∷ [])) ≡ complains Complaint.NoStructure 0 0

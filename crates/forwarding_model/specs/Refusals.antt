@@ -1,32 +1,50 @@
 -- What the words of the laws refuse: words that stand only in what is concluded could be weaker with nothing red, were it not for these.
 -- Own statements, over small timelines that `Rows` has too.
-use Rattle.std.specs.Prelude.{ℕ, List, [], ◌∷◌, length}
+use Rattle.std.specs.Prelude.{◌≡◌, ℕ, List, [], ◌∷◌, length}
 use Rattle.sfu_base.specs.declared.frame.FrameMeaning.{FrameMeaning}
-use Rattle.sfu_base.specs.declared.frame.Dti.TheVariants.{Required}
+use Rattle.sfu_base.specs.declared.frame.Dti.TheVariants.{Required, Switch}
 use Rattle.sfu_base.specs.declared.frame.Step.{Step}
 use Rattle.sfu_base.specs.declared.frame.Verdict.{Verdict}
-use Rattle.sfu_base.specs.declared.frame.Verdict.TheVariants.{Passed, Reference, Unopened}
+use Rattle.sfu_base.specs.declared.frame.Verdict.TheVariants.{Passed, Reference, Link, Unopened}
 use Rattle.std.specs.Prelude.{Bool, true, false}
 use Rattle.std.specs.declared.option.Option.TheVariants.{Some}
+use Rattle.forwarding_model.specs.Timeline.Event.{PlainPacket, WishChange, Take}
 use Rattle.forwarding_model.specs.Standing.{Standing, standing}
 use Rattle.forwarding_model.specs.Causes.{IsPath, TellsCauses}
 use Rattle.forwarding_model.specs.Decodable.{IsDecodable}
-use Rattle.forwarding_model.specs.Restart.{IsRestart}
+use Rattle.forwarding_model.specs.Restart.{IsLinked, IsRestart}
 use Rattle.forwarding_model.specs.Since.{EachFrameSince}
-use Rattle.forwarding_model.specs.Rows.{layers_wish, key_a}
+use Rattle.forwarding_model.specs.Rows.{joined_at_10, key_a, key_c, layers_wish, packet, upper_c}
+use Rattle.forwarding_model.specs.History.Entry.{Released, Joined, Aimed, Asked}
+use Rattle.forwarding_model.specs.HistoryWords.{NoneJoins}
 
 abbrev pub step : ℕ → Verdict → Step
 step number verdict = record { number = number; verdict = verdict }
 
--- no path is empty, ends at a frame that passed, names another frame than the next, or rises
+-- no path is empty, ends where it should go on, names another frame than the next, or doesn't fall
 abbrev pub EmptyIsNoPath : Type 0
 EmptyIsNoPath = IsPath [] → ⊥
 
 abbrev pub PassedIsNoRoot : Type 0
 PassedIsNoRoot = IsPath (step 1 Passed ∷ []) → ⊥
 
+abbrev pub ReferenceIsNoRoot : Type 0
+ReferenceIsNoRoot = IsPath (step 3 (Reference 2) ∷ []) → ⊥
+
+abbrev pub LinkIsNoRoot : Type 0
+LinkIsNoRoot = IsPath (step 3 (Link 3 2) ∷ []) → ⊥
+
+abbrev pub LatePassedIsNoRoot : Type 0
+LatePassedIsNoRoot = IsPath (step 3 (Reference 2) ∷ step 2 Passed ∷ []) → ⊥
+
 abbrev pub PathsNameTheNext : Type 0
 PathsNameTheNext = IsPath (step 3 (Reference 2) ∷ step 1 (Unopened 1) ∷ []) → ⊥
+
+abbrev pub LaterStepsNameTheNext : Type 0
+LaterStepsNameTheNext = IsPath (step 4 (Reference 3) ∷ step 3 (Reference 2) ∷ step 1 (Unopened 1) ∷ []) → ⊥
+
+abbrev pub EqualNumbersDontFall : Type 0
+EqualNumbersDontFall = IsPath (step 2 (Reference 2) ∷ step 2 (Unopened 1) ∷ []) → ⊥
 
 abbrev pub PathsFall : Type 0
 PathsFall = IsPath (step 2 (Reference 3) ∷ step 3 (Unopened 1) ∷ []) → ⊥
@@ -60,6 +78,11 @@ plain_frame key number refs =
 abbrev pub LacksReference : Type 0
 LacksReference = IsDecodable (plain_frame false 3 (1 ∷ []) ∷ plain_frame true 1 [] ∷ []) (plain_frame false 3 (1 ∷ [])) → ⊥
 
+-- nor is frame 4, which refers to it
+abbrev pub LacksFartherReference : Type 0
+LacksFartherReference =
+    IsDecodable (plain_frame false 4 (1 ∷ []) ∷ plain_frame false 3 (1 ∷ []) ∷ plain_frame true 1 [] ∷ []) (plain_frame false 4 (1 ∷ [])) → ⊥
+
 abbrev pub LacksKeyFrame : Type 0
 LacksKeyFrame = IsDecodable (plain_frame false 3 [] ∷ []) (plain_frame false 3 []) → ⊥
 
@@ -76,6 +99,55 @@ after_key = standing {S = ℕ} (layers_wish 1 0) (key_a 1 1 ∷ [])
 abbrev pub OthersAreNoRestart : Type 0
 OthersAreNoRestart = IsRestart after_key no_restart → ⊥
 
+-- nor is a key frame that refers to a frame which didn't pass
+abbrev pub IncompleteIsNoRestart : Type 0
+IncompleteIsNoRestart = IsRestart after_key (plain_frame true 4 (2 ∷ [])) → ⊥
+
+-- nor a switch for a target that it doesn't open: a frame of the lower layer is one for target 1, and target 0, which is better, is open
+abbrev pub after_upper : Standing
+after_upper = standing {S = ℕ} (layers_wish 1 0) (upper_c 2 1 1 (1 ∷ []) ∷ key_c 1 1 ∷ [])
+
+abbrev pub lower_meaning : FrameMeaning
+lower_meaning =
+    record {
+      number = 3;
+      start = 1;
+      epoch = 1;
+      spatial = 0;
+      temporal = 0;
+      key = false;
+      mask = 3;
+      target_count = 2;
+      dtis = Required ∷ Switch ∷ [];
+      pairs = Some (layers_wish 1 0) ∷ Some (layers_wish 0 0) ∷ [];
+      chain_count = 2;
+      guards = 1 ∷ 0 ∷ [];
+      links = 2 ∷ 1 ∷ [];
+      ref_count = 1;
+      refs = 2 ∷ [];
+    }
+
+abbrev pub SwitchesMustOpen : Type 0
+SwitchesMustOpen = IsRestart after_upper lower_meaning → ⊥
+
+-- a chain whose frame didn't pass isn't linked
+abbrev pub LostLinkIsNoLink : Type 0
+LostLinkIsNoLink = IsLinked (λ d. false) (record lower_meaning { links = 1 ∷ 1 ∷ [] }) 0 1 → ⊥
+
 -- what is said of each frame since is said of a frame that came
 abbrev pub FramesSinceCount : Type 0
 FramesSinceCount = EachFrameSince {S = ℕ} (λ before later. ⊥) (key_a 1 1 ∷ []) [] → ⊥
+
+abbrev pub OlderFramesSinceCount : Type 0
+OlderFramesSinceCount = EachFrameSince {S = ℕ} (λ before later. later.meaning.number ≡ 3) (key_a 3 2 ∷ key_a 1 1 ∷ []) [] → ⊥
+
+abbrev pub FramesBehindEventsCount : Type 0
+FramesBehindEventsCount =
+    EachFrameSince {S = ℕ} (λ before later. ⊥) (Take ∷ WishChange (layers_wish 0 0) ∷ PlainPacket (packet true) ∷ key_a 1 1 ∷ []) [] → ⊥
+
+-- others may join, and whoever joins himself does
+abbrev pub OthersMayJoin : Type 0
+OthersMayJoin = NoneJoins 1 (Asked 1 ∷ Aimed 1 (layers_wish 0 0) ∷ Joined 3 joined_at_10 ∷ Released [] ∷ Asked 2 ∷ [])
+
+abbrev pub JoiningIsNoted : Type 0
+JoiningIsNoted = NoneJoins 1 (Asked 2 ∷ Joined 1 joined_at_10 ∷ []) → ⊥

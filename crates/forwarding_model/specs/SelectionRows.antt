@@ -8,9 +8,9 @@ use Rattle.sfu_base.specs.declared.frame.Dti.TheVariants.{NotPresent, Discardabl
 use Rattle.sfu_base.specs.declared.frame.Verdict.TheVariants.{Passed, NotOfTarget, Reference, Full, Link, Unopened, Hole}
 use Rattle.forwarding_model.specs.Timeline.{Event}
 use Rattle.forwarding_model.specs.Timeline.Event.{WholeFrame, WishChange}
-use Rattle.forwarding_model.specs.Causes.{cause}
+use Rattle.forwarding_model.specs.Causes.{cause, path}
 use Rattle.forwarding_model.specs.Outgoing.{outgoing, next_number, oldest_number, send_marked}
-use Rattle.forwarding_model.specs.Rows.{layers_wish, packet, one_target, key_a, two_targets, upper_c, masked, markers, joined_at_10}
+use Rattle.forwarding_model.specs.Rows.{broken_chain, layers_wish, packet, one_target, key_a, two_targets, upper_c, masked, markers, joined_at_10}
 
 -- ---- opening
 
@@ -178,7 +178,7 @@ FirstNumbers =
 abbrev pub SpatialComesFirst : Type 0
 SpatialComesFirst =
     cause (layers_wish 1 1)
-    (four_targets 2 false 6 (Required ∷ NotPresent ∷ Discardable ∷ NotPresent ∷ []) (2 ∷ 1 ∷ []) (2 ∷ [])
+    (four_targets 2 false 6 (Required ∷ NotPresent ∷ Discardable ∷ NotPresent ∷ []) (0 ∷ 0 ∷ []) (2 ∷ [])
     ∷ four_targets 0 true 6 (Required ∷ Required ∷ Switch ∷ Switch ∷ []) (0 ∷ 0 ∷ []) []
     ∷ [])
     2
@@ -212,3 +212,10 @@ equal_targets number key first second refs =
 abbrev pub FirstOfEquals : Type 0
 FirstOfEquals =
     cause (layers_wish 0 0) (equal_targets 2 false Required NotPresent (1 ∷ []) ∷ equal_targets 1 true Switch Switch [] ∷ []) 2 ≡ Passed
+
+-- ---- the path from a withheld frame
+
+abbrev pub BrokenChainPath : Type 0
+BrokenChainPath =
+    path (cause (layers_wish 1 0) broken_chain) 4
+    ≡ record { number = 4; verdict = Reference 3 } ∷ record { number = 3; verdict = Link 3 2 } ∷ record { number = 2; verdict = Hole (Some 1) 3 } ∷ []

@@ -39,7 +39,7 @@ abbrev pub OldestIsKept : Type 0 → Type 0
 OldestIsKept S = (send : Sender S) (subscriber : Subscriber) (events : List (Event S))
     → (oldest_number send subscriber events + length (kept send subscriber events)) % 65536 ≡ next_number send subscriber events
 
--- and where none is kept it is the next number
+-- the oldest number is that of the oldest packet that is kept, and where none is kept the next number
 abbrev pub OldestIsTold : Type 0 → Type 0
 OldestIsTold S = (send : Sender S) (subscriber : Subscriber) (events : List (Event S))
     → (kept send subscriber events ≡ [] → oldest_number send subscriber events ≡ next_number send subscriber events)

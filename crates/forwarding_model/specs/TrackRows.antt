@@ -1,6 +1,7 @@
 -- More worked packets: frames of a track, what marks make of a frame, and histories. They were worked out by hand, and compute.
-use Rattle.std.specs.Prelude.{◌≡◌, ℕ, List, [], ◌∷◌, ◌++◌, Bool, true, false, if◌then◌else◌, map, length, replicate}
-use Rattle.std.specs.declared.option.Option.TheVariants.{None}
+use Rattle.std.specs.Prelude.{◌≡◌, ℕ, zero, suc, List, [], ◌∷◌, ◌++◌, Bool, true, false, if◌then◌else◌, map, length, replicate}
+use Rattle.std.specs.declared.option.Option.TheVariants.{None, Some}
+use Rattle.std.specs.Option.{option_map}
 use Rattle.sfu_base.specs.declared.frame.Verdict.TheVariants.{Passed}
 use Rattle.forwarding_model.specs.Causes.{cause}
 use Rattle.forwarding_model.specs.Timeline.{Event, Frame, Packet}
@@ -11,7 +12,7 @@ use Rattle.forwarding_model.specs.Cuts.Outcome.{IsPadding, IsWhole, IsPartial, I
 use Rattle.forwarding_model.specs.WorkedFormat.{worked_format}
 use Rattle.forwarding_model.specs.Frames.{frames_after}
 use Rattle.forwarding_model.specs.Frames.Item.{Missing, Arrived}
-use Rattle.forwarding_model.specs.Outgoing.{Subscriber, outgoing, send_marked, taken}
+use Rattle.forwarding_model.specs.Outgoing.{Subscriber, next_number, oldest_number, outgoing, resent, send_marked, taken}
 use Rattle.forwarding_model.specs.History.{Entry, plain_timeline, timeline}
 use Rattle.forwarding_model.specs.History.Entry.{Released, Joined, Asked}
 use Rattle.forwarding_model.specs.WorkedPackets.{came, first_rest, frame_rest, joined_as, key_rest, numbers_and_markers, sent_to, told, three_subscribers}
@@ -51,9 +52,9 @@ StructureInside =
     told (came (0 ∷ 1 ∷ 2 ∷ 7 ∷ 0 ∷ 1 ∷ 0 ∷ []) ∷ came (1 ∷ 0 ∷ 2 ∷ 0 ∷ 3 ∷ 0 ∷ 1 ∷ 1 ∷ []) ∷ came (key_rest 1) ∷ [])
     ≡ (2 ∷ 2 ∷ 3 ∷ []) ∷ (1 ∷ 1 ∷ 3 ∷ []) ∷ []
 
--- a structure before the first key start isn't read
+-- a structure before the first key start isn't read, and isn't in force for the next packet
 abbrev pub StructureFirst : Type 0
-StructureFirst = told (came (1 ∷ 1 ∷ 2 ∷ 7 ∷ 0 ∷ 0 ∷ 0 ∷ 1 ∷ []) ∷ []) ≡ []
+StructureFirst = told (came (frame_rest 3 1) ∷ came (1 ∷ 1 ∷ 2 ∷ 7 ∷ 0 ∷ 0 ∷ 0 ∷ 1 ∷ []) ∷ []) ≡ []
 
 -- ---- what each mark makes of the frame so far; the marks stand with the newest first, and so do the outcomes
 
@@ -150,3 +151,21 @@ PlainHistory =
 
 abbrev pub PlainTaken : Type 0
 PlainTaken = map (λ (p : Packet). p.rest) (taken {S = ℕ} send_marked plain_subscriber (plain_timeline send_marked 1 plain_history)) ≡ (5 ∷ []) ∷ []
+
+-- of 1,025 packets that were taken the last 1,024 are kept
+abbrev pub all_taken : ℕ → List (Event ℕ)
+all_taken zero = []
+all_taken (suc n) = Take ∷ PlainPacket (plain true n) ∷ all_taken n
+
+abbrev pub from_zero : Subscriber
+from_zero = joined_as 2 0 0
+
+abbrev pub LongStore : Type 0
+LongStore =
+    (oldest_number send_marked from_zero (all_taken 1025) ∷ next_number send_marked from_zero (all_taken 1025) ∷ [])
+    ≡ 1 ∷ 1025 ∷ []
+
+abbrev pub LongStoreResends : Type 0
+LongStoreResends =
+    map (λ n. option_map (λ (p : Packet). p.rest) (resent send_marked from_zero (all_taken 1025) n)) (0 ∷ 1 ∷ 1024 ∷ 1025 ∷ [])
+    ≡ None ∷ Some (1 ∷ []) ∷ Some (1024 ∷ []) ∷ None ∷ []

@@ -11,10 +11,10 @@ ghost use Rattle.forwarding_model.specs.Taken.{TakesGiveWhatWasTaken, NextHasNex
 ghost use Rattle.forwarding_model.specs.WorkedFormat.{worked_format};
 ghost use Rattle.forwarding_model.specs.Rows.{BrokenChainCauses, BrokenChainNumbers, UpperLostCauses, UpperLostMarkers, MaskMarkers, WishCauses, WishMarkers, WishCauseUnpassed, FullCauses, FullTakenCauses, LateJoinCauses, BehindCause, HoldCauses, PlainResend, BrokenLinkCauses, UnlinkedCause, EarlyLinkCauses, MaskedCauses, IntactUpperMarkers, LoweredWishCause, ThreePacketMarkers, KeptMarkers, AskedNumbers, HoleBounds};
 ghost use Rattle.forwarding_model.specs.WorkedPackets.{UnreadInside, BrokenInside, OtherStructureInside, BrokenKeyStart, TornKeyFrame, BrokenMask, PaddingSaysNothing, LastMask, MaskAgain, FirstNumberZero, FarthestAbove, NearestBehind, LongFrame, TooLongFrame, FirstSubscriber, FirstSubscriberMarkers, SecondSubscriber, SecondSubscriberTaken, ThirdSubscriber, ThirdSubscriberCauses, HistoryNumbers, HistoryTaken, HistoryCauses, PaddedFrame, TornFrame, EarlyStart, WrappedNumbers, StaleNumber, NewMask, OtherStructure, Accepted, AcceptedCounts, NotRtp, OtherSource, RepeatedNumber, WrappedSequence, LacksKeyFrame, EmptyPayload, LacksStart, SecondStart, BrokenJoin, LacksReference, LostReference, OtherNumber, EndCarries, StartContinues, LongestFrame, TooManyPackets, FaultyDescriptor, BrokenPayload, StructureRule, SameStructure, NoStructureFirst, SourceFirst, NumberBeforeContent, FirstComplaintStays, StaleEmpties, StaleCounts};
-ghost use Rattle.forwarding_model.specs.TrackRows.{TornNumber, EqualNumber, OwnMask, ThreeTargets, LongKeyFrame, EpochsAndStarts, StructureInside, StructureFirst, GapTears, PaddingIsPassedOver, StartBeginsAnew, PaddingFirst, PartsOfAFrame, ThirdSubscriberMarkers, OnlyTheSecondTook, OneCallNumbers, OneCallCauses, PlainContents, PlainQueue, PlainHistory, PlainTaken};
-ghost use Rattle.forwarding_model.specs.ReceptionRows.{OtherNumberAtOnce, BrokenJoinAtOnce, SecondStartAtOnce, BrokenPayloadAtOnce, TooManyAtOnce, ReferenceAtTheEnd, FirstReference, FarthestReference, NotRtpFirst, NoDescriptor, LongKeyFrameAccepted, OpenEndFirst, BrokenPayloadFirst, OtherStructureFirst, StructureWithoutKey, WrappedFrameNumber};
+ghost use Rattle.forwarding_model.specs.TrackRows.{TornNumber, EqualNumber, OwnMask, ThreeTargets, LongKeyFrame, EpochsAndStarts, StructureInside, StructureFirst, GapTears, PaddingIsPassedOver, StartBeginsAnew, PaddingFirst, PartsOfAFrame, ThirdSubscriberMarkers, OnlyTheSecondTook, OneCallNumbers, OneCallCauses, PlainContents, PlainQueue, PlainHistory, PlainTaken, LongStore, LongStoreResends};
+ghost use Rattle.forwarding_model.specs.ReceptionRows.{OtherNumberAtOnce, BrokenJoinAtOnce, SecondStartAtOnce, BrokenPayloadAtOnce, TooManyAtOnce, ReferenceAtTheEnd, FirstReference, FarthestReference, NotRtpFirst, NoDescriptor, LongKeyFrameAccepted, OpenEndFirst, BrokenPayloadFirst, OtherStructureFirst, StructureWithoutKey, WrappedFrameNumber, NoStructureBeforeBroken};
 ghost use Rattle.forwarding_model.specs.LayeredFormat.{layered_format};
-ghost use Rattle.forwarding_model.specs.LayeredRows.{BrokenChain, BrokenChainSent, UpperLost, UpperLostSent, MaskSent, WishedCauses, WishedSent, WishedUnmet, OtherTemplate};
+ghost use Rattle.forwarding_model.specs.LayeredRows.{BrokenChain, BrokenChainSent, UpperLost, UpperLostSent, MaskSent, WishedCauses, WishedSent, WishedUnmet, OtherTemplate, NewStructureSent, LateJoinCausesOfTwo, LateJoinCausesOfOne};
 
 // ---- the headline
 
@@ -371,6 +371,8 @@ pub fn worked_tracks()
     ensures plain_queue { PlainQueue }
     ensures plain_history { PlainHistory }
     ensures plain_taken { PlainTaken }
+    ensures long_store { LongStore }
+    ensures long_store_resends { LongStoreResends }
 {}
 
 /// More worked packets at a strict receiver, with the places of its complaints.
@@ -391,6 +393,7 @@ pub fn worked_receptions()
     ensures other_structure_first { OtherStructureFirst }
     ensures structure_without_key { StructureWithoutKey }
     ensures wrapped_frame_number { WrappedFrameNumber }
+    ensures no_structure_before_broken { NoStructureBeforeBroken }
 {}
 
 /// Worked histories of layered tracks with chains, from packets to causes and to what goes out. Their format has all the facts on which
@@ -406,4 +409,7 @@ pub fn worked_layers()
     ensures wished_sent { WishedSent }
     ensures wished_unmet { WishedUnmet }
     ensures other_template { OtherTemplate }
+    ensures new_structure_sent { NewStructureSent }
+    ensures late_join_causes_of_two { LateJoinCausesOfTwo }
+    ensures late_join_causes_of_one { LateJoinCausesOfOne }
 {}

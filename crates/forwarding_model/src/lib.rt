@@ -15,7 +15,9 @@ mod selection_laws;
 mod target;
 
 pub use complaint::Complaint;
-pub use history_laws::{timelines_have_all_frames, words_refuse_what_they_should};
+pub use history_laws::{
+    entries_add_what_they_say, timelines_have_all_frames, words_refuse_what_they_should,
+};
 pub use laws::{
     accepted_packets_are_whole_frames, broken_links_end_at_a_restart,
     causes_are_known_up_to_the_newest, chosen_targets_are_the_best, decisions_rest_on_named_frames,

@@ -1,4 +1,4 @@
-use Rattle.forwarding_model.proofs.Refusals.{empty_is_no_path, passed_is_no_root, paths_name_the_next, paths_fall, others_are_no_causes, lacks_reference, lacks_key_frame, is_not_there, others_are_no_restart, frames_since_count}
+use Rattle.forwarding_model.proofs.Refusals.{empty_is_no_path, passed_is_no_root, reference_is_no_root, link_is_no_root, late_passed_is_no_root, paths_name_the_next, later_steps_name_the_next, equal_numbers_dont_fall, paths_fall, others_are_no_causes, lacks_reference, lacks_farther_reference, lacks_key_frame, is_not_there, others_are_no_restart, incomplete_is_no_restart, switches_must_open, lost_link_is_no_link, frames_since_count, older_frames_since_count, frames_behind_events_count, others_may_join, joining_is_noted}
 use Rattle.forwarding_model.proofs.history_laws.words_refuse_what_they_should.Goals as goal
 
 pub returns-clause-empty_is_no_path : goal.returns-clause-empty_is_no_path
@@ -7,8 +7,23 @@ returns-clause-empty_is_no_path c = empty_is_no_path
 pub returns-clause-passed_is_no_root : goal.returns-clause-passed_is_no_root
 returns-clause-passed_is_no_root c = passed_is_no_root
 
+pub returns-clause-reference_is_no_root : goal.returns-clause-reference_is_no_root
+returns-clause-reference_is_no_root c = reference_is_no_root
+
+pub returns-clause-link_is_no_root : goal.returns-clause-link_is_no_root
+returns-clause-link_is_no_root c = link_is_no_root
+
+pub returns-clause-late_passed_is_no_root : goal.returns-clause-late_passed_is_no_root
+returns-clause-late_passed_is_no_root c = late_passed_is_no_root
+
 pub returns-clause-paths_name_the_next : goal.returns-clause-paths_name_the_next
 returns-clause-paths_name_the_next c = paths_name_the_next
+
+pub returns-clause-later_steps_name_the_next : goal.returns-clause-later_steps_name_the_next
+returns-clause-later_steps_name_the_next c = later_steps_name_the_next
+
+pub returns-clause-equal_numbers_dont_fall : goal.returns-clause-equal_numbers_dont_fall
+returns-clause-equal_numbers_dont_fall c = equal_numbers_dont_fall
 
 pub returns-clause-paths_fall : goal.returns-clause-paths_fall
 returns-clause-paths_fall c = paths_fall
@@ -19,6 +34,9 @@ returns-clause-others_are_no_causes c = others_are_no_causes
 pub returns-clause-lacks_reference : goal.returns-clause-lacks_reference
 returns-clause-lacks_reference c = lacks_reference
 
+pub returns-clause-lacks_farther_reference : goal.returns-clause-lacks_farther_reference
+returns-clause-lacks_farther_reference c = lacks_farther_reference
+
 pub returns-clause-lacks_key_frame : goal.returns-clause-lacks_key_frame
 returns-clause-lacks_key_frame c = lacks_key_frame
 
@@ -28,5 +46,26 @@ returns-clause-is_not_there c = is_not_there
 pub returns-clause-others_are_no_restart : goal.returns-clause-others_are_no_restart
 returns-clause-others_are_no_restart c = others_are_no_restart
 
+pub returns-clause-incomplete_is_no_restart : goal.returns-clause-incomplete_is_no_restart
+returns-clause-incomplete_is_no_restart c = incomplete_is_no_restart
+
+pub returns-clause-switches_must_open : goal.returns-clause-switches_must_open
+returns-clause-switches_must_open c = switches_must_open
+
+pub returns-clause-lost_link_is_no_link : goal.returns-clause-lost_link_is_no_link
+returns-clause-lost_link_is_no_link c = lost_link_is_no_link
+
 pub returns-clause-frames_since_count : goal.returns-clause-frames_since_count
 returns-clause-frames_since_count c = frames_since_count
+
+pub returns-clause-older_frames_since_count : goal.returns-clause-older_frames_since_count
+returns-clause-older_frames_since_count c = older_frames_since_count
+
+pub returns-clause-frames_behind_events_count : goal.returns-clause-frames_behind_events_count
+returns-clause-frames_behind_events_count c = frames_behind_events_count
+
+pub returns-clause-others_may_join : goal.returns-clause-others_may_join
+returns-clause-others_may_join c = others_may_join
+
+pub returns-clause-joining_is_noted : goal.returns-clause-joining_is_noted
+returns-clause-joining_is_noted c = joining_is_noted

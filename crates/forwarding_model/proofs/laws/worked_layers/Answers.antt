@@ -1,5 +1,5 @@
 use Rattle.forwarding_model.proofs.LayeredFormats.{layered_is_format}
-use Rattle.forwarding_model.proofs.LayeredRows.{broken_chain, broken_chain_sent, upper_lost, upper_lost_sent, mask_sent, wished_causes, wished_sent, wished_unmet, other_template}
+use Rattle.forwarding_model.proofs.LayeredRows.{broken_chain, broken_chain_sent, upper_lost, upper_lost_sent, mask_sent, wished_causes, wished_sent, wished_unmet, other_template, new_structure_sent, late_join_causes_of_two, late_join_causes_of_one}
 use Rattle.forwarding_model.proofs.laws.worked_layers.Goals as goal
 
 pub returns-clause-format : goal.returns-clause-format
@@ -31,3 +31,12 @@ returns-clause-wished_unmet c = wished_unmet
 
 pub returns-clause-other_template : goal.returns-clause-other_template
 returns-clause-other_template c = other_template
+
+pub returns-clause-new_structure_sent : goal.returns-clause-new_structure_sent
+returns-clause-new_structure_sent c = new_structure_sent
+
+pub returns-clause-late_join_causes_of_two : goal.returns-clause-late_join_causes_of_two
+returns-clause-late_join_causes_of_two c = late_join_causes_of_two
+
+pub returns-clause-late_join_causes_of_one : goal.returns-clause-late_join_causes_of_one
+returns-clause-late_join_causes_of_one c = late_join_causes_of_one

@@ -1,4 +1,4 @@
-use Rattle.forwarding_model.proofs.ReceptionRows.{other_number_at_once, broken_join_at_once, second_start_at_once, broken_payload_at_once, too_many_at_once, reference_at_the_end, first_reference, farthest_reference, not_rtp_first, no_descriptor, long_key_frame_accepted, open_end_first, broken_payload_first, other_structure_first, structure_without_key, wrapped_frame_number}
+use Rattle.forwarding_model.proofs.ReceptionRows.{other_number_at_once, broken_join_at_once, second_start_at_once, broken_payload_at_once, too_many_at_once, reference_at_the_end, first_reference, farthest_reference, not_rtp_first, no_descriptor, long_key_frame_accepted, open_end_first, broken_payload_first, other_structure_first, structure_without_key, wrapped_frame_number, no_structure_before_broken}
 use Rattle.forwarding_model.proofs.laws.worked_receptions.Goals as goal
 
 pub returns-clause-other_number_at_once : goal.returns-clause-other_number_at_once
@@ -48,3 +48,6 @@ returns-clause-structure_without_key c = structure_without_key
 
 pub returns-clause-wrapped_frame_number : goal.returns-clause-wrapped_frame_number
 returns-clause-wrapped_frame_number c = wrapped_frame_number
+
+pub returns-clause-no_structure_before_broken : goal.returns-clause-no_structure_before_broken
+returns-clause-no_structure_before_broken c = no_structure_before_broken

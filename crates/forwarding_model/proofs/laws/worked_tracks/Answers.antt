@@ -1,4 +1,4 @@
-use Rattle.forwarding_model.proofs.TrackRows.{torn_number, equal_number, own_mask, three_targets, long_key_frame, epochs_and_starts, structure_inside, structure_first, gap_tears, padding_is_passed_over, start_begins_anew, padding_first, parts_of_a_frame, third_subscriber_markers, only_the_second_took, one_call_numbers, one_call_causes, plain_contents, plain_queue, plain_history, plain_taken}
+use Rattle.forwarding_model.proofs.TrackRows.{torn_number, equal_number, own_mask, three_targets, long_key_frame, epochs_and_starts, structure_inside, structure_first, gap_tears, padding_is_passed_over, start_begins_anew, padding_first, parts_of_a_frame, third_subscriber_markers, only_the_second_took, one_call_numbers, one_call_causes, plain_contents, plain_queue, plain_history, plain_taken, long_store, long_store_resends}
 use Rattle.forwarding_model.proofs.laws.worked_tracks.Goals as goal
 
 pub returns-clause-torn_number : goal.returns-clause-torn_number
@@ -63,3 +63,9 @@ returns-clause-plain_history c = plain_history
 
 pub returns-clause-plain_taken : goal.returns-clause-plain_taken
 returns-clause-plain_taken c = plain_taken
+
+pub returns-clause-long_store : goal.returns-clause-long_store
+returns-clause-long_store c = long_store
+
+pub returns-clause-long_store_resends : goal.returns-clause-long_store_resends
+returns-clause-long_store_resends c = long_store_resends

@@ -1,0 +1,8 @@
+use Rattle.forwarding_model.proofs.HistoryWords.{entries_add, plain_packets_seen}
+use Rattle.forwarding_model.proofs.history_laws.entries_add_what_they_say.Goals as goal
+
+pub returns-clause-entries : goal.returns-clause-entries
+returns-clause-entries g c = entries_add
+
+pub returns-clause-plain : goal.returns-clause-plain
+returns-clause-plain g c = plain_packets_seen
