@@ -218,3 +218,7 @@ pub plain_packets_seen : {S : Type 0} (send : Sender S) (number : ℕ) (subscrib
     → (plain_packets (plain_timeline {S = S} send number (since ++ Joined number subscriber ∷ past)) ≡ arrived (items_of since))
     × (frames_of (plain_timeline {S = S} send number (since ++ Joined number subscriber ∷ past)) ≡ [])
 plain_packets_seen send number subscriber since past none = let h = sees_packets send number subscriber since past none in (h.all, h.none)
+
+pub joins_begin : {S : Type 0} (released : List Item → List Item → List (Event S)) (send : Sender S) (number : ℕ) (subscriber : Subscriber) (past : List Entry)
+    → timeline_by released send number (Joined number subscriber ∷ past) ≡ []
+joins_begin released send number subscriber past = ap (λ b. cond b [] (timeline_by released send number past)) (eq-eqb number number refl)

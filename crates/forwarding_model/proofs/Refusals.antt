@@ -7,7 +7,7 @@ use Rattle.sfu_base.specs.declared.frame.FrameMeaning.{FrameMeaning}
 use Rattle.forwarding_model.specs.Lists.{IsMember}
 use Rattle.forwarding_model.specs.Decodable.{IsDecodable}
 use Rattle.forwarding_model.specs.Decodable.IsDecodable.{Decodes}
-use Rattle.forwarding_model.specs.Refusals.{EmptyIsNoPath, PassedIsNoRoot, ReferenceIsNoRoot, LinkIsNoRoot, LatePassedIsNoRoot, PathsNameTheNext, LaterStepsNameTheNext, EqualNumbersDontFall, PathsFall, OthersAreNoCauses, LacksReference, LacksFartherReference, LacksKeyFrame, IsNotThere, OthersAreNoRestart, IncompleteIsNoRestart, SwitchesMustOpen, LostLinkIsNoLink, FramesSinceCount, OlderFramesSinceCount, FramesBehindEventsCount, OthersMayJoin, JoiningIsNoted, plain_frame}
+use Rattle.forwarding_model.specs.Refusals.{EmptyIsNoPath, PassedIsNoRoot, ReferenceIsNoRoot, LinkIsNoRoot, LatePassedIsNoRoot, PathsNameTheNext, LaterStepsNameTheNext, LaterStepsFall, EqualNumbersDontFall, PathsFall, OthersAreNoCauses, LaterOthersAreNoCauses, LacksReference, LacksFartherReference, LacksKeyFrame, IsNotThere, OthersAreNoRestart, IncompleteIsNoRestart, SwitchesMustOpen, LostLinkIsNoLink, LostLinkIsNotKept, ClosedIsNotOpen, FramesSinceCount, OlderFramesSinceCount, FramesBehindEventsCount, SinceLooksBefore, OthersMayJoin, JoiningIsNoted, plain_frame}
 
 pub empty_is_no_path : EmptyIsNoPath
 empty_is_no_path h = h
@@ -134,7 +134,25 @@ pub frames_behind_events_count : FramesBehindEventsCount
 frames_behind_events_count h = h.0
 
 pub others_may_join : OthersMayJoin
-others_may_join = ((λ e. cc), tt)
+others_may_join = ((λ e. cc), ((λ e. cc), tt))
 
 pub joining_is_noted : JoiningIsNoted
 joining_is_noted h = h.0 refl
+
+pub later_steps_fall : LaterStepsFall
+later_steps_fall h = let lt = h.2.1 in omega arith
+
+pub later_others_are_no_causes : LaterOthersAreNoCauses
+later_others_are_no_causes h = let e = h.1.0 in cc
+
+pub lost_link_is_not_kept : LostLinkIsNotKept
+lost_link_is_not_kept h = elim h [
+  | inl opened ↦ let e = opened.1 in omega arith
+  | inr kept ↦ let e = kept.1 (omega arith) (omega arith) (omega arith) in cc
+]
+
+pub closed_is_not_open : ClosedIsNotOpen
+closed_is_not_open h = h
+
+pub since_looks_before : SinceLooksBefore
+since_looks_before = (refl, tt)

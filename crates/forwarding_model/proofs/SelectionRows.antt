@@ -1,6 +1,6 @@
 -- The worked timelines for single rules compute.
 use Rattle.std.proofs.Common.{refl}
-use Rattle.forwarding_model.specs.SelectionRows.{PassingOpensNothing, NewEpochGivesTheReason, WithheldFramesBeginEpochs, TemporalWishIsKept, DiscardableFramesPass, DiscardableFramesOpenNothing, FourthBitIsTargetThree, AbsenceComesFirst, NoTargetComesFirst, GreatestBelowIsTold, OldFramesKeepTheirCauses, KeyFramesArentForgotten, LowerMarkersAreKept, FirstNumbers, SpatialComesFirst, FirstOfEquals, BrokenChainPath}
+use Rattle.forwarding_model.specs.SelectionRows.{PassingOpensNothing, NewEpochGivesTheReason, WithheldFramesBeginEpochs, TemporalWishIsKept, DiscardableFramesPass, DiscardableFramesOpenNothing, FourthBitIsTargetThree, AbsenceComesFirst, NoTargetComesFirst, GreatestBelowIsTold, OldFramesKeepTheirCauses, KeyFramesArentForgotten, LowerMarkersAreKept, FirstNumbers, SpatialComesFirst, FirstOfEquals, BrokenChainPath, GreaterLayersFirst}
 
 pub passing_opens_nothing : PassingOpensNothing
 passing_opens_nothing = refl
@@ -52,3 +52,6 @@ first_of_equals = refl
 
 pub broken_chain_path : BrokenChainPath
 broken_chain_path = refl
+
+pub greater_layers_first : GreaterLayersFirst
+greater_layers_first = refl

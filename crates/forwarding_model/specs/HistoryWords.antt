@@ -59,6 +59,11 @@ EntriesInWords S = (released : List Item → List Item → List (Event S)) (send
     → subscriber_of number past ≡ Some subscriber
     → EntriesAdd released send number subscriber past (timeline_by released send number past)
 
+-- and a join begins the timeline, whatever came before
+abbrev pub JoinsBegin : Type 0 → Type 0
+JoinsBegin S = (released : List Item → List Item → List (Event S)) (send : Sender S) (number : ℕ) (subscriber : Subscriber) (past : List Entry)
+    → timeline_by released send number (Joined number subscriber ∷ past) ≡ []
+
 -- the packets that came, of a list of items, and those of a timeline
 abbrev pub arrived : List Item → List Packet
 arrived [] = []

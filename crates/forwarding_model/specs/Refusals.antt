@@ -12,7 +12,10 @@ use Rattle.forwarding_model.specs.Timeline.Event.{PlainPacket, WishChange, Take}
 use Rattle.forwarding_model.specs.Standing.{Standing, standing}
 use Rattle.forwarding_model.specs.Causes.{IsPath, TellsCauses}
 use Rattle.forwarding_model.specs.Decodable.{IsDecodable}
-use Rattle.forwarding_model.specs.Restart.{IsLinked, IsRestart}
+use Rattle.forwarding_model.specs.Restart.{IsLinked, IsOpenAndLinked, IsRestart}
+use Rattle.forwarding_model.specs.declared.target.CurrentTarget.TheVariants.{Open, Closed}
+use Rattle.forwarding_model.specs.declared.target.Reason.TheVariants.{NotOpened}
+use Rattle.forwarding_model.specs.Frames.Item.{Missing}
 use Rattle.forwarding_model.specs.Since.{EachFrameSince}
 use Rattle.forwarding_model.specs.Rows.{joined_at_10, key_a, key_c, layers_wish, packet, upper_c}
 use Rattle.forwarding_model.specs.History.Entry.{Released, Joined, Aimed, Asked}
@@ -43,6 +46,9 @@ PathsNameTheNext = IsPath (step 3 (Reference 2) ∷ step 1 (Unopened 1) ∷ []) 
 abbrev pub LaterStepsNameTheNext : Type 0
 LaterStepsNameTheNext = IsPath (step 4 (Reference 3) ∷ step 3 (Reference 2) ∷ step 1 (Unopened 1) ∷ []) → ⊥
 
+abbrev pub LaterStepsFall : Type 0
+LaterStepsFall = IsPath (step 4 (Reference 2) ∷ step 2 (Reference 3) ∷ step 3 (Unopened 1) ∷ []) → ⊥
+
 abbrev pub EqualNumbersDontFall : Type 0
 EqualNumbersDontFall = IsPath (step 2 (Reference 2) ∷ step 2 (Unopened 1) ∷ []) → ⊥
 
@@ -52,6 +58,9 @@ PathsFall = IsPath (step 2 (Reference 3) ∷ step 3 (Unopened 1) ∷ []) → ⊥
 -- a step that tells another verdict than the cause
 abbrev pub OthersAreNoCauses : Type 0
 OthersAreNoCauses = TellsCauses (λ n. Passed) (step 3 (Reference 2) ∷ []) → ⊥
+
+abbrev pub LaterOthersAreNoCauses : Type 0
+LaterOthersAreNoCauses = TellsCauses (λ n. Reference 2) (step 3 (Reference 2) ∷ step 2 (Unopened 1) ∷ []) → ⊥
 
 -- a frame with this number and these references
 abbrev pub plain_frame : Bool → ℕ → List ℕ → FrameMeaning
@@ -134,6 +143,14 @@ SwitchesMustOpen = IsRestart after_upper lower_meaning → ⊥
 abbrev pub LostLinkIsNoLink : Type 0
 LostLinkIsNoLink = IsLinked (λ d. false) (record lower_meaning { links = 1 ∷ 1 ∷ [] }) 0 1 → ⊥
 
+-- so a target that was open doesn't stay where its link is lost, and a closed one is none to pass in
+abbrev pub LostLinkIsNotKept : Type 0
+LostLinkIsNotKept =
+    IsOpenAndLinked (λ d. false) true (layers_wish 1 0) (record lower_meaning { links = 1 ∷ 1 ∷ [] }) (Open 0 1) (Open 0 1) → ⊥
+
+abbrev pub ClosedIsNotOpen : Type 0
+ClosedIsNotOpen = IsOpenAndLinked (λ d. true) true (layers_wish 1 0) lower_meaning (Closed (NotOpened 1)) (Closed (NotOpened 1)) → ⊥
+
 -- what is said of each frame since is said of a frame that came
 abbrev pub FramesSinceCount : Type 0
 FramesSinceCount = EachFrameSince {S = ℕ} (λ before later. ⊥) (key_a 1 1 ∷ []) [] → ⊥
@@ -145,9 +162,17 @@ abbrev pub FramesBehindEventsCount : Type 0
 FramesBehindEventsCount =
     EachFrameSince {S = ℕ} (λ before later. ⊥) (Take ∷ WishChange (layers_wish 0 0) ∷ PlainPacket (packet true) ∷ key_a 1 1 ∷ []) [] → ⊥
 
+-- and of what came before that frame, and that alone
+abbrev pub SinceLooksBefore : Type 0
+SinceLooksBefore =
+    EachFrameSince {S = ℕ} (λ before later. before ≡ Take ∷ key_a 1 1 ∷ []) (Take ∷ key_a 3 2 ∷ Take ∷ []) (key_a 1 1 ∷ [])
+
 -- others may join, and whoever joins himself does
 abbrev pub OthersMayJoin : Type 0
-OthersMayJoin = NoneJoins 1 (Asked 1 ∷ Aimed 1 (layers_wish 0 0) ∷ Joined 3 joined_at_10 ∷ Released [] ∷ Asked 2 ∷ [])
+OthersMayJoin =
+    NoneJoins 1
+    (Asked 1 ∷ Aimed 1 (layers_wish 0 0) ∷ Joined 3 joined_at_10 ∷ Released (Missing ∷ Missing ∷ []) ∷ Joined 0 joined_at_10 ∷ Aimed 2 (layers_wish 0 0)
+    ∷ Asked 2 ∷ [])
 
 abbrev pub JoiningIsNoted : Type 0
 JoiningIsNoted = NoneJoins 1 (Asked 2 ∷ Joined 1 joined_at_10 ∷ []) → ⊥

@@ -219,3 +219,33 @@ abbrev pub BrokenChainPath : Type 0
 BrokenChainPath =
     path (cause (layers_wish 1 0) broken_chain) 4
     ≡ record { number = 4; verdict = Reference 3 } ∷ record { number = 3; verdict = Link 3 2 } ∷ record { number = 2; verdict = Hole (Some 1) 3 } ∷ []
+
+-- ---- a target of greater layers is better, also where it has the higher index
+
+abbrev pub ascending_targets : (number : ℕ) → Bool → (lower upper : Dti) → List ℕ → Event ℕ
+ascending_targets number key lower upper refs =
+    WholeFrame (record {
+      meaning = record {
+        number = number;
+        start = 1;
+        epoch = 1;
+        spatial = 0;
+        temporal = 0;
+        key = key;
+        mask = 3;
+        target_count = 2;
+        dtis = lower ∷ upper ∷ [];
+        pairs = Some (layers_wish 0 0) ∷ Some (layers_wish 1 0) ∷ [];
+        chain_count = 0;
+        guards = [];
+        links = [];
+        ref_count = length refs;
+        refs = refs;
+      };
+      structure = 0;
+      packets = packet true ∷ [];
+    })
+
+abbrev pub GreaterLayersFirst : Type 0
+GreaterLayersFirst =
+    cause (layers_wish 1 0) (ascending_targets 2 false NotPresent Required (1 ∷ []) ∷ ascending_targets 1 true Switch Switch [] ∷ []) 2 ≡ Passed

@@ -52,7 +52,7 @@ StructureInside =
     told (came (0 ∷ 1 ∷ 2 ∷ 7 ∷ 0 ∷ 1 ∷ 0 ∷ []) ∷ came (1 ∷ 0 ∷ 2 ∷ 0 ∷ 3 ∷ 0 ∷ 1 ∷ 1 ∷ []) ∷ came (key_rest 1) ∷ [])
     ≡ (2 ∷ 2 ∷ 3 ∷ []) ∷ (1 ∷ 1 ∷ 3 ∷ []) ∷ []
 
--- a structure before the first key start isn't read, and isn't in force for the next packet
+-- a structure before the first key start makes no frame, and isn't in force for the next packet
 abbrev pub StructureFirst : Type 0
 StructureFirst = told (came (frame_rest 3 1) ∷ came (1 ∷ 1 ∷ 2 ∷ 7 ∷ 0 ∷ 0 ∷ 0 ∷ 1 ∷ []) ∷ []) ≡ []
 
@@ -152,20 +152,23 @@ PlainHistory =
 abbrev pub PlainTaken : Type 0
 PlainTaken = map (λ (p : Packet). p.rest) (taken {S = ℕ} send_marked plain_subscriber (plain_timeline send_marked 1 plain_history)) ≡ (5 ∷ []) ∷ []
 
--- of 1,025 packets that were taken the last 1,024 are kept
+-- of 1,025 packets that were taken the last 1,024 are kept; one more is queued
 abbrev pub all_taken : ℕ → List (Event ℕ)
 all_taken zero = []
 all_taken (suc n) = Take ∷ PlainPacket (plain true n) ∷ all_taken n
+
+abbrev pub long_store : List (Event ℕ)
+long_store = PlainPacket (plain true 1025) ∷ all_taken 1025
 
 abbrev pub from_zero : Subscriber
 from_zero = joined_as 2 0 0
 
 abbrev pub LongStore : Type 0
 LongStore =
-    (oldest_number send_marked from_zero (all_taken 1025) ∷ next_number send_marked from_zero (all_taken 1025) ∷ [])
+    (oldest_number send_marked from_zero long_store ∷ next_number send_marked from_zero long_store ∷ [])
     ≡ 1 ∷ 1025 ∷ []
 
 abbrev pub LongStoreResends : Type 0
 LongStoreResends =
-    map (λ n. option_map (λ (p : Packet). p.rest) (resent send_marked from_zero (all_taken 1025) n)) (0 ∷ 1 ∷ 1024 ∷ 1025 ∷ [])
+    map (λ n. option_map (λ (p : Packet). p.rest) (resent send_marked from_zero long_store n)) (0 ∷ 1 ∷ 1024 ∷ 1025 ∷ [])
     ≡ None ∷ Some (1 ∷ []) ∷ Some (1024 ∷ []) ∷ None ∷ []

@@ -8,7 +8,7 @@ ghost use Rattle.forwarding_model.specs.VerdictWords.{VerdictsSayWhatIsSo, Passi
 ghost use Rattle.forwarding_model.specs.PassedFrames.{EpochsFramesCount, HasPassedInWords, KeyPassedInWords};
 ghost use Rattle.forwarding_model.specs.CauseWords.{FramesHaveTheirVerdicts, OtherNumbersAreHoles, HolesAreNoFrames};
 ghost use Rattle.forwarding_model.specs.OutgoingWords.{TopLayerInWords, LastPacketsAreMarked, OtherMarkersAreKept, PassingFramesGoOut, NothingElseGoesOut, PacketsAreRenumbered, NextNumbersCountTakes};
-ghost use Rattle.forwarding_model.specs.SelectionRows.{PassingOpensNothing, NewEpochGivesTheReason, WithheldFramesBeginEpochs, TemporalWishIsKept, DiscardableFramesPass, DiscardableFramesOpenNothing, FourthBitIsTargetThree, AbsenceComesFirst, NoTargetComesFirst, GreatestBelowIsTold, OldFramesKeepTheirCauses, KeyFramesArentForgotten, LowerMarkersAreKept, FirstNumbers, SpatialComesFirst, FirstOfEquals, BrokenChainPath};
+ghost use Rattle.forwarding_model.specs.SelectionRows.{PassingOpensNothing, NewEpochGivesTheReason, WithheldFramesBeginEpochs, TemporalWishIsKept, DiscardableFramesPass, DiscardableFramesOpenNothing, FourthBitIsTargetThree, AbsenceComesFirst, NoTargetComesFirst, GreatestBelowIsTold, OldFramesKeepTheirCauses, KeyFramesArentForgotten, LowerMarkersAreKept, FirstNumbers, SpatialComesFirst, FirstOfEquals, BrokenChainPath, GreaterLayersFirst};
 
 // ---- targets
 
@@ -122,4 +122,5 @@ pub fn worked_selection()
     ensures spatial_first { SpatialComesFirst }
     ensures first_of_equals { FirstOfEquals }
     ensures broken_chain_path { BrokenChainPath }
+    ensures greater_layers_first { GreaterLayersFirst }
 {}

@@ -1,4 +1,4 @@
-use Rattle.forwarding_model.proofs.Refusals.{empty_is_no_path, passed_is_no_root, reference_is_no_root, link_is_no_root, late_passed_is_no_root, paths_name_the_next, later_steps_name_the_next, equal_numbers_dont_fall, paths_fall, others_are_no_causes, lacks_reference, lacks_farther_reference, lacks_key_frame, is_not_there, others_are_no_restart, incomplete_is_no_restart, switches_must_open, lost_link_is_no_link, frames_since_count, older_frames_since_count, frames_behind_events_count, others_may_join, joining_is_noted}
+use Rattle.forwarding_model.proofs.Refusals.{empty_is_no_path, passed_is_no_root, reference_is_no_root, link_is_no_root, late_passed_is_no_root, paths_name_the_next, later_steps_name_the_next, later_steps_fall, equal_numbers_dont_fall, paths_fall, others_are_no_causes, later_others_are_no_causes, lacks_reference, lacks_farther_reference, lacks_key_frame, is_not_there, others_are_no_restart, incomplete_is_no_restart, switches_must_open, lost_link_is_no_link, lost_link_is_not_kept, closed_is_not_open, frames_since_count, older_frames_since_count, frames_behind_events_count, since_looks_before, others_may_join, joining_is_noted}
 use Rattle.forwarding_model.proofs.history_laws.words_refuse_what_they_should.Goals as goal
 
 pub returns-clause-empty_is_no_path : goal.returns-clause-empty_is_no_path
@@ -22,6 +22,9 @@ returns-clause-paths_name_the_next c = paths_name_the_next
 pub returns-clause-later_steps_name_the_next : goal.returns-clause-later_steps_name_the_next
 returns-clause-later_steps_name_the_next c = later_steps_name_the_next
 
+pub returns-clause-later_steps_fall : goal.returns-clause-later_steps_fall
+returns-clause-later_steps_fall c = later_steps_fall
+
 pub returns-clause-equal_numbers_dont_fall : goal.returns-clause-equal_numbers_dont_fall
 returns-clause-equal_numbers_dont_fall c = equal_numbers_dont_fall
 
@@ -30,6 +33,9 @@ returns-clause-paths_fall c = paths_fall
 
 pub returns-clause-others_are_no_causes : goal.returns-clause-others_are_no_causes
 returns-clause-others_are_no_causes c = others_are_no_causes
+
+pub returns-clause-later_others_are_no_causes : goal.returns-clause-later_others_are_no_causes
+returns-clause-later_others_are_no_causes c = later_others_are_no_causes
 
 pub returns-clause-lacks_reference : goal.returns-clause-lacks_reference
 returns-clause-lacks_reference c = lacks_reference
@@ -55,6 +61,12 @@ returns-clause-switches_must_open c = switches_must_open
 pub returns-clause-lost_link_is_no_link : goal.returns-clause-lost_link_is_no_link
 returns-clause-lost_link_is_no_link c = lost_link_is_no_link
 
+pub returns-clause-lost_link_is_not_kept : goal.returns-clause-lost_link_is_not_kept
+returns-clause-lost_link_is_not_kept c = lost_link_is_not_kept
+
+pub returns-clause-closed_is_not_open : goal.returns-clause-closed_is_not_open
+returns-clause-closed_is_not_open c = closed_is_not_open
+
 pub returns-clause-frames_since_count : goal.returns-clause-frames_since_count
 returns-clause-frames_since_count c = frames_since_count
 
@@ -63,6 +75,9 @@ returns-clause-older_frames_since_count c = older_frames_since_count
 
 pub returns-clause-frames_behind_events_count : goal.returns-clause-frames_behind_events_count
 returns-clause-frames_behind_events_count c = frames_behind_events_count
+
+pub returns-clause-since_looks_before : goal.returns-clause-since_looks_before
+returns-clause-since_looks_before c = since_looks_before
 
 pub returns-clause-others_may_join : goal.returns-clause-others_may_join
 returns-clause-others_may_join c = others_may_join

@@ -1,4 +1,4 @@
-use Rattle.forwarding_model.proofs.SelectionRows.{passing_opens_nothing, new_epoch_gives_the_reason, withheld_frames_begin_epochs, temporal_wish_is_kept, discardable_frames_pass, discardable_frames_open_nothing, fourth_bit_is_target_three, absence_comes_first, no_target_comes_first, greatest_below_is_told, old_frames_keep_their_causes, key_frames_arent_forgotten, lower_markers_are_kept, first_numbers, spatial_comes_first, first_of_equals, broken_chain_path}
+use Rattle.forwarding_model.proofs.SelectionRows.{passing_opens_nothing, new_epoch_gives_the_reason, withheld_frames_begin_epochs, temporal_wish_is_kept, discardable_frames_pass, discardable_frames_open_nothing, fourth_bit_is_target_three, absence_comes_first, no_target_comes_first, greatest_below_is_told, old_frames_keep_their_causes, key_frames_arent_forgotten, lower_markers_are_kept, first_numbers, spatial_comes_first, first_of_equals, broken_chain_path, greater_layers_first}
 use Rattle.forwarding_model.proofs.selection_laws.worked_selection.Goals as goal
 
 pub returns-clause-passing_opens_nothing : goal.returns-clause-passing_opens_nothing
@@ -51,3 +51,6 @@ returns-clause-first_of_equals c = first_of_equals
 
 pub returns-clause-broken_chain_path : goal.returns-clause-broken_chain_path
 returns-clause-broken_chain_path c = broken_chain_path
+
+pub returns-clause-greater_layers_first : goal.returns-clause-greater_layers_first
+returns-clause-greater_layers_first c = greater_layers_first
