@@ -1,5 +1,5 @@
 -- What a standing keeps of the causes, and that what a cause names lies below and was not passed.
-use Rattle.std.proofs.Common.{◌≡◌, ◌≢◌, inl, inr, ◌+◌, ◌-◌, ◌<◌, ◌≤◌, ℕ, arith, Bool, true, false, List, [], ◌∷◌, refl, sym, subst, ap, ◌∙◌, cond, true≢false, not, length}
+use Rattle.std.proofs.Common.{◌≡◌, ◌≢◌, inl, inr, ◌+◌, ◌-◌, ◌<◌, ◌≤◌, ℕ, arith, Bool, true, false, List, [], ◌∷◌, ◌++◌, refl, sym, subst, ap, ◌∙◌, cond, true≢false, not, length}
 use Rattle.std.specs.Prelude.{◌==◌, nat_lt, nat_le}
 use Rattle.std.proofs.lemmas.Bool.{eqb-true, eq-eqb, ne_eqb, and_parts, ltb-true, leb-true, not-true}
 use Rattle.std.specs.List.{AllByRecursion}
@@ -17,7 +17,7 @@ use Rattle.forwarding_model.specs.declared.target.Reason.TheVariants.{BrokenLink
 use Rattle.forwarding_model.specs.Lists.{IsMember}
 use Rattle.forwarding_model.specs.Targets.{references, is_active}
 use Rattle.forwarding_model.specs.Selection.{missing_reference, chain_link, is_link_broken, target_under_mask, target_after_link, opened_or}
-use Rattle.forwarding_model.specs.Timeline.{Event, meanings_of}
+use Rattle.forwarding_model.specs.Timeline.{Event, Frame, meanings_of}
 use Rattle.forwarding_model.specs.Timeline.Event.{WholeFrame, PlainPacket, WishChange, Take}
 use Rattle.forwarding_model.specs.Standing.{Standing, is_epoch, has_below, passed_at, target_at, has_passed, key_passed, kept_target_at, passes_at, verdict_at, admitted, after_plain, plain_passes, standing}
 use Rattle.forwarding_model.specs.TrackFrames.{IsTrackFrame, Precedes, IsOneTrack}
@@ -385,3 +385,12 @@ withheld_verdict wish (WholeFrame x ∷ past) n track (inr w) = λ e. go (x.mean
 withheld_verdict wish (PlainPacket p ∷ past) n track w = withheld_verdict wish past n track w
 withheld_verdict wish (WishChange u ∷ past) n track w = withheld_verdict wish past n track w
 withheld_verdict wish (Take ∷ past) n track w = withheld_verdict wish past n track w
+
+-- a frame that came and didn't pass is withheld
+pub unpassed_are_withheld : {S : Type 0} (wish : Wish) (frame : Frame S) (since past : List (Event S))
+    → passes_at (standing wish past) frame.meaning (length frame.packets) ≡ false → IsWithheld wish (since ++ WholeFrame frame ∷ past) frame.meaning.number
+unpassed_are_withheld wish frame [] past e = inl (refl, e)
+unpassed_are_withheld wish frame (WholeFrame x ∷ since) past e = inr (unpassed_are_withheld wish frame since past e)
+unpassed_are_withheld wish frame (PlainPacket p ∷ since) past e = unpassed_are_withheld wish frame since past e
+unpassed_are_withheld wish frame (WishChange u ∷ since) past e = unpassed_are_withheld wish frame since past e
+unpassed_are_withheld wish frame (Take ∷ since) past e = unpassed_are_withheld wish frame since past e

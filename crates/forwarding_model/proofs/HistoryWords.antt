@@ -139,7 +139,6 @@ entries_add {S} released send number subscriber past known =
           ap (λ b. cond b (asked send (subscriber_of number past) events) events) own
           ∙ ap (λ o. asked send o events) known
           ∙ ap (λ b. cond b (Take ∷ events) events) (le-ltb (takes_of events) (length (outgoing send subscriber events)) le);
-      join = λ again. ap (λ b. cond b [] events) own;
       others = λ other differs.
           record {
             aim = λ wish. ap (λ b. cond b (WishChange wish ∷ events) events) (ne_eqb other number differs);
@@ -222,3 +221,23 @@ plain_packets_seen send number subscriber since past none = let h = sees_packets
 pub joins_begin : {S : Type 0} (released : List Item → List Item → List (Event S)) (send : Sender S) (number : ℕ) (subscriber : Subscriber) (past : List Entry)
     → timeline_by released send number (Joined number subscriber ∷ past) ≡ []
 joins_begin released send number subscriber past = ap (λ b. cond b [] (timeline_by released send number past)) (eq-eqb number number refl)
+
+-- ---- how somebody joined
+
+pub joins_are_known : (number : ℕ) (subscriber : Subscriber) (since past : List Entry) → NoneJoins number since
+    → subscriber_of number (since ++ Joined number subscriber ∷ past) ≡ Some subscriber
+joins_are_known number subscriber [] past none = ap (λ b. cond b (Some subscriber) (subscriber_of number past)) (eq-eqb number number refl)
+joins_are_known number subscriber (Released items ∷ since) past none = joins_are_known number subscriber since past none
+joins_are_known number subscriber (Joined other joined ∷ since) past none =
+    ap (λ b. cond b (Some joined) (subscriber_of number (since ++ Joined number subscriber ∷ past))) (ne_eqb other number none.0)
+    ∙ joins_are_known number subscriber since past none.1
+joins_are_known number subscriber (Aimed other wish ∷ since) past none = joins_are_known number subscriber since past none
+joins_are_known number subscriber (Asked other ∷ since) past none = joins_are_known number subscriber since past none
+
+pub nobody_is_known : (number : ℕ) (history : List Entry) → NoneJoins number history → subscriber_of number history ≡ None
+nobody_is_known number [] none = refl
+nobody_is_known number (Released items ∷ past) none = nobody_is_known number past none
+nobody_is_known number (Joined other joined ∷ past) none =
+    ap (λ b. cond b (Some joined) (subscriber_of number past)) (ne_eqb other number none.0) ∙ nobody_is_known number past none.1
+nobody_is_known number (Aimed other wish ∷ past) none = nobody_is_known number past none
+nobody_is_known number (Asked other ∷ past) none = nobody_is_known number past none

@@ -7,7 +7,7 @@ use Rattle.sfu_base.specs.declared.frame.FrameMeaning.{FrameMeaning}
 use Rattle.forwarding_model.specs.Lists.{IsMember}
 use Rattle.forwarding_model.specs.Decodable.{IsDecodable}
 use Rattle.forwarding_model.specs.Decodable.IsDecodable.{Decodes}
-use Rattle.forwarding_model.specs.Refusals.{EmptyIsNoPath, PassedIsNoRoot, ReferenceIsNoRoot, LinkIsNoRoot, LatePassedIsNoRoot, PathsNameTheNext, LaterStepsNameTheNext, LaterStepsFall, EqualNumbersDontFall, PathsFall, OthersAreNoCauses, LaterOthersAreNoCauses, LacksReference, LacksFartherReference, LacksKeyFrame, IsNotThere, OthersAreNoRestart, IncompleteIsNoRestart, SwitchesMustOpen, LostLinkIsNoLink, LostLinkIsNotKept, ClosedIsNotOpen, FramesSinceCount, OlderFramesSinceCount, FramesBehindEventsCount, SinceLooksBefore, OthersMayJoin, JoiningIsNoted, plain_frame}
+use Rattle.forwarding_model.specs.Refusals.{EmptyIsNoPath, PassedIsNoRoot, ReferenceIsNoRoot, LinkIsNoRoot, LatePassedIsNoRoot, RootsEndPaths, PassedLeadsNowhere, PathsNameTheNext, LaterStepsNameTheNext, LaterStepsFall, EqualNumbersDontFall, PathsFall, OthersAreNoCauses, LaterOthersAreNoCauses, CausesOfOthersDontCount, LacksReference, LacksFartherReference, LacksMiddleReference, LacksKeyFrame, IsNotThere, OthersAreNoRestart, IncompleteIsNoRestart, SwitchesMustOpen, LostLinkIsNoLink, LinkToTheOpeningCounts, LostLinkIsNotKept, NothingOpensUnlessOpened, OpenedIsOpenFromThere, ClosedIsNotOpen, FramesSinceCount, OlderFramesSinceCount, FramesBehindEventsCount, SinceLooksBefore, OthersMayJoin, JoiningIsNoted, plain_frame}
 
 pub empty_is_no_path : EmptyIsNoPath
 empty_is_no_path h = h
@@ -156,3 +156,36 @@ closed_is_not_open h = h
 
 pub since_looks_before : SinceLooksBefore
 since_looks_before = (refl, tt)
+
+pub roots_end_paths : RootsEndPaths
+roots_end_paths h = let e = h.0 in cc
+
+pub passed_leads_nowhere : PassedLeadsNowhere
+passed_leads_nowhere h = let e = h.0 in cc
+
+pub causes_of_others_dont_count : CausesOfOthersDontCount
+causes_of_others_dont_count h = let e = h.0 in cc
+
+no_second : (g : FrameMeaning) → g.number + 2 ≡ 4 → IsMember g (plain_frame false 4 (3 ∷ 2 ∷ 3 ∷ []) ∷ plain_frame true 1 [] ∷ []) → ⊥
+no_second g e (inl same) = let n = ap (λ (x : FrameMeaning). x.number) same in omega arith
+no_second g e (inr (inl same)) = let n = ap (λ (x : FrameMeaning). x.number) same in omega arith
+no_second g e (inr (inr none)) = none
+
+pub lacks_middle_reference : LacksMiddleReference
+lacks_middle_reference h =
+    let r = (is _ _ h).referred 2 (inr (inl refl)) in no_second r.0 r.1 r.2
+
+pub link_to_the_opening_counts : LinkToTheOpeningCounts
+link_to_the_opening_counts h = let e = h (omega arith) (omega arith) (omega arith) in cc
+
+pub nothing_opens_unless_opened : NothingOpensUnlessOpened
+nothing_opens_unless_opened h = elim h [
+  | inl opened ↦ let e = opened.0 in cc
+  | inr kept ↦ let e = kept.0 in cc
+]
+
+pub opened_is_open_from_there : OpenedIsOpenFromThere
+opened_is_open_from_there h = elim h [
+  | inl opened ↦ let e = opened.1 in omega arith
+  | inr kept ↦ let e = kept.0 in cc
+]

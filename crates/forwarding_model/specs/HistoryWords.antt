@@ -1,6 +1,6 @@
 -- What a subscriber sees of a history, in words. Own statements. The definition walks the history from the newest entry down.
 use Rattle.std.specs.Prelude.{◌≡◌, ◌≢◌, ◌<◌, ◌≤◌, ℕ, List, [], ◌∷◌, ◌++◌, length}
-use Rattle.std.specs.declared.option.Option.TheVariants.{Some}
+use Rattle.std.specs.declared.option.Option.TheVariants.{None, Some}
 use Rattle.sfu_base.specs.declared.frame.Wish.{Wish}
 use Rattle.forwarding_model.specs.Timeline.{Event, Packet, frames_of, takes_of}
 use Rattle.forwarding_model.specs.Timeline.Event.{WholeFrame, PlainPacket, WishChange, Take}
@@ -44,14 +44,13 @@ pub record IsUntouched {S : Type 0} (released : List Item → List Item → List
   pub join : (subscriber : Subscriber) → timeline_by released send number (Joined other subscriber ∷ past) ≡ events
 
 -- what each entry adds to the timeline of a subscriber that joined: what is released; its own change of wish; a take, where it asks and a
--- packet is queued; and nothing of others. A join of its own begins it anew.
+-- packet is queued; and nothing of others
 pub record EntriesAdd {S : Type 0} (released : List Item → List Item → List (Event S)) (send : Sender S) (number : ℕ) (subscriber : Subscriber)
     (past : List Entry) (events : List (Event S)) : Type 0 where
   pub release : (items : List Item) → timeline_by released send number (Released items ∷ past) ≡ released (items_of past) items ++ events
   pub aim : (wish : Wish) → timeline_by released send number (Aimed number wish ∷ past) ≡ WishChange wish ∷ events
   pub take : takes_of events < length (outgoing send subscriber events) → timeline_by released send number (Asked number ∷ past) ≡ Take ∷ events
   pub empty : length (outgoing send subscriber events) ≤ takes_of events → timeline_by released send number (Asked number ∷ past) ≡ events
-  pub join : (again : Subscriber) → timeline_by released send number (Joined number again ∷ past) ≡ []
   pub others : (other : ℕ) → other ≢ number → IsUntouched released send number other past events
 
 abbrev pub EntriesInWords : Type 0 → Type 0
@@ -63,6 +62,14 @@ EntriesInWords S = (released : List Item → List Item → List (Event S)) (send
 abbrev pub JoinsBegin : Type 0 → Type 0
 JoinsBegin S = (released : List Item → List Item → List (Event S)) (send : Sender S) (number : ℕ) (subscriber : Subscriber) (past : List Entry)
     → timeline_by released send number (Joined number subscriber ∷ past) ≡ []
+
+-- how somebody joined is known whatever comes, until the number joins again; before, nobody is known under it
+abbrev pub JoinsAreKnown : Type 0
+JoinsAreKnown = (number : ℕ) (subscriber : Subscriber) (since past : List Entry) → NoneJoins number since
+    → subscriber_of number (since ++ Joined number subscriber ∷ past) ≡ Some subscriber
+
+abbrev pub NobodyIsKnown : Type 0
+NobodyIsKnown = (number : ℕ) (history : List Entry) → NoneJoins number history → subscriber_of number history ≡ None
 
 -- the packets that came, of a list of items, and those of a timeline
 abbrev pub arrived : List Item → List Packet

@@ -65,6 +65,12 @@ abbrev pub EndsAtRootUnpassed : Type 0 → Type 0
 EndsAtRootUnpassed S = (wish : Wish) (events : List (Event S)) (n : ℕ) → IsOneTrack (meanings_of events) → cause wish events n ≢ Passed
     → IsPath (path (cause wish events) n)
 
+-- a frame that came and didn't pass is withheld, whatever came since
+abbrev pub UnpassedAreWithheld : Type 0 → Type 0
+UnpassedAreWithheld S = (wish : Wish) (frame : Frame S) (since past : List (Event S))
+    → passes_at (standing wish past) frame.meaning (length frame.packets) ≡ false
+    → IsWithheld wish (since ++ WholeFrame frame ∷ past) frame.meaning.number
+
 -- a path begins at its number
 abbrev pub PathsBegin : Type 0 → Type 0
 PathsBegin S = (wish : Wish) (events : List (Event S)) (n : ℕ)

@@ -1,6 +1,7 @@
--- What the words of the laws refuse: words that stand only in what is concluded could be weaker with nothing red, were it not for these.
+-- What the words of the laws refuse, where they stand only in what is concluded, and what they hold of, where they stand only in what is
+-- asked: without these such a word could be weaker, or narrower, with nothing red.
 -- Own statements, over small timelines that `Rows` has too.
-use Rattle.std.specs.Prelude.{◌≡◌, ℕ, List, [], ◌∷◌, length}
+use Rattle.std.specs.Prelude.{◌≡◌, ◌==◌, ℕ, List, [], ◌∷◌, if◌then◌else◌, length}
 use Rattle.sfu_base.specs.declared.frame.FrameMeaning.{FrameMeaning}
 use Rattle.sfu_base.specs.declared.frame.Dti.TheVariants.{Required, Switch}
 use Rattle.sfu_base.specs.declared.frame.Step.{Step}
@@ -15,7 +16,7 @@ use Rattle.forwarding_model.specs.Decodable.{IsDecodable}
 use Rattle.forwarding_model.specs.Restart.{IsLinked, IsOpenAndLinked, IsRestart}
 use Rattle.forwarding_model.specs.declared.target.CurrentTarget.TheVariants.{Open, Closed}
 use Rattle.forwarding_model.specs.declared.target.Reason.TheVariants.{NotOpened}
-use Rattle.forwarding_model.specs.Frames.Item.{Missing}
+use Rattle.forwarding_model.specs.Frames.Item.{Missing, Arrived}
 use Rattle.forwarding_model.specs.Since.{EachFrameSince}
 use Rattle.forwarding_model.specs.Rows.{joined_at_10, key_a, key_c, layers_wish, packet, upper_c}
 use Rattle.forwarding_model.specs.History.Entry.{Released, Joined, Aimed, Asked}
@@ -24,7 +25,7 @@ use Rattle.forwarding_model.specs.HistoryWords.{NoneJoins}
 abbrev pub step : ℕ → Verdict → Step
 step number verdict = record { number = number; verdict = verdict }
 
--- no path is empty, ends where it should go on, names another frame than the next, or doesn't fall
+-- no path is empty, ends where it should go on, goes on where it should end, names another frame than the next, or doesn't fall
 abbrev pub EmptyIsNoPath : Type 0
 EmptyIsNoPath = IsPath [] → ⊥
 
@@ -39,6 +40,12 @@ LinkIsNoRoot = IsPath (step 3 (Link 3 2) ∷ []) → ⊥
 
 abbrev pub LatePassedIsNoRoot : Type 0
 LatePassedIsNoRoot = IsPath (step 3 (Reference 2) ∷ step 2 Passed ∷ []) → ⊥
+
+abbrev pub RootsEndPaths : Type 0
+RootsEndPaths = IsPath (step 3 (Unopened 1) ∷ step 2 (Unopened 1) ∷ []) → ⊥
+
+abbrev pub PassedLeadsNowhere : Type 0
+PassedLeadsNowhere = IsPath (step 3 Passed ∷ step 2 (Unopened 1) ∷ []) → ⊥
 
 abbrev pub PathsNameTheNext : Type 0
 PathsNameTheNext = IsPath (step 3 (Reference 2) ∷ step 1 (Unopened 1) ∷ []) → ⊥
@@ -61,6 +68,9 @@ OthersAreNoCauses = TellsCauses (λ n. Passed) (step 3 (Reference 2) ∷ []) →
 
 abbrev pub LaterOthersAreNoCauses : Type 0
 LaterOthersAreNoCauses = TellsCauses (λ n. Reference 2) (step 3 (Reference 2) ∷ step 2 (Unopened 1) ∷ []) → ⊥
+
+abbrev pub CausesOfOthersDontCount : Type 0
+CausesOfOthersDontCount = TellsCauses (λ n. if n == 3 then Reference 2 else Unopened 1) (step 2 (Reference 2) ∷ []) → ⊥
 
 -- a frame with this number and these references
 abbrev pub plain_frame : Bool → ℕ → List ℕ → FrameMeaning
@@ -91,6 +101,11 @@ LacksReference = IsDecodable (plain_frame false 3 (1 ∷ []) ∷ plain_frame tru
 abbrev pub LacksFartherReference : Type 0
 LacksFartherReference =
     IsDecodable (plain_frame false 4 (1 ∷ []) ∷ plain_frame false 3 (1 ∷ []) ∷ plain_frame true 1 [] ∷ []) (plain_frame false 4 (1 ∷ [])) → ⊥
+
+-- nor is a frame the second of whose references, neither the first nor the last, isn't there
+abbrev pub LacksMiddleReference : Type 0
+LacksMiddleReference =
+    IsDecodable (plain_frame false 4 (3 ∷ 2 ∷ 3 ∷ []) ∷ plain_frame true 1 [] ∷ []) (plain_frame false 4 (3 ∷ 2 ∷ 3 ∷ [])) → ⊥
 
 abbrev pub LacksKeyFrame : Type 0
 LacksKeyFrame = IsDecodable (plain_frame false 3 [] ∷ []) (plain_frame false 3 []) → ⊥
@@ -143,13 +158,24 @@ SwitchesMustOpen = IsRestart after_upper lower_meaning → ⊥
 abbrev pub LostLinkIsNoLink : Type 0
 LostLinkIsNoLink = IsLinked (λ d. false) (record lower_meaning { links = 1 ∷ 1 ∷ [] }) 0 1 → ⊥
 
--- so a target that was open doesn't stay where its link is lost, and a closed one is none to pass in
+-- also where there is one chain, and the link leads to the opening frame itself
+abbrev pub LinkToTheOpeningCounts : Type 0
+LinkToTheOpeningCounts = IsLinked (λ d. false) (record lower_meaning { chain_count = 1; guards = 0 ∷ 0 ∷ []; links = 1 ∷ [] }) 0 2 → ⊥
+
+-- so a target that was open doesn't stay where its link is lost; a frame that opens nothing leaves no other target open, and one that opens
+-- a target no other opening frame than itself; and a closed target is none to pass in
 abbrev pub LostLinkIsNotKept : Type 0
 LostLinkIsNotKept =
     IsOpenAndLinked (λ d. false) true (layers_wish 1 0) (record lower_meaning { links = 1 ∷ 1 ∷ [] }) (Open 0 1) (Open 0 1) → ⊥
 
+abbrev pub NothingOpensUnlessOpened : Type 0
+NothingOpensUnlessOpened = IsOpenAndLinked (λ d. true) true (layers_wish 1 0) lower_meaning (Open 0 1) (Open 1 3) → ⊥
+
+abbrev pub OpenedIsOpenFromThere : Type 0
+OpenedIsOpenFromThere = IsOpenAndLinked (λ d. true) true (layers_wish 1 0) lower_meaning (Closed (NotOpened 1)) (Open 1 2) → ⊥
+
 abbrev pub ClosedIsNotOpen : Type 0
-ClosedIsNotOpen = IsOpenAndLinked (λ d. true) true (layers_wish 1 0) lower_meaning (Closed (NotOpened 1)) (Closed (NotOpened 1)) → ⊥
+ClosedIsNotOpen = IsOpenAndLinked (λ d. true) true (layers_wish 1 0) no_restart (Closed (NotOpened 1)) (Closed (NotOpened 1)) → ⊥
 
 -- what is said of each frame since is said of a frame that came
 abbrev pub FramesSinceCount : Type 0
@@ -167,12 +193,12 @@ abbrev pub SinceLooksBefore : Type 0
 SinceLooksBefore =
     EachFrameSince {S = ℕ} (λ before later. before ≡ Take ∷ key_a 1 1 ∷ []) (Take ∷ key_a 3 2 ∷ Take ∷ []) (key_a 1 1 ∷ [])
 
--- others may join, and whoever joins himself does
+-- where others join, and packets, wishes and askings come, nobody with this number joins; where this number joins, somebody does
 abbrev pub OthersMayJoin : Type 0
 OthersMayJoin =
     NoneJoins 1
-    (Asked 1 ∷ Aimed 1 (layers_wish 0 0) ∷ Joined 3 joined_at_10 ∷ Released (Missing ∷ Missing ∷ []) ∷ Joined 0 joined_at_10 ∷ Aimed 2 (layers_wish 0 0)
-    ∷ Asked 2 ∷ [])
+    (Asked 1 ∷ Aimed 1 (layers_wish 0 0) ∷ Joined 3 joined_at_10 ∷ Released (Arrived (packet true) ∷ Missing ∷ []) ∷ Joined 0 joined_at_10
+    ∷ Aimed 2 (layers_wish 0 0) ∷ Asked 2 ∷ [])
 
 abbrev pub JoiningIsNoted : Type 0
 JoiningIsNoted = NoneJoins 1 (Asked 2 ∷ Joined 1 joined_at_10 ∷ []) → ⊥

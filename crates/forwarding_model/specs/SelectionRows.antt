@@ -5,6 +5,8 @@ use Rattle.std.specs.Prelude.{◌≡◌, ℕ, List, [], ◌∷◌, ◌++◌, Boo
 use Rattle.std.specs.declared.option.Option.TheVariants.{None, Some}
 use Rattle.sfu_base.specs.declared.frame.Dti.{Dti}
 use Rattle.sfu_base.specs.declared.frame.Dti.TheVariants.{NotPresent, Discardable, Switch, Required}
+use Rattle.sfu_base.specs.declared.frame.Wish.{Wish}
+use Rattle.sfu_base.specs.declared.frame.Verdict.{Verdict}
 use Rattle.sfu_base.specs.declared.frame.Verdict.TheVariants.{Passed, NotOfTarget, Reference, Full, Link, Unopened, Hole}
 use Rattle.forwarding_model.specs.Timeline.{Event}
 use Rattle.forwarding_model.specs.Timeline.Event.{WholeFrame, WishChange}
@@ -222,8 +224,8 @@ BrokenChainPath =
 
 -- ---- a target of greater layers is better, also where it has the higher index
 
-abbrev pub ascending_targets : (number : ℕ) → Bool → (lower upper : Dti) → List ℕ → Event ℕ
-ascending_targets number key lower upper refs =
+abbrev pub ascending_targets : (greater : Wish) → (number : ℕ) → Bool → (lower upper : Dti) → List ℕ → Event ℕ
+ascending_targets greater number key lower upper refs =
     WholeFrame (record {
       meaning = record {
         number = number;
@@ -235,7 +237,7 @@ ascending_targets number key lower upper refs =
         mask = 3;
         target_count = 2;
         dtis = lower ∷ upper ∷ [];
-        pairs = Some (layers_wish 0 0) ∷ Some (layers_wish 1 0) ∷ [];
+        pairs = Some (layers_wish 0 0) ∷ Some greater ∷ [];
         chain_count = 0;
         guards = [];
         links = [];
@@ -246,6 +248,10 @@ ascending_targets number key lower upper refs =
       packets = packet true ∷ [];
     })
 
+abbrev pub opened_under : Wish → Verdict
+opened_under wish =
+    cause wish (ascending_targets wish 2 false NotPresent Required (1 ∷ []) ∷ ascending_targets wish 1 true Switch Switch [] ∷ []) 2
+
+-- of the greater spatial id, or of the same and the greater temporal id
 abbrev pub GreaterLayersFirst : Type 0
-GreaterLayersFirst =
-    cause (layers_wish 1 0) (ascending_targets 2 false NotPresent Required (1 ∷ []) ∷ ascending_targets 1 true Switch Switch [] ∷ []) 2 ≡ Passed
+GreaterLayersFirst = opened_under (layers_wish 1 0) ∷ opened_under (layers_wish 0 1) ∷ [] ≡ Passed ∷ Passed ∷ []

@@ -1,7 +1,7 @@
 // The laws of forwarding: each is the contract of a function that does nothing. A crate above takes a law by a call of its function, or
 // by naming the lemma of `proofs/` that proves it. `Structure` is the type of template dependency structures.
 
-ghost use Rattle.forwarding_model.specs.Laws.{NeverComplains, AreDecodable, RestartsAtOnce, RestartsLater, EndsAtRoot, EndsAtRootUnpassed, PathsBegin, PathsTellCauses, TakenNeverComplains, OutgoingNeverComplains, EndsAtRootInHistories, AreNumberedInOrder, OnlyGrows, ResendsFirstBytes, ResendsKept, QueuesTheRest, TakesFindPackets, MarkingKeepsWhole, MarkingIsASender, MarkingKeepsCount, FramesAreTrack, FramesAreRead, FramesAreAdded, NewestAreTrack, EndedRunsAreWhole, WholeCutsAreFound, WholeOutcomesAreCuts, PartialOutcomesGoOn, PartialFramesAreUnfinished, UnfinishedCutsArePartial, PaddingIsPadded, PaddingOutcomesArePadding, TornOutcomesAreTorn, TooOldIsBelow, AheadIsAbove, AimIsBest, OpeningIsBest, PassedWherePasses, PassesLinked, PassesWherePassed, KeepAlike, OpenAlike, PassAlike, JudgeAlike};
+ghost use Rattle.forwarding_model.specs.Laws.{NeverComplains, AreDecodable, RestartsAtOnce, RestartsLater, EndsAtRoot, EndsAtRootUnpassed, UnpassedAreWithheld, PathsBegin, PathsTellCauses, TakenNeverComplains, OutgoingNeverComplains, EndsAtRootInHistories, AreNumberedInOrder, OnlyGrows, ResendsFirstBytes, ResendsKept, QueuesTheRest, TakesFindPackets, MarkingKeepsWhole, MarkingIsASender, MarkingKeepsCount, FramesAreTrack, FramesAreRead, FramesAreAdded, NewestAreTrack, EndedRunsAreWhole, WholeCutsAreFound, WholeOutcomesAreCuts, PartialOutcomesGoOn, PartialFramesAreUnfinished, UnfinishedCutsArePartial, PaddingIsPadded, PaddingOutcomesArePadding, TornOutcomesAreTorn, TooOldIsBelow, AheadIsAbove, AimIsBest, OpeningIsBest, PassedWherePasses, PassesLinked, PassesWherePassed, KeepAlike, OpenAlike, PassAlike, JudgeAlike};
 ghost use Rattle.forwarding_model.specs.Accepted.{NoComplaintAccepts, AcceptedIsNotComplainedOf, NoComplaintIsOfPackets, CountsAreWhole, FramesAreCounted, ComplaintsHaveTheirPlace};
 ghost use Rattle.forwarding_model.specs.Decisions.{BrokenLinksClose, OtherLinksKeep, BrokenLinksBreak, ReasonsHold, OpensTheBest, OpensWhatItCan, PassesInTarget, FullClaims, BehindClaims, ReferenceClaims, OtherTargetClaims, NoTargetClaims, LinkClaims, UnopenedClaims, NoFrameIsAHole};
 ghost use Rattle.forwarding_model.specs.Making.{WhatWasReadIsInForce, KeyStartsAreNumbered, TheNewestIsTheLast, MasksAreSaid, AllTargetsAreActive, ItemsHaveMarks, FramesAreCuts, CutsAreFrames};
@@ -55,10 +55,12 @@ pub fn broken_links_end_at_a_restart<Structure>()
     ensures later { RestartsLater Structure }
 {}
 
-/// The path of each withheld frame begins at it, falls strictly, ends at a root, and tells the cause of each of its numbers.
+/// The path of each withheld frame begins at it, falls strictly, ends at a root, and tells the cause of each of its numbers. Each frame that
+/// came and didn't pass is withheld.
 pub fn withheld_frames_have_a_path_to_a_root<Structure>()
     ensures root { EndsAtRoot Structure }
     ensures unpassed { EndsAtRootUnpassed Structure }
+    ensures withheld { UnpassedAreWithheld Structure }
     ensures begins { PathsBegin Structure }
     ensures causes { PathsTellCauses Structure }
     ensures history { EndsAtRootInHistories Structure }

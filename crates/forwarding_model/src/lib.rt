@@ -16,7 +16,8 @@ mod target;
 
 pub use complaint::Complaint;
 pub use history_laws::{
-    entries_add_what_they_say, timelines_have_all_frames, words_refuse_what_they_should,
+    entries_add_what_they_say, subscribers_are_known_as_they_joined, timelines_have_all_frames,
+    words_refuse_what_they_should,
 };
 pub use laws::{
     accepted_packets_are_whole_frames, broken_links_end_at_a_restart,

@@ -1,4 +1,4 @@
-use Rattle.forwarding_model.proofs.Refusals.{empty_is_no_path, passed_is_no_root, reference_is_no_root, link_is_no_root, late_passed_is_no_root, paths_name_the_next, later_steps_name_the_next, later_steps_fall, equal_numbers_dont_fall, paths_fall, others_are_no_causes, later_others_are_no_causes, lacks_reference, lacks_farther_reference, lacks_key_frame, is_not_there, others_are_no_restart, incomplete_is_no_restart, switches_must_open, lost_link_is_no_link, lost_link_is_not_kept, closed_is_not_open, frames_since_count, older_frames_since_count, frames_behind_events_count, since_looks_before, others_may_join, joining_is_noted}
+use Rattle.forwarding_model.proofs.Refusals.{empty_is_no_path, passed_is_no_root, reference_is_no_root, link_is_no_root, late_passed_is_no_root, roots_end_paths, passed_leads_nowhere, paths_name_the_next, later_steps_name_the_next, later_steps_fall, equal_numbers_dont_fall, paths_fall, others_are_no_causes, later_others_are_no_causes, causes_of_others_dont_count, lacks_reference, lacks_farther_reference, lacks_middle_reference, lacks_key_frame, is_not_there, others_are_no_restart, incomplete_is_no_restart, switches_must_open, lost_link_is_no_link, link_to_the_opening_counts, lost_link_is_not_kept, nothing_opens_unless_opened, opened_is_open_from_there, closed_is_not_open, frames_since_count, older_frames_since_count, frames_behind_events_count, since_looks_before, others_may_join, joining_is_noted}
 use Rattle.forwarding_model.proofs.history_laws.words_refuse_what_they_should.Goals as goal
 
 pub returns-clause-empty_is_no_path : goal.returns-clause-empty_is_no_path
@@ -15,6 +15,12 @@ returns-clause-link_is_no_root c = link_is_no_root
 
 pub returns-clause-late_passed_is_no_root : goal.returns-clause-late_passed_is_no_root
 returns-clause-late_passed_is_no_root c = late_passed_is_no_root
+
+pub returns-clause-roots_end_paths : goal.returns-clause-roots_end_paths
+returns-clause-roots_end_paths c = roots_end_paths
+
+pub returns-clause-passed_leads_nowhere : goal.returns-clause-passed_leads_nowhere
+returns-clause-passed_leads_nowhere c = passed_leads_nowhere
 
 pub returns-clause-paths_name_the_next : goal.returns-clause-paths_name_the_next
 returns-clause-paths_name_the_next c = paths_name_the_next
@@ -37,11 +43,17 @@ returns-clause-others_are_no_causes c = others_are_no_causes
 pub returns-clause-later_others_are_no_causes : goal.returns-clause-later_others_are_no_causes
 returns-clause-later_others_are_no_causes c = later_others_are_no_causes
 
+pub returns-clause-causes_of_others_dont_count : goal.returns-clause-causes_of_others_dont_count
+returns-clause-causes_of_others_dont_count c = causes_of_others_dont_count
+
 pub returns-clause-lacks_reference : goal.returns-clause-lacks_reference
 returns-clause-lacks_reference c = lacks_reference
 
 pub returns-clause-lacks_farther_reference : goal.returns-clause-lacks_farther_reference
 returns-clause-lacks_farther_reference c = lacks_farther_reference
+
+pub returns-clause-lacks_middle_reference : goal.returns-clause-lacks_middle_reference
+returns-clause-lacks_middle_reference c = lacks_middle_reference
 
 pub returns-clause-lacks_key_frame : goal.returns-clause-lacks_key_frame
 returns-clause-lacks_key_frame c = lacks_key_frame
@@ -61,8 +73,17 @@ returns-clause-switches_must_open c = switches_must_open
 pub returns-clause-lost_link_is_no_link : goal.returns-clause-lost_link_is_no_link
 returns-clause-lost_link_is_no_link c = lost_link_is_no_link
 
+pub returns-clause-link_to_the_opening_counts : goal.returns-clause-link_to_the_opening_counts
+returns-clause-link_to_the_opening_counts c = link_to_the_opening_counts
+
 pub returns-clause-lost_link_is_not_kept : goal.returns-clause-lost_link_is_not_kept
 returns-clause-lost_link_is_not_kept c = lost_link_is_not_kept
+
+pub returns-clause-nothing_opens_unless_opened : goal.returns-clause-nothing_opens_unless_opened
+returns-clause-nothing_opens_unless_opened c = nothing_opens_unless_opened
+
+pub returns-clause-opened_is_open_from_there : goal.returns-clause-opened_is_open_from_there
+returns-clause-opened_is_open_from_there c = opened_is_open_from_there
 
 pub returns-clause-closed_is_not_open : goal.returns-clause-closed_is_not_open
 returns-clause-closed_is_not_open c = closed_is_not_open

@@ -1,4 +1,5 @@
 use Rattle.forwarding_model.specs.Causes.{cause}
+use Rattle.forwarding_model.proofs.Causes.{unpassed_are_withheld}
 use Rattle.forwarding_model.proofs.Paths.{withheld_path, unpassed_path, path_begins, path_tells}
 use Rattle.forwarding_model.proofs.Histories.{withheld_path_in_history}
 use Rattle.forwarding_model.proofs.laws.withheld_frames_have_a_path_to_a_root.Goals as goal
@@ -17,3 +18,6 @@ returns-clause-causes g c = λ wish events n. path_tells (cause wish events) n
 
 pub returns-clause-history : goal.returns-clause-history
 returns-clause-history g c = withheld_path_in_history
+
+pub returns-clause-withheld : goal.returns-clause-withheld
+returns-clause-withheld g c = unpassed_are_withheld
