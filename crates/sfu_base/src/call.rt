@@ -1,16 +1,20 @@
 // The calls on a room and their replies.
-use crate::frame::Wish;
+use crate::frame::{Verdict, Wish};
 use crate::{PacketBuf, SeqList};
+use thiserror::Error;
 
 /// What a track carries.
 #[derive(Clone, Copy, Debug, PartialEq, Eq)]
 pub enum Kind {
     /// Packets that pass as they come.
     Plain,
+    /// AV1 packets (RTP Payload Format For AV1), each with a dependency descriptor in the header extension element of this id, 1 to 14 or
+    /// 16 to 255 (RFC 8285, section 4).
+    Layered { id: u8 },
 }
 
 /// A call on a room. Own rule. Tracks and subscribers are named by numbers that the caller chooses.
-#[derive(Drop)]
+#[derive(Debug, Drop)]
 pub enum Call {
     /// A track begins: its packets have this SSRC; `hold` is how long a gap in their sequence numbers is waited for, in milliseconds.
     Publish {
@@ -19,11 +23,20 @@ pub enum Call {
         ssrc: u32,
         hold: u32,
     },
+    /// A track ends. Its subscribers stay: what waits for them can still be taken.
+    Unpublish {
+        track: u32,
+    },
     /// An RTP packet of the track came at a moment in milliseconds.
     Packet {
         track: u32,
         moment: u64,
         bytes: PacketBuf,
+    },
+    /// It is this moment, in milliseconds: gaps of the track that were waited for long enough are given up.
+    Tick {
+        track: u32,
+        moment: u64,
     },
     /// A subscriber of the track begins: what goes out to it has this SSRC and sequence numbers from `first` on; `wish` bounds the
     /// layers of a layered track.
@@ -34,24 +47,60 @@ pub enum Call {
         first: u16,
         wish: Wish,
     },
+    /// The subscriber ends.
+    Leave {
+        subscriber: u32,
+    },
+    /// The subscriber wishes for other layers from the next frame on.
+    Aim {
+        subscriber: u32,
+        wish: Wish,
+    },
     /// The subscriber's oldest queued packet is asked for.
     Take {
         subscriber: u32,
     },
+    /// The packet that the subscriber took under this sequence number is asked for again (RFC 4585, section 6.2.1).
+    Resend {
+        subscriber: u32,
+        seq: u16,
+    },
+    /// The sequence numbers that the track waits for are asked for.
+    Missing {
+        track: u32,
+    },
+    /// Whether the track's publisher is to be asked for a key frame.
+    KeyWanted {
+        track: u32,
+    },
+    /// The subscriber wants a key frame (RFC 4585, section 6.3.1).
+    Plead {
+        subscriber: u32,
+    },
+    /// Why the frame with this number, without the wrap at 65,536, was or wasn't passed on to the subscriber.
+    Why {
+        subscriber: u32,
+        number: u64,
+    },
 }
 
 /// Why bytes aren't an RTP packet (RFC 3550, section 5.1), the first that stands.
-#[derive(Clone, Copy, Debug, PartialEq, Eq)]
+#[derive(Clone, Copy, Debug, PartialEq, Eq, Error)]
 pub enum RtpFault {
     /// Fewer than 12 bytes.
+    #[error("fewer than 12 bytes")]
     Short,
     /// The version isn't 2.
+    #[error("the version isn't 2")]
     Version,
     /// The CSRC words aren't all there.
+    #[error("the CSRC words aren't all there")]
     Csrc,
     /// The header extension isn't all there.
+    #[error("the header extension isn't all there")]
     Extension,
     /// The padding count is 0, or more than the bytes behind the header.
+    #[error("the padding count is 0 or too great")]
     Padding,
 }
 
@@ -62,8 +111,38 @@ pub enum Refusal {
     NotBuilt,
     /// The packet isn't the track's next one: its sequence number isn't `next`, the one that follows the track's last.
     OutOfOrder { next: u16 },
+    /// No live track has this number, or the subscriber's track ended.
+    NoTrack,
+    /// No live subscriber has this number.
+    NoSubscriber,
+    /// The number is at most `highest`, the highest that was ever live.
+    NumberUsed { highest: u32 },
+    /// So many are live, and no more may be.
+    TooMany { live: u32 },
+    /// The header extension id is 0, which is padding, or 15, which ends processing (RFC 8285, section 4.2).
+    BadExtensionId,
+    /// The packet has `len` bytes, more than 1,500.
+    TooBig { len: u32 },
+    /// The bytes aren't an RTP packet.
+    Unreadable(RtpFault),
+    /// The packet's SSRC is `got`, and the track's is `wanted`.
+    WrongSsrc { got: u32, wanted: u32 },
+    /// The packet's number, without the wrap at 65,536, is 2^46 or more.
+    Spent,
+    /// The packet's number, without the wrap at 65,536, is below `next`, which the track waits for.
+    Late { next: u64 },
+    /// A packet with this number is held already.
+    Repeat,
     /// Nothing is queued.
     Empty,
+    /// The packet isn't kept: `oldest` is the oldest kept number, `next` the number of the next take.
+    NotKept { oldest: u16, next: u16 },
+    /// The number is above `newest`, the newest frame's, or there is no frame.
+    Ahead { newest: Option<u64> },
+    /// The number is too far below the newest frame's: `oldest` is the oldest that is known.
+    TooOld { oldest: u64 },
+    /// The subscriber's track is plain.
+    Plain,
     /// Want of memory: the one refusal that the calls before don't determine.
     NoMemory,
 }
@@ -75,12 +154,18 @@ pub enum Reply {
     Done,
     /// A packet, whose bytes stand in `packet` of the scratch.
     Packet,
+    /// Sequence numbers, which stand in `names` of the scratch.
+    Names,
+    /// Whether the publisher is to be asked for a key frame.
+    Key { wanted: bool },
+    /// Why a frame was or wasn't passed on.
+    Cause(Verdict),
     /// The call was refused.
     Refused(Refusal),
 }
 
 /// Where a call leaves the bytes and the numbers of its reply. Made once and used for many calls.
-#[derive(Drop)]
+#[derive(Debug, Drop)]
 pub struct Scratch {
     /// The bytes of a packet.
     pub packet: PacketBuf,
