@@ -3,9 +3,9 @@ use Rattle.std.proofs.Common.{zero, suc, ◌≡◌, ◌≤◌, ℕ, ◌-◌, eqb
 use Rattle.std.specs.Prelude.{fold, nat_lt, slice_get}
 use Rattle.std.proofs.lemmas.List.{take-append-le, append-nil}
 use Rattle.std.proofs.lemmas.Option.{slice_get_within}
-use Rattle.sfu_base.specs.Answer.{Answer, Done, Sent, Refused}
+use Rattle.sfu_base.specs.Answer.{Answer, Done, Sent, Named, KeyIs, Told, Refused}
 use Rattle.sfu_base.specs.declared.call.Call.{Call}
-use Rattle.sfu_base.specs.declared.call.Call.TheVariants.{Publish, Packet, Join, Take}
+use Rattle.sfu_base.specs.declared.call.Call.TheVariants.{Publish, Packet, Join, Take, Unpublish, Tick, Leave, Aim, Resend, Missing, KeyWanted, Plead, Why}
 use Rattle.sfu_base.specs.declared.call.Refusal.TheVariants.{NotBuilt, OutOfOrder}
 use Rattle.rtp_packet.specs.Fields.{sequence_of}
 use Rattle.room_core.specs.Live.{Joined, joined, newest, following}
@@ -42,31 +42,39 @@ take_next (suc n) (y ∷ ys) x e = ap (λ (zs : List (List ℕ)). y ∷ zs) (tak
 
 -- ---- which calls are answered with a packet
 
-done_not_sent : (b : Bool) (bytes : List ℕ) → cond b (Refused NotBuilt) Done ≡ Sent bytes → ⊥
-done_not_sent true bytes e = cc
-done_not_sent false bytes e = cc
+-- an answer that neither sends a packet nor tells anything
+abbrev IsDoneOrRefused : Answer → Type 0
+IsDoneOrRefused Done = Unit {0}
+IsDoneOrRefused (Refused why) = Unit {0}
+IsDoneOrRefused answer = ⊥
 
-in_order_not_sent : (sequence : ℕ) (last : Option ℕ) (bytes : List ℕ) → answer_in_order sequence last ≡ Sent bytes → ⊥
-in_order_not_sent sequence None bytes e = cc
-in_order_not_sent sequence (Some last) bytes e = by_test (eqb sequence (following last)) e
+in_order_is : (sequence : ℕ) (last : Option ℕ) → IsDoneOrRefused (answer_in_order sequence last)
+in_order_is sequence None = tt
+in_order_is sequence (Some last) = by_test (eqb sequence (following last))
   where
-    by_test : (b : Bool) → cond b Done (Refused (OutOfOrder (following last))) ≡ Sent bytes → ⊥
-    by_test true e = cc
-    by_test false e = cc
+    by_test : (b : Bool) → IsDoneOrRefused (cond b Done (Refused (OutOfOrder (following last))))
+    by_test true = tt
+    by_test false = tt
 
-packet_not_sent : (b : Bool) (sequence : ℕ) (last : Option ℕ) (bytes : List ℕ) → cond b (Refused NotBuilt) (answer_in_order sequence last) ≡ Sent bytes → ⊥
-packet_not_sent true sequence last bytes e = cc
-packet_not_sent false sequence last bytes e = in_order_not_sent sequence last bytes e
+if_built : (not_built : Bool) (built : Answer) → IsDoneOrRefused built → IsDoneOrRefused (cond not_built (Refused NotBuilt) built)
+if_built true built is = tt
+if_built false built is = is
+
+-- an answer that sends a packet or is a refusal
+abbrev IsSentOrRefused : Answer → Type 0
+IsSentOrRefused (Sent bytes) = Unit {0}
+IsSentOrRefused (Refused why) = Unit {0}
+IsSentOrRefused answer = ⊥
+
+take_is : (not_built : Bool) (oldest : Option (List ℕ)) → IsSentOrRefused (cond not_built (Refused NotBuilt) (answer_oldest oldest))
+take_is true oldest = tt
+take_is false None = tt
+take_is false (Some bytes) = tt
 
 take_sends : (b : Bool) (oldest : Option (List ℕ)) (bytes : List ℕ) → cond b (Refused NotBuilt) (answer_oldest oldest) ≡ Sent bytes → oldest ≡ Some bytes
 take_sends true oldest bytes e = cc
 take_sends false None bytes e = cc
 take_sends false (Some x) bytes e = let same : x ≡ bytes = cc in ap Some same
-
-take_not_done : (b : Bool) (oldest : Option (List ℕ)) → cond b (Refused NotBuilt) (answer_oldest oldest) ≡ Done → ⊥
-take_not_done true oldest e = cc
-take_not_done false None e = cc
-take_not_done false (Some x) e = cc
 
 -- ---- one call, and all of them
 
@@ -74,32 +82,62 @@ take_not_done false (Some x) e = cc
 nothing_sent : (past : List Call) (call : Call) → answer past call ≡ Done → handed_out (call ∷ past) ≡ handed_out past
 nothing_sent past call is = ap (λ (a : Answer). handed_out past ++ sent a) is ∙ append-nil (handed_out past)
 
-on_answer : (past : List Call) (call : Call) (given : Answer) → answer past call ≡ given → HandsOutTheFirst past → HandsOutTheFirst (after given call past)
-on_answer past call (Refused why) is h = h
-on_answer past (Publish track kind ssrc hold) Done is h = record { first = nothing_sent past (Publish track kind ssrc hold) is ∙ h.first; no_more = h.no_more }
-on_answer past (Publish track kind ssrc hold) (Sent bytes) is h = absurd (done_not_sent (is_not_built past (Publish track kind ssrc hold)) bytes is)
-on_answer past (Packet track moment packet) Done is h =
-    let more = one_more (joined past) (taken past) packet (outgoing_list past) h.no_more in
-    record { first = nothing_sent past (Packet track moment packet) is ∙ h.first ∙ sym more.0; no_more = more.1 }
-on_answer past (Packet track moment packet) (Sent bytes) is h =
-    absurd (packet_not_sent (is_not_built past (Packet track moment packet)) (sequence_of packet) (newest past) bytes is)
-on_answer past (Join subscriber track ssrc first wish) Done is h = record { first = nothing_sent past (Join subscriber track ssrc first wish) is ∙ h.first; no_more = h.no_more }
-on_answer past (Join subscriber track ssrc first wish) (Sent bytes) is h = absurd (done_not_sent (is_not_built past (Join subscriber track ssrc first wish)) bytes is)
-on_answer past (Take subscriber) Done is h = absurd (take_not_done (is_not_built past (Take subscriber)) (slice_get (outgoing_list past) (taken past)) is)
-on_answer past (Take subscriber) (Sent bytes) is h =
+-- a call that is done or refused, and neither sends nor takes
+quiet : (past : List Call) (call : Call) (given : Answer) → answer past call ≡ given → IsDoneOrRefused given
+    → (take (taken (call ∷ past)) (outgoing_list (call ∷ past)) ≡ take (taken past) (outgoing_list past)) × (taken (call ∷ past) ≤ length (outgoing_list (call ∷ past)))
+    → HandsOutTheFirst past → HandsOutTheFirst (after given call past)
+quiet past call Done is calm same h = record { first = nothing_sent past call is ∙ h.first ∙ sym same.0; no_more = same.1 }
+quiet past call (Refused why) is calm same h = h
+quiet past call (Sent bytes) is calm same h = absurd calm
+quiet past call (Named numbers) is calm same h = absurd calm
+quiet past call (KeyIs wanted) is calm same h = absurd calm
+quiet past call (Told verdict) is calm same h = absurd calm
+
+took : (past : List Call) (subscriber : ℕ) (given : Answer) → answer past (Take subscriber) ≡ given → IsSentOrRefused given
+    → HandsOutTheFirst past → HandsOutTheFirst (after given (Take subscriber) past)
+took past subscriber (Sent bytes) is sends h =
     let oldest : slice_get (outgoing_list past) (taken past) ≡ Some bytes = take_sends (is_not_built past (Take subscriber)) (slice_get (outgoing_list past) (taken past)) bytes is in
     record {
       first = ap (λ (a : Answer). handed_out past ++ sent a) is ∙ ap (λ (xs : List (List ℕ)). xs ++ bytes ∷ []) h.first
           ∙ sym (take_next (taken past) (outgoing_list past) bytes oldest);
       no_more = slice_get_within (outgoing_list past) (taken past) bytes oldest;
     }
+took past subscriber (Refused why) is sends h = h
+took past subscriber Done is sends h = absurd sends
+took past subscriber (Named numbers) is sends h = absurd sends
+took past subscriber (KeyIs wanted) is sends h = absurd sends
+took past subscriber (Told verdict) is sends h = absurd sends
+
+on_answer : (past : List Call) (call : Call) → HandsOutTheFirst past → HandsOutTheFirst (after (answer past call) call past)
+on_answer past (Publish track kind ssrc hold) h =
+    quiet past (Publish track kind ssrc hold) (answer past (Publish track kind ssrc hold)) refl
+    (if_built (is_not_built past (Publish track kind ssrc hold)) Done tt) (refl, h.no_more) h
+on_answer past (Packet track moment packet) h =
+    quiet past (Packet track moment packet) (answer past (Packet track moment packet)) refl
+    (if_built (is_not_built past (Packet track moment packet)) (answer_in_order (sequence_of packet) (newest past)) (in_order_is (sequence_of packet) (newest past)))
+    (one_more (joined past) (taken past) packet (outgoing_list past) h.no_more) h
+on_answer past (Join subscriber track ssrc first wish) h =
+    quiet past (Join subscriber track ssrc first wish) (answer past (Join subscriber track ssrc first wish)) refl
+    (if_built (is_not_built past (Join subscriber track ssrc first wish)) Done tt) (refl, h.no_more) h
+on_answer past (Take subscriber) h =
+    took past subscriber (answer past (Take subscriber)) refl
+    (take_is (is_not_built past (Take subscriber)) (slice_get (outgoing_list past) (taken past))) h
+on_answer past (Unpublish track) h = h
+on_answer past (Tick track moment) h = h
+on_answer past (Leave subscriber) h = h
+on_answer past (Aim subscriber wish) h = h
+on_answer past (Resend subscriber sequence) h = h
+on_answer past (Missing track) h = h
+on_answer past (KeyWanted track) h = h
+on_answer past (Plead subscriber) h = h
+on_answer past (Why subscriber number) h = h
 
 on_entry : (past : List Call) (entry : Entry) → HandsOutTheFirst past → HandsOutTheFirst (after_entry past entry)
 on_entry past entry h = by_starved entry.starved
   where
     by_starved : (starved : Bool) → HandsOutTheFirst (cond starved past (after (answer past entry.call) entry.call past))
     by_starved true = h
-    by_starved false = on_answer past entry.call (answer past entry.call) refl h
+    by_starved false = on_answer past entry.call h
 
 on_history : (history : List Entry) (past : List Call) → HandsOutTheFirst past → HandsOutTheFirst (fold after_entry past history)
 on_history [] past h = h

@@ -31,8 +31,8 @@ packet_answer past old known track moment bytes h at number =
 -- a packet that passes to the subscriber
 pub packet_passes : (old : Content) (known known' : Track) (s s' : Subscriber) (track : ℕ) (bytes : List ℕ) → old.track ≡ Some known → is_track track (Some (published_by known)) ≡ true
     → (marker : Bool) → ArrivesAs known known' bytes (Ok marker) → old.subscriber ≡ Some s → Passes s s' bytes
-    → (moment : ℕ) (left : List ℕ) → Does old (record { track = Some known'; subscriber = Some s' }) (call.Packet track moment bytes) reply.Done left
-packet_passes old known known' s s' track bytes at number marker a there p moment left = record {
+    → (moment : ℕ) (left numbers : List ℕ) → Does old (record { track = Some known'; subscriber = Some s' }) (call.Packet track moment bytes) reply.Done left numbers
+packet_passes old known known' s s' track bytes at number marker a there p moment left numbers = record {
   answered = λ past h. sym (packet_answer past old known track moment bytes h at number ∙ a.answered.0);
   done = λ past h. rw (packet_answer past old known track moment bytes h at number ∙ a.answered.0) (record {
     track = ap (λ (t : Track). Some (published_by t)) a.left ∙ ap (option_map published_by) (sym at) ∙ h.track;

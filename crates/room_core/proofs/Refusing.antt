@@ -4,7 +4,7 @@ use Rattle.std.specs.Prelude.{◌↔◌, IsTrue, slice_get}
 use Rattle.std.proofs.lemmas.Bool.Decides.{nat_tests}
 use Rattle.sfu_base.specs.Answer.{Answer, Done, Refused, answer_of}
 use Rattle.sfu_base.specs.declared.call.Call.{Call}
-use Rattle.sfu_base.specs.declared.call.Call.TheVariants.{Publish, Packet, Join, Take}
+use Rattle.sfu_base.specs.declared.call.Call.TheVariants.{Publish, Packet, Join, Take, Unpublish, Tick, Leave, Aim, Resend, Missing, KeyWanted, Plead, Why}
 use Rattle.sfu_base.specs.declared.call.Reply.{Reply}
 use Rattle.sfu_base.specs.declared.call.Reply.TheVariants as reply
 use Rattle.sfu_base.specs.declared.call.Refusal.{Refusal}
@@ -19,10 +19,13 @@ use Rattle.room_core.specs.Replies.{answer, answer_in_order, answer_oldest, buil
 use Rattle.room_core.specs.Serves.{IsNothingQueued, IsOutOfOrder, RefusesExactly, Stands}
 
 -- a reply is a refusal where its answer is
-refusal_seen : (given : Reply) (bytes : List ℕ) (why : Refusal) → answer_of given bytes ≡ Refused why → given ≡ reply.Refused why
-refusal_seen reply.Done bytes why e = cc
-refusal_seen reply.Packet bytes why e = cc
-refusal_seen (reply.Refused other) bytes why e = let same : other ≡ why = cc in ap reply.Refused same
+refusal_seen : (given : Reply) (bytes numbers : List ℕ) (why : Refusal) → answer_of given bytes numbers ≡ Refused why → given ≡ reply.Refused why
+refusal_seen reply.Done bytes numbers why e = cc
+refusal_seen reply.Packet bytes numbers why e = cc
+refusal_seen reply.Names bytes numbers why e = cc
+refusal_seen (reply.Key wanted) bytes numbers why e = cc
+refusal_seen (reply.Cause verdict) bytes numbers why e = cc
+refusal_seen (reply.Refused other) bytes numbers why e = let same : other ≡ why = cc in ap reply.Refused same
 
 -- ---- what a call that is built is answered
 
@@ -43,6 +46,15 @@ built_is_built past (Publish track kind ssrc hold) e = cc
 built_is_built past (Packet track moment bytes) e = in_order_not_built (sequence_of bytes) (newest past) e
 built_is_built past (Join subscriber track ssrc first wish) e = cc
 built_is_built past (Take subscriber) e = oldest_not_built (slice_get (outgoing_list past) (taken past)) e
+built_is_built past (Unpublish track) e = cc
+built_is_built past (Tick track moment) e = cc
+built_is_built past (Leave subscriber) e = cc
+built_is_built past (Aim subscriber wish) e = cc
+built_is_built past (Resend subscriber sequence) e = cc
+built_is_built past (Missing track) e = cc
+built_is_built past (KeyWanted track) e = cc
+built_is_built past (Plead subscriber) e = cc
+built_is_built past (Why subscriber number) e = cc
 
 -- a choice by whether a call is built
 not_built_test : (b : Bool) (built : Answer) → (built ≡ Refused NotBuilt → ⊥) → cond b (Refused NotBuilt) built ≡ Refused NotBuilt → b ≡ true
@@ -104,6 +116,15 @@ refused_out_of_order past (Take subscriber) next = (
     by_oldest : (oldest : Option (List ℕ)) → answer_oldest oldest ≡ Refused (OutOfOrder next) → ⊥
     by_oldest None e = cc
     by_oldest (Some bytes) e = cc
+refused_out_of_order past (Unpublish track) next = (λ e. cc, λ no_way. absurd no_way)
+refused_out_of_order past (Tick track moment) next = (λ e. cc, λ no_way. absurd no_way)
+refused_out_of_order past (Leave subscriber) next = (λ e. cc, λ no_way. absurd no_way)
+refused_out_of_order past (Aim subscriber wish) next = (λ e. cc, λ no_way. absurd no_way)
+refused_out_of_order past (Resend subscriber sequence) next = (λ e. cc, λ no_way. absurd no_way)
+refused_out_of_order past (Missing track) next = (λ e. cc, λ no_way. absurd no_way)
+refused_out_of_order past (KeyWanted track) next = (λ e. cc, λ no_way. absurd no_way)
+refused_out_of_order past (Plead subscriber) next = (λ e. cc, λ no_way. absurd no_way)
+refused_out_of_order past (Why subscriber number) next = (λ e. cc, λ no_way. absurd no_way)
 
 -- ---- nothing queued
 
@@ -146,22 +167,31 @@ refused_empty past (Take subscriber) = (
     by_oldest : (oldest : Option (List ℕ)) → answer_oldest oldest ≡ Refused Empty → oldest ≡ None
     by_oldest None e = refl
     by_oldest (Some bytes) e = cc
+refused_empty past (Unpublish track) = (λ e. cc, λ no_way. absurd no_way)
+refused_empty past (Tick track moment) = (λ e. cc, λ no_way. absurd no_way)
+refused_empty past (Leave subscriber) = (λ e. cc, λ no_way. absurd no_way)
+refused_empty past (Aim subscriber wish) = (λ e. cc, λ no_way. absurd no_way)
+refused_empty past (Resend subscriber sequence) = (λ e. cc, λ no_way. absurd no_way)
+refused_empty past (Missing track) = (λ e. cc, λ no_way. absurd no_way)
+refused_empty past (KeyWanted track) = (λ e. cc, λ no_way. absurd no_way)
+refused_empty past (Plead subscriber) = (λ e. cc, λ no_way. absurd no_way)
+refused_empty past (Why subscriber number) = (λ e. cc, λ no_way. absurd no_way)
 
 -- ---- on a room
 
-pub refuses_exactly : {R : Type 0} (noted : R → Option (List Noted)) (room : Room R) (call : Call) (given : Reply) (bytes : List ℕ)
-    → ((history : List Entry) → Stands noted room history → answer_of given bytes ≡ reply_of history call) → RefusesExactly noted room call given
-refuses_exactly noted room call given bytes is = record {
+pub refuses_exactly : {R : Type 0} (noted : R → Option (List Noted)) (room : Room R) (call : Call) (given : Reply) (bytes numbers : List ℕ)
+    → ((history : List Entry) → Stands noted room history → answer_of given bytes numbers ≡ reply_of history call) → RefusesExactly noted room call given
+refuses_exactly noted room call given bytes numbers is = record {
   not_built = λ history stands fed. (
-    λ e. (refused_not_built (accepted history) call).0 (sym (is history stands) ∙ ap (λ (r : Reply). answer_of r bytes) e),
-    λ not. refusal_seen given bytes NotBuilt (is history stands ∙ (refused_not_built (accepted history) call).1 not),
+    λ e. (refused_not_built (accepted history) call).0 (sym (is history stands) ∙ ap (λ (r : Reply). answer_of r bytes numbers) e),
+    λ not. refusal_seen given bytes numbers NotBuilt (is history stands ∙ (refused_not_built (accepted history) call).1 not),
   );
   out_of_order = λ history stands fed next. (
-    λ e. (refused_out_of_order (accepted history) call next).0 (sym (is history stands) ∙ ap (λ (r : Reply). answer_of r bytes) e),
-    λ out. refusal_seen given bytes (OutOfOrder next) (is history stands ∙ (refused_out_of_order (accepted history) call next).1 out),
+    λ e. (refused_out_of_order (accepted history) call next).0 (sym (is history stands) ∙ ap (λ (r : Reply). answer_of r bytes numbers) e),
+    λ out. refusal_seen given bytes numbers (OutOfOrder next) (is history stands ∙ (refused_out_of_order (accepted history) call next).1 out),
   );
   empty = λ history stands fed. (
-    λ e. (refused_empty (accepted history) call).0 (sym (is history stands) ∙ ap (λ (r : Reply). answer_of r bytes) e),
-    λ none. refusal_seen given bytes Empty (is history stands ∙ (refused_empty (accepted history) call).1 none),
+    λ e. (refused_empty (accepted history) call).0 (sym (is history stands) ∙ ap (λ (r : Reply). answer_of r bytes numbers) e),
+    λ none. refusal_seen given bytes numbers Empty (is history stands ∙ (refused_empty (accepted history) call).1 none),
   );
 }

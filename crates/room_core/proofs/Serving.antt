@@ -24,10 +24,10 @@ keeps_more (Some old) (Some new) history seat call starved fed notes h =
     ∙ sym (flat_map-append noted_of history (record { seat = seat; call = call; starved = starved } ∷ [])
     ∙ ap (λ (t : Bool). kept history ++ (cond t [] (record { seat = seat; call = call } ∷ []) ++ [])) fed)
 
-served : {R : Type 0} (noted : R → Option (List Noted)) (old new : Room R) (seat : ℕ) (call : Call) (given : Reply) (bytes : List ℕ)
-    → Does old.content new.content call given bytes → is_starved given ≡ false → Notes (noted old.recorder) (noted new.recorder) seat call
-    → Serves noted old new seat call given bytes
-served noted old new seat call given bytes does fed notes = record {
+served : {R : Type 0} (noted : R → Option (List Noted)) (old new : Room R) (seat : ℕ) (call : Call) (given : Reply) (bytes numbers : List ℕ)
+    → Does old.content new.content call given bytes numbers → is_starved given ≡ false → Notes (noted old.recorder) (noted new.recorder) seat call
+    → Serves noted old new seat call given bytes numbers
+served noted old new seat call given bytes numbers does fed notes = record {
   answered = λ history stands _. does.answered (accepted history) stands.content_is;
   stands = λ history stands.
       let entry : Entry = record { seat = seat; call = call; starved = is_starved given } in
@@ -41,12 +41,12 @@ served noted old new seat call given bytes does fed notes = record {
 }
 
 pub done_as_served : {R : Type 0} (noted : R → Option (List Noted)) (may_refuse : R → Bool) (old new : Room R) (seat : ℕ) (call : Call) (given : Reply)
-    → ((bytes : List ℕ) → Does old.content new.content call given bytes) → is_starved given ≡ false → Notes (noted old.recorder) (noted new.recorder) seat call
+    → ((bytes numbers : List ℕ) → Does old.content new.content call given bytes numbers) → is_starved given ≡ false → Notes (noted old.recorder) (noted new.recorder) seat call
     → OnRefused given (IsUnchanged old new) → may_refuse new.recorder ≡ may_refuse old.recorder
     → DoesAsServe noted may_refuse old new seat call given
 done_as_served noted may_refuse old new seat call given does fed notes unchanged same = record {
-  serves = λ bytes. served noted old new seat call given bytes (does bytes) fed notes;
-  refusals = refuses_exactly noted old call given [] (λ history stands. (does []).answered (accepted history) stands.content_is);
+  serves = λ bytes numbers. served noted old new seat call given bytes numbers (does bytes numbers) fed notes;
+  refusals = refuses_exactly noted old call given [] [] (λ history stands. (does [] []).answered (accepted history) stands.content_is);
   unchanged = unchanged;
   memory = λ starved. let both : false ≡ true = sym fed ∙ starved in cc;
   last = λ history stands starved. let both : false ≡ true = sym fed ∙ starved in cc;

@@ -29,12 +29,12 @@ first_same : (past : List Call) (s s' : Subscriber) → joined_by s' ≡ joined_
 first_same past s s' same = ap (λ (j : Joined). (j.first + length (outgoing_list past)) % 65536) (sym same)
 
 -- the reply and the content, by what is left to take
-take_cases : (past : List Call) (old : Content) (s s' : Subscriber) (subscriber : ℕ) (found : Bool) (before bytes : List ℕ) (oldest : Option (List ℕ))
+take_cases : (past : List Call) (old : Content) (s s' : Subscriber) (subscriber : ℕ) (found : Bool) (before bytes numbers : List ℕ) (oldest : Option (List ℕ))
     → IsAfter old past → option_map joined_by (Some s) ≡ joined past → IsRest s.first (taken past) (outgoing_list past) s.queue s.next → Takes s s' found before bytes
     → slice_get (outgoing_list past) (taken past) ≡ oldest → HandsOut oldest found before bytes
-    → (answer_of (take_reply found) bytes ≡ answer_oldest oldest) × IsAfter (record { track = old.track; subscriber = Some s' }) (after (answer_oldest oldest) (call.Take subscriber) past)
-take_cases past old s s' subscriber found before bytes None h j rest t e g = (
-  ap (λ (b : Bool). answer_of (take_reply b) bytes) g.0,
+    → (answer_of (take_reply found) bytes numbers ≡ answer_oldest oldest) × IsAfter (record { track = old.track; subscriber = Some s' }) (after (answer_oldest oldest) (call.Take subscriber) past)
+take_cases past old s s' subscriber found before bytes numbers None h j rest t e g = (
+  ap (λ (b : Bool). answer_of (take_reply b) bytes numbers) g.0,
   record {
     track = h.track;
     newest = h.newest;
@@ -46,8 +46,8 @@ take_cases past old s s' subscriber found before bytes None h j rest t e g = (
     };
   },
 )
-take_cases past old s s' subscriber found before bytes (Some packet) h j rest t e g = (
-  ap (λ (b : Bool). answer_of (take_reply b) bytes) g.0 ∙ ap Sent g.1,
+take_cases past old s s' subscriber found before bytes numbers (Some packet) h j rest t e g = (
+  ap (λ (b : Bool). answer_of (take_reply b) bytes numbers) g.0 ∙ ap Sent g.1,
   record {
     track = h.track;
     newest = h.newest;
@@ -61,10 +61,10 @@ take_cases past old s s' subscriber found before bytes (Some packet) h j rest t 
 )
 
 -- a take of the subscriber that is there
-take_does : (old : Content) (s s' : Subscriber) (subscriber : ℕ) (found : Bool) (before bytes : List ℕ) → old.subscriber ≡ Some s → s.number ≡ subscriber → Takes s s' found before bytes
-    → Does old (record { track = old.track; subscriber = Some s' }) (call.Take subscriber) (take_reply found) bytes
-take_does old s s' subscriber found before bytes at number t =
-    let both : (past : List Call) → IsAfter old past → (answer_of (take_reply found) bytes ≡ answer past (call.Take subscriber))
+take_does : (old : Content) (s s' : Subscriber) (subscriber : ℕ) (found : Bool) (before bytes numbers : List ℕ) → old.subscriber ≡ Some s → s.number ≡ subscriber → Takes s s' found before bytes
+    → Does old (record { track = old.track; subscriber = Some s' }) (call.Take subscriber) (take_reply found) bytes numbers
+take_does old s s' subscriber found before bytes numbers at number t =
+    let both : (past : List Call) → IsAfter old past → (answer_of (take_reply found) bytes numbers ≡ answer past (call.Take subscriber))
     × IsAfter (record { track = old.track; subscriber = Some s' }) (after (answer past (call.Take subscriber)) (call.Take subscriber) past) = λ past h.
     let j : option_map joined_by (Some s) ≡ joined past = ap (option_map joined_by) (sym at) ∙ h.subscriber in
     let rest : QueuesFor past (Some s) = subst (QueuesFor past) at h.queue in
@@ -73,18 +73,18 @@ take_does old s s' subscriber found before bytes at number t =
     ∙ ap (λ (b : Bool). cond (not b) (Refused NotBuilt) (answer_oldest (slice_get (outgoing_list past) (taken past)))) (eq-eqb subscriber s.number (sym number)) in
     let waits : slice_get s.queue 0 ≡ slice_get (outgoing_list past) (taken past) = ap (λ (q : List (List ℕ)). slice_get q 0) rest.queue_is ∙ first_of_rest (taken past) (outgoing_list past) in
     let gives : HandsOut (slice_get (outgoing_list past) (taken past)) found before bytes = subst (λ (o : Option (List ℕ)). HandsOut o found before bytes) waits t.given in
-    let cases = take_cases past old s s' subscriber found before bytes (slice_get (outgoing_list past) (taken past)) h j rest t refl gives in
+    let cases = take_cases past old s s' subscriber found before bytes numbers (slice_get (outgoing_list past) (taken past)) h j rest t refl gives in
     rw is cases in
     record { answered = λ past h. (both past h).0; done = λ past h. (both past h).1 }
 
-pub take_finds : (old : Content) (s s' : Subscriber) (subscriber : ℕ) (found : Bool) (before bytes : List ℕ) → old.subscriber ≡ Some s → s.number ≡ subscriber → Takes s s' found before bytes → found ≡ true
-    → Does old (record { track = old.track; subscriber = Some s' }) (call.Take subscriber) reply.Packet bytes
-take_finds old s s' subscriber found before bytes at number t is =
-    let P : Bool → Type 0 = λ b. Does old (record { track = old.track; subscriber = Some s' }) (call.Take subscriber) (take_reply b) bytes in
-    subst P is (take_does old s s' subscriber found before bytes at number t)
+pub take_finds : (old : Content) (s s' : Subscriber) (subscriber : ℕ) (found : Bool) (before bytes numbers : List ℕ) → old.subscriber ≡ Some s → s.number ≡ subscriber → Takes s s' found before bytes → found ≡ true
+    → Does old (record { track = old.track; subscriber = Some s' }) (call.Take subscriber) reply.Packet bytes numbers
+take_finds old s s' subscriber found before bytes numbers at number t is =
+    let P : Bool → Type 0 = λ b. Does old (record { track = old.track; subscriber = Some s' }) (call.Take subscriber) (take_reply b) bytes numbers in
+    subst P is (take_does old s s' subscriber found before bytes numbers at number t)
 
-pub take_finds_none : (old : Content) (s s' : Subscriber) (subscriber : ℕ) (found : Bool) (before bytes : List ℕ) → old.subscriber ≡ Some s → s.number ≡ subscriber → Takes s s' found before bytes → found ≡ false
-    → Does old (record { track = old.track; subscriber = Some s' }) (call.Take subscriber) (reply.Refused Empty) bytes
-take_finds_none old s s' subscriber found before bytes at number t is =
-    let P : Bool → Type 0 = λ b. Does old (record { track = old.track; subscriber = Some s' }) (call.Take subscriber) (take_reply b) bytes in
-    subst P is (take_does old s s' subscriber found before bytes at number t)
+pub take_finds_none : (old : Content) (s s' : Subscriber) (subscriber : ℕ) (found : Bool) (before bytes numbers : List ℕ) → old.subscriber ≡ Some s → s.number ≡ subscriber → Takes s s' found before bytes → found ≡ false
+    → Does old (record { track = old.track; subscriber = Some s' }) (call.Take subscriber) (reply.Refused Empty) bytes numbers
+take_finds_none old s s' subscriber found before bytes numbers at number t is =
+    let P : Bool → Type 0 = λ b. Does old (record { track = old.track; subscriber = Some s' }) (call.Take subscriber) (take_reply b) bytes numbers in
+    subst P is (take_does old s s' subscriber found before bytes numbers at number t)

@@ -49,6 +49,6 @@ pub record IsAfter (content : Content) (past : List Call) : Type 0 where
   pub queue : QueuesFor past content.subscriber
 
 -- Whatever calls were accepted before, the reply is the answer after them, and the content is where it leaves them.
-pub record Does (old new : Content) (call : Call) (reply : Reply) (bytes : List ℕ) : Type 0 where
-  pub answered : (past : List Call) → IsAfter old past → answer_of reply bytes ≡ answer past call
+pub record Does (old new : Content) (call : Call) (reply : Reply) (bytes numbers : List ℕ) : Type 0 where
+  pub answered : (past : List Call) → IsAfter old past → answer_of reply bytes numbers ≡ answer past call
   pub done : (past : List Call) → IsAfter old past → IsAfter new (after (answer past call) call past)

@@ -1,7 +1,7 @@
 -- The history of a room, and what it answers after it. Own rule. The code keeps no history.
 use Rattle.std.specs.Prelude.{ℕ, Bool, true, false, if◌then◌else◌, List, [], ◌∷◌, fold}
 use Rattle.std.specs.List.{flat_map}
-use Rattle.sfu_base.specs.Answer.{Answer, Done, Sent, Refused}
+use Rattle.sfu_base.specs.Answer.{Answer, Refused}
 use Rattle.sfu_base.specs.declared.call.Call.{Call}
 use Rattle.room_core.specs.Noted.{Noted}
 use Rattle.room_core.specs.Replies.{answer}
@@ -15,14 +15,12 @@ pub record Entry : Type 0 where
 -- whether an answer is other than a refusal
 abbrev pub is_accepted : Answer → Bool
 is_accepted (Refused why) = false
-is_accepted Done = true
-is_accepted (Sent bytes) = true
+is_accepted answer = true
 
 -- the accepted calls after one more was answered so: a refused one isn't among them
 abbrev pub after : Answer → Call → List Call → List Call
 after (Refused why) call past = past
-after Done call past = call ∷ past
-after (Sent bytes) call past = call ∷ past
+after answer call past = call ∷ past
 
 -- the accepted calls after one more entry
 abbrev pub after_entry : List Call → Entry → List Call

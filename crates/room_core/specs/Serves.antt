@@ -23,8 +23,8 @@ pub record Stands {R : Type 0} (noted : R → Option (List Noted)) (room : Room 
 
 -- Whatever history the room stood for, the reply is that history's, unless it is want of memory, and the room then stands for the
 -- history with this entry, which is starved exactly where the reply is want of memory.
-pub record Serves {R : Type 0} (noted : R → Option (List Noted)) (old new : Room R) (seat : ℕ) (call : Call) (reply : Reply) (bytes : List ℕ) : Type 0 where
-  pub answered : (history : List Entry) → Stands noted old history → is_starved reply ≡ false → answer_of reply bytes ≡ reply_of history call
+pub record Serves {R : Type 0} (noted : R → Option (List Noted)) (old new : Room R) (seat : ℕ) (call : Call) (reply : Reply) (bytes numbers : List ℕ) : Type 0 where
+  pub answered : (history : List Entry) → Stands noted old history → is_starved reply ≡ false → answer_of reply bytes numbers ≡ reply_of history call
   pub stands : (history : List Entry) → Stands noted old history → Stands noted new (history ++ record { seat = seat; call = call; starved = is_starved reply } ∷ [])
 
 -- the packet is built, the track has a packet, and this one's sequence number isn't the next one
@@ -77,7 +77,7 @@ MemoryIsLast noted may_refuse room call reply = (history : List Entry) → Stand
 
 -- What a room's own method does and answers: what `serve` does for the call of its name, whatever stands in the scratch.
 pub record DoesAsServe {R : Type 0} (noted : R → Option (List Noted)) (may_refuse : R → Bool) (old new : Room R) (seat : ℕ) (call : Call) (reply : Reply) : Type 0 where
-  pub serves : (bytes : List ℕ) → Serves noted old new seat call reply bytes
+  pub serves : (bytes numbers : List ℕ) → Serves noted old new seat call reply bytes numbers
   pub refusals : RefusesExactly noted old call reply
   pub unchanged : OnRefused reply (IsUnchanged old new)
   pub memory : MemoryHasCause may_refuse old call reply

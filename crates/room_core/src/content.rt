@@ -6,7 +6,6 @@ ghost use Rattle.room_core.specs.Live.{is_track};
 ghost use Rattle.room_core.specs.Content.{Does, IsAfter, published_by};
 ghost use Rattle.room_core.specs.Steps.{IsReady, WantsMemory};
 ghost use Rattle.room_core.specs.Serves.{OnRefused, TakesMemory};
-ghost use Rattle.sfu_base.specs.declared.call.Kind.{Kind};
 ghost use Rattle.sfu_base.specs.declared.frame.Wish.{Wish};
 ghost use Rattle.sfu_base.specs.declared.call.Call.TheVariants.{Publish, Packet, Join, Take};
 ghost use Rattle.sfu_base.specs.declared.call.Reply.TheVariants as reply;
@@ -14,7 +13,7 @@ ghost use Rattle.sfu_base.specs.declared.call.Reply.TheVariants as reply;
 use crate::packet_queue::PacketQueue;
 use crate::subscriber::Subscriber;
 use crate::track::Track;
-use sfu_base::{Call, NoMemory, PacketBuf, Refusal, Reply, Scratch};
+use sfu_base::{Call, Kind, NoMemory, PacketBuf, Refusal, Reply, Scratch};
 use std::alloc::Global;
 
 /// What is live.
@@ -69,28 +68,34 @@ impl Content {
     /// Serves one call, whichever it is, with what was made ready for it.
     pub fn serve(&mut self, call: &Call, ready: Option<Subscriber>, scratch: &mut Scratch) -> Reply
         requires { IsReady self.old call.now ready }
-        ensures does { Does self.old self.new call.now result scratch.new.packet }
+        ensures does { Does self.old self.new call.now result scratch.new.packet scratch.new.names }
         ensures fed { is_starved result ≡ false }
         ensures unchanged { OnRefused result (self.new ≡ self.old) }
         ensures names { scratch.new.names ≡ scratch.old.names }
         ensures packet { result ≢ reply.Packet → scratch.new.packet ≡ scratch.old.packet }
     {
         match call {
-            Call::Publish { track, ssrc, .. } => self.publish(*track, *ssrc),
+            Call::Publish {
+                track,
+                kind,
+                ssrc,
+                ..
+            } => self.publish(*track, *kind, *ssrc),
             Call::Packet { track, bytes, .. } => self.packet(*track, bytes.bytes()),
             Call::Join { .. } => self.join(ready),
             Call::Take { subscriber } => self.take(*subscriber, &mut scratch.packet),
+            _ => Reply::Refused(Refusal::NotBuilt),
         }
     }
 
-    /// The only track begins.
-    pub fn publish(&mut self, track: u32, ssrc: u32) -> Reply
-        ensures does { (kind : Kind) (hold : ℕ) (bytes : List ℕ) → Does self.old self.new (Publish track kind ssrc hold) result bytes }
+    /// The only track begins, a plain one.
+    pub fn publish(&mut self, track: u32, kind: Kind, ssrc: u32) -> Reply
+        ensures does { (hold : ℕ) (bytes numbers : List ℕ) → Does self.old self.new (Publish track kind ssrc hold) result bytes numbers }
         ensures fed { is_starved result ≡ false }
         ensures unchanged { OnRefused result (self.new ≡ self.old) }
         ensures sent { result ≢ reply.Packet }
     {
-        if self.track.is_some() {
+        if matches!(kind, Kind::Layered { .. }) || self.track.is_some() {
             return Reply::Refused(Refusal::NotBuilt);
         }
         self.track = Some(Track {
@@ -103,8 +108,8 @@ impl Content {
 
     /// The only subscriber begins, where one was made ready.
     pub fn join(&mut self, ready: Option<Subscriber>) -> Reply
-        ensures does { (subscriber track ssrc first : ℕ) (wish : Wish) (bytes : List ℕ) → IsReady self.old (Join subscriber track ssrc first wish) ready
-            → Does self.old self.new (Join subscriber track ssrc first wish) result bytes }
+        ensures does { (subscriber track ssrc first : ℕ) (wish : Wish) (bytes numbers : List ℕ) → IsReady self.old (Join subscriber track ssrc first wish) ready
+            → Does self.old self.new (Join subscriber track ssrc first wish) result bytes numbers }
         ensures fed { is_starved result ≡ false }
         ensures unchanged { OnRefused result (self.new ≡ self.old) }
         ensures sent { result ≢ reply.Packet }
@@ -129,7 +134,7 @@ impl Content {
 
     /// A packet of the track goes out to the subscriber.
     pub fn packet(&mut self, track: u32, bytes: &[u8]) -> Reply
-        ensures does { (moment : ℕ) (left : List ℕ) → Does self.old self.new (Packet track moment bytes.now) result left }
+        ensures does { (moment : ℕ) (left numbers : List ℕ) → Does self.old self.new (Packet track moment bytes.now) result left numbers }
         ensures fed { is_starved result ≡ false }
         ensures unchanged { OnRefused result (self.new ≡ self.old) }
         ensures sent { result ≢ reply.Packet }
@@ -153,7 +158,7 @@ impl Content {
 
     /// The subscriber's oldest packet is handed out.
     pub fn take(&mut self, subscriber: u32, out: &mut PacketBuf) -> Reply
-        ensures does { Does self.old self.new (Take subscriber) result out.new }
+        ensures does { (numbers : List ℕ) → Does self.old self.new (Take subscriber) result out.new numbers }
         ensures fed { is_starved result ≡ false }
         ensures unchanged { OnRefused result (self.new ≡ self.old) }
         ensures packet { result ≢ reply.Packet → out.new ≡ out.old }

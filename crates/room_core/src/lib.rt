@@ -55,7 +55,7 @@ impl<R: Recorder> Room<R> {
     /// Serves one call of a seat, the one entry to the room. A `Packet` leaves its bytes in `scratch.packet`; no other reply changes the
     /// scratch.
     pub fn serve(&mut self, seat: u32, call: &Call, scratch: &mut Scratch) -> Reply
-        ensures serves { Serves R.noted self.old self.new seat call.now result scratch.new.packet }
+        ensures serves { Serves R.noted self.old self.new seat call.now result scratch.new.packet scratch.new.names }
         ensures refusals { RefusesExactly R.noted self.old call.now result }
         ensures unchanged { OnRefused result (IsUnchanged self.old self.new) }
         ensures memory { MemoryHasCause R.may_refuse self.old call.now result }
@@ -73,7 +73,7 @@ impl<R: Recorder> Room<R> {
         }
     }
 
-    /// Begins a track, as [`Call::Publish`] does. `NotBuilt`: there is one already.
+    /// Begins a track, as [`Call::Publish`] does. `NotBuilt`: there is one already, or this one is layered.
     pub fn publish(&mut self, seat: u32, track: u32, kind: Kind, ssrc: u32, hold: u32) -> Reply
         ensures { DoesAsServe R.noted R.may_refuse self.old self.new seat (Publish track kind ssrc hold) result }
     {
@@ -84,7 +84,7 @@ impl<R: Recorder> Room<R> {
             hold,
         };
         match self.recorder.note(seat, &call) {
-            Ok(()) => self.content.publish(track, ssrc),
+            Ok(()) => self.content.publish(track, kind, ssrc),
             Err(_) => Reply::Refused(Refusal::NoMemory),
         }
     }
@@ -140,7 +140,7 @@ impl<R: Recorder> Room<R> {
     /// Hands out the oldest packet that waits, as [`Call::Take`] does: `Packet`, with its bytes in `scratch.packet`. `NotBuilt`: the
     /// subscriber isn't the one that joined. `Empty`: none waits.
     pub fn take(&mut self, seat: u32, subscriber: u32, scratch: &mut Scratch) -> Reply
-        ensures serves { Serves R.noted self.old self.new seat (Take subscriber) result scratch.new.packet }
+        ensures serves { Serves R.noted self.old self.new seat (Take subscriber) result scratch.new.packet scratch.new.names }
         ensures refusals { RefusesExactly R.noted self.old (Take subscriber) result }
         ensures unchanged { OnRefused result (IsUnchanged self.old self.new) }
         ensures memory { MemoryHasCause R.may_refuse self.old (Take subscriber) result }

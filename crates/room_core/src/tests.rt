@@ -111,3 +111,46 @@ fn a_packet_goes_out_by_serve(rt: HostRuntime) {
     }
     assert_eq!(rt; scratch.packet.bytes(), TO_THE_SUBSCRIBER.as_slice());
 }
+
+#[test]
+fn what_is_not_built_is_refused_as_that(rt: HostRuntime) {
+    let mut room = Room::new(rt.alloc(), KeepNone::new());
+    let mut scratch = scratch();
+    assert_eq!(rt;
+        room.publish(0, TRACK, Kind::Layered { id: 4 }, 0x1111_1111, 100),
+        Reply::Refused(Refusal::NotBuilt)
+    );
+    let calls = [
+        Call::Unpublish { track: TRACK },
+        Call::Tick {
+            track: TRACK,
+            moment: 1,
+        },
+        Call::Leave {
+            subscriber: SUBSCRIBER,
+        },
+        Call::Aim {
+            subscriber: SUBSCRIBER,
+            wish: LOWEST,
+        },
+        Call::Resend {
+            subscriber: SUBSCRIBER,
+            seq: 7,
+        },
+        Call::Missing { track: TRACK },
+        Call::KeyWanted { track: TRACK },
+        Call::Plead {
+            subscriber: SUBSCRIBER,
+        },
+        Call::Why {
+            subscriber: SUBSCRIBER,
+            number: 1,
+        },
+    ];
+    for call in &calls {
+        assert_eq!(rt;
+            room.serve(0, call, &mut scratch),
+            Reply::Refused(Refusal::NotBuilt)
+        );
+    }
+}
