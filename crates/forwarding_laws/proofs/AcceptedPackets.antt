@@ -1,13 +1,13 @@
 -- A strict receiver has no complaint of packets that are accepted in words.
 use Rattle.std.proofs.Common.{◌≡◌, ◌⊎◌, inl, inr, ◌+◌, ◌%◌, ◌<◌, ◌≤◌, ℕ, arith, Bool, true, false, List, [], ◌∷◌, ◌++◌, refl, sym, subst, ap, ◌∙◌, cond, true≢false, ◌&&◌, map, not, length}
-use Rattle.std.specs.Prelude.{◌==◌, nat_lt}
+use Rattle.std.specs.Prelude.{pos, ◌==◌, nat_lt}
 use Rattle.std.specs.Bool.{beq}
 use Rattle.std.proofs.lemmas.Bool.{and_parts, eq-eqb, lt-ltb, ltb-true}
 use Rattle.std.specs.List.{AllByRecursion}
 use Rattle.std.specs.declared.option.Option.{Option}
 use Rattle.std.specs.declared.option.Option.TheVariants.{None, Some}
 use Rattle.forwarding_model.specs.declared.complaint.Complaint.{Complaint}
-use Rattle.forwarding_model.specs.Numbers.{distance_ahead, is_above, number_above}
+use Rattle.wrap_number.specs.Number.{ahead_of, is_above, number_above}
 use Rattle.forwarding_model.specs.forwarding.Timeline.{Packet}
 use Rattle.forwarding_model.specs.forwarding.Outgoing.{AreConsecutive}
 use Rattle.forwarding_model.specs.frames.Reading.{Descriptor, Format, Joins, Payload, Showing, shown}
@@ -119,7 +119,7 @@ congruent : (r n : ℕ) → (number_above r n) % 65536 ≡ n % 65536
 congruent r n = omega arith
 
 -- a number next to the newest is as far ahead of what stands for it
-ahead : (r g m n : ℕ) → r % 65536 ≡ g % 65536 → n % 65536 ≡ m % 65536 → g < n → n < g + 32768 → g + distance_ahead r m ≡ n
+ahead : (r g m n : ℕ) → r % 65536 ≡ g % 65536 → n % 65536 ≡ m % 65536 → g < n → n < g + 32768 → g + ahead_of (pos r) m ≡ n
 ahead r g m n same numbered low high = omega arith
 
 next_placed : {S : Type 0} (g : ReceivedFrame S) (past : List (ReceivedFrame S)) (received : Received) (m n : ℕ) → Covers (g ∷ past) received
@@ -130,8 +130,8 @@ next_placed {S} g past received m n covers numbered next =
     let p = and_parts (nat_lt g.number n) (nat_lt n (g.number + 32768)) next in
     let low : g.number < n = ltb-true _ _ p.0 in
     let high : n < g.number + 32768 = ltb-true _ _ p.1 in
-    let far : g.number + distance_ahead received.newest m ≡ n = ahead received.newest g.number m n covers.0 numbered low high in (
-      rw (lt-ltb 0 (distance_ahead received.newest m) (omega arith), lt-ltb (distance_ahead received.newest m) 32768 (omega arith)) refl,
+    let far : g.number + ahead_of (pos received.newest) m ≡ n = ahead received.newest g.number m n covers.0 numbered low high in (
+      rw (lt-ltb 0 (ahead_of (pos received.newest) m) (omega arith), lt-ltb (ahead_of (pos received.newest) m) 32768 (omega arith)) refl,
       record {
         same = congruent received.newest m ∙ sym numbered;
         known = each_weaker (λ c. IsReceivedAs received.numbers received.newest g.number c.number)

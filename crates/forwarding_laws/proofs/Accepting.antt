@@ -1,6 +1,6 @@
 -- What a strict receiver has seen when it has no complaint.
 use Rattle.std.proofs.Common.{◌≡◌, ◌⊎◌, inl, inr, ◌+◌, ◌-◌, ◌%◌, ◌<◌, ℕ, arith, Bool, true, false, List, [], ◌∷◌, ◌++◌, refl, sym, subst, ap, ◌∙◌, cond, true≢false, ◌&&◌, map, not, length, append_assoc, append-nil}
-use Rattle.std.specs.Prelude.{◌==◌, nat_lt}
+use Rattle.std.specs.Prelude.{pos, ◌==◌, nat_lt}
 use Rattle.std.specs.Bool.{beq}
 use Rattle.std.proofs.lemmas.Bool.{and_parts, eqb-true, lt-ltb, ltb-true, not-true}
 use Rattle.std.specs.List.{AllByRecursion}
@@ -8,7 +8,7 @@ use Rattle.std.specs.declared.option.Option.{Option}
 use Rattle.std.specs.declared.option.Option.TheVariants.{None, Some}
 use Rattle.forwarding_model.specs.declared.complaint.Complaint.{Complaint}
 use Rattle.forwarding_model.specs.Lists.{IsMember, first_failing}
-use Rattle.forwarding_model.specs.Numbers.{distance_ahead, is_above, number_above}
+use Rattle.wrap_number.specs.Number.{ahead_of, is_above, number_above}
 use Rattle.forwarding_model.specs.forwarding.Timeline.{Packet}
 use Rattle.forwarding_model.specs.forwarding.Outgoing.{AreConsecutive}
 use Rattle.forwarding_model.specs.frames.Reading.{Descriptor, Format, Joins, Payload, Showing, shown}
@@ -52,17 +52,17 @@ both a b x y = rw (x, y) refl
 next_to : {S : Type 0} (g : ReceivedFrame S) (past : List (ReceivedFrame S)) (received : Received) (n : ℕ) → g.number ≡ received.newest → is_above received.newest n ≡ true
     → is_next_to (g ∷ past) (number_above received.newest n) ≡ true
 next_to g past received n same up =
-    let p = and_parts (nat_lt 0 (distance_ahead received.newest n)) _ up in
-    let pos : 0 < distance_ahead received.newest n = ltb-true _ _ p.0 in
-    let near : distance_ahead received.newest n < 32768 = ltb-true _ _ p.1 in
+    let p = and_parts (nat_lt 0 (ahead_of (pos received.newest) n)) _ up in
+    let some : 0 < ahead_of (pos received.newest) n = ltb-true _ _ p.0 in
+    let near : ahead_of (pos received.newest) n < 32768 = ltb-true _ _ p.1 in
     let up_to : number_above received.newest n < g.number + 32768 = omega arith in
     let from : g.number < number_above received.newest n = omega arith in
     both _ _ (lt-ltb g.number (number_above received.newest n) from) (lt-ltb (number_above received.newest n) (g.number + 32768) up_to)
 
 -- a number next to the newest is as far ahead of it as its remainder
-ahead_by : (r m n : ℕ) → m % 65536 ≡ n % 65536 → r < m → m < r + 32768 → (0 < distance_ahead r n) × (distance_ahead r n < 32768)
+ahead_by : (r m n : ℕ) → m % 65536 ≡ n % 65536 → r < m → m < r + 32768 → (0 < ahead_of (pos r) n) × (ahead_of (pos r) n < 32768)
 ahead_by r m n same low high =
-    let d : distance_ahead r n ≡ m - r = omega arith in
+    let d : ahead_of (pos r) n ≡ m - r = omega arith in
     (omega arith, omega arith)
 
 none_next : {S : Type 0} (frames : List (ReceivedFrame S)) (received : Received) (n : ℕ) → IsNewest frames received.newest → is_above received.newest n ≡ false → NoneIsNextTo frames n

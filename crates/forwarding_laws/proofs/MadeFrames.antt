@@ -6,7 +6,7 @@ use Rattle.std.specs.declared.option.Option.{Option}
 use Rattle.std.specs.declared.option.Option.TheVariants.{None, Some}
 use Rattle.sfu_base.specs.declared.frame.FrameMeaning.{FrameMeaning}
 use Rattle.sfu_base.specs.Frame.{IsValid}
-use Rattle.forwarding_model.specs.Numbers.{is_above, number_above}
+use Rattle.wrap_number.specs.Number.{is_above, number_above}
 use Rattle.forwarding_model.specs.forwarding.Timeline.{Packet, Frame, meaning_of, rest_of}
 use Rattle.forwarding_model.specs.frames.TrackFrames.{Precedes, IsOneTrack}
 use Rattle.forwarding_model.specs.frames.Reading.{Descriptor, Format, IsCarried, IsDescriptor, IsFormat, Joins, MayBeInForce, Payload, Showing, is_key_start, keeps_structure, shown}

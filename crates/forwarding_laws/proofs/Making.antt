@@ -1,10 +1,9 @@
 -- What a track's items make, in words.
-use Rattle.std.proofs.Common.{◌≡◌, ◌⊎◌, inl, inr, ◌+◌, ◌%◌, ◌<◌, ℕ, arith, Bool, true, false, List, [], ◌∷◌, refl, sym, subst, ap, ◌∙◌, cond, true≢false, ◌&&◌, map}
-use Rattle.std.specs.Prelude.{nat_lt}
-use Rattle.std.proofs.lemmas.Bool.{and_parts, ltb-true, lt-ltb}
+use Rattle.std.proofs.Common.{◌≡◌, ◌⊎◌, inl, inr, ◌+◌, ℕ, Bool, true, false, List, [], ◌∷◌, refl, sym, subst, ap, ◌∙◌, cond, true≢false, ◌&&◌, map}
 use Rattle.std.specs.declared.option.Option.{Option}
 use Rattle.std.specs.declared.option.Option.TheVariants.{None, Some}
-use Rattle.forwarding_model.specs.Numbers.{distance_ahead, is_above, number_above, least_above}
+use Rattle.wrap_number.specs.Number.{IsNearestAbove, IsLeastAbove, is_above, number_above}
+use Rattle.wrap_number.proofs.Nearest.{above_is, found_above, least_is}
 use Rattle.forwarding_model.specs.forwarding.Timeline.{Frame, Packet}
 use Rattle.forwarding_model.specs.frames.Reading.{Descriptor, Format, IsFormat, Joins, Payload, Showing, is_key_start, shown}
 use Rattle.forwarding_model.specs.frames.Reading.Payload.{Empty, Broken, Elements}
@@ -13,7 +12,7 @@ use Rattle.forwarding_model.specs.frames.Cuts.{Part, Mark, Run, begun, continued
 use Rattle.forwarding_model.specs.frames.Cuts.Mark.{Gone, Padding, Unreadable, Read}
 use Rattle.forwarding_model.specs.frames.Frames.{Item, Force, Made, ReadPacket, TrackState, after_descriptor, after_showing, frame_of, framed, frames_since, in_front, is_padding, key_number, made_by, made_by_item, made_by_packet, mask_by, meaning_by, number_of, packet_of, part_of, seen_as, showing_mark, state_after}
 use Rattle.forwarding_model.specs.frames.Frames.Item.{Missing, Arrived}
-use Rattle.forwarding_laws.specs.frames.Making.{IsFrameOf, IsInForceBy, IsLeastAbove, IsMarkOf, IsNear, IsPartOf, AreMarks, and_said, descriptor_in, epochs_of, mask_of, newest_number, said, said_by, said_in, start_number, structure_of}
+use Rattle.forwarding_laws.specs.frames.Making.{IsFrameOf, IsInForceBy, IsMarkOf, IsPartOf, AreMarks, and_said, descriptor_in, epochs_of, mask_of, newest_number, said, said_by, said_in, start_number, structure_of}
 use Rattle.forwarding_laws.proofs.Readings.{carried, key_start_start, key_start_structure, shown_parts, shown-none}
 use Rattle.forwarding_model.proofs.WholeCuts.{cut_is_whole, whole_is_cut}
 
@@ -178,9 +177,6 @@ said_seen {S} format force (Arrived p) d h = go (format.payload p.rest) (shown f
     go Broken showing k = by_showing showing k
     go (Elements joins) showing k = by_showing showing k
 
-least_is : (newest n : ℕ) → IsLeastAbove newest n (least_above newest n)
-least_is newest n = record { above = omega arith; near = omega arith; congruent = omega arith }
-
 pub key_starts_are_numbered : {S : Type 0} (format : Format S) (item : Item) (past : List Item) (d : Descriptor S) → said_by format (structure_of (said format past)) item ≡ Some d
     → is_key_start d ≡ true
     → (structure_of (said format past) ≡ None → start_number format (item ∷ past) ≡ d.number)
@@ -294,26 +290,10 @@ one_made : {S : Type 0} (o : Option (Frame S)) (frame : Frame S) → in_front o 
 one_made None frame h = absurd (cc)
 one_made (Some x) frame h = let same : x ≡ frame = cc in ap Some same
 
-near_is : (newest n : ℕ) → is_above newest n ≡ true → IsNear newest n (number_above newest n)
-near_is newest n up =
-    let p = and_parts (nat_lt 0 (distance_ahead newest n)) _ up in
-    let pos : 0 < distance_ahead newest n = ltb-true _ _ p.0 in
-    let small : distance_ahead newest n < 32768 = ltb-true _ _ p.1 in
-    record { above = omega arith; near = omega arith; congruent = omega arith }
-
-is_near : (newest n number : ℕ) → IsNear newest n number → is_above newest n ≡ true
-is_near newest n number h =
-    let above : newest < number = h.above in
-    let near : number < newest + 32768 = h.near in
-    let same : number % 65536 ≡ n % 65536 = h.congruent in
-    let pos : 0 < distance_ahead newest n = omega arith in
-    let small : distance_ahead newest n < 32768 = omega arith in
-    ap (λ b. b && nat_lt (distance_ahead newest n) 32768) (lt-ltb 0 (distance_ahead newest n) pos) ∙ lt-ltb (distance_ahead newest n) 32768 small
-
 -- a number that was found
 record IsNumbered {S : Type 0} (force : Force S) (d : Descriptor S) (number : ℕ) : Type 0 where
   key : is_key_start d ≡ true → number ≡ force.start
-  other : is_key_start d ≡ false → IsNear force.newest d.number number
+  other : is_key_start d ≡ false → IsNearestAbove force.newest d.number number
 
 numbered_by : {S : Type 0} (force : Force S) (d : Descriptor S) (number : ℕ) → number_of force d ≡ Some number → IsNumbered force d number
 numbered_by force d number h = go (is_key_start d) refl h
@@ -321,7 +301,7 @@ numbered_by force d number h = go (is_key_start d) refl h
     other : is_key_start d ≡ false → (b : Bool) → is_above force.newest d.number ≡ b → cond b (Some (number_above force.newest d.number)) None ≡ Some number → IsNumbered force d number
     other k true up e =
         let same : number_above force.newest d.number ≡ number = cc in
-        record { key = λ y. absurd (true≢false (sym y ∙ k)); other = λ n. subst (IsNear force.newest d.number) same (near_is force.newest d.number up) }
+        record { key = λ y. absurd (true≢false (sym y ∙ k)); other = λ n. subst (IsNearestAbove force.newest d.number) same (above_is force.newest d.number up) }
     other k false up e = absurd (cc)
 
     go : (b : Bool) → is_key_start d ≡ b → cond b (Some force.start) (cond (is_above force.newest d.number) (Some (number_above force.newest d.number)) None) ≡ Some number → IsNumbered force d number
@@ -340,7 +320,7 @@ frame_is {S} format item past frame o cut g =
       meaning = record {
         key = refl;
         key_number = numbers.key;
-        number = λ n. subst (λ newest. IsNear newest d.number g.number) (newest_kept format (state_after format past).force (state_after format past).run item g.run (cut ∙ g.cut) n)
+        number = λ n. subst (λ newest. IsNearestAbove newest d.number g.number) (newest_kept format (state_after format past).force (state_after format past).run item g.run (cut ∙ g.cut) n)
             (numbers.other n);
         start = sym (start_is format item past);
         epoch = by.epoch;
@@ -439,7 +419,7 @@ made_framed format force run s number has numbered =
 
 pub cuts_are_frames : {S : Type 0} (format : Format S) (item : Item) (past : List Item) (marks : List (Mark (ReadPacket S))) (first : Part (ReadPacket S)) (more : List (Part (ReadPacket S)))
     → IsFormat format → AreMarks format (item ∷ past) marks → IsWholeCut (first ∷ more) → EndsIn marks (first ∷ more)
-    → (is_key_start first.brings.descriptor ≡ true) ⊎ ((number : ℕ) × IsNear (newest_number format past) first.brings.descriptor.number number)
+    → (is_key_start first.brings.descriptor ≡ true) ⊎ ((number : ℕ) × IsNearestAbove (newest_number format past) first.brings.descriptor.number number)
     → (frame : Frame S) × (frames_since format past (item ∷ []) ≡ frame ∷ []) × (frame.packets ≡ map packet_of (first ∷ more))
 cuts_are_frames {S} format item past marks first more facts are whole at fresh =
     let c = whole_is_cut marks first more at whole in
@@ -466,7 +446,7 @@ cuts_are_frames {S} format item past marks first more facts are whole at fresh =
           ap (λ newest. is_above newest run.first.brings.descriptor.number)
           (newest_kept format (state_after format past).force (state_after format past).run item run (cut_here format item past marks are ∙ found) k)
           ∙ ap (λ (x : Part (ReadPacket S)). is_above (newest_number format past) x.brings.descriptor.number) same
-          ∙ is_near (newest_number format past) first.brings.descriptor.number near.0 near.1)
+          ∙ (found_above (newest_number format past) first.brings.descriptor.number near.0 near.1).0)
     ]
 
 pub items_have_marks : {S : Type 0} (format : Format S) (items : List Item) → (marks : List (Mark (ReadPacket S))) × AreMarks format items marks

@@ -1,19 +1,19 @@
 -- One frame that passes, at a receiver: it keeps the numbers of the passed frames of the epoch, all moved by one multiple of 65,536.
 use Rattle.std.proofs.Common.{◌≡◌, ◌⊎◌, inl, inr, ◌+◌, ◌-◌, ◌%◌, ◌<◌, ◌≤◌, ℕ, arith, Bool, true, false, List, [], ◌∷◌, refl, sym, subst, ap, ◌∙◌}
-use Rattle.std.specs.Prelude.{◌==◌}
+use Rattle.std.specs.Prelude.{pos, ◌==◌}
 use Rattle.std.proofs.lemmas.Bool.{eqb-true, eq-eqb, lt-ltb, cases_lt}
 use Rattle.std.specs.List.{AllByRecursion}
 use Rattle.std.specs.declared.option.Option.TheVariants.{None}
 use Rattle.sfu_base.specs.declared.frame.FrameMeaning.{FrameMeaning}
 use Rattle.sfu_base.specs.Frame.{IsDistance}
 use Rattle.forwarding_model.specs.Lists.{IsMember, first_failing}
-use Rattle.forwarding_model.specs.Numbers.{distance_ahead, is_above, number_above}
+use Rattle.wrap_number.specs.Number.{ahead_of, is_above, number_above}
 use Rattle.forwarding_model.specs.forwarding.Targets.{references}
 use Rattle.forwarding_model.specs.forwarding.Selection.{missing_reference}
 use Rattle.forwarding_model.specs.forwarding.Standing.{has_below}
 use Rattle.forwarding_model.specs.Receiver.{Received, FrameHeader, Judged, nothing_received, placed, is_received, judged, judged_at, judge}
 use Rattle.forwarding_model.specs.Receiver.Judged.{Complete, Lacks}
-use Rattle.forwarding_laws.proofs.WrapNumbers.{distance_ahead_same, number_above-mod}
+use Rattle.forwarding_laws.proofs.WrapNumbers.{ahead_of_same, number_above-mod}
 use Rattle.forwarding_laws.proofs.Members.{each_member, each_of, any_member, member_any, none_failing, failing_none}
 
 -- what the first packet of a frame says to a receiver
@@ -115,7 +115,7 @@ tracks_near : (ls : List FrameMeaning) (l f : FrameMeaning) (received : Received
 tracks_near ls l f received t k distances lt near found =
     let r : ℕ = received.newest in
     let same : r % 65536 ≡ l.number % 65536 = t.newest in
-    let far : distance_ahead r (f.number % 65536) ≡ f.number - l.number = distance_ahead_same r l.number f.number same (omega arith) (omega arith) in
+    let far : ahead_of (pos r) (f.number % 65536) ≡ f.number - l.number = ahead_of_same r l.number f.number same (omega arith) (omega arith) in
     let above : is_above r (f.number % 65536) ≡ true = rw far (rw (lt-ltb 0 (f.number - l.number) (omega arith), lt-ltb (f.number - l.number) 32768 (omega arith)) refl) in
     let before : Received = record { newest = r + (f.number - l.number); numbers = received.numbers } in
     let has = references_received (l ∷ ls) l.number r received.numbers f.number (references f) t.known lt distances (failing_none _ _ found) in

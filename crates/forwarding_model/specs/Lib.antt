@@ -1,5 +1,4 @@
 pub mod Lists
-pub mod Numbers
 pub mod forwarding
 pub mod frames
 pub mod Receiver

@@ -1,10 +1,11 @@
 -- What a track's items make, in words: what each item is, what is in force, and which items end a frame that means what.
 -- Own statements, over AV1 RTP payload format, section 4.4 and Appendix A. `Frames` makes frames item by item; the laws here say of the
 -- whole list that it makes those frames and no others.
-use Rattle.std.specs.Prelude.{◌≡◌, ◌≢◌, ◌⊎◌, ◌+◌, ◌/◌, ◌%◌, ◌^◌, ◌<◌, ◌≤◌, ℕ, List, [], ◌∷◌, true, false, if◌then◌else◌, map}
+use Rattle.std.specs.Prelude.{◌≡◌, ◌≢◌, ◌⊎◌, ◌+◌, ◌/◌, ◌%◌, ◌^◌, ◌<◌, ℕ, List, [], ◌∷◌, true, false, if◌then◌else◌, map}
 use Rattle.std.specs.declared.option.Option.{Option}
 use Rattle.std.specs.declared.option.Option.TheVariants.{None, Some}
 use Rattle.sfu_base.specs.declared.frame.FrameMeaning.{FrameMeaning}
+use Rattle.wrap_number.specs.Number.{IsNearestAbove, IsLeastAbove}
 use Rattle.forwarding_model.specs.forwarding.Timeline.{Frame}
 use Rattle.forwarding_model.specs.frames.Reading.{Descriptor, Format, IsFormat, Layout, Payload, Showing, is_key_start, shown}
 use Rattle.forwarding_model.specs.frames.Reading.Payload.{Empty, Broken, Elements}
@@ -100,12 +101,6 @@ pub record IsInForceBy {S : Type 0} (format : Format S) (items : List Item) : Ty
 abbrev pub WhatWasReadIsInForce : Type 0 → Type 0
 WhatWasReadIsInForce S = (format : Format S) (items : List Item) → IsInForceBy format items
 
--- the least number above newest that is n modulo 65,536
-pub record IsLeastAbove (newest n number : ℕ) : Type 0 where
-  pub above : newest < number
-  pub near : number ≤ newest + 65536
-  pub congruent : number % 65536 ≡ n % 65536
-
 -- a key start of the first epoch has its own number, and a later one the least above the newest
 abbrev pub KeyStartsAreNumbered : Type 0 → Type 0
 KeyStartsAreNumbered S = (format : Format S) (item : Item) (past : List Item) (d : Descriptor S) → said_by format (structure_of (said format past)) item ≡ Some d
@@ -144,17 +139,11 @@ ItemsHaveMarks S = (format : Format S) (items : List Item) → (marks : List (Ma
 
 -- ---- which items end a frame
 
--- the number that is n modulo 65,536 and lies 1 to 32,767 above newest
-pub record IsNear (newest n number : ℕ) : Type 0 where
-  pub above : newest < number
-  pub near : number < newest + 32768
-  pub congruent : number % 65536 ≡ n % 65536
-
 -- The meaning of a frame with this first descriptor. Mask and epoch are those in force once its last packet was read.
 pub record IsMeaningOf {S : Type 0} (format : Format S) (item : Item) (past : List Item) (d : Descriptor S) (f : FrameMeaning) : Type 0 where
   pub key : f.key ≡ is_key_start d
   pub key_number : is_key_start d ≡ true → f.number ≡ f.start
-  pub number : is_key_start d ≡ false → IsNear (newest_number format past) d.number f.number
+  pub number : is_key_start d ≡ false → IsNearestAbove (newest_number format past) d.number f.number
   pub start : f.start ≡ start_number format (item ∷ past)
   pub epoch : f.epoch ≡ epochs_of (said format (item ∷ past))
   pub mask : f.mask ≡ mask_of format (said format (item ∷ past))
@@ -190,5 +179,5 @@ FramesAreCuts S = (format : Format S) (item : Item) (past : List Item) (marks : 
 abbrev pub CutsAreFrames : Type 0 → Type 0
 CutsAreFrames S = (format : Format S) (item : Item) (past : List Item) (marks : List (Mark (ReadPacket S))) (first : Part (ReadPacket S)) (more : List (Part (ReadPacket S)))
     → IsFormat format → AreMarks format (item ∷ past) marks → IsWholeCut (first ∷ more) → EndsIn marks (first ∷ more)
-    → (is_key_start first.brings.descriptor ≡ true) ⊎ ((number : ℕ) × IsNear (newest_number format past) first.brings.descriptor.number number)
+    → (is_key_start first.brings.descriptor ≡ true) ⊎ ((number : ℕ) × IsNearestAbove (newest_number format past) first.brings.descriptor.number number)
     → (frame : Frame S) × (frames_since format past (item ∷ []) ≡ frame ∷ []) × (frame.packets ≡ map packet_of (first ∷ more))

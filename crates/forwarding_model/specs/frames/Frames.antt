@@ -6,7 +6,7 @@ use Rattle.std.specs.Prelude.{◌+◌, ◌-◌, ◌^◌, ℕ, List, [], ◌∷�
 use Rattle.std.specs.declared.option.Option.{Option}
 use Rattle.std.specs.declared.option.Option.TheVariants.{None, Some}
 use Rattle.sfu_base.specs.declared.frame.FrameMeaning.{FrameMeaning}
-use Rattle.forwarding_model.specs.Numbers.{is_above, number_above, least_above}
+use Rattle.wrap_number.specs.Number.{is_above, number_above, least_above}
 use Rattle.forwarding_model.specs.forwarding.Timeline.{Packet, Frame}
 use Rattle.forwarding_model.specs.frames.Reading.{Descriptor, Format, Joins, Layout, Payload, Showing, is_key_start, shown}
 use Rattle.forwarding_model.specs.frames.Reading.Payload.{Empty, Broken, Elements}
