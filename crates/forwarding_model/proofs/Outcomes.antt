@@ -1,23 +1,11 @@
--- What a mark makes of a run, and which numbers can be asked for.
-use Rattle.std.proofs.Common.{List, ◌∷◌, ◌≡◌, ◌⊎◌, inl, inr, ◌+◌, ◌<◌, ◌≤◌, ℕ, arith, Bool, true, false, refl, cond, ◌&&◌, not}
-use Rattle.std.proofs.lemmas.Bool.{ltb-true, ltb-false, leb-true, leb-false}
+-- What a mark makes of a run.
+use Rattle.std.proofs.Common.{List, ◌∷◌, ◌≡◌, ◌⊎◌, inl, inr, Bool, true, false, refl, cond, ◌&&◌, not}
 use Rattle.std.specs.declared.option.Option.{Option}
 use Rattle.std.specs.declared.option.Option.TheVariants.{None, Some}
-use Rattle.forwarding_model.specs.Causes.{is_ahead, is_too_old, oldest_asked}
-use Rattle.forwarding_model.specs.Cuts.{Part, Mark, Run, cut_by, extended, outcome, run_of, run_outcome, whole, IsUnfinishedCut, EndsIn}
-use Rattle.forwarding_model.specs.Cuts.Mark.{Gone, Padding, Unreadable, Read}
+use Rattle.forwarding_model.specs.frames.Cuts.{Part, Mark, Run, cut_by, extended, outcome, run_of, run_outcome, whole, IsUnfinishedCut, EndsIn}
+use Rattle.forwarding_model.specs.frames.Cuts.Mark.{Gone, Padding, Unreadable, Read}
 use Rattle.forwarding_model.proofs.WholeCuts.{run_is_unfinished, unfinished_is_run}
-use Rattle.forwarding_model.specs.Cuts.Outcome.{IsPadding, IsWhole, IsPartial, IsTorn}
-
-pub too_old_is_below : (newest n : ℕ)
-    → (is_too_old (Some newest) n ≡ true → n < oldest_asked newest) × (is_too_old (Some newest) n ≡ false → oldest_asked newest ≤ n)
-too_old_is_below newest n = (
-  (λ e. let le : n + 4096 ≤ newest = leb-true (n + 4096) newest e in omega arith),
-  λ e. let gt : newest < n + 4096 = leb-false (n + 4096) newest e in omega arith,
-)
-
-pub ahead_is_above : (newest n : ℕ) → (is_ahead (Some newest) n ≡ true → newest < n) × (is_ahead (Some newest) n ≡ false → n ≤ newest)
-ahead_is_above newest n = (ltb-true newest n, ltb-false newest n)
+use Rattle.forwarding_model.specs.frames.Cuts.Outcome.{IsPadding, IsWhole, IsPartial, IsTorn}
 
 whole_run : {X : Type 0} (o : Option (Run X)) → run_outcome o ≡ IsWhole → (ended : Run X) × (whole o ≡ Some ended)
 whole_run None h = absurd (cc)

@@ -6,9 +6,14 @@ use Rattle.std.proofs.lemmas.Bool.{eqb-true, eq-eqb, ltb-true, lt-ltb, and_parts
 use Rattle.std.specs.List.{AllByRecursion}
 use Rattle.std.specs.declared.option.Option.{Option}
 use Rattle.std.specs.declared.option.Option.TheVariants.{None, Some}
-use Rattle.forwarding_model.specs.Cuts.{Part, Mark, Run, parts_of, is_next, begun, continued, extended, run_of, whole, cut_of, LastAloneEnds, Join, JoinSoFar, IsWholeCut, IsUnfinishedCut, without_padding, NewestIsPart, newest_first, EndsIn}
-use Rattle.forwarding_model.specs.Cuts.Mark.{Gone, Padding, Unreadable, Read}
-use Rattle.forwarding_model.proofs.Runs.{beq-true}
+use Rattle.forwarding_model.specs.frames.Cuts.{Part, Mark, Run, parts_of, is_next, begun, continued, extended, run_of, whole, cut_of, LastAloneEnds, Join, JoinSoFar, IsWholeCut, IsUnfinishedCut, without_padding, NewestIsPart, newest_first, EndsIn}
+use Rattle.forwarding_model.specs.frames.Cuts.Mark.{Gone, Padding, Unreadable, Read}
+
+pub beq-true : (a b : Bool) → beq a b ≡ true → a ≡ b
+beq-true true true e = refl
+beq-true true false e = absurd (true≢false (sym e))
+beq-true false true e = absurd (true≢false (sym e))
+beq-true false false e = refl
 
 -- ---- lists that grow at their end
 

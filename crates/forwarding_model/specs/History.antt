@@ -4,12 +4,12 @@ use Rattle.std.specs.Prelude.{ℕ, List, [], ◌∷◌, ◌++◌, if◌then◌el
 use Rattle.std.specs.declared.option.Option.{Option}
 use Rattle.std.specs.declared.option.Option.TheVariants.{None, Some}
 use Rattle.sfu_base.specs.declared.frame.Wish.{Wish}
-use Rattle.forwarding_model.specs.Timeline.{Frame, Event, takes_of}
-use Rattle.forwarding_model.specs.Timeline.Event.{WholeFrame, PlainPacket, WishChange, Take}
-use Rattle.forwarding_model.specs.Outgoing.{Sender, Subscriber, outgoing}
-use Rattle.forwarding_model.specs.Reading.{Format}
-use Rattle.forwarding_model.specs.Frames.{Item, frames_since}
-use Rattle.forwarding_model.specs.Frames.Item.{Missing, Arrived}
+use Rattle.forwarding_model.specs.forwarding.Timeline.{Frame, Event, takes_of}
+use Rattle.forwarding_model.specs.forwarding.Timeline.Event.{WholeFrame, PlainPacket, WishChange, Take}
+use Rattle.forwarding_model.specs.forwarding.Outgoing.{Sender, Subscriber, outgoing}
+use Rattle.forwarding_model.specs.frames.Reading.{Format}
+use Rattle.forwarding_model.specs.frames.Frames.{Item, frames_since}
+use Rattle.forwarding_model.specs.frames.Frames.Item.{Missing, Arrived}
 
 -- A packet came or time went on, which released these items, the newest first; a subscriber joined, changed its wish, or asked for a
 -- packet.

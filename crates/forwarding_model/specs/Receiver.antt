@@ -10,11 +10,11 @@ use Rattle.std.specs.declared.option.Option.{Option}
 use Rattle.std.specs.declared.option.Option.TheVariants.{None, Some}
 use Rattle.forwarding_model.specs.declared.complaint.Complaint.{Complaint}
 use Rattle.forwarding_model.specs.Lists.{first_failing}
-use Rattle.forwarding_model.specs.Numbers.{is_above, number_above}
-use Rattle.forwarding_model.specs.Timeline.{Packet}
-use Rattle.forwarding_model.specs.Reading.{Descriptor, Format, Joins, Payload, Showing, is_key_start, referred_distances, shown}
-use Rattle.forwarding_model.specs.Reading.Payload.{Empty, Broken, Elements}
-use Rattle.forwarding_model.specs.Reading.Showing.{LacksStructure, Unread, Shows}
+use Rattle.wrap_number.specs.Number.{is_above, number_above}
+use Rattle.forwarding_model.specs.forwarding.Timeline.{Packet}
+use Rattle.forwarding_model.specs.frames.Reading.{Descriptor, Format, Joins, Payload, Showing, is_key_start, referred_distances, shown}
+use Rattle.forwarding_model.specs.frames.Reading.Payload.{Empty, Broken, Elements}
+use Rattle.forwarding_model.specs.frames.Reading.Showing.{LacksStructure, Unread, Shows}
 
 -- ---- frame numbers
 

@@ -1,8 +1,8 @@
 -- From what is answered to the cuts of the list of marks.
 use Rattle.std.proofs.Common.{◌≡◌, ◌↔◌, ℕ, List, [], ◌∷◌, map, refl, sym, ap, ◌∙◌}
-use Rattle.forwarding_model.specs.Cuts.{Part, Mark as CutMark, Outcome as CutOutcome, parts_of, run_of, outcome, IsWholeCut, IsUnfinishedCut, EndsIn}
-use Rattle.forwarding_model.specs.Cuts.Mark.{Padding}
-use Rattle.forwarding_model.specs.Cuts.Outcome.{IsPadding, IsWhole, IsPartial, IsTorn}
+use Rattle.forwarding_model.specs.frames.Cuts.{Part, Mark as CutMark, Outcome as CutOutcome, parts_of, run_of, outcome, IsWholeCut, IsUnfinishedCut, EndsIn}
+use Rattle.forwarding_model.specs.frames.Cuts.Mark.{Padding}
+use Rattle.forwarding_model.specs.frames.Cuts.Outcome.{IsPadding, IsWhole, IsPartial, IsTorn}
 use Rattle.forwarding_model.proofs.WholeCuts.{cut_is_whole, whole_is_cut}
 use Rattle.forwarding_model.proofs.Outcomes.{padding_outcomes_are_padding, whole_outcomes_are_cuts, partial_is_unfinished, unfinished_is_partial}
 use Rattle.frame_assembly.specs.declared.mark.Outcome.{Outcome}

@@ -1,7 +1,7 @@
 -- Parts join as their packets do.
 use Rattle.std.proofs.Common.{◌≡◌, ◌↔◌, Bool, false, List, [], ◌∷◌, ◌++◌, map, refl, sym, ◌∙◌, ap}
 use Rattle.obu_element.specs.Joins.{Flags, AreJoined, Join as PacketsJoin}
-use Rattle.forwarding_model.specs.Cuts.{Part, Join, JoinSoFar}
+use Rattle.forwarding_model.specs.frames.Cuts.{Part, Join, JoinSoFar}
 use Rattle.frame_assembly.specs.Joins.{flags_of}
 
 -- the packets join behind one that left an element open, or didn't

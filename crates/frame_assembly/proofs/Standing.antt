@@ -4,8 +4,8 @@ use Rattle.std.specs.Prelude.{◌==◌, nat_lt}
 use Rattle.std.specs.Bool.{beq}
 use Rattle.std.proofs.lemmas.List.{length-map}
 use Rattle.std.proofs.lemmas.Bool.{eqb-true, eq-eqb, and_parts}
-use Rattle.forwarding_model.specs.Cuts.{Part, Mark as CutMark, Run, is_next, begun as cut_begun, continued as cut_continued, extended, run_of, whole, outcome, run_outcome}
-use Rattle.forwarding_model.specs.Cuts.Mark.{Gone, Padding, Unreadable, Read}
+use Rattle.forwarding_model.specs.frames.Cuts.{Part, Mark as CutMark, Run, is_next, begun as cut_begun, continued as cut_continued, extended, run_of, whole, outcome, run_outcome}
+use Rattle.forwarding_model.specs.frames.Cuts.Mark.{Gone, Padding, Unreadable, Read}
 use Rattle.frame_assembly.specs.Assembled.{IsAfter, Seen, Unfinished, answer, frame_of, packets_of, unfinished_of}
 use Rattle.frame_assembly.specs.Steps.{answered, ended, made_of, pushed, with_part}
 

@@ -1,9 +1,9 @@
 -- What contracts see of an assembly, and which packets it stands for. Lists of marks have the newest first, lists of packets the oldest.
 -- Which marks make a frame is said in `forwarding_model`, of whole lists of marks.
 use Rattle.std.specs.Prelude.{◌≡◌, ◌≢◌, ◌∷◌, [], ℕ, Bool, if◌then◌else◌, List, Option, None, Some, map}
-use Rattle.forwarding_model.specs.Cuts.{Part, Mark as CutMark, Run, Outcome as CutOutcome, parts_of, run_of, cut_of, IsWholeCut, IsUnfinishedCut, EndsIn}
-use Rattle.forwarding_model.specs.Cuts.Mark.{Gone, Padding, Unreadable, Read}
-use Rattle.forwarding_model.specs.Cuts.Outcome.{IsPadding, IsWhole, IsPartial, IsTorn}
+use Rattle.forwarding_model.specs.frames.Cuts.{Part, Mark as CutMark, Run, Outcome as CutOutcome, parts_of, run_of, cut_of, IsWholeCut, IsUnfinishedCut, EndsIn}
+use Rattle.forwarding_model.specs.frames.Cuts.Mark.{Gone, Padding, Unreadable, Read}
+use Rattle.forwarding_model.specs.frames.Cuts.Outcome.{IsPadding, IsWhole, IsPartial, IsTorn}
 use Rattle.frame_assembly.specs.declared.mark.Mark.{Mark}
 use Rattle.frame_assembly.specs.declared.mark.Mark.TheVariants as mark
 use Rattle.frame_assembly.specs.declared.mark.Outcome.{Outcome}

@@ -1,7 +1,7 @@
 -- That the parts of a frame join says the same here and of their packets' flags (RTP Payload Format For AV1, section 4.4).
 use Rattle.std.specs.Prelude.{◌↔◌, false, List, map}
 use Rattle.obu_element.specs.Joins.{Flags, AreJoined, Join as PacketsJoin}
-use Rattle.forwarding_model.specs.Cuts.{Part, Join, JoinSoFar}
+use Rattle.forwarding_model.specs.frames.Cuts.{Part, Join, JoinSoFar}
 
 -- Z and Y of a part
 abbrev pub flags_of : {X : Type 0} → Part X → Flags

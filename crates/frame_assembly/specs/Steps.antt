@@ -1,8 +1,8 @@
 -- What one mark makes of what is seen. Own to the code: contracts of public calls speak of whole lists of marks.
 use Rattle.std.specs.Prelude.{◌++◌, ◌∷◌, [], ℕ, ◌==◌, ◌&&◌, nat_lt, Bool, false, if◌then◌else◌, List, Option, None, Some, length}
 use Rattle.std.specs.Bool.{beq}
-use Rattle.forwarding_model.specs.Cuts.{Part, Mark as CutMark}
-use Rattle.forwarding_model.specs.Cuts.Mark.{Gone, Padding, Unreadable, Read}
+use Rattle.forwarding_model.specs.frames.Cuts.{Part, Mark as CutMark}
+use Rattle.forwarding_model.specs.frames.Cuts.Mark.{Gone, Padding, Unreadable, Read}
 use Rattle.frame_assembly.specs.declared.mark.Outcome.{Outcome}
 use Rattle.frame_assembly.specs.declared.mark.Outcome.TheVariants as made
 use Rattle.frame_assembly.specs.Assembled.{Seen, Unfinished}

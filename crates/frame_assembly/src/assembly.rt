@@ -1,6 +1,6 @@
 // The frame under assembly.
 ghost use Rattle.std.specs.Prelude.{◌≡◌, ◌<◌, ◌≤◌, ◌↔◌, ◌∷◌, [], IfOk, List, None, Some, is_some, length, map, slice_get, true, ℕ};
-ghost use Rattle.forwarding_model.specs.Cuts.{EndsIn, IsWholeCut, Mark as CutMark, Part, outcome, run_of};
+ghost use Rattle.forwarding_model.specs.frames.Cuts.{EndsIn, IsWholeCut, Mark as CutMark, Part, outcome, run_of};
 ghost use Rattle.frame_assembly.specs.Assembled.{EndsNothing, EndsUnfinished, EndsWhole, IsAfter, answer, marked};
 ghost use Rattle.frame_assembly.specs.Steps.{answered, begun, continued, ended, made_of, nothing, pushed};
 

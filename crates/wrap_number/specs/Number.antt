@@ -1,42 +1,78 @@
--- Which number of unlimited range a sequence number of 16 bits stands for (RFC 3550, section 5.1: sequence numbers wrap at 65,536).
-use Rattle.std.specs.Prelude.{◌≡◌, ◌+◌, ◌-◌, ◌%◌, ◌<◌, ◌≤◌, ℕ, ℤ, pos, ◌+ℤ◌, ◌-ℤ◌, ◌≤ℤ◌, if◌then◌else◌, nat_lt, unsigned_abs}
+-- Which number of unlimited range a number of 16 bits stands for: sequence numbers (RFC 3550, section 5.1) and frame numbers (AV1 RTP
+-- payload format, Appendix A, frame_number) wrap at 65,536. Which one is meant is an own rule, told by comparing all numbers that are the
+-- same modulo 65,536; the code adds a remainder.
+use Rattle.std.specs.Prelude.{◌≡◌, ◌+◌, ◌-◌, ◌%◌, ◌<◌, ◌≤◌, ℕ, ℤ, pos, ◌+ℤ◌, ◌-ℤ◌, ◌≤ℤ◌, Bool, true, ◌&&◌, if◌then◌else◌, nat_lt, unsigned_abs}
 use Rattle.std.specs.Int.{int_rem_euclid}
 
--- the number is n modulo 65,536
+-- ---- which number is meant
+
+-- the numbers are the same modulo 65,536
 abbrev pub IsCongruent : ℤ → ℕ → Type 0
-IsCongruent m n = int_rem_euclid m (pos 65536) ≡ pos n
+IsCongruent m n = int_rem_euclid m (pos 65536) ≡ pos (n % 65536)
 
 -- how far two numbers lie apart
 abbrev pub distance : ℤ → ℤ → ℕ
 distance a b = unsigned_abs (a -ℤ b)
 
--- Own rule: m is n modulo 65,536, no other such number is nearer to `newest`, and of two that are equally near m is the lower, so a
--- distance of 32,768 is read as behind. The code adds the remainder of a difference, or what it lacks to 65,536.
+-- m is n modulo 65,536, no other such number is nearer to `newest`, and of two that are equally near m is the lower, so a distance of
+-- 32,768 is read as behind
 pub record IsNearest (newest : ℤ) (n : ℕ) (m : ℤ) : Type 0 where
   pub congruent : IsCongruent m n
   pub nearest : (other : ℤ) → IsCongruent other n → distance m newest ≤ distance other newest
   pub behind : (other : ℤ) → IsCongruent other n → distance other newest ≡ distance m newest → m ≤ℤ other
 
--- Own rule: m is n modulo 65,536, lies above `newest`, and no other such number is lower. The code adds the remainder of a difference.
-pub record IsLeastAbove (newest n m : ℕ) : Type 0 where
-  pub congruent : m % 65536 ≡ n
+-- m is nearest, and lies above `newest`
+pub record IsNearestAbove (newest n m : ℕ) : Type 0 where
+  pub nearest : IsNearest (pos newest) n (pos m)
   pub above : newest < m
-  pub least : (other : ℕ) → other % 65536 ≡ n → newest < other → m ≤ other
 
--- Two numbers that are nearest are one, and so are two that are least.
-pub record IsOne : Type 0 where
-  pub nearest : (newest : ℤ) (n : ℕ) (a b : ℤ) → IsNearest newest n a → IsNearest newest n b → a ≡ b
-  pub least : (newest n a b : ℕ) → IsLeastAbove newest n a → IsLeastAbove newest n b → a ≡ b
+-- m is n modulo 65,536, lies above `newest`, and no other such number is lower
+pub record IsLeastAbove (newest n m : ℕ) : Type 0 where
+  pub congruent : m % 65536 ≡ n % 65536
+  pub above : newest < m
+  pub least : (other : ℕ) → other % 65536 ≡ n % 65536 → newest < other → m ≤ other
+
+-- ---- that number as a value, for definitions that compute with it
 
 -- how far the next number that is n modulo 65,536 lies ahead of `newest`
 abbrev pub ahead_of : ℤ → ℕ → ℕ
 ahead_of newest n = (n + 65536 - unsigned_abs (int_rem_euclid newest (pos 65536))) % 65536
 
--- The nearest number as a value, for definitions that compute with it.
+-- the nearest number
 abbrev pub nearest_to : ℤ → ℕ → ℤ
 nearest_to newest n =
     if nat_lt (ahead_of newest n) 32768 then newest +ℤ pos (ahead_of newest n) else (newest +ℤ pos (ahead_of newest n)) -ℤ pos 65536
 
--- The least number above as a value.
+-- the nearest number lies above `newest`
+abbrev pub is_above : ℕ → ℕ → Bool
+is_above newest n = nat_lt 0 (ahead_of (pos newest) n) && nat_lt (ahead_of (pos newest) n) 32768
+
+-- the nearest number, where it lies above `newest`
+abbrev pub number_above : ℕ → ℕ → ℕ
+number_above newest n = newest + ahead_of (pos newest) n
+
+-- the least number above
 abbrev pub least_above : ℕ → ℕ → ℕ
-least_above newest n = newest + (n + 65535 - newest % 65536) % 65536 + 1
+least_above newest n = newest + 1 + ahead_of (pos (newest + 1)) n
+
+-- ---- the laws
+
+-- two numbers that are nearest are one, and so are two that are least
+pub record IsOne : Type 0 where
+  pub nearest : (newest : ℤ) (n : ℕ) (a b : ℤ) → IsNearest newest n a → IsNearest newest n b → a ≡ b
+  pub least : (newest n a b : ℕ) → IsLeastAbove newest n a → IsLeastAbove newest n b → a ≡ b
+
+-- the values are what they are called, whatever the numbers
+abbrev pub NearestIsNearest : Type 0
+NearestIsNearest = (newest : ℤ) (n : ℕ) → IsNearest newest n (nearest_to newest n)
+
+abbrev pub LeastIsLeast : Type 0
+LeastIsLeast = (newest n : ℕ) → IsLeastAbove newest n (least_above newest n)
+
+-- where the test says that the nearest number lies above, that number is it
+abbrev pub AboveIsNearest : Type 0
+AboveIsNearest = (newest n : ℕ) → is_above newest n ≡ true → IsNearestAbove newest n (number_above newest n)
+
+-- and where the nearest number lies above, the test says so
+abbrev pub NearestAboveIsFound : Type 0
+NearestAboveIsFound = (newest n m : ℕ) → IsNearestAbove newest n m → (is_above newest n ≡ true) × (m ≡ number_above newest n)

@@ -4,9 +4,7 @@
 
 ghost use Rattle.std.specs.Prelude.{◌≡◌, ◌≤ℤ◌, ◌<◌, ◌^◌, neg_ℤ, pos};
 ghost use Rattle.wrap_number.specs.Number.{IsNearest, IsLeastAbove, IsOne, ahead_of, nearest_to, least_above};
-
-#[cfg(test)]
-mod tests;
+ghost use Rattle.wrap_number.specs.Number.{NearestIsNearest, LeastIsLeast, AboveIsNearest, NearestAboveIsFound};
 
 /// The number that is `n` modulo 65,536 and nearest to `newest` (own rule). A distance of 32,768 is read as behind.
 pub fn place(newest: i64, n: u16) -> i64
@@ -44,3 +42,15 @@ pub fn above(newest: u64, n: u16) -> u64
 pub fn one_number_is_meant()
     ensures { IsOne }
 {}
+
+/// A law, for all numbers: the values with which definitions compute are the nearest number and the least above. The nearest number lies
+/// above `newest` exactly when the test says so.
+pub fn values_are_nearest_and_least()
+    ensures nearest { NearestIsNearest }
+    ensures least { LeastIsLeast }
+    ensures above { AboveIsNearest }
+    ensures found { NearestAboveIsFound }
+{}
+
+#[cfg(test)]
+mod tests;

@@ -1,0 +1,9 @@
+pub mod Rows
+pub mod SelectionRows
+pub mod WorkedFormats
+pub mod WorkedPackets
+pub mod TrackRows
+pub mod ReceptionRows
+pub mod LayeredFormats
+pub mod LayeredRows
+pub mod RefusedWords

@@ -1,0 +1,9 @@
+pub mod Rows
+pub mod SelectionRows
+pub mod WorkedFormat
+pub mod WorkedPackets
+pub mod TrackRows
+pub mod ReceptionRows
+pub mod LayeredFormat
+pub mod LayeredRows
+pub mod Refusals

@@ -1,0 +1,347 @@
+-- Worked packets: small lists of packets whose frames, and whose complaints at a strict receiver, were worked out by hand. They compute.
+-- They are read by the format of `WorkedFormat`.
+use Rattle.std.specs.Prelude.{◌≡◌, ◌+◌, ℕ, List, [], ◌∷◌, ◌++◌, false, if◌then◌else◌, map, length, replicate}
+use Rattle.std.specs.declared.option.Option.{Option}
+use Rattle.std.specs.declared.option.Option.TheVariants.{None, Some}
+use Rattle.forwarding_model.specs.declared.complaint.Complaint.{Complaint}
+use Rattle.sfu_base.specs.declared.frame.Wish.{Wish}
+use Rattle.sfu_base.specs.declared.frame.Verdict.TheVariants.{Passed, Reference, Hole}
+use Rattle.forwarding_model.specs.forwarding.Timeline.{Event, Frame, Packet}
+use Rattle.forwarding_examples.specs.WorkedFormat.{worked_format}
+use Rattle.forwarding_model.specs.frames.Frames.{Item, frames_after}
+use Rattle.forwarding_model.specs.frames.Frames.Item.{Missing, Arrived}
+use Rattle.forwarding_model.specs.forwarding.Causes.{cause}
+use Rattle.forwarding_model.specs.forwarding.Outgoing.{Subscriber, outgoing, send_marked, taken}
+use Rattle.forwarding_model.specs.History.{Entry, timeline}
+use Rattle.forwarding_model.specs.History.Entry.{Released, Joined, Aimed, Asked}
+use Rattle.forwarding_model.specs.Receiver.{complaint, frames_accepted, packets_accepted}
+use Rattle.forwarding_model.specs.Receiver.Receiver.{Waiting}
+
+abbrev pub sent_as : ℕ → List ℕ → Packet
+sent_as sequence_number rest = record { sequence_number = sequence_number; ssrc = 1; marker = false; rest = rest }
+
+-- a key frame of one packet; a frame of one packet that refers to the one at a distance; padding
+abbrev pub key_rest : ℕ → List ℕ
+key_rest number = 1 ∷ 1 ∷ number ∷ 7 ∷ 0 ∷ 0 ∷ 0 ∷ []
+
+abbrev pub frame_rest : ℕ → ℕ → List ℕ
+frame_rest number distance = 1 ∷ 1 ∷ number ∷ 0 ∷ 0 ∷ 0 ∷ 0 ∷ distance ∷ []
+
+abbrev pub padding_rest : List ℕ
+padding_rest = 0 ∷ 0 ∷ 0 ∷ 0 ∷ 0 ∷ 2 ∷ 0 ∷ []
+
+-- a frame of more packets: the first, one between and the last, whose elements join; the first refers to the frame before
+abbrev pub first_rest : ℕ → List ℕ
+first_rest number = 1 ∷ 0 ∷ number ∷ 0 ∷ 0 ∷ 0 ∷ 1 ∷ 1 ∷ []
+
+abbrev pub middle_rest : ℕ → List ℕ
+middle_rest number = 0 ∷ 0 ∷ number ∷ 0 ∷ 0 ∷ 1 ∷ 1 ∷ []
+
+abbrev pub last_rest : ℕ → List ℕ
+last_rest number = 0 ∷ 1 ∷ number ∷ 0 ∷ 0 ∷ 1 ∷ 0 ∷ []
+
+-- ---- frames: the items stand with the newest first
+
+abbrev pub came : List ℕ → Item
+came rest = Arrived (sent_as 0 rest)
+
+-- of each frame its number, how many packets it has, and its mask; the newest first
+abbrev pub told : List Item → List (List ℕ)
+told items = map (λ (x : Frame ℕ). x.meaning.number ∷ length x.packets ∷ x.meaning.mask ∷ []) (frames_after worked_format items)
+
+-- padding may stand between the packets of a frame
+abbrev pub PaddedFrame : Type 0
+PaddedFrame =
+    told (came (last_rest 2) ∷ came padding_rest ∷ came (middle_rest 2) ∷ came (first_rest 2) ∷ came padding_rest ∷ came (key_rest 1) ∷ [])
+    ≡ (2 ∷ 3 ∷ 3 ∷ []) ∷ (1 ∷ 1 ∷ 3 ∷ []) ∷ []
+
+-- a number that was given up inside a frame tears it, and the next frame begins anew
+abbrev pub TornFrame : Type 0
+TornFrame =
+    told (came (frame_rest 3 1) ∷ came (last_rest 2) ∷ Missing ∷ came (first_rest 2) ∷ came (key_rest 1) ∷ [])
+    ≡ (3 ∷ 1 ∷ 3 ∷ []) ∷ (1 ∷ 1 ∷ 3 ∷ []) ∷ []
+
+-- so does a start that comes too early
+abbrev pub EarlyStart : Type 0
+EarlyStart = told (came (last_rest 2) ∷ came (frame_rest 3 2) ∷ came (first_rest 2) ∷ came (key_rest 1) ∷ []) ≡ (3 ∷ 1 ∷ 3 ∷ []) ∷ (1 ∷ 1 ∷ 3 ∷ []) ∷ []
+
+-- frame numbers wrap, and a key frame's number lies above all before
+abbrev pub WrappedNumbers : Type 0
+WrappedNumbers =
+    told (came (key_rest 5) ∷ came (frame_rest 0 1) ∷ came (key_rest 65535) ∷ [])
+    ≡ (65541 ∷ 1 ∷ 3 ∷ []) ∷ (65536 ∷ 1 ∷ 3 ∷ []) ∷ (65535 ∷ 1 ∷ 3 ∷ []) ∷ []
+
+-- a frame number that doesn't rise is no frame
+abbrev pub StaleNumber : Type 0
+StaleNumber = told (came (frame_rest 4 1) ∷ came (frame_rest 5 1) ∷ came (key_rest 4) ∷ []) ≡ (5 ∷ 1 ∷ 3 ∷ []) ∷ (4 ∷ 1 ∷ 3 ∷ []) ∷ []
+
+-- a mask counts from the frame that carries it; a structure without a mask makes all targets active
+abbrev pub NewMask : Type 0
+NewMask =
+    told (came (frame_rest 4 1) ∷ came (1 ∷ 1 ∷ 3 ∷ 0 ∷ 3 ∷ 0 ∷ 0 ∷ 1 ∷ []) ∷ came (frame_rest 2 1) ∷ came (key_rest 1) ∷ [])
+    ≡ (4 ∷ 1 ∷ 2 ∷ []) ∷ (3 ∷ 1 ∷ 2 ∷ []) ∷ (2 ∷ 1 ∷ 3 ∷ []) ∷ (1 ∷ 1 ∷ 3 ∷ []) ∷ []
+
+-- only a key start brings another structure; the frame that does it otherwise is unreadable
+abbrev pub OtherStructure : Type 0
+OtherStructure =
+    told (came (frame_rest 3 1) ∷ came (1 ∷ 1 ∷ 2 ∷ 8 ∷ 0 ∷ 0 ∷ 0 ∷ 1 ∷ []) ∷ came (key_rest 1) ∷ [])
+    ≡ (3 ∷ 1 ∷ 3 ∷ []) ∷ (1 ∷ 1 ∷ 3 ∷ []) ∷ []
+
+-- a packet that doesn't read tears the frame that it lies in, and so do a broken payload and another structure
+abbrev pub UnreadInside : Type 0
+UnreadInside = told (came (last_rest 2) ∷ came (0 ∷ 0 ∷ 2 ∷ 0 ∷ 9 ∷ 1 ∷ 1 ∷ []) ∷ came (first_rest 2) ∷ came (key_rest 1) ∷ []) ≡ (1 ∷ 1 ∷ 3 ∷ []) ∷ []
+
+abbrev pub BrokenInside : Type 0
+BrokenInside = told (came (last_rest 2) ∷ came (0 ∷ 0 ∷ 2 ∷ 0 ∷ 0 ∷ 3 ∷ 1 ∷ []) ∷ came (first_rest 2) ∷ came (key_rest 1) ∷ []) ≡ (1 ∷ 1 ∷ 3 ∷ []) ∷ []
+
+abbrev pub OtherStructureInside : Type 0
+OtherStructureInside = told (came (last_rest 2) ∷ came (0 ∷ 0 ∷ 2 ∷ 8 ∷ 0 ∷ 1 ∷ 1 ∷ []) ∷ came (first_rest 2) ∷ came (key_rest 1) ∷ []) ≡ (1 ∷ 1 ∷ 3 ∷ []) ∷ []
+
+-- a key start acts though its payload is broken: number 4 doesn't lie above it, and number 6 does
+abbrev pub BrokenKeyStart : Type 0
+BrokenKeyStart = told (came (frame_rest 6 1) ∷ came (frame_rest 4 1) ∷ came (1 ∷ 1 ∷ 5 ∷ 7 ∷ 0 ∷ 3 ∷ 0 ∷ []) ∷ came (key_rest 1) ∷ []) ≡ (6 ∷ 1 ∷ 3 ∷ []) ∷ (1 ∷ 1 ∷ 3 ∷ []) ∷ []
+
+-- and though its frame is torn
+abbrev pub TornKeyFrame : Type 0
+TornKeyFrame = told (came (frame_rest 6 1) ∷ came (frame_rest 4 1) ∷ Missing ∷ came (1 ∷ 0 ∷ 5 ∷ 7 ∷ 0 ∷ 0 ∷ 1 ∷ []) ∷ came (key_rest 1) ∷ []) ≡ (6 ∷ 1 ∷ 3 ∷ []) ∷ (1 ∷ 1 ∷ 3 ∷ []) ∷ []
+
+-- so does a mask
+abbrev pub BrokenMask : Type 0
+BrokenMask = told (came (frame_rest 3 1) ∷ came (1 ∷ 1 ∷ 2 ∷ 0 ∷ 3 ∷ 3 ∷ 0 ∷ 1 ∷ []) ∷ came (key_rest 1) ∷ []) ≡ (3 ∷ 1 ∷ 2 ∷ []) ∷ (1 ∷ 1 ∷ 3 ∷ []) ∷ []
+
+-- a packet without a payload says nothing, whether a mask or a key start
+abbrev pub PaddingSaysNothing : Type 0
+PaddingSaysNothing = told (came (frame_rest 2 1) ∷ came (1 ∷ 1 ∷ 5 ∷ 8 ∷ 0 ∷ 2 ∷ 0 ∷ []) ∷ came (0 ∷ 0 ∷ 1 ∷ 0 ∷ 3 ∷ 2 ∷ 0 ∷ []) ∷ came (key_rest 1) ∷ []) ≡ (2 ∷ 1 ∷ 3 ∷ []) ∷ (1 ∷ 1 ∷ 3 ∷ []) ∷ []
+
+-- a frame has the mask in force once its last packet was read
+abbrev pub LastMask : Type 0
+LastMask = told (came (0 ∷ 1 ∷ 2 ∷ 0 ∷ 3 ∷ 1 ∷ 0 ∷ []) ∷ came (first_rest 2) ∷ came (key_rest 1) ∷ []) ≡ (2 ∷ 2 ∷ 2 ∷ []) ∷ (1 ∷ 1 ∷ 3 ∷ []) ∷ []
+
+-- the same structure without a mask makes all targets active again
+abbrev pub MaskAgain : Type 0
+MaskAgain = told (came (1 ∷ 1 ∷ 3 ∷ 7 ∷ 0 ∷ 0 ∷ 0 ∷ 1 ∷ []) ∷ came (1 ∷ 1 ∷ 2 ∷ 0 ∷ 3 ∷ 0 ∷ 0 ∷ 1 ∷ []) ∷ came (key_rest 1) ∷ []) ≡ (3 ∷ 1 ∷ 3 ∷ []) ∷ (2 ∷ 1 ∷ 2 ∷ []) ∷ (1 ∷ 1 ∷ 3 ∷ []) ∷ []
+
+-- the first key frame may have the number 0
+abbrev pub FirstNumberZero : Type 0
+FirstNumberZero = told (came (frame_rest 1 1) ∷ came (key_rest 0) ∷ []) ≡ (1 ∷ 1 ∷ 3 ∷ []) ∷ (0 ∷ 1 ∷ 3 ∷ []) ∷ []
+
+-- a number 32,767 ahead lies above, and one 32,768 ahead doesn't
+abbrev pub FarthestAbove : Type 0
+FarthestAbove = told (came (1 ∷ 1 ∷ 32768 ∷ 0 ∷ 0 ∷ 0 ∷ 0 ∷ []) ∷ came (key_rest 1) ∷ []) ≡ (32768 ∷ 1 ∷ 3 ∷ []) ∷ (1 ∷ 1 ∷ 3 ∷ []) ∷ []
+
+abbrev pub NearestBehind : Type 0
+NearestBehind = told (came (1 ∷ 1 ∷ 32769 ∷ 0 ∷ 0 ∷ 0 ∷ 0 ∷ []) ∷ came (key_rest 1) ∷ []) ≡ (1 ∷ 1 ∷ 3 ∷ []) ∷ []
+
+-- 512 packets are a frame, and 513 are none
+abbrev pub LongFrame : Type 0
+LongFrame = told (came (last_rest 2) ∷ replicate 510 (came (middle_rest 2)) ++ came (first_rest 2) ∷ came (key_rest 1) ∷ []) ≡ (2 ∷ 512 ∷ 3 ∷ []) ∷ (1 ∷ 1 ∷ 3 ∷ []) ∷ []
+
+abbrev pub TooLongFrame : Type 0
+TooLongFrame = told (came (last_rest 2) ∷ replicate 511 (came (middle_rest 2)) ++ came (first_rest 2) ∷ came (key_rest 1) ∷ []) ≡ (1 ∷ 1 ∷ 3 ∷ []) ∷ []
+
+-- ---- a history: a key frame comes before the join; then a frame, another key frame, and a frame of three packets, of which one call
+-- releases the last two; three askings find two packets
+
+abbrev pub worked_subscriber : Subscriber
+worked_subscriber = record { ssrc = 2; first = 65535; wish = record { spatial = 1; temporal = 0 } }
+
+abbrev pub worked_history : List Entry
+worked_history =
+    Asked 1
+    ∷ Released (came (last_rest 4) ∷ came (middle_rest 4) ∷ [])
+    ∷ Released (came (first_rest 4) ∷ [])
+    ∷ Asked 1
+    ∷ Asked 1
+    ∷ Released (came (key_rest 3) ∷ [])
+    ∷ Released (came (frame_rest 2 1) ∷ [])
+    ∷ Joined 1 worked_subscriber
+    ∷ Released (came (key_rest 1) ∷ [])
+    ∷ []
+
+abbrev pub worked_timeline : List (Event ℕ)
+worked_timeline = timeline worked_format send_marked 1 worked_history
+
+-- frame 2 refers to what came before the join, so the key frame and the frame of three packets go out
+abbrev pub HistoryNumbers : Type 0
+HistoryNumbers = map (λ (p : Packet). p.sequence_number) (outgoing send_marked worked_subscriber worked_timeline) ≡ 65535 ∷ 0 ∷ 1 ∷ 2 ∷ []
+
+-- the second asking found nothing
+abbrev pub HistoryTaken : Type 0
+HistoryTaken = map (λ (p : Packet). p.sequence_number) (taken send_marked worked_subscriber worked_timeline) ≡ 65535 ∷ 0 ∷ []
+
+abbrev pub HistoryCauses : Type 0
+HistoryCauses = map (cause worked_subscriber.wish worked_timeline) (1 ∷ 2 ∷ 3 ∷ 4 ∷ []) ≡ Hole None 2 ∷ Reference 1 ∷ Passed ∷ Passed ∷ []
+
+-- ---- a history of three subscribers: 1 joins first, and lowers its wish before frame 4; 2 joins after the key frame 1; 3 joins between
+-- the packets of frame 2
+
+abbrev pub layered_wish : ℕ → Wish
+layered_wish spatial = record { spatial = spatial; temporal = 0 }
+
+abbrev pub joined_as : (ssrc first spatial : ℕ) → Subscriber
+joined_as ssrc first spatial = record { ssrc = ssrc; first = first; wish = layered_wish spatial }
+
+abbrev pub three_subscribers : List Entry
+three_subscribers =
+    Asked 2
+    ∷ Released (came (frame_rest 4 1) ∷ [])
+    ∷ Aimed 1 (layered_wish 0)
+    ∷ Released (came (key_rest 3) ∷ [])
+    ∷ Released (came (last_rest 2) ∷ [])
+    ∷ Joined 3 (joined_as 4 7 1)
+    ∷ Released (came (first_rest 2) ∷ [])
+    ∷ Joined 2 (joined_as 3 100 0)
+    ∷ Released (came (key_rest 1) ∷ [])
+    ∷ Joined 1 (joined_as 2 65535 1)
+    ∷ []
+
+abbrev pub sent_to : ℕ → Subscriber → List Packet
+sent_to number subscriber = outgoing send_marked subscriber (timeline worked_format send_marked number three_subscribers)
+
+-- of each packet with the marker its number
+abbrev pub numbers_and_markers : List Packet → List (Option ℕ)
+numbers_and_markers packets = map (λ (p : Packet). if p.marker then Some p.sequence_number else None) packets
+
+abbrev pub FirstSubscriber : Type 0
+FirstSubscriber =
+    map (λ (p : Packet). p.sequence_number) (sent_to 1 (joined_as 2 65535 1)) ≡ 65535 ∷ 0 ∷ 1 ∷ 2 ∷ 3 ∷ []
+
+-- all frames are of the lower layer, so that the marker is set for those of the lower target alone; of the others stands none
+abbrev pub FirstSubscriberMarkers : Type 0
+FirstSubscriberMarkers = numbers_and_markers (sent_to 1 (joined_as 2 65535 1)) ≡ None ∷ None ∷ None ∷ None ∷ Some 3 ∷ []
+
+abbrev pub SecondSubscriber : Type 0
+SecondSubscriber = numbers_and_markers (sent_to 2 (joined_as 3 100 0)) ≡ Some 100 ∷ Some 101 ∷ []
+
+abbrev pub SecondSubscriberTaken : Type 0
+SecondSubscriberTaken =
+    map (λ (p : Packet). p.ssrc) (taken send_marked (joined_as 3 100 0) (timeline worked_format send_marked 2 three_subscribers)) ≡ 3 ∷ []
+
+abbrev pub ThirdSubscriber : Type 0
+ThirdSubscriber = map (λ (p : Packet). p.sequence_number) (sent_to 3 (joined_as 4 7 1)) ≡ 7 ∷ 8 ∷ []
+
+-- frame 2 got whole after subscriber 3 joined, and what it refers to before
+abbrev pub ThirdSubscriberCauses : Type 0
+ThirdSubscriberCauses = map (cause (layered_wish 1) (timeline worked_format send_marked 3 three_subscribers)) (1 ∷ 2 ∷ 3 ∷ 4 ∷ []) ≡ Hole None 2 ∷ Reference 1 ∷ Passed ∷ Passed ∷ []
+
+-- ---- a strict receiver: the packets stand with the oldest first
+
+abbrev pub read_from : ℕ → List (List ℕ) → List (Option Packet)
+read_from sequence_number [] = []
+read_from sequence_number (rest ∷ more) = Some (sent_as sequence_number rest) ∷ read_from (sequence_number + 1) more
+
+abbrev pub complaint_at : List (Option Packet) → Option Complaint
+complaint_at packets = complaint worked_format packets
+
+abbrev pub Accepted : Type 0
+Accepted = complaint_at (read_from 10 (key_rest 1 ∷ first_rest 2 ∷ middle_rest 2 ∷ last_rest 2 ∷ frame_rest 4 2 ∷ [])) ≡ None
+
+-- six packets and three frames, as the fourth has only begun
+abbrev pub AcceptedCounts : Type 0
+AcceptedCounts =
+    packets_accepted worked_format Waiting (read_from 10 (key_rest 1 ∷ first_rest 2 ∷ middle_rest 2 ∷ last_rest 2 ∷ frame_rest 4 2 ∷ first_rest 5 ∷ []))
+    ∷ frames_accepted worked_format Waiting (read_from 10 (key_rest 1 ∷ first_rest 2 ∷ middle_rest 2 ∷ last_rest 2 ∷ frame_rest 4 2 ∷ first_rest 5 ∷ []))
+    ∷ []
+    ≡ 6 ∷ 3 ∷ []
+
+-- no RTP
+abbrev pub NotRtp : Type 0
+NotRtp = complaint_at (Some (sent_as 10 (key_rest 1)) ∷ None ∷ []) ≡ Some Complaint.Unread
+
+abbrev pub OtherSource : Type 0
+OtherSource =
+    complaint_at (Some (sent_as 10 (key_rest 1)) ∷ Some (record { sequence_number = 11; ssrc = 2; marker = false; rest = frame_rest 2 1 }) ∷ [])
+    ≡ Some (Complaint.OtherSource 1 2)
+
+abbrev pub RepeatedNumber : Type 0
+RepeatedNumber = complaint_at (Some (sent_as 65535 (key_rest 1)) ∷ Some (sent_as 65535 (key_rest 1)) ∷ []) ≡ Some (Complaint.Sequence 65535 65535)
+
+-- after 65,535 comes 0
+abbrev pub WrappedSequence : Type 0
+WrappedSequence = complaint_at (Some (sent_as 65535 (key_rest 1)) ∷ Some (sent_as 0 (frame_rest 2 1)) ∷ []) ≡ None
+
+abbrev pub LacksKeyFrame : Type 0
+LacksKeyFrame = complaint_at (read_from 10 (frame_rest 2 1 ∷ [])) ≡ Some Complaint.NoStructure
+
+-- a payload that is empty
+abbrev pub EmptyPayload : Type 0
+EmptyPayload = complaint_at (read_from 10 (key_rest 1 ∷ padding_rest ∷ [])) ≡ Some Complaint.Unread
+
+-- a continuation without its start, a start in an unfinished frame, a broken join
+abbrev pub LacksStart : Type 0
+LacksStart = complaint_at (read_from 10 (key_rest 1 ∷ last_rest 2 ∷ [])) ≡ Some Complaint.NotWhole
+
+abbrev pub SecondStart : Type 0
+SecondStart = complaint_at (read_from 10 (key_rest 1 ∷ first_rest 2 ∷ frame_rest 3 2 ∷ [])) ≡ Some Complaint.NotWhole
+
+abbrev pub BrokenJoin : Type 0
+BrokenJoin = complaint_at (read_from 10 (key_rest 1 ∷ first_rest 2 ∷ (0 ∷ 1 ∷ 2 ∷ 0 ∷ 0 ∷ 0 ∷ 0 ∷ []) ∷ [])) ≡ Some Complaint.NotWhole
+
+-- frame 2 never came
+abbrev pub LacksReference : Type 0
+LacksReference = complaint_at (read_from 10 (key_rest 1 ∷ frame_rest 3 1 ∷ [])) ≡ Some (Complaint.MissingReference 3 1)
+
+-- a key frame empties the received numbers
+abbrev pub LostReference : Type 0
+LostReference = complaint_at (read_from 10 (key_rest 1 ∷ key_rest 3 ∷ frame_rest 4 3 ∷ [])) ≡ Some (Complaint.MissingReference 4 3)
+
+-- ---- and what it is strict about
+
+-- another frame number inside a frame
+abbrev pub OtherNumber : Type 0
+OtherNumber = complaint_at (read_from 10 (key_rest 1 ∷ first_rest 2 ∷ last_rest 3 ∷ [])) ≡ Some Complaint.NotWhole
+
+-- an end that leaves an element open
+abbrev pub EndCarries : Type 0
+EndCarries = complaint_at (read_from 10 (key_rest 1 ∷ first_rest 2 ∷ (0 ∷ 1 ∷ 2 ∷ 0 ∷ 0 ∷ 1 ∷ 1 ∷ []) ∷ [])) ≡ Some Complaint.NotWhole
+
+-- a start that continues an element
+abbrev pub StartContinues : Type 0
+StartContinues = complaint_at (read_from 10 (key_rest 1 ∷ (1 ∷ 1 ∷ 2 ∷ 0 ∷ 0 ∷ 1 ∷ 0 ∷ 1 ∷ []) ∷ [])) ≡ Some Complaint.NotWhole
+
+-- 512 packets are a frame
+abbrev pub LongestFrame : Type 0
+LongestFrame = complaint_at (read_from 10 (key_rest 1 ∷ first_rest 2 ∷ replicate 510 (middle_rest 2) ++ last_rest 2 ∷ [])) ≡ None
+
+-- and a 513th packet is too many
+abbrev pub TooManyPackets : Type 0
+TooManyPackets = complaint_at (read_from 10 (key_rest 1 ∷ first_rest 2 ∷ replicate 511 (middle_rest 2) ++ last_rest 2 ∷ [])) ≡ Some Complaint.NotWhole
+
+-- a descriptor that is missing or doesn't read, here by its mask
+abbrev pub FaultyDescriptor : Type 0
+FaultyDescriptor = complaint_at (read_from 10 (key_rest 1 ∷ (1 ∷ 1 ∷ 2 ∷ 0 ∷ 9 ∷ 0 ∷ 0 ∷ 1 ∷ []) ∷ [])) ≡ Some Complaint.Unread
+
+-- a payload that is broken
+abbrev pub BrokenPayload : Type 0
+BrokenPayload = complaint_at (read_from 10 (key_rest 1 ∷ (1 ∷ 1 ∷ 2 ∷ 0 ∷ 0 ∷ 3 ∷ 0 ∷ 1 ∷ []) ∷ [])) ≡ Some Complaint.Unread
+
+-- another structure in a frame that is no key frame, where the same one does no harm
+abbrev pub StructureRule : Type 0
+StructureRule = complaint_at (read_from 10 (key_rest 1 ∷ (1 ∷ 1 ∷ 2 ∷ 7 ∷ 0 ∷ 0 ∷ 0 ∷ 1 ∷ []) ∷ (1 ∷ 1 ∷ 3 ∷ 8 ∷ 0 ∷ 0 ∷ 0 ∷ 1 ∷ []) ∷ [])) ≡ Some Complaint.Unread
+
+abbrev pub SameStructure : Type 0
+SameStructure = complaint_at (read_from 10 (key_rest 1 ∷ (1 ∷ 1 ∷ 2 ∷ 7 ∷ 0 ∷ 0 ∷ 0 ∷ 1 ∷ []) ∷ [])) ≡ None
+
+-- that there is no structure comes before the payload
+abbrev pub NoStructureFirst : Type 0
+NoStructureFirst = complaint_at (read_from 10 ((1 ∷ 1 ∷ 2 ∷ 0 ∷ 0 ∷ 2 ∷ 0 ∷ 1 ∷ []) ∷ [])) ≡ Some Complaint.NoStructure
+
+-- the source comes before the number
+abbrev pub SourceFirst : Type 0
+SourceFirst = complaint_at (Some (sent_as 10 (key_rest 1)) ∷ Some (record { sequence_number = 13; ssrc = 2; marker = false; rest = frame_rest 2 1 }) ∷ []) ≡ Some (Complaint.OtherSource 1 2)
+
+-- and the number before what the packet says
+abbrev pub NumberBeforeContent : Type 0
+NumberBeforeContent = complaint_at (Some (sent_as 10 (key_rest 1)) ∷ Some (sent_as 12 padding_rest) ∷ []) ≡ Some (Complaint.Sequence 10 12)
+
+-- the first complaint stays, whatever comes
+abbrev pub FirstComplaintStays : Type 0
+FirstComplaintStays = complaint_at (Some (sent_as 10 (frame_rest 2 1)) ∷ Some (sent_as 13 (key_rest 1)) ∷ None ∷ []) ≡ Some Complaint.NoStructure
+
+-- a number that isn't above the newest empties the received numbers: frame 3 came after key frame 5, so that frame 6 lacks frame 5
+abbrev pub StaleEmpties : Type 0
+StaleEmpties = complaint_at (read_from 10 (key_rest 5 ∷ (1 ∷ 1 ∷ 3 ∷ 0 ∷ 0 ∷ 0 ∷ 0 ∷ []) ∷ frame_rest 6 1 ∷ [])) ≡ Some (Complaint.MissingReference 6 1)
+
+-- and is a number to count from
+abbrev pub StaleCounts : Type 0
+StaleCounts = complaint_at (read_from 10 (key_rest 5 ∷ (1 ∷ 1 ∷ 3 ∷ 0 ∷ 0 ∷ 0 ∷ 0 ∷ []) ∷ frame_rest 4 1 ∷ frame_rest 6 3 ∷ [])) ≡ None

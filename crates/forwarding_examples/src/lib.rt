@@ -1,0 +1,15 @@
+//! Worked examples of forwarding: what the definitions of `forwarding_model` give for packets, timelines and histories that were worked
+//! out by hand, and what the words of `forwarding_laws` refuse. Each table of rows is the contract of a function that does nothing.
+#![tactic(auto)]
+
+mod forwarding;
+mod frames;
+mod histories;
+mod receiver;
+mod refusals;
+
+pub use forwarding::{worked_selection, worked_timelines};
+pub use frames::{worked_frames, worked_packets_have_a_format, worked_tracks};
+pub use histories::{worked_history, worked_layers};
+pub use receiver::{worked_complaints, worked_receptions};
+pub use refusals::words_refuse_what_they_should;

@@ -1,0 +1,4 @@
+pub mod forwarding
+pub mod frames
+pub mod receiver
+pub mod histories

@@ -1,0 +1,19 @@
+-- The laws of forwarding over histories, from the facts about reading alone: own statements. S is the type of template dependency
+-- structures.
+use Rattle.std.specs.Prelude.{◌≡◌, ℕ, List}
+use Rattle.std.specs.declared.option.Option.TheVariants.{Some}
+use Rattle.sfu_base.specs.declared.frame.Wish.{Wish}
+use Rattle.forwarding_model.specs.forwarding.Causes.{cause, path, IsPath, IsWithheld}
+use Rattle.forwarding_model.specs.forwarding.Outgoing.{Sender, Subscriber, FindPackets}
+use Rattle.forwarding_model.specs.frames.Reading.{Format, IsFormat}
+use Rattle.forwarding_model.specs.History.{Entry, subscriber_of, timeline}
+
+-- and the path of each frame that was withheld from it ends at a root
+abbrev pub EndsAtRootInHistories : Type 0 → Type 0
+EndsAtRootInHistories S = (format : Format S) (send : Sender S) (number : ℕ) (history : List Entry) (wish : Wish) (n : ℕ) → IsFormat format
+    → IsWithheld wish (timeline format send number history) n → IsPath (path (cause wish (timeline format send number history)) n)
+
+-- in a history each take found a packet
+abbrev pub TakesFindPackets : Type 0 → Type 0
+TakesFindPackets S = (format : Format S) (send : Sender S) (number : ℕ) (history : List Entry) (subscriber : Subscriber)
+    → subscriber_of number history ≡ Some subscriber → FindPackets send subscriber (timeline format send number history)

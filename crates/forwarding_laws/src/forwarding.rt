@@ -1,0 +1,249 @@
+// The laws of forwarding: which frames pass to a subscriber, why others are withheld, and what goes out.
+
+ghost use Rattle.forwarding_laws.specs.forwarding.CauseWords;
+ghost use Rattle.forwarding_laws.specs.forwarding.Decisions;
+ghost use Rattle.forwarding_laws.specs.forwarding.Laws;
+ghost use Rattle.forwarding_laws.specs.forwarding.Openings;
+ghost use Rattle.forwarding_laws.specs.forwarding.OutgoingWords;
+ghost use Rattle.forwarding_laws.specs.forwarding.PassedFrames;
+ghost use Rattle.forwarding_laws.specs.forwarding.Plain;
+ghost use Rattle.forwarding_laws.specs.forwarding.StandingSteps;
+ghost use Rattle.forwarding_laws.specs.forwarding.Taken;
+ghost use Rattle.forwarding_laws.specs.forwarding.TargetWords;
+ghost use Rattle.forwarding_laws.specs.forwarding.VerdictWords;
+ghost use Rattle.forwarding_laws.specs.histories.Laws as HistoryLaws;
+
+// ---- targets
+
+/// A target is active where its bit stands in the mask; a frame is a switch for it, or present in it, as its indication says; and a wish
+/// allows an active target whose layers are at most the wish's in both parts.
+pub fn tests_on_targets_mean_what_they_say()
+    ensures active { TargetWords.ActiveInWords }
+    ensures switch { TargetWords.SwitchInWords }
+    ensures present { TargetWords.PresentInWords }
+    ensures allowed { TargetWords.AllowedInWords }
+{}
+
+/// The aim is the best allowed target, and a frame opens the best target that it can open.
+pub fn chosen_targets_are_the_best()
+    ensures aim { Laws.AimIsBest }
+    ensures opening { Laws.OpeningIsBest }
+{}
+
+// ---- a standing step by step
+
+/// What a frame leaves of the target: another epoch, a mask without it and a broken link close it, each for its reason, and nothing else
+/// does.
+pub fn frames_leave_the_target_or_close_it()
+    ensures other_epoch { StandingSteps.OtherEpochsBeginAnew }
+    ensures same_epoch { StandingSteps.EpochsGoOn }
+    ensures mask { StandingSteps.MasksClose }
+    ensures link { StandingSteps.LinksClose }
+    ensures stays_open { StandingSteps.OtherTargetsStay }
+    ensures stays_closed { StandingSteps.ClosedTargetsStay }
+    ensures closing { StandingSteps.ClosingFramesClose }
+    ensures keeping { StandingSteps.OtherFramesKeep }
+{}
+
+/// A broken link closes the open target, and no other link does. Where a target is closed, a frame of the timeline closed it for the
+/// reason that it has, it was the last frame to close one, and no frame passed since.
+pub fn targets_are_closed_for_their_reasons<Structure>()
+    ensures broken { Decisions.BrokenLinksClose }
+    ensures other { Decisions.OtherLinksKeep }
+    ensures breaks { Decisions.BrokenLinksBreak }
+    ensures reasons { Decisions.ReasonsHold Structure }
+{}
+
+/// What a frame opens is the best of the targets that it can open, and it opens one where it can open any.
+pub fn frames_open_the_best_that_they_can()
+    ensures best { Decisions.OpensTheBest }
+    ensures any { Decisions.OpensWhatItCan }
+{}
+
+/// Where a frame opens nothing, the target keeps its opening frame; where it opens a target, it is that target's opening frame. Where a
+/// target is open, the frame with its opening number passed and opened it, and since then no frame closed it or opened another.
+pub fn open_targets_were_opened_by_their_frame<Structure>()
+    ensures kept { Openings.NothingOpenedIsKept }
+    ensures opened { Openings.OpenedTargetsAreCandidates }
+    ensures frame { Openings.OpeningsHold Structure }
+{}
+
+/// A frame that passes is present in its target, and its mask has that target.
+pub fn passed_frames_are_in_their_target()
+    ensures { Decisions.PassesInTarget }
+{}
+
+/// A frame that passes opens its target; or the target was open before, and its chain names, in the frame, no frame since the opening one
+/// that wasn't passed.
+pub fn passed_frames_are_linked()
+    ensures { Laws.PassesLinked }
+{}
+
+/// What each event makes of a standing. The epoch is that of the newest frame, whether or not that passed.
+pub fn each_event_changes_the_standing<Structure>()
+    ensures passing { StandingSteps.PassingFramesAreTakenIn Structure }
+    ensures withheld { StandingSteps.OtherFramesAreWithheld Structure }
+    ensures plain { StandingSteps.PlainPacketsAreQueued Structure }
+    ensures wish { StandingSteps.WishesChangeAlone Structure }
+    ensures take { StandingSteps.TakesChangeTheQueue Structure }
+    ensures epoch { StandingSteps.NewestFramesHaveTheEpoch Structure }
+{}
+
+/// At a frame of a track all frames of its epoch that passed count as passed, and no others: its references, links and the epoch's key
+/// frame are looked for among those.
+pub fn passed_frames_of_the_epoch_count<Structure>()
+    ensures frames { PassedFrames.EpochsFramesCount Structure }
+    ensures number { PassedFrames.HasPassedInWords Structure }
+    ensures key { PassedFrames.KeyPassedInWords Structure }
+{}
+
+/// Whoever knows, of each frame that a frame refers to or is linked to, whether it was passed, decides as one who knows all of them.
+pub fn decisions_rest_on_named_frames()
+    ensures kept { Laws.KeepAlike }
+    ensures candidate { Laws.OpenAlike }
+    ensures passes { Laws.PassAlike }
+    ensures verdict { Laws.JudgeAlike }
+{}
+
+// ---- what passes
+
+/// Each frame that passed is decodable in the passed frames of its epoch.
+pub fn passed_frames_are_decodable<Structure>()
+    ensures { Laws.AreDecodable Structure }
+{}
+
+/// After a broken chain link the next frame that passes is a key frame, or a switch for the target that it opens, and all its
+/// references were passed.
+pub fn broken_links_end_at_a_restart<Structure>()
+    ensures at_once { Laws.RestartsAtOnce Structure }
+    ensures later { Laws.RestartsLater Structure }
+{}
+
+// ---- verdicts and causes
+
+/// The verdict on a frame is that it passed exactly where it passes.
+pub fn verdicts_are_passed_where_frames_pass()
+    ensures passes { Laws.PassedWherePasses }
+    ensures passed { Laws.PassesWherePassed }
+{}
+
+/// What each verdict says of a frame is so.
+pub fn verdicts_are_true()
+    ensures full { Decisions.FullClaims }
+    ensures behind { Decisions.BehindClaims }
+    ensures reference { Decisions.ReferenceClaims }
+    ensures other_target { Decisions.OtherTargetClaims }
+    ensures no_target { Decisions.NoTargetClaims }
+    ensures link { Decisions.LinkClaims }
+    ensures unopened { Decisions.UnopenedClaims }
+    ensures hole { Decisions.NoFrameIsAHole }
+{}
+
+/// What the verdict on a frame says is so, and no other verdict says what is so. A frame passes exactly where it is present in an open
+/// target, all its references were passed, and there is room.
+pub fn the_verdict_says_what_is_so()
+    ensures verdict { VerdictWords.VerdictsSayWhatIsSo }
+    ensures passes { VerdictWords.PassingInWords }
+{}
+
+/// The cause of a frame's number is the verdict that fell when it came. That of any other number below the newest frame's is a hole between
+/// the least frame number above it and the greatest below it, where that is less than 4,096 below the newest.
+pub fn causes_are_verdicts_and_holes<Structure>()
+    ensures frames { CauseWords.FramesHaveTheirVerdicts Structure }
+    ensures others { CauseWords.OtherNumbersAreHoles Structure }
+    ensures holes { CauseWords.HolesAreNoFrames Structure }
+{}
+
+/// Causes can be asked for of the 4,096 numbers up to the newest frame's.
+pub fn causes_are_known_up_to_the_newest()
+    ensures too_old { Laws.TooOldIsBelow }
+    ensures ahead { Laws.AheadIsAbove }
+{}
+
+/// The path of each withheld frame begins at it, falls strictly, ends at a root, and tells the cause of each of its numbers. Each frame
+/// that came and didn't pass is withheld.
+pub fn withheld_frames_have_a_path_to_a_root<Structure>()
+    ensures root { Laws.EndsAtRoot Structure }
+    ensures unpassed { Laws.EndsAtRootUnpassed Structure }
+    ensures withheld { Laws.UnpassedAreWithheld Structure }
+    ensures begins { Laws.PathsBegin Structure }
+    ensures causes { Laws.PathsTellCauses Structure }
+    ensures history { HistoryLaws.EndsAtRootInHistories Structure }
+{}
+
+// ---- what goes out
+
+/// A frame of the target's spatial layer goes out with the marker on its last packet, and any other frame with its markers as they stand.
+pub fn markers_end_the_target_layer<Structure>()
+    ensures top_layer { OutgoingWords.TopLayerInWords }
+    ensures last { OutgoingWords.LastPacketsAreMarked Structure }
+    ensures kept { OutgoingWords.OtherMarkersAreKept Structure }
+{}
+
+/// A frame is sent whole, in as many packets as it has, when the marker of its last packet is set.
+pub fn marking_keeps_frames_whole<Structure>()
+    ensures whole { Laws.MarkingKeepsWhole Structure }
+    ensures sender { Laws.MarkingIsASender Structure }
+    ensures count { Laws.MarkingKeepsCount Structure }
+{}
+
+/// The packets of a frame that passes go out behind all before them, sent for the frame's candidate and numbered on; at any other frame, at
+/// a change of the wish and at a take nothing goes out.
+pub fn packets_of_passing_frames_go_out<Structure>()
+    ensures passing { OutgoingWords.PassingFramesGoOut Structure }
+    ensures others { OutgoingWords.NothingElseGoesOut Structure }
+    ensures numbers { OutgoingWords.PacketsAreRenumbered }
+{}
+
+/// A packet of a plain track goes out as it came, but for its number and its SSRC, where fewer than 512 packets are queued.
+pub fn plain_packets_go_out_as_they_came<Structure>()
+    ensures passes { Plain.PlainPacketsGoOut Structure }
+    ensures full { Plain.FullQueuesTakeNone Structure }
+    ensures history { Plain.PlainTakesFindPackets Structure }
+{}
+
+/// What went out stays as it was, and more comes behind it.
+pub fn outgoing_packets_only_grow<Structure>()
+    ensures { Laws.OnlyGrows Structure }
+{}
+
+/// Sequence numbers that go out are consecutive modulo 65,536.
+pub fn outgoing_numbers_are_consecutive<Structure>()
+    ensures { Laws.AreNumberedInOrder Structure }
+{}
+
+/// The next number is the subscriber's first, and one more for each take that found a packet, modulo 65,536.
+pub fn next_numbers_count_the_takes<Structure>()
+    ensures { OutgoingWords.NextNumbersCountTakes Structure }
+{}
+
+/// As many packets are queued as went out and weren't taken, where each take found one, as it does in a history.
+pub fn queued_packets_are_those_not_taken<Structure>()
+    ensures queued { Laws.QueuesTheRest Structure }
+    ensures history { HistoryLaws.TakesFindPackets Structure }
+{}
+
+/// No more than 512 packets are ever queued.
+pub fn queues_are_short<Structure>()
+    ensures { Plain.QueuesAreShort Structure }
+{}
+
+/// What the takes gave, one after another, is what was taken, and the next packet has the next number.
+pub fn takes_give_what_was_taken<Structure>()
+    ensures given { Taken.TakesGiveWhatWasTaken Structure }
+    ensures next { Taken.NextHasNextNumber Structure }
+{}
+
+/// The last 1,024 packets that were taken are kept, and exactly their numbers are resent.
+pub fn the_last_that_were_taken_are_kept<Structure>()
+    ensures last { Taken.KeepsTheLast Structure }
+    ensures oldest { Taken.OldestIsKept Structure }
+    ensures told { Taken.OldestIsTold Structure }
+    ensures numbers { Taken.ResendsTheKeptNumbers Structure }
+{}
+
+/// A packet that was taken, and is still kept, is resent as it was.
+pub fn resends_give_first_bytes<Structure>()
+    ensures first { Laws.ResendsFirstBytes Structure }
+    ensures kept { Laws.ResendsKept Structure }
+{}

@@ -1,5 +1,0 @@
-use Rattle.forwarding_model.proofs.Decisions.{passes_in_target}
-use Rattle.forwarding_model.proofs.laws.passed_frames_are_in_their_target.Goals as goal
-
-pub returns : goal.returns
-returns c = passes_in_target

@@ -1,5 +1,0 @@
-use Rattle.forwarding_model.proofs.WorkedFormats.{worked_is_format}
-use Rattle.forwarding_model.proofs.laws.worked_packets_have_a_format.Goals as goal
-
-pub returns : goal.returns
-returns c = worked_is_format

@@ -1,5 +1,0 @@
-use Rattle.forwarding_model.proofs.OutgoingWords.{next_numbers_count_takes}
-use Rattle.forwarding_model.proofs.selection_laws.next_numbers_count_the_takes.Goals as goal
-
-pub returns : goal.returns
-returns g c = next_numbers_count_takes

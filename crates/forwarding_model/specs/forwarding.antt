@@ -1,0 +1,8 @@
+-- What happens to a subscriber, which frames pass to it, what goes out, and why a frame was withheld.
+pub mod Timeline
+pub mod Targets
+pub mod Selection
+pub mod Standing
+pub mod Outgoing
+pub mod Causes
+pub mod Decodable

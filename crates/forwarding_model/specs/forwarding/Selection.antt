@@ -1,0 +1,142 @@
+-- Whether a frame goes to a subscriber: the rules on another epoch, the mask, the link, opening and passing, and the verdict on a frame.
+-- Own rules, over the fields of AV1 RTP payload format, Appendix A. Two readings are fixed here: a frame that is a switch for a target
+-- may open it, and a chain distance of 0 (frame_chain_fdiff) closes nothing.
+-- What was passed before is seen through two things alone: a test `has`, where `has d` says that the frame d below f was passed in f's
+-- epoch, and `key_passed`, that a key frame of f's epoch was. The code answers the test by a window of bits, a standing (`Standing`) by
+-- the whole list. No test subtracts, since numbers stop at 0: a frame d below number n is one whose number plus d is n.
+use Rattle.std.specs.Prelude.{◌≡◌, ◌<◌, ◌+◌, ◌-◌, ℕ, Bool, true, false, if◌then◌else◌, ◌&&◌, ◌||◌, not, nat_lt, nat_le, slice_index_or}
+use Rattle.std.specs.List.{AllByRecursion}
+use Rattle.std.specs.declared.option.Option.{Option}
+use Rattle.std.specs.declared.option.Option.TheVariants.{None, Some}
+use Rattle.sfu_base.specs.declared.frame.FrameMeaning.{FrameMeaning}
+use Rattle.sfu_base.specs.declared.frame.Wish.{Wish}
+use Rattle.sfu_base.specs.declared.frame.Verdict.{Verdict}
+use Rattle.sfu_base.specs.declared.frame.Verdict.TheVariants.{Passed, NotOfTarget, Behind, Reference, Full, Link, Unopened}
+use Rattle.forwarding_model.specs.declared.target.CurrentTarget.{CurrentTarget}
+use Rattle.forwarding_model.specs.declared.target.CurrentTarget.TheVariants.{Open, Closed}
+use Rattle.forwarding_model.specs.declared.target.Reason.{Reason}
+use Rattle.forwarding_model.specs.declared.target.Reason.TheVariants.{BrokenLink, NotOpened}
+use Rattle.forwarding_model.specs.Lists.{first_failing, is_nothing}
+use Rattle.forwarding_model.specs.forwarding.Targets.{references, is_switch, is_present, is_active, is_allowed, is_better, best, aim}
+
+-- the first reference of f that wasn't passed
+abbrev pub missing_reference : (ℕ → Bool) → FrameMeaning → Option ℕ
+missing_reference has f = first_failing has (references f)
+
+-- the open target's index, if one is open
+abbrev pub open_target : CurrentTarget → Option ℕ
+open_target (Open target opened) = Some target
+open_target (Closed reason) = None
+
+-- The rule on another epoch, that a frame of one closes the target, is a rule on the standing.
+
+-- The rule on the mask: a target whose bit f's mask hasn't is closed.
+abbrev pub target_under_mask : FrameMeaning → CurrentTarget → CurrentTarget
+target_under_mask f (Open target opened) = if is_active f target then Open target opened else Closed (NotOpened f.number)
+target_under_mask f (Closed reason) = Closed reason
+
+-- the distance from f to the frame before it in the chain that protects the target (decode_target_protected_by, frame_chain_fdiff)
+abbrev pub chain_link : FrameMeaning → ℕ → ℕ
+chain_link f target = slice_index_or f.links (slice_index_or f.guards target 0) 0
+
+-- there are chains, and the link in f names a frame that is the opening frame or a later one, and that wasn't passed
+abbrev pub is_link_broken : (ℕ → Bool) → FrameMeaning → ℕ → ℕ → Bool
+is_link_broken has f target opened =
+    nat_lt 0 f.chain_count
+    && (nat_lt 0 (chain_link f target)
+    && (nat_le (opened + chain_link f target) f.number
+    && not (has (chain_link f target))))
+
+-- The rule on the link: a target whose chain is broken at f is closed.
+abbrev pub target_after_link : (ℕ → Bool) → FrameMeaning → CurrentTarget → CurrentTarget
+target_after_link has f (Open target opened) =
+    if is_link_broken has f target opened then Closed (BrokenLink f.number (f.number - chain_link f target)) else Open target opened
+target_after_link has f (Closed reason) = Closed reason
+
+-- what the rules on the mask and the link leave of the target; where f doesn't pass, this is the target after f
+abbrev pub kept_target : (ℕ → Bool) → FrameMeaning → CurrentTarget → CurrentTarget
+kept_target has f target = target_after_link has f (target_under_mask f target)
+
+-- no target is open, or the open one isn't allowed, or the other is better
+abbrev pub is_upgrade : Wish → FrameMeaning → CurrentTarget → ℕ → Bool
+is_upgrade wish f (Open target opened) other = not (is_allowed wish f target) || is_better f other target
+is_upgrade wish f (Closed reason) other = true
+
+-- The rule on opening: f can open a target that is allowed, where f is a switch for it, or a key frame that is present in it; all
+-- references of f were passed (`complete`); f is a key frame or its epoch's was passed (`keyed`); and the target is an upgrade.
+abbrev pub can_open : Wish → Bool → Bool → FrameMeaning → CurrentTarget → ℕ → Bool
+can_open wish complete keyed f current target =
+    is_allowed wish f target
+    && ((is_switch f target || (f.key && is_present f target))
+    && (complete
+    && (keyed
+    && is_upgrade wish f current target)))
+
+-- the best target that f can open
+abbrev pub opening : (ℕ → Bool) → Bool → Wish → FrameMeaning → CurrentTarget → Option ℕ
+opening has key_passed wish f current =
+    best f (can_open wish (is_nothing (missing_reference has f)) (f.key || key_passed) f current)
+
+abbrev pub opened_or : FrameMeaning → Option ℕ → CurrentTarget → CurrentTarget
+opened_or f None current = current
+opened_or f (Some target) current = Open target f.number
+
+-- the best target that f can open, else the one that is open; where f passes, this is the target after f
+abbrev pub candidate : (ℕ → Bool) → Bool → Wish → FrameMeaning → CurrentTarget → CurrentTarget
+candidate has key_passed wish f current =
+    opened_or f (opening has key_passed wish f (kept_target has f current)) (kept_target has f current)
+
+abbrev pub is_present_in : FrameMeaning → CurrentTarget → Bool
+is_present_in f (Open target opened) = is_present f target
+is_present_in f (Closed reason) = false
+
+-- a subscriber's queue has at most 512 packets
+abbrev pub has_room : ℕ → ℕ → Bool
+has_room queued packets = nat_le (queued + packets) 512
+
+-- The rule on passing: f passes exactly where there is a candidate, f is present in it, all its references were passed, and there is room.
+abbrev pub passes : (ℕ → Bool) → Bool → Wish → FrameMeaning → CurrentTarget → ℕ → ℕ → Bool
+passes has key_passed wish f current queued packets =
+    is_present_in f (candidate has key_passed wish f current)
+    && (is_nothing (missing_reference has f) && has_room queued packets)
+
+-- ---- the verdict
+
+-- the target of f: the candidate, or the aim where there is none
+abbrev pub target_of : Wish → FrameMeaning → CurrentTarget → Option ℕ
+target_of wish f (Open target opened) = Some target
+target_of wish f (Closed reason) = aim wish f
+
+abbrev pub reason_verdict : Reason → Verdict
+reason_verdict (BrokenLink at number) = Link at number
+reason_verdict (NotOpened since) = Unopened since
+
+-- where the candidate is open, passed or full; else the reason
+abbrev pub candidate_verdict : ℕ → ℕ → CurrentTarget → Verdict
+candidate_verdict queued packets (Open target opened) = if has_room queued packets then Passed else Full queued packets
+candidate_verdict queued packets (Closed reason) = reason_verdict reason
+
+-- a reference that wasn't passed comes first: behind where it lies below the epoch's start
+abbrev pub reference_verdict : FrameMeaning → Option ℕ → Verdict → Verdict
+reference_verdict f None otherwise = otherwise
+reference_verdict f (Some distance) otherwise =
+    if nat_lt f.number (f.start + distance) then Behind distance f.start else Reference (f.number - distance)
+
+-- and before that, no target, or a target that f isn't present in
+abbrev pub target_verdict : FrameMeaning → Option ℕ → Verdict → Verdict
+target_verdict f None otherwise = NotOfTarget None
+target_verdict f (Some target) otherwise = if is_present f target then otherwise else NotOfTarget (Some target)
+
+abbrev pub verdict : (ℕ → Bool) → Bool → Wish → FrameMeaning → CurrentTarget → ℕ → ℕ → Verdict
+verdict has key_passed wish f current queued packets =
+    target_verdict f (target_of wish f (candidate has key_passed wish f current))
+    (reference_verdict f (missing_reference has f)
+    (candidate_verdict queued packets (candidate has key_passed wish f current)))
+
+-- ---- two tests
+
+-- The tests agree on the references of f and on its links, which are all that the rules ask for. So a window of numbers that is exact
+-- for those distances decides as the whole list does.
+pub record Agree (p q : ℕ → Bool) (f : FrameMeaning) : Type 0 where
+  pub references : AllByRecursion (λ d. p d ≡ q d) (references f)
+  pub links : (target : ℕ) → 0 < chain_link f target → p (chain_link f target) ≡ q (chain_link f target)
