@@ -122,7 +122,7 @@ layers_found bits x e =
 
 -- ---- indications
 
-indication_code-of : (n : ℕ) → n < 4 → indication_code (indication_of n) ≡ n
+pub indication_code-of : (n : ℕ) → n < 4 → indication_code (indication_of n) ≡ n
 indication_code-of zero small = refl
 indication_code-of (suc zero) small = refl
 indication_code-of (suc (suc zero)) small = refl
