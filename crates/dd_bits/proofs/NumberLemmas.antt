@@ -1,4 +1,4 @@
--- f(n), and ns(n) for n from 1 to 64, by the forms that they have.
+-- f(n) and ns(n), by the forms that they have.
 use Rattle.std.proofs.Common.{◌≡◌, ℕ, zero, suc, Bool, ◌+◌, ◌-◌, ◌*◌, ◌/◌, ◌%◌, ◌^◌, ◌<◌, ◌≤◌, List, length, take, drop, Some, None, refl, arith, inl, inr}
 use Rattle.std.proofs.lemmas.Nat.{leading_top, one_shl, mul-le, pow-add, shl_below}
 use Rattle.std.proofs.lemmas.Bool.{lt-ltb, le-ltb, cases_lt}
@@ -27,39 +27,43 @@ digits_below-is (suc k) j n lt low high =
       | inr le ↦ let same : j ≡ k = omega arith in rw (← same, le-ltb n (2 ^ j) low) refl
     ]
 
-few_digits : (n j : ℕ) → 2 ^ j ≤ n → n ≤ 64 → j ≤ 6
+few_digits : (n j : ℕ) → 2 ^ j ≤ n → n < 2 ^ 32 → j ≤ 31
 few_digits n j low most =
-    elim (cases_lt j 7) [
+    elim (cases_lt j 32) [
       | inl lt ↦ omega arith
-      | inr le ↦ let more : 2 ^ 7 ≤ 2 ^ j = pow-le-pow_right (omega arith) le in absurd (omega arith)
+      | inr le ↦ let more : 2 ^ 32 ≤ 2 ^ j = pow-le-pow_right (omega arith) le in absurd (omega arith)
     ]
 
--- the digits of a number from 1 to 64
+-- the digits of a number of 32 bits
 pub record AreDigits (n : ℕ) : Type 0 where
   pub counted : digits n ≡ 32 - leading_zeros w32 n
   pub some : 1 ≤ digits n
-  pub few : digits n ≤ 7
+  pub few : digits n ≤ 32
+  pub within : 2 ^ digits n ≤ 2 ^ 32
   pub above : n < 2 ^ digits n
   pub below : 2 ^ digits n ≤ 2 * n
   pub twice : 2 ^ digits n ≡ 2 * 2 ^ (digits n - 1)
 
-pub are_digits : (n : ℕ) → 1 ≤ n → n ≤ 64 → AreDigits n
+pub are_digits : (n : ℕ) → 1 ≤ n → n < 2 ^ 32 → AreDigits n
 are_digits n least most =
     let top = leading_top 32 n (omega arith) (omega arith) in
     let d : digits n ≡ suc top.0 = digits_below-is 32 top.0 n (omega (arith, top.1)) top.2 top.3 in
-    let few : top.0 ≤ 6 = few_digits n top.0 top.2 most in
+    let few : top.0 ≤ 31 = few_digits n top.0 top.2 most in
+    let most_digits : suc top.0 ≤ 32 = omega arith in
+    let within : 2 ^ suc top.0 ≤ 2 ^ 32 = pow-le-pow_right (omega arith) most_digits in
     let one : suc top.0 - 1 ≡ top.0 = omega arith in
     record {
       counted = omega (arith, top.1);
       some = omega arith;
       few = omega arith;
+      within = rw d within;
       above = rw d top.3;
       below = rw d (omega (arith, two_pow top.0, top.2));
       twice = rw (d, one) (two_pow top.0);
     }
 
-pub one_shl_digits : (n : ℕ) → 1 ≤ n → n ≤ 64 → (1 * 2 ^ digits n) % 2 ^ 32 ≡ 2 ^ digits n
-one_shl_digits n least most = one_shl (digits n) 32 (omega (arith, (are_digits n least most).few))
+pub one_shl_digits : (n : ℕ) → 1 ≤ n → n < 2 ^ 32 → (1 * 2 ^ digits n) % 2 ^ 64 ≡ 2 ^ digits n
+one_shl_digits n least most = one_shl (digits n) 64 (omega (arith, (are_digits n least most).few))
 
 -- ---- ns(n)
 

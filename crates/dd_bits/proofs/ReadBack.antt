@@ -4,7 +4,7 @@ use Rattle.std.proofs.lemmas.Bool.{cases_lt, cond-true, cond-false, lt-ltb, le-l
 use Rattle.std.proofs.lemmas.List.{take_at, drop_at, take-append-drop, length-append, length-take}
 use Rattle.std.proofs.Math.Nat.{mod-eq_of_lt}
 use Rattle.dd_bits.specs.Bits.{value, bits_of}
-use Rattle.dd_bits.specs.Numbers.{◌>>=◌, fixed, digits, short_forms, non_symmetric, non_symmetric_bits}
+use Rattle.dd_bits.specs.Numbers.{with_last, from_front, fixed, digits, short_forms, non_symmetric, non_symmetric_bits}
 use Rattle.dd_bits.proofs.Values.{length-bits_of, value-lt, value-bits_of, bits_of-value, bits_of-join}
 use Rattle.dd_bits.proofs.NumberLemmas.{fixed_none, fixed_some, are_digits, ns_short, ns_long, ns_bits_short, ns_bits_long}
 
@@ -44,7 +44,7 @@ fixed_found n v bits rest e =
           }
     ]
 
-pub non_symmetric_again : (n v : ℕ) (rest : List Bool) → n ≤ 64 → v < n → non_symmetric n (non_symmetric_bits n v ++ rest) ≡ Some (v, rest)
+pub non_symmetric_again : (n v : ℕ) (rest : List Bool) → n < 2 ^ 32 → v < n → non_symmetric n (non_symmetric_bits n v ++ rest) ≡ Some (v, rest)
 non_symmetric_again n v rest most below =
     let d = are_digits n (omega arith) most in
     elim (cases_lt v (short_forms n)) [
@@ -64,23 +64,27 @@ non_symmetric_again n v rest most below =
 both : (a b c d : List Bool) → a ≡ b → c ≡ d → a ++ c ≡ b ++ d
 both a b c d e h = cc
 
-and_then_some : (o : Option (ℕ × List Bool)) (f : ℕ × List Bool → Option (ℕ × List Bool)) (y : ℕ × List Bool) → (o >>= f) ≡ Some y → (x : ℕ × List Bool) × (o ≡ Some x) × (f x ≡ Some y)
-and_then_some (Some x) f y e = (x, refl, e)
-and_then_some None f y e = absurd cc
+from_front_some : (n : ℕ) (o : Option (ℕ × List Bool)) (y : ℕ × List Bool) → from_front n o ≡ Some y → (x : ℕ × List Bool) × (o ≡ Some x) × (from_front n (Some x) ≡ Some y)
+from_front_some n (Some x) y e = (x, refl, e)
+from_front_some n None y e = absurd cc
+
+with_last_some : (n front : ℕ) (o : Option (ℕ × List Bool)) (y : ℕ × List Bool) → with_last n front o ≡ Some y → (x : ℕ × List Bool) × (o ≡ Some x) × (with_last n front (Some x) ≡ Some y)
+with_last_some n front (Some x) y e = (x, refl, e)
+with_last_some n front None y e = absurd cc
 
 pub record IsNonSymmetric (n v : ℕ) (bits rest : List Bool) : Type 0 where
   pub spelled : bits ≡ non_symmetric_bits n v ++ rest
   pub small : v < n
 
-pub non_symmetric_found : (n v : ℕ) (bits rest : List Bool) → 1 ≤ n → n ≤ 64 → non_symmetric n bits ≡ Some (v, rest) → IsNonSymmetric n v bits rest
+pub non_symmetric_found : (n v : ℕ) (bits rest : List Bool) → 1 ≤ n → n < 2 ^ 32 → non_symmetric n bits ≡ Some (v, rest) → IsNonSymmetric n v bits rest
 unfolding non_symmetric
 non_symmetric_found n v bits rest least most e =
     let d = are_digits n least most in
-    let a = and_then_some (fixed (digits n - 1) bits) (λ front. cond (ltb front.0 (short_forms n)) (Some front) (fixed 1 front.1 >>= λ last. Some (2 * front.0 - short_forms n + last.0, last.1))) (v, rest) e in
+    let a = from_front_some n (fixed (digits n - 1) bits) (v, rest) e in
     let front = fixed_found (digits n - 1) a.0.0 bits a.0.1 a.1 in
     elim (cases_lt a.0.0 (short_forms n)) [
       | inl lt ↦
-          let went = sym (cond-true (ltb a.0.0 (short_forms n)) (found a.0.0 a.0.1) (fixed 1 a.0.1 >>= λ last. Some (2 * a.0.0 - short_forms n + last.0, last.1)) (lt-ltb a.0.0 (short_forms n) lt)) ∙ a.2 in
+          let went = sym (cond-true (ltb a.0.0 (short_forms n)) (found a.0.0 a.0.1) (with_last n a.0.0 (fixed 1 a.0.1)) (lt-ltb a.0.0 (short_forms n) lt)) ∙ a.2 in
           let number = found_number a.0.0 v a.0.1 rest went in
           let others = found_rest a.0.0 v a.0.1 rest went in
           record {
@@ -88,8 +92,8 @@ non_symmetric_found n v bits rest least most e =
             small = omega (arith, d.below);
           }
       | inr le ↦
-          let went = sym (cond-false (ltb a.0.0 (short_forms n)) (found a.0.0 a.0.1) (fixed 1 a.0.1 >>= λ last. Some (2 * a.0.0 - short_forms n + last.0, last.1)) (le-ltb a.0.0 (short_forms n) le)) ∙ a.2 in
-          let b = and_then_some (fixed 1 a.0.1) (λ last. Some (2 * a.0.0 - short_forms n + last.0, last.1)) (v, rest) went in
+          let went = sym (cond-false (ltb a.0.0 (short_forms n)) (found a.0.0 a.0.1) (with_last n a.0.0 (fixed 1 a.0.1)) (le-ltb a.0.0 (short_forms n) le)) ∙ a.2 in
+          let b = with_last_some n a.0.0 (fixed 1 a.0.1) (v, rest) went in
           let last = fixed_found 1 b.0.0 a.0.1 b.0.1 b.1 in
           let number = found_number (2 * a.0.0 - short_forms n + b.0.0) v b.0.1 rest b.2 in
           let others = found_rest (2 * a.0.0 - short_forms n + b.0.0) v b.0.1 rest b.2 in

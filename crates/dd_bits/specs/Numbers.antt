@@ -21,19 +21,19 @@ digits n = digits_below 32 n
 abbrev pub short_forms : ℕ → ℕ
 short_forms n = 2 ^ digits n - n
 
-infixl 10 ◌>>=◌
-abbrev pub ◌>>=◌ : {A B : Type 0} → Option A → (A → Option B) → Option B
-(Some x) >>= f = f x
-None >>= f = None
+-- the number whose first digits are these and whose last one is read here
+abbrev pub with_last : ℕ → ℕ → Option (ℕ × List Bool) → Option (ℕ × List Bool)
+with_last n front None = None
+with_last n front (Some last) = Some (2 * front - short_forms n + last.0, last.1)
 
--- ns(n): a number below n, and the bits that are left; none where there are too few.
--- The first digits are one less than n has; where they aren't a short form, one more bit follows.
+-- the number that begins with these digits, one less than n has: a short form, or with one more bit behind it
+abbrev pub from_front : ℕ → Option (ℕ × List Bool) → Option (ℕ × List Bool)
+from_front n None = None
+from_front n (Some front) = if nat_lt front.0 (short_forms n) then Some front else with_last n front.0 (fixed 1 front.1)
+
+-- ns(n): a number below n, and the bits that are left; none where there are too few
 unfoldable pub non_symmetric : ℕ → List Bool → Option (ℕ × List Bool)
-non_symmetric n bits = do
-  front ← fixed (digits n - 1) bits
-  if nat_lt front.0 (short_forms n) then Some front else (do
-    last ← fixed 1 front.1
-    Some (2 * front.0 - short_forms n + last.0, last.1))
+non_symmetric n bits = from_front n (fixed (digits n - 1) bits)
 
 -- the bits of a number below n as ns(n) spells it
 unfoldable pub non_symmetric_bits : ℕ → ℕ → List Bool

@@ -3,29 +3,29 @@
 ghost use Rattle.std.specs.Prelude.{◌≡◌, ◌≤◌, ◌<◌, ◌+◌, ◌-◌, ◌*◌, ◌/◌, ◌%◌, ◌^◌};
 ghost use Rattle.dd_bits.specs.Numbers.{digits, short_forms};
 
-/// How many binary digits a number from 1 to 64 has.
+/// How many binary digits a number has.
 pub fn digit_count(n: u32) -> u8
-    requires least { 1 ≤ n }
-    requires most { n ≤ 64 }
+    requires { 1 ≤ n }
     ensures value { result ≡ digits n }
     ensures some { 1 ≤ result }
-    ensures few { result ≤ 7 }
+    ensures few { result ≤ 32 }
 {
     (32 - n.leading_zeros()) as u8
 }
 
 /// How many of the numbers below n are spelled with one digit less than n has.
 pub fn short_form_count(n: u32) -> u32
-    requires least { 1 ≤ n }
-    requires most { n ≤ 64 }
+    requires { 1 ≤ n }
     ensures value { result ≡ short_forms n }
     ensures within { result ≤ n }
     ensures whole { result + n ≡ 2 ^ digits n }
+    ensures fits { result + n ≤ 2 ^ 32 }
 {
-    (1u32 << digit_count(n)) - n
+    let all = 1u64 << digit_count(n);
+    (all - n as u64) as u32
 }
 
-/// So many digits of a number, where so many lower ones stand behind them.
+/// The `count` digits of a number that stand before its lowest `behind` ones.
 pub fn digits_at(number: u32, behind: u8, count: u8) -> u32
     requires { count ≤ 8 }
     ensures value { result ≡ number / 2 ^ behind % 2 ^ count }
@@ -38,7 +38,7 @@ pub fn digits_at(number: u32, behind: u8, count: u8) -> u32
     }
 }
 
-/// A number with so many more digits behind its own.
+/// The number with the `count` digits of `more` behind its own.
 pub fn with_digits(number: u32, count: u8, more: u32) -> u32
     requires count { count ≤ 8 }
     requires more { more < 2 ^ count }
@@ -48,7 +48,7 @@ pub fn with_digits(number: u32, count: u8, more: u32) -> u32
     (number << count) + more
 }
 
-/// The byte that begins with so many digits and goes on with zeros.
+/// The byte that begins with the `count` digits of `digits`, and has zeros behind them.
 pub fn byte_with(digits: u32, count: u8) -> u8
     requires count { count ≤ 8 }
     requires small { digits < 2 ^ count }

@@ -10,8 +10,8 @@ pub fn bits_read_back()
     ensures spelled { (n v : ℕ) (bits rest : List Bool) → fixed n bits ≡ Some (v, rest) → (bits ≡ bits_of n v ++ rest) × (v < 2 ^ n) }
 {}
 
-/// ns(n), for n from 1 to 64: a number below n reads back, and what is read has these bits alone.
+/// ns(n), for n below 2^32: a number below n reads back, and what is read has these bits alone.
 pub fn ns_reads_back()
-    ensures back { (n v : ℕ) (rest : List Bool) → n ≤ 64 → v < n → non_symmetric n (non_symmetric_bits n v ++ rest) ≡ Some (v, rest) }
-    ensures spelled { (n v : ℕ) (bits rest : List Bool) → 1 ≤ n → n ≤ 64 → non_symmetric n bits ≡ Some (v, rest) → (bits ≡ non_symmetric_bits n v ++ rest) × (v < n) }
+    ensures back { (n v : ℕ) (rest : List Bool) → n < 2 ^ 32 → v < n → non_symmetric n (non_symmetric_bits n v ++ rest) ≡ Some (v, rest) }
+    ensures spelled { (n v : ℕ) (bits rest : List Bool) → 1 ≤ n → n < 2 ^ 32 → non_symmetric n bits ≡ Some (v, rest) → (bits ≡ non_symmetric_bits n v ++ rest) × (v < n) }
 {}

@@ -1,13 +1,15 @@
 ghost use Rattle.std.specs.Prelude.{◌≡◌, ◌<◌, ◌≤◌, ◌+◌, ◌^◌, length, take, drop, min, Some, None, IfOk, OnErr};
 
 use crate::digits::{digit_count, digits_at, short_form_count, with_digits};
+use thiserror::Error;
 
 /// Fewer bits are left than the value needs.
-#[derive(Clone, Copy, Debug, PartialEq, Eq)]
+#[derive(Clone, Copy, Debug, PartialEq, Eq, Error)]
+#[error("fewer bits are left than the value needs")]
 pub struct Short;
 
 /// The bits of a slice that are left to be read, the highest of each byte first.
-#[derive(Clone, Copy)]
+#[derive(Clone, Copy, Debug)]
 pub struct BitReader<'a> {
     /// The bytes from the one on that the next bit is in.
     rest: &'a [u8],
@@ -60,8 +62,7 @@ impl<'a> BitReader<'a> {
 
     /// Takes the next number below n, ns(n). After `Short` the reader is as before.
     pub fn ns(&mut self, n: u32) -> Result<u32, Short>
-        requires least { 1 ≤ n }
-        requires most { n ≤ 64 }
+        requires { 1 ≤ n }
         ensures read { IfOk result (λ v. non_symmetric n (bits_left self.old) ≡ Some (v, bits_left self.new)) }
         ensures short { OnErr result (non_symmetric n (bits_left self.old) ≡ None) }
         ensures unchanged { OnErr result (self.new ≡ self.old) }
@@ -74,7 +75,7 @@ impl<'a> BitReader<'a> {
             return Ok(front);
         }
         match self.bits(1) {
-            Ok(last) => Ok(2 * front - short_forms + last),
+            Ok(last) => Ok(front + (front - short_forms) + last),
             Err(short) => {
                 *self = before;
                 Err(short)

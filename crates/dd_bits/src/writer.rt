@@ -1,16 +1,18 @@
 ghost use Rattle.std.specs.Prelude.{◌≡◌, ◌<◌, ◌≤◌, ◌+◌, ◌*◌, ◌-◌, ◌/◌, ◌%◌, ◌^◌, [], ◌++◌, length, slice_index, OnErr};
 
 use crate::digits::{byte_with, digit_count, digits_at, short_form_count, with_digits};
+use thiserror::Error;
 
 /// The bits would pass 2,040 bytes.
-#[derive(Clone, Copy, Debug, PartialEq, Eq)]
+#[derive(Clone, Copy, Debug, PartialEq, Eq, Error)]
+#[error("the bits would pass 2,040 bytes")]
 pub struct NoRoom;
 
 /// The most bytes that a writer holds.
 const MOST: usize = 2040;
 
 /// Bits that are put one after another into at most 2,040 bytes, the highest of each byte first.
-#[derive(Clone, Copy)]
+#[derive(Clone, Copy, Debug)]
 pub struct BitWriter {
     bytes: [u8; MOST],
     /// How many bytes are full.
@@ -59,8 +61,7 @@ impl BitWriter {
     /// Puts a number below n as ns(n) spells it. `NoRoom` comes where its bits would pass 2,040 bytes; the writer is then
     /// as before.
     pub fn put_ns(&mut self, n: u32, value: u32) -> Result<(), NoRoom>
-        requires most { n ≤ 64 }
-        requires below { value < n }
+        requires { value < n }
         ensures put { Puts result self.old self.new (non_symmetric_bits n value) }
         ensures unchanged { OnErr result (self.new ≡ self.old) }
         ensures within { length (written self.new) ≤ room }

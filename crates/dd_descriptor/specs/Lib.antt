@@ -1,4 +1,5 @@
 pub mod Content
 pub mod Reading
 pub mod Spelling
+pub mod Laid
 pub mod Seen

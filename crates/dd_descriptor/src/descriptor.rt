@@ -43,3 +43,28 @@ pub struct Descriptor {
     /// How many frames back each chain's previous frame is, 0 where none is needed.
     pub links: [u8; 32],
 }
+
+impl Descriptor {
+    /// A descriptor that says nothing, for others to be read into.
+    pub fn new() -> Descriptor {
+        Descriptor {
+            start: false,
+            end: false,
+            template: 0,
+            number: 0,
+            structure: None,
+            mask: None,
+            spatial: 0,
+            temporal: 0,
+            custom: Custom {
+                dtis: false,
+                fdiffs: false,
+                chains: false,
+            },
+            dtis: [Dti::NotPresent; 32],
+            ref_count: 0,
+            refs: [0; 16],
+            links: [0; 32],
+        }
+    }
+}

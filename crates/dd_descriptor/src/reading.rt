@@ -5,14 +5,14 @@ mod fields;
 mod frame;
 mod template;
 
-ghost use Rattle.std.specs.Prelude.{◌<◌, ◌≤◌, IfOk, IfSome};
+ghost use Rattle.std.specs.Prelude.{◌<◌, ◌≤◌, true, IfOk, IfSome, OnOk};
 ghost use Rattle.std.specs.Option.{option_copied};
 ghost use Rattle.dd_bits.specs.Reader.{bits_left};
 ghost use Rattle.dd_bits.specs.Sequences.{Gives};
 ghost use Rattle.dd_structure.specs.Spelling.{IsWellFormed};
 ghost use Rattle.dd_descriptor.specs.Content.{holding};
 ghost use Rattle.dd_descriptor.specs.Reading.{carried_at, mask_at, body_at, held_body_at, descriptor_at};
-ghost use Rattle.dd_descriptor.specs.Seen.{frame_of, targets_in, chains_in, content_of, Answers};
+ghost use Rattle.dd_descriptor.specs.Seen.{frame_of, targets_in, chains_in, content_of, Answers, AnswersIn};
 ghost use Rattle.dd_descriptor.specs.Spelling.{IsWritableBy};
 
 use crate::descriptor::{Custom, Descriptor};
@@ -24,17 +24,39 @@ use crate::reading::frame::{frame, index};
 use dd_bits::BitReader;
 use dd_structure::Structure;
 
+/// The structure that is carried, in place of what was there. It has a frame of its own, since a function clears its long locals
+/// whenever it is entered.
 #[tactic(auto, unfolding(crate::specs::Reading::carried_at))]
-fn carried(bits: &mut BitReader<'_>, is_present: bool) -> Result<Option<Structure>, DdFault>
-    ensures { Gives (λ s. s) result bits.new (carried_at is_present (bits_left bits.old)) }
+#[inline(never)]
+fn put_structure(bits: &mut BitReader<'_>, out: &mut Option<Structure>) -> Result<(), DdFault>
+    ensures { Gives (λ _. out.new) result bits.new (carried_at true (bits_left bits.old)) }
 {
-    if !is_present {
-        return Ok(None);
-    }
     match Structure::read(bits) {
-        Ok(found) => Ok(Some(found)),
+        Ok(structure) => {
+            *out = Some(structure);
+            Ok(())
+        }
         Err(fault) => Err(DdFault::Bad(fault)),
     }
+}
+
+/// The structure that is carried, if one is, in place of what was there.
+#[tactic(auto, unfolding(crate::specs::Reading::carried_at))]
+fn put_carried(
+    bits: &mut BitReader<'_>,
+    is_present: bool,
+    out: &mut Option<Structure>,
+) -> Result<(), DdFault>
+    ensures { Gives (λ _. out.new) result bits.new (carried_at is_present (bits_left bits.old)) }
+{
+    if is_present {
+        return put_structure(bits, out);
+    }
+    // A structure is long: where none was, none is written again.
+    if out.is_some() {
+        *out = None;
+    }
+    Ok(())
 }
 
 /// The active decode targets, where they are told or a structure is carried.
@@ -108,54 +130,65 @@ fn force_is_well_formed(force: Option<&Structure>)
     }
 }
 
+/// Each field, in place of what was there.
 #[tactic(auto, unfolding(crate::specs::Reading::descriptor_at))]
-fn descriptor(bytes: &[u8], force: Option<&Structure>) -> Result<Descriptor, DdFault>
-    ensures read { Answers (option_copied force.entry) result (descriptor_at bytes.now (option_copied force.entry)) }
-    ensures few { IfOk result (λ d. d.ref_count ≤ 16) }
+fn fill(bytes: &[u8], force: Option<&Structure>, out: &mut Descriptor) -> Result<(), DdFault>
+    ensures read { AnswersIn (option_copied force.entry) out.new result (descriptor_at bytes.now (option_copied force.entry)) }
+    ensures few { OnOk result (out.new.ref_count ≤ 16) }
 {
     let mut bits = BitReader::new(bytes);
     let head = head(&mut bits)?;
     let flags = flags(&mut bits, bytes.len())?;
-    let structure = carried(&mut bits, flags.structure)?;
-    let (mask, frame) = held_body(&mut bits, head.template, flags, &structure, force)?;
+    put_carried(&mut bits, flags.structure, &mut out.structure)?;
+    let (mask, frame) = held_body(&mut bits, head.template, flags, &out.structure, force)?;
     let Frame {
         layer,
         dtis,
         refs,
         links,
     } = frame;
-    let References {
-        count: ref_count,
-        items: refs,
-    } = refs;
-    Ok(Descriptor {
-        start: head.start,
-        end: head.end,
-        template: head.template,
-        number: head.number,
-        structure,
-        mask,
-        spatial: layer.spatial,
-        temporal: layer.temporal,
-        custom: Custom {
-            dtis: flags.dtis,
-            fdiffs: flags.fdiffs,
-            chains: flags.chains,
-        },
-        dtis,
-        ref_count,
-        refs,
-        links,
-    })
+    let References { count, items } = refs;
+    out.start = head.start;
+    out.end = head.end;
+    out.template = head.template;
+    out.number = head.number;
+    out.mask = mask;
+    out.spatial = layer.spatial;
+    out.temporal = layer.temporal;
+    out.custom = Custom {
+        dtis: flags.dtis,
+        fdiffs: flags.fdiffs,
+        chains: flags.chains,
+    };
+    out.dtis = dtis;
+    out.ref_count = count;
+    out.refs = items;
+    out.links = links;
+    Ok(())
 }
 
-/// What the bytes of a descriptor say, with the structure in force where it carries none. The fault is the first from left to
-/// right; bits after the frame's definition are ignored. What is read can be written.
+/// What the bytes of a descriptor say, with the structure in force where it carries none, in place of what `out` said. The fault is the
+/// first from left to right, and `out` may then say anything; bits after the frame's definition are ignored. What is read can be written.
+pub fn read_into(
+    bytes: &[u8],
+    force: Option<&Structure>,
+    out: &mut Descriptor,
+) -> Result<(), DdFault>
+    ensures read { AnswersIn (option_copied force.entry) out.new result (descriptor_at bytes.now (option_copied force.entry)) }
+    ensures writable { OnOk result (IsWritableBy (holding out.new.structure (option_copied force.entry)) (content_of (option_copied force.entry) out.new)) }
+    ensures few { OnOk result (out.new.ref_count ≤ 16) }
+{
+    force_is_well_formed(force);
+    fill(bytes, force, out)
+}
+
+/// The same as [`read_into`], into a new descriptor. A descriptor is long: where many are read, one that is filled again costs less.
 pub fn read(bytes: &[u8], force: Option<&Structure>) -> Result<Descriptor, DdFault>
     ensures read { Answers (option_copied force.entry) result (descriptor_at bytes.now (option_copied force.entry)) }
     ensures writable { IfOk result (λ d. IsWritableBy (holding d.structure (option_copied force.entry)) (content_of (option_copied force.entry) d)) }
     ensures few { IfOk result (λ d. d.ref_count ≤ 16) }
 {
-    force_is_well_formed(force);
-    descriptor(bytes, force)
+    let mut descriptor = Descriptor::new();
+    read_into(bytes, force, &mut descriptor)?;
+    Ok(descriptor)
 }

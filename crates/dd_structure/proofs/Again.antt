@@ -21,7 +21,7 @@ use Rattle.dd_structure.proofs.TemplateLemmas.{templates_of-fields, all_indicati
 pub number_again : (n v : ℕ) (rest : List Bool) → v < 2 ^ n → number_at n (bits_of n v ++ rest) ≡ Ok (v, rest)
 number_again n v rest small = ap (or_fault faults.Short) (fixed_again n v rest small)
 
-pub below_again : (n v : ℕ) (rest : List Bool) → n ≤ 64 → v < n → below_at n (non_symmetric_bits n v ++ rest) ≡ Ok (v, rest)
+pub below_again : (n v : ℕ) (rest : List Bool) → n < 2 ^ 32 → v < n → below_at n (non_symmetric_bits n v ++ rest) ≡ Ok (v, rest)
 below_again n v rest most below = ap (or_fault faults.Short) (non_symmetric_again n v rest most below)
 
 -- ---- layers
@@ -74,7 +74,7 @@ distances_again ds rest are =
     ap (λ (t : List Bool). distances_at (t ++ rest)) (sym (until_spelled-flat_map distance_bits (bits_of 1 0) 0 ds))
     ∙ until_again (λ (before d : ℕ). IsDistance d) (λ (before : ℕ). next_distance_at) faults.References (λ (before d : ℕ). distance_bits d) (bits_of 1 0) next_distance_again distances_end 16 0 ds rest are.0 (each_after_all IsDistance 0 ds are.1)
 
-guards_again : (chains targets : ℕ) (guards : List ℕ) (rest : List Bool) → chains ≤ 64 → (length guards ≡ guard_count chains targets) × AllByRecursion (λ g. g < chains) guards
+guards_again : (chains targets : ℕ) (guards : List ℕ) (rest : List Bool) → chains < 2 ^ 32 → (length guards ≡ guard_count chains targets) × AllByRecursion (λ g. g < chains) guards
     → guards_at chains targets (flat_map (non_symmetric_bits chains) guards ++ rest) ≡ Ok (guards, rest)
 unfolding guards_at
 guards_again chains targets guards rest few h = row_again (λ (g : ℕ). g < chains) (below_at chains) (non_symmetric_bits chains) (λ g rest below. below_again chains g rest few below) (guard_count chains targets) guards rest h

@@ -21,7 +21,7 @@ use Rattle.dd_structure.proofs.TemplateLemmas.{AreAligned, layers_of-templates_o
 pub number_found : (n : ℕ) (bits : List Bool) (x : ℕ × List Bool) → number_at n bits ≡ Ok x → Takes (λ v. v < 2 ^ n) (bits_of n) bits x
 number_found n bits x e = let f = fixed_found n x.0 bits x.1 (or_fault_ok faults.Short (fixed n bits) x e) in (f.small, f.spelled)
 
-pub below_found : (n : ℕ) (bits : List Bool) (x : ℕ × List Bool) → 1 ≤ n → n ≤ 64 → below_at n bits ≡ Ok x → Takes (λ v. v < n) (non_symmetric_bits n) bits x
+pub below_found : (n : ℕ) (bits : List Bool) (x : ℕ × List Bool) → 1 ≤ n → n < 2 ^ 32 → below_at n bits ≡ Ok x → Takes (λ v. v < n) (non_symmetric_bits n) bits x
 below_found n bits x least most e = let f = non_symmetric_found n x.0 bits x.1 least most (or_fault_ok faults.Short (non_symmetric n bits) x e) in (f.small, f.spelled)
 
 -- ---- layers
@@ -122,7 +122,7 @@ layers_found bits x e =
 
 -- ---- indications
 
-indication_code-of : (n : ℕ) → n < 4 → indication_code (indication_of n) ≡ n
+pub indication_code-of : (n : ℕ) → n < 4 → indication_code (indication_of n) ≡ n
 indication_code-of zero small = refl
 indication_code-of (suc zero) small = refl
 indication_code-of (suc (suc zero)) small = refl
@@ -257,7 +257,7 @@ pub table_found : {A : Type 0} (P : A → Type 0) (item : List Bool → Result (
 table_found {A = A} P item spell each n m bits x e =
     repeat_found (λ (row : List A). (length row ≡ m) × AllByRecursion P row) (repeat_at item m) (flat_map spell) (λ bits x h. let row = repeat_found P item spell each m bits x h in ((row.0, row.1), row.2)) n bits x e
 
-target_range : (n : ℕ) → n < 2 ^ 5 → (1 ≤ n + 1) × (n + 1 ≤ 32) × (1 ≤ n + 2) × (n + 2 ≤ 64)
+target_range : (n : ℕ) → n < 2 ^ 5 → (1 ≤ n + 1) × (n + 1 ≤ 32) × (1 ≤ n + 2) × (n + 2 < 2 ^ 32)
 target_range n small = (omega arith, omega arith, omega arith, omega arith)
 
 chain_range : (n chains : ℕ) → n < 2 ^ 5 → chains < n + 2 → (chains ≤ n + 1) × (chains ≤ 32)

@@ -6,7 +6,7 @@ use crate::layer::Layer;
 use sfu_base::Dti;
 
 /// The distances of a template.
-#[derive(Clone, Copy)]
+#[derive(Clone, Copy, Debug)]
 pub struct Distances {
     pub count: u8,
     pub items: [u8; 16],
@@ -14,7 +14,7 @@ pub struct Distances {
 }
 
 /// The width and height of each spatial id, from 0 on, where they are told.
-#[derive(Clone, Copy)]
+#[derive(Clone, Copy, Debug)]
 pub struct Resolutions {
     pub count: u8,
     pub items: [(u32, u32); 4],
@@ -23,7 +23,7 @@ pub struct Resolutions {
 
 /// The fields of a structure, of which only the first places count: `template_count` of those that go by template,
 /// `target_count` of those that go by decode target, `chain_count` of those that go by chain.
-#[derive(Clone, Copy)]
+#[derive(Clone, Copy, Debug)]
 pub struct Columns {
     pub offset: u8,
     pub target_count: u8,

@@ -8,7 +8,7 @@ use std::marker::Model;
 
 /// A template structure: contracts see its offset, its numbers of decode targets and chains, its templates, the chains that
 /// protect decode targets, and the resolutions.
-#[derive(Drop)]
+#[derive(Debug, Drop)]
 pub struct Structure {
     pub(crate) columns: Columns,
 }

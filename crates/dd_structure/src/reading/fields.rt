@@ -20,8 +20,7 @@ pub fn number(bits: &mut BitReader<'_>, n: u8) -> Result<u32, StructureFault>
 
 /// ns(n)
 pub fn below(bits: &mut BitReader<'_>, n: u32) -> Result<u32, StructureFault>
-    requires least { 1 ≤ n }
-    requires most { n ≤ 64 }
+    requires { 1 ≤ n }
     ensures read { Gives (λ v. v) result bits.new (below_at n (bits_left bits.old)) }
     ensures small { IfOk result (λ v. v < n) }
 {

@@ -8,8 +8,7 @@ use dd_bits::{BitWriter, NoRoom};
 
 /// The chain that protects each decode target.
 pub fn put_guards(out: &mut BitWriter, chains: u8, guards: &[u8]) -> Result<(), NoRoom>
-    requires chains { chains ≤ 64 }
-    requires below { All (λ g. g < chains) guards.now }
+    requires { All (λ g. g < chains) guards.now }
     ensures { Puts result out.old out.new (flat_map (non_symmetric_bits chains) guards.now) }
 {
     for guard in guards {

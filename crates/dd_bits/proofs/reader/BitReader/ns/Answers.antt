@@ -1,5 +1,6 @@
-use Rattle.std.proofs.Common.{arith}
+use Rattle.std.proofs.Common.{◌≡◌, ◌+◌, ◌-◌, ◌*◌, arith}
 use Rattle.std.proofs.lemmas.Result.{err_from_is_err_and}
+use Rattle.dd_bits.specs.Numbers.{short_forms}
 use Rattle.dd_bits.specs.Reader.{bits_left}
 use Rattle.dd_bits.proofs.NumberLemmas.{ns_none, ns_short, ns_long, ns_cut}
 use Rattle.dd_bits.proofs.reader.BitReader.ns.Goals as goal
@@ -17,7 +18,8 @@ returns-then-front-short_forms-clause-read c =
 pub returns-in-Ok-clause-read : goal.returns-in-Ok-clause-read
 returns-in-Ok-clause-read c =
     let read = rw c.digit_count.ensures.value at c.in_ok-front.ensures.read in
-    rw c.short_form_count-short_forms.ensures.value (ns_long c.args.n c.in_ok-front.front c.in-Ok.last (bits_left c.args.self.now) (bits_left c.bits.new.self) (bits_left c.bits-2.new.self) read (omega arith) c.in-Ok.ensures.read)
+    let sum : c.in_ok-front.front + (c.in_ok-front.front - short_forms c.args.n) + c.in-Ok.last ≡ 2 * c.in_ok-front.front - short_forms c.args.n + c.in-Ok.last = omega arith in
+    rw (c.short_form_count-short_forms.ensures.value, sum) (ns_long c.args.n c.in_ok-front.front c.in-Ok.last (bits_left c.args.self.now) (bits_left c.bits.new.self) (bits_left c.bits-2.new.self) read (omega arith) c.in-Ok.ensures.read)
 
 pub returns-in-Err-clause-short : goal.returns-in-Err-clause-short
 returns-in-Err-clause-short c =
