@@ -1,7 +1,8 @@
 -- The aggregation header.
 use Rattle.std.proofs.Common.{◌≡◌, ◌<◌, ◌==◌, ℕ, zero, suc, ◌/◌, ◌%◌, Bool, true, false, List, [], ◌∷◌, length, refl, ap, ◌∙◌, arith}
 use Rattle.av1_payload.specs.declared.fault.PayloadFault.TheVariants.{NoElement}
-use Rattle.av1_payload.specs.Payloads.{Flags, bit, header_byte}
+use Rattle.sfu_base.specs.Bytes.{bit}
+use Rattle.av1_payload.specs.Payloads.{Flags, header_byte}
 use Rattle.av1_payload.specs.Reading.{only_fault, sized_from, counted_from, count_in, found_behind, found_of, flags_of}
 
 -- a bit that is read and put again

@@ -1,7 +1,8 @@
 -- An RTP payload of AV1, laid end to end (RTP Payload Format For AV1, section 4.4): the aggregation header and the
 -- elements. The relation says how a payload is put together, and the code takes one apart.
-use Rattle.std.specs.Prelude.{◌≡◌, ℕ, ◌+◌, ◌*◌, ◌<◌, ◌≤◌, Bool, if◌then◌else◌, List, [], ◌∷◌, ◌++◌, length, map}
+use Rattle.std.specs.Prelude.{◌≡◌, ℕ, ◌+◌, ◌*◌, ◌<◌, ◌≤◌, Bool, List, [], ◌∷◌, ◌++◌, length, map}
 use Rattle.std.specs.List.{flat_map}
+use Rattle.sfu_base.specs.Bytes.{bit}
 use Rattle.av1_payload.specs.Leb.{leb_bytes, IsLength}
 
 -- Z, the first element goes on from the packet before; Y, the last goes on in the next; N, a coded video sequence begins
@@ -52,9 +53,6 @@ elements_in sized = map (λ (s : SizedElement). s.element) sized
 abbrev pub elements_laid : Laid → List (List ℕ)
 elements_laid (EachSized first others) = elements_in (first ∷ others)
 elements_laid (LastBare sized last) = elements_in sized ++ last ∷ []
-
-abbrev pub bit : Bool → ℕ
-bit set = if set then 1 else 0
 
 -- Z, Y, W, N and three reserved bits
 abbrev pub header_byte : Flags → ℕ → ℕ → ℕ

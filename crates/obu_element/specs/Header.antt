@@ -1,7 +1,8 @@
 -- The header of an OBU, laid end to end (AV1 Bitstream Specification, sections 5.3.2 and 5.3.3): obu_forbidden_bit, which is 0,
 -- obu_type, obu_extension_flag, obu_has_size_field, a reserved bit, and an extension byte where the flag is set. The relation says how
 -- a header is put together, and the code takes one apart.
-use Rattle.std.specs.Prelude.{◌≡◌, ℕ, ◌+◌, ◌*◌, ◌<◌, Bool, if◌then◌else◌, List, [], ◌∷◌, ◌++◌, length, Option, Some, None, is_some, IfSome}
+use Rattle.std.specs.Prelude.{◌≡◌, ℕ, ◌+◌, ◌*◌, ◌<◌, Bool, List, [], ◌∷◌, ◌++◌, length, Option, Some, None, is_some, IfSome}
+use Rattle.sfu_base.specs.Bytes.{bit}
 use Rattle.obu_element.specs.declared.obu_header.ObuHeader.{ObuHeader}
 
 -- temporal_id (3 bits), spatial_id (2) and reserved bits (3)
@@ -26,10 +27,6 @@ pub record LayoutFits (l : Layout) : Type 0 where
   pub kind : l.kind < 16
   pub extension : IfSome l.extension ExtensionFits
   pub reserved : l.reserved < 2
-
--- one bit of a field
-abbrev pub bit : Bool → ℕ
-bit b = if b then 1 else 0
 
 abbrev pub first_byte : Layout → ℕ
 first_byte l = 8 * l.kind + 4 * bit (is_some l.extension) + 2 * bit l.has_size + l.reserved

@@ -5,3 +5,4 @@ pub mod Found
 pub mod Taken
 pub mod Answered
 pub mod Readdressed
+pub mod Restamping

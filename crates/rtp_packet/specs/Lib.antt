@@ -3,3 +3,4 @@ pub mod Faults
 pub mod Packet
 pub mod Seen
 pub mod Rewritten
+pub mod Restamped

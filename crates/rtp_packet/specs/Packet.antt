@@ -1,8 +1,9 @@
 -- A whole RTP packet, laid end to end (RFC 3550, sections 5.1 and 5.3.1): the fixed header, the CSRC words, the
 -- header extension, the payload, the padding. The relation says how a packet is put together, and the code takes one
 -- apart.
-use Rattle.std.specs.Prelude.{◌≡◌, ℕ, ◌+◌, ◌*◌, ◌^◌, ◌<◌, Bool, if◌then◌else◌, List, [], ◌∷◌, ◌++◌, length, Option, Some, None, is_some, IfSome, IfNone}
+use Rattle.std.specs.Prelude.{◌≡◌, ℕ, ◌+◌, ◌*◌, ◌^◌, ◌<◌, Bool, List, [], ◌∷◌, ◌++◌, length, Option, Some, None, is_some, IfSome, IfNone}
 use Rattle.byteorder.specs.Endian.{big_bytes}
+use Rattle.sfu_base.specs.Bytes.{bit}
 use Rattle.rtp_packet.specs.Fields.{marker_of, payload_type_of, sequence_of, timestamp_of, ssrc_of, profile_of, block_of, payload_of}
 
 -- what a packet says, without where it lies in memory. A packet with no profile has no header extension.
@@ -24,10 +25,6 @@ pub record Fits (p : Packet) : Type 0 where
   pub ssrc : p.ssrc < 2 ^ 32
   pub profile : IfSome p.profile (λ n. n < 2 ^ 16)
   pub no_block : IfNone p.profile (p.block ≡ [])
-
--- one bit of a field
-abbrev pub bit : Bool → ℕ
-bit b = if b then 1 else 0
 
 -- V, P, X and CC
 abbrev pub first_byte : Bool → Bool → ℕ → ℕ

@@ -1,9 +1,10 @@
-// Laws of the definitions that `read` and `rewrite` are held to.
+// Laws of the definitions that `read`, `rewrite` and `restamp` are held to.
 
 ghost use Rattle.std.specs.Prelude.{◌≡◌, ◌<◌, ◌≤◌, ◌^◌, ℕ, Bool, List, None, length, slice_index};
 ghost use Rattle.rtp_packet.specs.Faults.{first_fault};
 ghost use Rattle.sfu_base.specs.Bytes.{AreBytes};
 ghost use Rattle.rtp_packet.specs.Packet.{IsPacket, Packet, packet_of};
+ghost use Rattle.rtp_packet.specs.Restamped.{at_timestamp, restamped};
 ghost use Rattle.rtp_packet.specs.Rewritten.{readdressed, rewritten};
 
 /// Bytes that begin with 80 (version 2, no padding, no extension, no CSRC words) and have a whole fixed header are
@@ -36,4 +37,12 @@ pub fn three_fields_are_rewritten()
         → first_fault (rewritten sequence ssrc marker bytes) ≡ first_fault bytes }
     ensures fields { (sequence ssrc : ℕ) (marker : Bool) (bytes : List ℕ) → 12 ≤ length bytes → sequence < 2 ^ 16 → ssrc < 2 ^ 32
         → packet_of (rewritten sequence ssrc marker bytes) ≡ readdressed sequence ssrc marker (packet_of bytes) }
+{}
+
+/// Restamped bytes are as many as before, have the same faults, and say the same but for the timestamp.
+pub fn the_timestamp_is_rewritten()
+    ensures len { (timestamp : ℕ) (bytes : List ℕ) → 12 ≤ length bytes → length (restamped timestamp bytes) ≡ length bytes }
+    ensures faults { (timestamp : ℕ) (bytes : List ℕ) → 12 ≤ length bytes → first_fault (restamped timestamp bytes) ≡ first_fault bytes }
+    ensures fields { (timestamp : ℕ) (bytes : List ℕ) → 12 ≤ length bytes → timestamp < 2 ^ 32
+        → packet_of (restamped timestamp bytes) ≡ at_timestamp timestamp (packet_of bytes) }
 {}

@@ -9,7 +9,7 @@ mod tests;
 
 pub use laws::{
     a_packet_is_read, bytes_are_one_packet, bytes_without_fault_are_a_packet, plain_packets_read,
-    three_fields_are_rewritten,
+    the_timestamp_is_rewritten, three_fields_are_rewritten,
 };
-pub use outgoing::rewrite;
+pub use outgoing::{restamp, rewrite};
 pub use packet::{Rtp, read};

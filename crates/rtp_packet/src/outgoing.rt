@@ -1,8 +1,9 @@
-// A packet that goes out under another sequence number, SSRC and marker.
+// A packet that goes out with other fields: sequence number, SSRC and marker, or the timestamp.
 
 ghost use Rattle.std.specs.Prelude.{◌≡◌, ◌<◌, None};
 ghost use Rattle.rtp_packet.specs.Faults.{first_fault};
 ghost use Rattle.rtp_packet.specs.Packet.{IsPacket, Packet, second_byte};
+ghost use Rattle.rtp_packet.specs.Restamped.{at_timestamp, restamped};
 ghost use Rattle.rtp_packet.specs.Rewritten.{readdressed, rewritten};
 
 use byteorder::{BigEndian, ByteOrder};
@@ -24,6 +25,20 @@ pub fn rewrite(packet: &mut PacketBuf, seq: u16, ssrc: u32, marker: bool)
     let mut source = [0u8; 4];
     BigEndian::write_u32(&mut source, ssrc);
     packet.overwrite(8, &source);
+}
+
+/// Gives a packet another timestamp, in ticks of the media's clock, and changes no other bit. The packet is one that
+/// [`read`](crate::read) takes, and it still is.
+#[tactic(auto, using(crate::proofs::Faultless::header_there))]
+pub fn restamp(packet: &mut PacketBuf, timestamp: u32)
+    requires { first_fault packet.old ≡ None }
+    ensures bytes { packet.new ≡ restamped timestamp packet.old }
+    ensures reads { first_fault packet.new ≡ None }
+    ensures parts { (p : Packet) → IsPacket packet.old p → IsPacket packet.new (at_timestamp timestamp p) }
+{
+    let mut field = [0u8; 4];
+    BigEndian::write_u32(&mut field, timestamp);
+    packet.overwrite(4, &field);
 }
 
 /// The second byte of a header: the marker's bit above the seven bits of the payload type.

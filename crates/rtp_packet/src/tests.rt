@@ -2,7 +2,7 @@
 
 ghost use Rattle.std.specs.Prelude.{◌≤◌, length};
 
-use crate::{Rtp, read, rewrite};
+use crate::{Rtp, read, restamp, rewrite};
 use sfu_base::{PacketBuf, RtpFault};
 use std::test::Fail;
 
@@ -123,5 +123,20 @@ fn three_fields_are_rewritten(rt: HostRuntime) -> Result<(), Fail> {
     assert_eq!(rt; packet.bytes(), wanted.as_slice());
     rewrite(&mut packet, 0x1234, 0xAABBCCDD, true);
     assert_eq!(rt; packet.bytes(), FULL.as_slice());
+    Ok(())
+}
+
+#[test]
+fn the_timestamp_is_rewritten(rt: HostRuntime) -> Result<(), Fail> {
+    let mut packet = PacketBuf::new();
+    packet.fill(&FULL);
+    let _ = read(packet.bytes())?;
+    restamp(&mut packet, 0xFFFEFDFC);
+    let mut wanted = FULL;
+    wanted[4] = 0xFF;
+    wanted[5] = 0xFE;
+    wanted[6] = 0xFD;
+    wanted[7] = 0xFC;
+    assert_eq!(rt; packet.bytes(), wanted.as_slice());
     Ok(())
 }
