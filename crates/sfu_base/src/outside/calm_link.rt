@@ -1,0 +1,41 @@
+// A link that never fails: its count of faults is the constant 0.
+ghost use Rattle.std.specs.Prelude.{◌≡◌, None, Ok, false};
+ghost use Rattle.sfu_base.specs.Faults.{HasCause};
+ghost use Rattle.sfu_base.specs.Links.{FillsOnlyWhere, after_receive, after_send};
+
+use crate::{Failed, Link, PacketBuf};
+
+/// Brings no datagram, takes all that are sent, keeps nothing of them and tells nothing. It takes no memory.
+#[derive(Drop)]
+pub struct CalmLink;
+
+impl CalmLink {
+    /// A link that never fails.
+    pub fn new() -> Self
+        ensures told { ⟦<CalmLink as Link>⟧.told result ≡ None }
+        ensures faults { ⟦<CalmLink as Link>⟧.faults result ≡ 0 }
+    {
+        CalmLink
+    }
+}
+
+impl Link for CalmLink {
+    ghost told = { λ _. None };
+
+    ghost faults = { λ _. 0 };
+
+    /// Always `Ok(false)`.
+    fn receive(&mut self, buf: &mut PacketBuf) -> Result<bool, Failed>
+        ensures buffer { FillsOnlyWhere result buf.old buf.new }
+        ensures told { None ≡ after_receive result buf.new None }
+        ensures cause { HasCause 0 0 result }
+
+        ensures nothing { result ≡ Ok false }
+    {
+        Ok(false)
+    }
+
+    fn send(&mut self, _packet: &PacketBuf) -> Result<(), Failed> {
+        Ok(())
+    }
+}

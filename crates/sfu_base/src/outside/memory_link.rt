@@ -1,0 +1,142 @@
+// A link in memory, with lists of the calls that are to fail.
+ghost use Rattle.std.specs.Prelude.{◌≡◌, ◌≤◌, ◌<◌, ◌↔◌, Some, IsErr, IsTrue, IfOk, OnOk, OnErr, drop, false, length};
+ghost use Rattle.sfu_base.specs.Faults.{HasCause};
+ghost use Rattle.sfu_base.specs.Links.{FillsOnlyWhere, after_receive, after_send, datagram, failed_receive, failed_send, fresh, is_listed, next_of, received, sent};
+
+use crate::trace::Trace;
+use crate::{Failed, Link, PacketBuf};
+use std::alloc::Global;
+use std::marker::Model;
+
+/// Brings its prepared datagrams in order, keeps what is sent, and fails at the calls of two lists, each counted from 0, and where no
+/// memory is there to keep a datagram. Seen as the prepared datagrams that are left, its traffic, the two lists, how many calls of each
+/// kind were made, and the count of faults.
+#[derive(Drop)]
+pub struct MemLink {
+    prepared: Vec<PacketBuf>,
+    place: usize,
+    past: Trace<PacketBuf, bool>,
+    sent: Vec<PacketBuf>,
+    receive_fails: Vec<u64>,
+    send_fails: Vec<u64>,
+    receives: u64,
+    sends: u64,
+    faults: u64,
+}
+
+impl Model for MemLink {
+    ghost use Rattle.std.specs.Prelude.{◌≤◌, drop, map, vec_len};
+    ghost use Rattle.sfu_base.specs.Links.{LinkInMemory, datagram};
+
+    ghost Value = { LinkInMemory };
+
+    ghost view = { λ s. record { prepared = drop s.place s.prepared.items; traffic = record { received = map (λ p. datagram p.1 p.0) s.past.items; sent = s.sent.items }; failing_receives = s.receive_fails.items; failing_sends = s.send_fails.items; receives = s.receives; sends = s.sends; faults = s.faults } };
+
+    ghost invariant = { λ s. s.place ≤ vec_len s.prepared };
+}
+
+impl MemLink {
+    /// A link that brings these datagrams, whose receives and sends at the places of the two lists fail.
+    pub fn new(
+        alloc: Global,
+        prepared: Vec<PacketBuf>,
+        receive_fails: Vec<u64>,
+        send_fails: Vec<u64>,
+    ) -> Self
+        ensures { result ≡ fresh prepared.items receive_fails.items send_fails.items }
+    {
+        MemLink {
+            prepared,
+            place: 0,
+            past: Trace::new(),
+            sent: Vec::new(alloc),
+            receive_fails,
+            send_fails,
+            receives: 0,
+            sends: 0,
+            faults: 0,
+        }
+    }
+
+    /// All datagrams that were sent, in order.
+    pub fn sent(&self) -> &[PacketBuf]
+        ensures { result.now ≡ self.now.traffic.sent }
+    {
+        &self.sent
+    }
+
+    /// How often a call has failed.
+    pub fn faults(&self) -> u64
+        ensures { result ≡ self.now.faults }
+    {
+        self.faults
+    }
+}
+
+// Fills the buffer with the datagram at the place and moves the place on, or answers that none is left.
+fn give_next(prepared: &[PacketBuf], place: &mut usize, buf: &mut PacketBuf) -> bool
+    requires { place.old ≤ length prepared.now }
+    ensures within { place.new ≤ length prepared.now }
+    ensures given { next_of (drop place.old prepared.now) ≡ datagram result buf.new }
+    ensures rest { drop place.new prepared.now ≡ drop 1 (drop place.old prepared.now) }
+    ensures buffer { result ≡ false → buf.new ≡ buf.old }
+{
+    match prepared.get(*place) {
+        Some(datagram) => {
+            buf.fill(datagram.bytes());
+            *place += 1;
+            true
+        }
+        None => false,
+    }
+}
+
+impl Link for MemLink {
+    ghost told = { λ s. Some s.traffic };
+
+    ghost faults = { λ s. s.faults };
+
+    /// Fails exactly where the call's place stands in the list; else it brings the next datagram, and `Ok(false)` exactly where none is
+    /// left.
+    fn receive(&mut self, buf: &mut PacketBuf) -> Result<bool, Failed>
+        ensures buffer { FillsOnlyWhere result buf.old buf.new }
+        ensures told { Some self.new.traffic ≡ after_receive result buf.new (Some self.old.traffic) }
+        ensures cause { HasCause self.old.faults self.new.faults result }
+
+        ensures fails { IsErr result ↔ IsTrue (is_listed self.old.receives self.old.failing_receives) }
+        ensures failed { OnErr result (self.new ≡ failed_receive self.old) }
+        ensures next { IfOk result (λ came. next_of self.old.prepared ≡ datagram came buf.new) }
+        ensures given { IfOk result (λ came. self.new ≡ received self.old (datagram came buf.new)) }
+    {
+        let call = self.receives;
+        self.receives = call.saturating_add(1);
+        if self.receive_fails.contains(&call) {
+            self.faults = self.faults.saturating_add(1);
+            return Err(Failed);
+        }
+        let came = give_next(self.prepared.as_slice(), &mut self.place, buf);
+        self.past = self.past.and(buf, &came);
+        Ok(came)
+    }
+
+    /// Fails where the call's place stands in the list; else it keeps the datagram. It may also fail elsewhere, as where no memory is
+    /// there to keep it.
+    fn send(&mut self, packet: &PacketBuf) -> Result<(), Failed>
+        ensures told { Some self.new.traffic ≡ after_send result packet.now (Some self.old.traffic) }
+        ensures cause { HasCause self.old.faults self.new.faults result }
+
+        ensures fails { IsTrue (is_listed self.old.sends self.old.failing_sends) → IsErr result }
+        ensures failed { OnErr result (self.new ≡ failed_send self.old) }
+        ensures kept { OnOk result (self.new ≡ sent self.old packet.now) }
+    {
+        let call = self.sends;
+        self.sends = call.saturating_add(1);
+        let mut kept = PacketBuf::new();
+        kept.fill(packet.bytes());
+        if self.send_fails.contains(&call) || self.sent.push(kept).is_err() {
+            self.faults = self.faults.saturating_add(1);
+            return Err(Failed);
+        }
+        Ok(())
+    }
+}

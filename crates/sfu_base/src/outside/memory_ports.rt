@@ -1,0 +1,129 @@
+// Ports in memory, with a list of the binds that are to fail.
+ghost use Rattle.std.specs.Prelude.{◌≡◌, ◌+◌, ◌<◌, ◌↔◌, [], All, Some, IsErr, IsTrue, IfOk, OnOk, OnErr, drop, length};
+ghost use Rattle.sfu_base.specs.Faults.{HasCause};
+ghost use Rattle.sfu_base.specs.Links.{IsFresh, is_listed};
+ghost use Rattle.sfu_base.specs.Ports.{CountsBack, after_back, after_bind, bound_one, came_back, failed_bind, next_link, tells_nothing_yet};
+
+use crate::outside::ports::PORT_LIMIT;
+use crate::{Address, Failed, MemLink, NoMemory, Ports};
+use std::alloc::Global;
+use std::marker::Model;
+
+/// Gives its prepared links in order, and past them links with nothing prepared; fails at the binds of a list, counted from 0. What
+/// comes back is kept in places that are reserved when it is made, so that no later call takes memory. Seen as the prepared links that
+/// are left, the ports that came back, that list, how many binds were made, how many ports were bound, and the count of faults.
+#[derive(Drop)]
+pub struct MemPorts {
+    alloc: Global,
+    prepared: Vec<MemLink>,
+    returned: Vec<MemLink>,
+    bind_fails: Vec<u64>,
+    binds: u64,
+    bound: usize,
+    faults: u64,
+}
+
+impl Model for MemPorts {
+    ghost use Rattle.std.specs.Prelude.{All, vec_len};
+    ghost use Rattle.std.specs.Vec.{vec_capacity};
+    ghost use Rattle.sfu_base.specs.Links.{IsFresh};
+    ghost use Rattle.sfu_base.specs.Ports.{PortsInMemory, HaveRoom};
+
+    ghost Value = { PortsInMemory };
+
+    ghost view = { λ s. record { prepared = s.prepared.items; returned = s.returned.items; failing = s.bind_fails.items; binds = s.binds; bound = s.bound; faults = s.faults } };
+
+    ghost invariant = { λ s. HaveRoom (vec_len s.returned) s.bound (vec_capacity s.returned) × All IsFresh s.prepared.items };
+}
+
+impl MemPorts {
+    /// Ports that give these links, on which no call was made yet, and whose binds at the places of `bind_fails` fail.
+    pub fn new(alloc: Global, links: Vec<MemLink>, bind_fails: Vec<u64>) -> Result<Self, NoMemory>
+        requires { All IsFresh links.items }
+        ensures { IfOk result (λ ports. ports ≡ record { prepared = links.items; returned = []; failing = bind_fails.items; binds = 0; bound = 0; faults = 0 }) }
+    {
+        let returned = Vec::with_capacity(alloc, PORT_LIMIT).map_err(|_| NoMemory)?;
+        Ok(MemPorts {
+            alloc,
+            prepared: links,
+            returned,
+            bind_fails,
+            binds: 0,
+            bound: 0,
+            faults: 0,
+        })
+    }
+
+    /// All ports that came back, in order.
+    pub fn returned(&self) -> &[MemLink]
+        ensures { result.now ≡ self.now.returned }
+    {
+        &self.returned
+    }
+}
+
+// Takes the first link out, or makes one with nothing prepared.
+fn take_first(alloc: Global, prepared: &mut Vec<MemLink>) -> MemLink
+    ensures link { result ≡ next_link prepared.old.items }
+    ensures rest { prepared.new.items ≡ drop 1 prepared.old.items }
+{
+    if prepared.is_empty() {
+        let none = Vec::new(alloc);
+        MemLink::new(alloc, none, Vec::new(alloc), Vec::new(alloc))
+    } else {
+        prepared.remove(0)
+    }
+}
+
+impl Ports for MemPorts {
+    type Port = MemLink;
+
+    ghost returned = { λ s. Some s.returned };
+
+    ghost bound = { λ s. s.bound };
+
+    ghost back_count = { λ s. length s.returned };
+
+    ghost faults = { λ s. s.faults };
+
+    /// Fails exactly where the call's place stands in the list; else it gives the next link.
+    fn bind(&mut self, _local: Address, _peer: Address) -> Result<MemLink, Failed>
+        requires { self.old.bound < 64 }
+        ensures bound { self.new.bound ≡ after_bind result self.old.bound }
+        ensures back_count { length self.new.returned ≡ length self.old.returned }
+        ensures returned { Some self.new.returned ≡ Some self.old.returned }
+        ensures quiet { IfOk result (λ port. port.faults ≡ 0) }
+        ensures silent { IfOk result (λ port. tells_nothing_yet (Some port.traffic)) }
+        ensures cause { HasCause self.old.faults self.new.faults result }
+
+        ensures fails { IsErr result ↔ IsTrue (is_listed self.old.binds self.old.failing) }
+        ensures failed { OnErr result (self.new ≡ failed_bind self.old) }
+        ensures given { IfOk result (λ port. port ≡ next_link self.old.prepared) }
+        ensures after { OnOk result (self.new ≡ bound_one self.old) }
+    {
+        let call = self.binds;
+        self.binds = call.saturating_add(1);
+        if self.bind_fails.contains(&call) {
+            self.faults = self.faults.saturating_add(1);
+            return Err(Failed);
+        }
+        self.bound += 1;
+        Ok(take_first(self.alloc, &mut self.prepared))
+    }
+
+    /// Keeps the port, and counts one fault where the port has any.
+    fn back(&mut self, port: MemLink)
+        requires { length self.old.returned < self.old.bound }
+        ensures bound { self.new.bound ≡ self.old.bound }
+        ensures back_count { length self.new.returned ≡ length self.old.returned + 1 }
+        ensures returned { Some self.new.returned ≡ after_back port (Some self.old.returned) }
+        ensures cause { CountsBack port.faults self.old.faults self.new.faults }
+
+        ensures after { self.new ≡ came_back self.old port }
+    {
+        if port.faults() > 0 {
+            self.faults = self.faults.saturating_add(1);
+        }
+        self.returned.push_reserved(port);
+    }
+}

@@ -1,0 +1,46 @@
+// Where links are bound, and where they come back to. Own rule.
+ghost use Rattle.std.specs.Prelude.{◌≡◌, ◌+◌, ◌<◌, ℕ, List, Option, IfOk, IsOk, OnErr};
+ghost use Rattle.sfu_base.specs.Faults.{HasCause};
+ghost use Rattle.sfu_base.specs.Ports.{CountsBack, after_back, after_bind, tells_nothing_yet};
+
+use crate::{Address, Failed, Link};
+
+/// How many ports may be bound.
+pub const PORT_LIMIT: usize = 64;
+
+/// Where links are bound, and where they come back to when they are done with.
+pub trait Ports {
+    /// A link that is bound to a local address and has one peer.
+    type Port: Link + Send + Drop;
+
+    /// The ports that came back, in order, where it tells them.
+    ghost returned: { Self → Option (List Self.Port) };
+
+    /// How many ports were bound.
+    ghost bound: { Self → ℕ };
+
+    /// How many ports came back.
+    ghost back_count: { Self → ℕ };
+
+    /// How often a port couldn't be bound, or came back with faults of its own; at 2^64 - 1 it stays there.
+    ghost faults: { Self → ℕ };
+
+    /// Binds a port to the local address, which sends to the peer and hears it alone. It has no faults yet and, where it tells its
+    /// traffic, none yet. After `Failed` none was bound.
+    fn bind(&mut self, local: Address, peer: Address) -> Result<Self::Port, Failed>
+        requires { bound self.old < 64 }
+        ensures bound { bound self.new ≡ after_bind result (bound self.old) }
+        ensures back_count { back_count self.new ≡ back_count self.old }
+        ensures returned { returned self.new ≡ returned self.old }
+        ensures quiet { IfOk result (λ port. Self.Port.faults port ≡ 0) }
+        ensures silent { IfOk result (λ port. tells_nothing_yet (Self.Port.told port)) }
+        ensures cause { HasCause (faults self.old) (faults self.new) result };
+
+    /// Takes a port back. The count of faults rises exactly where the port's own count is above 0.
+    fn back(&mut self, port: Self::Port)
+        requires { back_count self.old < bound self.old }
+        ensures bound { bound self.new ≡ bound self.old }
+        ensures back_count { back_count self.new ≡ back_count self.old + 1 }
+        ensures returned { returned self.new ≡ after_back port (returned self.old) }
+        ensures cause { CountsBack (Self.Port.faults port) (faults self.old) (faults self.new) };
+}

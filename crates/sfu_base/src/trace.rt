@@ -1,0 +1,36 @@
+// What happened to a value, for proofs alone.
+ghost use Rattle.std.specs.Prelude.{◌≡◌, List, [], ◌∷◌, ◌++◌};
+ghost use Rattle.std.specs.Borrow.{ftrue};
+
+use std::marker::{Model, PhantomData};
+
+/// Pairs in the order in which they were added, which clauses read as `items`. It takes no memory, and its methods do nothing when the
+/// program runs.
+#[derive(Drop)]
+pub struct Trace<A, B> {
+    of: PhantomData<(A, B)>,
+    pub ghost items: { List (A × B) },
+}
+
+impl<A, B> Model for Trace<A, B> {
+    ghost also_owns = { λ _. ftrue };
+}
+
+// It owns nothing.
+unsafe impl<A: Send, B: Send> Send for Trace<A, B> {}
+
+impl<A, B> Trace<A, B> {
+    /// No pairs.
+    pub fn new() -> Trace<A, B>
+        ensures { result.items ≡ [] }
+    {
+        Trace { of: PhantomData }
+    }
+
+    /// The trace with one more pair at its end.
+    pub fn and(&self, first: &A, second: &B) -> Trace<A, B>
+        ensures { result.items ≡ self.now.items ++ (first.now, second.now) ∷ [] }
+    {
+        Trace { of: PhantomData }
+    }
+}
