@@ -1,8 +1,15 @@
--- The next link of links on which no call was made yet tells no traffic.
-use Rattle.std.proofs.Common.{◌≡◌, List, [], ◌∷◌, All, refl, ap, arith}
+-- Links on which no call was made yet: the next one tells no traffic, and one more may be put behind them.
+use Rattle.std.proofs.Common.{◌≡◌, List, [], ◌∷◌, ◌++◌, All, refl, ap, arith}
+use Rattle.std.proofs.lemmas.List.Elements.{All-append, All-cons, All-nil}
 use Rattle.sfu_base.specs.Links.{IsFresh, LinkInMemory, no_traffic}
 use Rattle.sfu_base.specs.Ports.{next_link}
 
 pub next_silent : (links : List LinkInMemory) → All IsFresh links → (next_link links).traffic ≡ no_traffic
 next_silent [] fresh = refl
 next_silent (link ∷ rest) fresh = ap (λ l. l.traffic) (fresh 0 link (omega arith))
+
+pub none_fresh : All IsFresh []
+none_fresh = All-nil IsFresh
+
+pub one_more_fresh : (links : List LinkInMemory) (link : LinkInMemory) → All IsFresh links → IsFresh link → All IsFresh (links ++ link ∷ [])
+one_more_fresh links link all one = All-append IsFresh links (link ∷ []) all (All-cons IsFresh link [] one (All-nil IsFresh))

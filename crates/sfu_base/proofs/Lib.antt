@@ -1,2 +1,2 @@
-mod Fresh
+pub mod Fresh
 mod Walks

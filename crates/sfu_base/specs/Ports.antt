@@ -1,8 +1,8 @@
 -- What a place that binds links tells and counts, and what contracts see of one in memory. Own rule.
-use Rattle.std.specs.Prelude.{◌≡◌, ℕ, ◌+◌, ◌<◌, ◌≤◌, ◌==◌, Bool, List, [], ◌∷◌, ◌++◌, drop, Option, Some, None, Result, Ok, Err, if◌then◌else◌}
+use Rattle.std.specs.Prelude.{◌≡◌, ℕ, ◌+◌, ◌<◌, ◌≤◌, ◌==◌, List, [], ◌∷◌, ◌++◌, drop, Option, Some, None, Result, Ok, Err, if◌then◌else◌}
 use Rattle.std.specs.Option.{option_map}
 use Rattle.sfu_base.specs.Faults.{Rose, raised}
-use Rattle.sfu_base.specs.Links.{LinkInMemory, Traffic, fresh, is_listed, no_traffic}
+use Rattle.sfu_base.specs.Links.{LinkInMemory, Traffic, fresh, no_traffic}
 
 -- how many are bound after a call of bind: one more where it went well
 abbrev pub after_bind : {T E : Type 0} → Result T E → ℕ → ℕ

@@ -1,4 +1,7 @@
 // Links, ports and the clocks, each used once through its trait.
+ghost use Rattle.std.specs.Prelude.{All, IfOk};
+ghost use Rattle.sfu_base.specs.Links.{IsFresh};
+
 use crate::{
     Address, CalmLink, CalmPorts, Clock, Failed, Link, MemLink, MemPorts, PacketBuf, Ports,
     StepClock, SysClock, UdpPorts,
@@ -26,13 +29,20 @@ fn packet(byte: u8) -> PacketBuf {
     packet
 }
 
-// A link that brings one datagram, and one that brings two and whose second receive and first send fail.
-fn one(alloc: Global) -> Result<MemLink, AllocError> {
+// One link, which brings one datagram.
+#[tactic(auto, using(crate::proofs::Fresh::one_more_fresh, crate::proofs::Fresh::none_fresh))]
+fn one(alloc: Global) -> Result<Vec<MemLink>, AllocError>
+    ensures { IfOk result (λ links. All IsFresh links.items) }
+{
     let mut prepared = Vec::new(alloc);
     prepared.push(packet(1))?;
-    Ok(MemLink::new(alloc, prepared, Vec::new(alloc), Vec::new(alloc)))
+    let link = MemLink::new(alloc, prepared, Vec::new(alloc), Vec::new(alloc));
+    let mut links = Vec::new(alloc);
+    links.push(link)?;
+    Ok(links)
 }
 
+// A link that brings two datagrams, and whose second receive and first send fail.
 fn failing(alloc: Global) -> Result<MemLink, AllocError> {
     let mut prepared = Vec::new(alloc);
     prepared.push(packet(1))?;
@@ -71,8 +81,7 @@ fn a_link_in_memory_brings_its_datagrams_keeps_what_is_sent_and_fails_where_it_i
 
 #[test]
 fn ports_in_memory_give_their_links_and_keep_what_comes_back(rt: HostRuntime) -> Result<(), Fail> {
-    let mut links = Vec::new(rt.alloc());
-    links.push(one(rt.alloc())?)?;
+    let links = one(rt.alloc())?;
     let mut ports = MemPorts::new(rt.alloc(), links, [1u64].to_vec(rt.alloc())?)?;
     let mut first = ports.bind(LOCAL, PEER)?;
     assert_eq!(rt; heard(&mut first), (Ok(true), Some(1)));
