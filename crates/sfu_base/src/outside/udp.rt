@@ -33,8 +33,9 @@ pub struct UdpLink<'a, R> {
 }
 
 impl<'a, R: Net + time::Clock> UdpLink<'a, R> {
-    // Binds the local address.
-    fn bind(system: &'a R, local: Address, peer: Address) -> io::Result<Self>
+    /// Binds a socket to the local address, for a link to the peer with no faults yet. The error is the system's, as where the address
+    /// is in use.
+    pub fn bind(system: &'a R, local: Address, peer: Address) -> io::Result<Self>
         ensures { IfOk result (λ link. link.faults ≡ 0) }
     {
         let socket = UdpSocket::bind(system, socket_address(local))?;
