@@ -7,9 +7,11 @@ mod frames;
 mod histories;
 mod receiver;
 mod refusals;
+mod taking;
 
 pub use forwarding::{worked_selection, worked_timelines};
 pub use frames::{worked_frames, worked_packets_have_a_format, worked_tracks};
 pub use histories::{worked_history, worked_layers};
 pub use receiver::{worked_complaints, worked_receptions};
 pub use refusals::words_refuse_what_they_should;
+pub use taking::no_queue_is_long;

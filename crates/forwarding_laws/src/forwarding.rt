@@ -121,7 +121,7 @@ pub fn broken_links_end_at_a_restart<Structure>()
 
 // ---- verdicts and causes
 
-/// The verdict on a frame is that it passed exactly where it passes.
+/// The verdict on a frame is that it passed exactly when it passes.
 pub fn verdicts_are_passed_where_frames_pass()
     ensures passes { Laws.PassedWherePasses }
     ensures passed { Laws.PassesWherePassed }
@@ -139,7 +139,7 @@ pub fn verdicts_are_true()
     ensures hole { Decisions.NoFrameIsAHole }
 {}
 
-/// What the verdict on a frame says is so, and no other verdict says what is so. A frame passes exactly where it is present in an open
+/// What the verdict on a frame says is so, and no other verdict says what is so. A frame passes exactly when it is present in an open
 /// target, all its references were passed, and there is room.
 pub fn the_verdict_says_what_is_so()
     ensures verdict { VerdictWords.VerdictsSayWhatIsSo }

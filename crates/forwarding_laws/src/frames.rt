@@ -11,7 +11,7 @@ pub fn ended_runs_are_the_whole_cuts<Brought>()
     ensures found { Laws.WholeCutsAreFound Brought }
 {}
 
-/// A mark makes a frame whole exactly where it ends a whole cut, and is padding exactly where it is padding. It leaves a frame partial
+/// A mark makes a frame whole exactly when it ends a whole cut, and is padding exactly when it is padding. It leaves a frame partial
 /// only where a run goes on, and torn only where none does or one has ended with an element open. `Brought` is the type of what a part
 /// brings with it.
 pub fn outcomes_are_those_of_runs<Brought>()
@@ -22,7 +22,7 @@ pub fn outcomes_are_those_of_runs<Brought>()
     ensures torn { Laws.TornOutcomesAreTorn Brought }
 {}
 
-/// A mark leaves a frame partial exactly where the marks end in an unfinished cut. `Brought` is the type of what a part brings with it.
+/// A mark leaves a frame partial exactly when the marks end in an unfinished cut. `Brought` is the type of what a part brings with it.
 pub fn partial_frames_are_the_unfinished_cuts<Brought>()
     ensures unfinished { Laws.PartialFramesAreUnfinished Brought }
     ensures found { Laws.UnfinishedCutsArePartial Brought }
@@ -30,7 +30,7 @@ pub fn partial_frames_are_the_unfinished_cuts<Brought>()
 
 // ---- the frames of a track
 
-/// An item makes a frame exactly where it ends a whole cut whose number isn't stale, and the frame has the packets of that cut, and the
+/// An item makes a frame exactly when it ends a whole cut whose number isn't stale, and the frame has the packets of that cut, and the
 /// meaning that its first descriptor, the structure and what is in force give it.
 pub fn items_make_the_frames_of_their_cuts<Structure>()
     ensures marks { Making.ItemsHaveMarks Structure }

@@ -43,18 +43,18 @@ abbrev pub asked : {S : Type 0} → Sender S → Option Subscriber → List (Eve
 asked send None events = events
 asked send (Some subscriber) events = if nat_lt (takes_of events) (length (outgoing send subscriber events)) then Take ∷ events else events
 
--- what released items, the newest first, are to a subscriber of a layered track: the frames that they made whole
+-- A subscriber of a layered track sees, of released items, the frames that they made whole.
 abbrev pub frames_released : {S : Type 0} → Format S → List Item → List Item → List (Event S)
 frames_released format older items = frame_events (frames_since format older items)
 
--- and to one of a plain track: each packet that came, whatever was given up before it
+-- One of a plain track sees each packet that came, whatever was given up before it.
 abbrev pub packets_released : {S : Type 0} → List Item → List Item → List (Event S)
 packets_released older [] = []
 packets_released older (Missing ∷ items) = packets_released older items
 packets_released older (Arrived packet ∷ items) = PlainPacket packet ∷ packets_released older items
 
--- what happened to the subscriber since it joined: what was released since, and its own changes of wish and takes (for a number that never
--- joined, since the beginning)
+-- What happened to the subscriber since it joined: what was released, and its own changes of wish and takes. A number that never joined is
+-- looked at since the beginning.
 abbrev pub timeline_by : {S : Type 0} → (List Item → List Item → List (Event S)) → Sender S → ℕ → List Entry → List (Event S)
 timeline_by released send number [] = []
 timeline_by released send number (Released items ∷ past) = released (items_of past) items ++ timeline_by released send number past

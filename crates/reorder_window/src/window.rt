@@ -14,8 +14,11 @@ use std::alloc::Global;
 use std::marker::Model;
 use wrap_number::place;
 
+/// The numbers that can be accepted lie below this one.
+pub const NUMBER_END: u64 = 1 << 46;
+
 /// The order of one track. Clauses see it as its hold, the order, and the pieces that are still to be fetched.
-#[derive(Drop)]
+#[derive(Debug, Drop)]
 pub struct Window {
     ring: Ring,
     hold: u32,
@@ -138,7 +141,7 @@ impl Window {
 
 /// The number of an arrival, unless it is too great or behind.
 pub fn number_in_range(end: u64, next: u64, seq: u16) -> Result<u64, Arrival>
-    requires bounded { end ≤ 2 ^ 46 }
+    requires bounded { end ≤ NUMBER_END }
     requires within { next ≤ end }
     ensures { result ≡ in_range next (number_of (newest_below end) seq) }
 {
@@ -147,7 +150,7 @@ pub fn number_in_range(end: u64, next: u64, seq: u16) -> Result<u64, Arrival>
     } else {
         place((end - 1) as i64, seq)
     };
-    if number >= 1 << 46 {
+    if number >= NUMBER_END as i64 {
         Err(Arrival::Spent)
     } else if number < next as i64 {
         Err(Arrival::Late { next })

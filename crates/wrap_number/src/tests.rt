@@ -19,3 +19,13 @@ fn above_is_never_the_number_itself(rt: HostRuntime) {
     assert_eq!(rt; above(2, 3), 3);
     assert_eq!(rt; above(3, 2), 65538);
 }
+
+#[test]
+fn numbers_go_on_over_the_wrap(rt: HostRuntime) {
+    let next = place(65_535, 0);
+    let late = place(next, 65_535);
+    let key = above(65_536, 0);
+    assert_eq!(rt; next, 65_536);
+    assert_eq!(rt; late, 65_535);
+    assert_eq!(rt; key, 131_072);
+}

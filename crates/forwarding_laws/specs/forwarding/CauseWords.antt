@@ -29,7 +29,7 @@ pub record IsNearBelow (numbers : List ℕ) (newest n below : ℕ) : Type 0 wher
   pub greatest : (m : ℕ) → IsMember m numbers → m < n → m ≤ below
   pub near : newest < below + 4096
 
--- or each that lies below n is 4,096 or more below the newest
+-- the greatest below n, as told above; or there is none, as each number below n is 4,096 or more below the newest
 abbrev pub IsNextBelow : List ℕ → ℕ → ℕ → Option ℕ → Type 0
 IsNextBelow numbers newest n None = (m : ℕ) → IsMember m numbers → m < n → m + 4096 ≤ newest
 IsNextBelow numbers newest n (Some below) = IsNearBelow numbers newest n below

@@ -61,7 +61,7 @@ ClosesAt s f (NotOpened since) =
 abbrev pub ClosesNone : Standing → FrameMeaning → Type 0
 ClosesNone s f = (reason : Reason) → ClosesAt s f reason → ⊥
 
--- a frame of the timeline closed the target for this reason, no frame passed since, and none closed a target since: it was the last to do so
+-- A frame of the timeline closed the target for this reason. It was the last frame to close one, and no frame passed since.
 pub record WasClosedFor {S : Type 0} (wish : Wish) (events : List (Event S)) (reason : Reason) : Type 0 where
   pub since : List (Event S)
   pub frame : Frame S

@@ -117,7 +117,7 @@ abbrev pub OpeningIsBest : Type 0
 OpeningIsBest = (wish : Wish) (complete keyed : Bool) (f : FrameMeaning) (current : CurrentTarget)
     → IsBest f (can_open wish complete keyed f current) f.target_count (best f (can_open wish complete keyed f current))
 
--- the verdict is that a frame passed exactly where it passes
+-- the verdict is that a frame passed exactly when it passes
 abbrev pub PassedWherePasses : Type 0
 PassedWherePasses = (has : ℕ → Bool) (key_passed : Bool) (wish : Wish) (f : FrameMeaning) (current : CurrentTarget) (queued packets : ℕ)
     → passes has key_passed wish f current queued packets ≡ true → verdict has key_passed wish f current queued packets ≡ Passed

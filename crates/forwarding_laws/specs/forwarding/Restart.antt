@@ -10,7 +10,7 @@ use Rattle.forwarding_model.specs.forwarding.Targets.{is_switch}
 use Rattle.forwarding_model.specs.forwarding.Selection.{missing_reference, chain_link, target_under_mask, kept_target, opening}
 use Rattle.forwarding_model.specs.forwarding.Standing.{Standing, target_at, has_passed, key_passed, kept_target_at}
 
--- the chain that protects the target has no link in f to the opening frame or a later one, or that frame was passed
+-- where the target's chain links f to the opening frame or a later one, that frame was passed
 abbrev pub IsLinked : (ℕ → Bool) → FrameMeaning → ℕ → ℕ → Type 0
 IsLinked has f target opened = 0 < f.chain_count → 0 < chain_link f target → opened + chain_link f target ≤ f.number
     → has (chain_link f target) ≡ true
@@ -27,7 +27,7 @@ WasClosed (Open target opened) (Closed reason) = Unit {0}
 WasClosed (Open target opened) (Open later reopened) = ⊥
 WasClosed (Closed reason) after = ⊥
 
--- the rule on the link closes the target at f: it was open when f's epoch and mask had been looked at, and isn't once f's link was
+-- The rule on the link closes the target at f: after the rules on the epoch and the mask it was open, and after that on the link it isn't.
 abbrev pub BreaksAt : Standing → FrameMeaning → Type 0
 BreaksAt s f = WasClosed (target_under_mask f (target_at s f)) (kept_target_at s f)
 

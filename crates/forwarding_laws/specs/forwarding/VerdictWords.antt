@@ -39,6 +39,6 @@ Says s f packets (Hole below above) = ⊥
 abbrev pub VerdictsSayWhatIsSo : Type 0
 VerdictsSayWhatIsSo = (s : Standing) (f : FrameMeaning) (packets : ℕ) (v : Verdict) → (verdict_at s f packets ≡ v) ↔ Says s f packets v
 
--- and f passes exactly where what Passed says is so
+-- and f passes exactly when what Passed says is so
 abbrev pub PassingInWords : Type 0
 PassingInWords = (s : Standing) (f : FrameMeaning) (packets : ℕ) → (passes_at s f packets ≡ true) ↔ Says s f packets Passed

@@ -38,13 +38,13 @@ abbrev pub WholeCutsAreFound : Type 0 → Type 0
 WholeCutsAreFound X = (marks : List (Mark X)) (part : Part X) (more : List (Part X)) → EndsIn marks (part ∷ more) → IsWholeCut (part ∷ more)
     → (run : Run X) × (cut_of marks ≡ Some run) × (parts_of run ≡ part ∷ more)
 
--- a mark makes a frame whole exactly where it ends a whole cut
+-- a mark makes a frame whole exactly when it ends a whole cut
 abbrev pub WholeOutcomesAreCuts : Type 0 → Type 0
 WholeOutcomesAreCuts X = (run : Option (Run X)) (mark : Mark X)
     → (outcome run mark ≡ IsWhole → (ended : Run X) × (cut_by run mark ≡ Some ended))
     × ((ended : Run X) → cut_by run mark ≡ Some ended → outcome run mark ≡ IsWhole)
 
--- a mark leaves a frame partial exactly where the marks end in an unfinished cut
+-- a mark leaves a frame partial exactly when the marks end in an unfinished cut
 abbrev pub PartialFramesAreUnfinished : Type 0 → Type 0
 PartialFramesAreUnfinished X = (mark : Mark X) (past : List (Mark X)) → outcome (run_of past) mark ≡ IsPartial
     → (first : Part X) × (more : List (Part X)) × IsUnfinishedCut (first ∷ more) × EndsIn (mark ∷ past) (first ∷ more)

@@ -8,7 +8,7 @@ use Rattle.forwarding_model.specs.forwarding.Outgoing.{Sender, Subscriber, FindP
 use Rattle.forwarding_model.specs.frames.Reading.{Format, IsFormat}
 use Rattle.forwarding_model.specs.History.{Entry, subscriber_of, timeline}
 
--- and the path of each frame that was withheld from it ends at a root
+-- the path of each frame that was withheld from a subscriber ends at a root
 abbrev pub EndsAtRootInHistories : Type 0 → Type 0
 EndsAtRootInHistories S = (format : Format S) (send : Sender S) (number : ℕ) (history : List Entry) (wish : Wish) (n : ℕ) → IsFormat format
     → IsWithheld wish (timeline format send number history) n → IsPath (path (cause wish (timeline format send number history)) n)

@@ -51,7 +51,7 @@ abbrev pub cause_among : List Step → ℕ → Verdict
 cause_among steps n =
     verdict_or_hole (verdict_among steps n) (next_below steps (number_or (newest_number steps) 0) n) (next_above steps n)
 
--- A number can be asked for that is neither above the newest frame nor 4,096 or more below it.
+-- The cause of a number can be asked for, unless it lies above the newest frame, or 4,096 or more below it.
 abbrev pub is_ahead : Option ℕ → ℕ → Bool
 is_ahead None n = true
 is_ahead (Some newest) n = nat_lt newest n
@@ -115,7 +115,7 @@ abbrev pub path_on : Option ℕ → (ℕ → List Step) → List Step
 path_on None rest = []
 path_on (Some n) rest = rest n
 
--- n with its cause, then the number that it names, and so on, through at most so many numbers
+-- n with its cause, then the number that this cause names, and so on; at most `limit` numbers
 abbrev pub path_within : ℕ → (ℕ → Verdict) → ℕ → List Step
 path_within zero causes n = []
 path_within (suc limit) causes n = record { number = n; verdict = causes n } ∷ path_on (followed (causes n)) (path_within limit causes)

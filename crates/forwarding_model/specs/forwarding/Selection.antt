@@ -94,7 +94,7 @@ is_present_in f (Closed reason) = false
 abbrev pub has_room : ℕ → ℕ → Bool
 has_room queued packets = nat_le (queued + packets) 512
 
--- The rule on passing: f passes exactly where there is a candidate, f is present in it, all its references were passed, and there is room.
+-- The rule on passing: f passes exactly when there is a candidate, f is present in it, all its references were passed, and there is room.
 abbrev pub passes : (ℕ → Bool) → Bool → Wish → FrameMeaning → CurrentTarget → ℕ → ℕ → Bool
 passes has key_passed wish f current queued packets =
     is_present_in f (candidate has key_passed wish f current)
@@ -111,18 +111,18 @@ abbrev pub reason_verdict : Reason → Verdict
 reason_verdict (BrokenLink at number) = Link at number
 reason_verdict (NotOpened since) = Unopened since
 
--- where the candidate is open, passed or full; else the reason
+-- of an open candidate: passed, or full; of a closed one: its reason
 abbrev pub candidate_verdict : ℕ → ℕ → CurrentTarget → Verdict
 candidate_verdict queued packets (Open target opened) = if has_room queued packets then Passed else Full queued packets
 candidate_verdict queued packets (Closed reason) = reason_verdict reason
 
--- a reference that wasn't passed comes first: behind where it lies below the epoch's start
+-- Before that comes a reference that wasn't passed. It is behind where it lies below the epoch's start.
 abbrev pub reference_verdict : FrameMeaning → Option ℕ → Verdict → Verdict
 reference_verdict f None otherwise = otherwise
 reference_verdict f (Some distance) otherwise =
     if nat_lt f.number (f.start + distance) then Behind distance f.start else Reference (f.number - distance)
 
--- and before that, no target, or a target that f isn't present in
+-- Before both comes that there is no target, or that f isn't present in it.
 abbrev pub target_verdict : FrameMeaning → Option ℕ → Verdict → Verdict
 target_verdict f None otherwise = NotOfTarget None
 target_verdict f (Some target) otherwise = if is_present f target then otherwise else NotOfTarget (Some target)

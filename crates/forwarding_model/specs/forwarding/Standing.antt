@@ -69,7 +69,7 @@ verdict_at s f packets = verdict (has_passed s f) (key_passed s f) s.wish f (tar
 
 -- ---- one event after another
 
--- after the frame f of so many packets, where it passes and where it doesn't
+-- after the frame f of so many packets: true where it passes
 abbrev pub admitted : Bool → Standing → FrameMeaning → ℕ → Standing
 admitted true s f packets =
     record {

@@ -28,7 +28,7 @@ pub data Mark (X : Type 0) : Type 0 where
 
 -- ---- a run, mark by mark
 
--- a start and the parts that continued it: the first, those after it with the oldest first, and the newest of all
+-- A start and the parts that continued it: the first, the others with the oldest first, and the newest of all.
 pub record Run (X : Type 0) : Type 0 where
   pub first : Part X
   pub more : List (Part X)
@@ -111,7 +111,7 @@ abbrev pub HaveOneNumber : {X : Type 0} → List (Part X) → Type 0
 HaveOneNumber [] = ⊥
 HaveOneNumber (part ∷ more) = AllByRecursion (λ p. p.number ≡ part.number) more
 
--- where an element is open or not, each Z equals the Y before it, and the last Y is 0
+-- Each Z equals the Y before it, and the last Y is 0. `open_element` is the Y before the first part.
 abbrev pub Join : {X : Type 0} → Bool → List (Part X) → Type 0
 Join open_element [] = open_element ≡ false
 Join open_element (part ∷ more) = (part.continues ≡ open_element) × Join part.carries more
@@ -124,12 +124,13 @@ pub record IsWholeCut {X : Type 0} (parts : List (Part X)) : Type 0 where
   pub number : HaveOneNumber parts
   pub joins : Join false parts
 
--- each Z equals the Y before it, and the last Y is 0 or 1
+-- The same, but that the last Y is 0 or 1.
 abbrev pub JoinSoFar : {X : Type 0} → Bool → List (Part X) → Type 0
 JoinSoFar open_element [] = Unit {0}
 JoinSoFar open_element (part ∷ more) = (part.continues ≡ open_element) × JoinSoFar part.carries more
 
--- the parts of a frame that hasn't ended, the oldest first: all that makes a whole cut, but that none ends it, and an element may be open
+-- The parts of a frame that hasn't ended, the oldest first. It is a whole cut but for two things: no part ends it, and the last element may
+-- be open.
 pub record IsUnfinishedCut {X : Type 0} (parts : List (Part X)) : Type 0 where
   pub few : length parts ≤ 512
   pub starts : FirstAloneStarts parts
@@ -154,12 +155,12 @@ abbrev pub NewestIsPart : {X : Type 0} → List (Mark X) → Type 0
 NewestIsPart [] = ⊥
 NewestIsPart (mark ∷ past) = IsPart mark
 
--- the marks of parts that stand with the oldest first
+-- the marks of these parts; parts have the oldest first, marks the newest
 abbrev pub newest_first : {X : Type 0} → List (Part X) → List (Mark X)
 newest_first [] = []
 newest_first (part ∷ more) = newest_first more ++ Read part ∷ []
 
--- padding left aside, the newest marks are these parts, in a row
+-- The newest mark is a part; and without padding, the newest marks are just these parts.
 pub record EndsIn {X : Type 0} (marks : List (Mark X)) (parts : List (Part X)) : Type 0 where
   pub newest : NewestIsPart marks
   pub older : List (Mark X)

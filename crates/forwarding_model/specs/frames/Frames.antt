@@ -14,7 +14,7 @@ use Rattle.forwarding_model.specs.frames.Reading.Showing.{LacksStructure, Unread
 use Rattle.forwarding_model.specs.frames.Cuts.{Part, Mark, Run, extended, cut_by, parts_of}
 use Rattle.forwarding_model.specs.frames.Cuts.Mark.{Gone, Padding, Unreadable, Read}
 
--- in the order of the track: numbers that were given up, or a packet that came. Lists of items have the newest first.
+-- In the order of the track, numbers that were given up, or a packet that came. Lists of items have the newest first.
 pub data Item : Type 0 where
   Missing : Item
   Arrived : (packet : Packet) → Item
@@ -31,7 +31,7 @@ pub record Force (S : Type 0) : Type 0 where
 abbrev pub no_force : {S : Type 0} → Force S
 no_force = record { structure = None; mask = 0; epoch = 0; start = 0; newest = 0 }
 
--- all of so many decode targets
+-- the mask that has all decode targets of a structure
 abbrev pub all_targets : Layout → ℕ
 all_targets layout = 2 ^ layout.target_count - 1
 
@@ -164,7 +164,7 @@ newest_with (Some frame) newest = frame.meaning.number
 abbrev pub with_frame : {S : Type 0} → Force S → Option (Frame S) → Force S
 with_frame force frame = record force { newest = newest_with frame force.newest }
 
--- with the force once the item's packet was looked at, and its mark
+-- of an item: what is in force once its packet was read, and its mark
 abbrev pub made_by : {S : Type 0} → Format S → Force S → Option (Run (ReadPacket S)) → Mark (ReadPacket S) → Made S
 made_by format force run mark =
     record {
@@ -200,7 +200,7 @@ abbrev pub frames_after : {S : Type 0} → Format S → List Item → List (Fram
 frames_after format [] = []
 frames_after format (item ∷ past) = in_front (made_by_item format (state_after format past) item).frame (frames_after format past)
 
--- the frames that the newest items made, when they came after the older ones: those of one call
+-- The frames that the newest items made; the older items had come before. So the frames of one call are told.
 abbrev pub frames_since : {S : Type 0} → Format S → List Item → List Item → List (Frame S)
 frames_since format older [] = []
 frames_since format older (item ∷ past) =
