@@ -1,11 +1,14 @@
 -- Writing items one after another, as a loop does: what was written, and the spelling of what is left, is what is to stand.
-use Rattle.std.proofs.Common.{◌≡◌, ℕ, ◌+◌, ◌<◌, ◌≤◌, Bool, List, ◌++◌, length, get_or, drop, Result, Ok, Err, sym, ap, ◌∙◌, append_assoc, arith}
+use Rattle.std.proofs.Common.{◌≡◌, ℕ, ◌+◌, ◌-◌, ◌<◌, ◌≤◌, Bool, List, ◌++◌, length, get_or, take, drop, Result, Ok, Err, sym, ap, ◌∙◌, append_assoc, arith}
 use Rattle.std.specs.List.{flat_map}
-use Rattle.std.proofs.lemmas.List.{length-append, at_drop_more, at_drop_all}
+use Rattle.std.proofs.lemmas.List.{length-append, length-take, at_drop_more, at_drop_all}
+use Rattle.std.proofs.Math.Seq.{take-add}
+use Rattle.dd_bits.specs.Bits.{value, bits_of}
 use Rattle.dd_bits.specs.Sequences.{until_spelled}
 use Rattle.dd_bits.specs.Writer.{room, written, Puts}
 use Rattle.dd_bits.specs.declared.writer.BitWriter.{BitWriter}
 use Rattle.dd_bits.specs.declared.writer.NoRoom.{NoRoom}
+use Rattle.dd_bits.proofs.Values.{bits_of-value}
 
 -- where a part doesn't fit, the whole doesn't
 pub no_room : (old item more start whole : List Bool) → old ++ (item ++ more) ≡ start ++ whole → room < length old + length item → room < length start + length whole
@@ -36,6 +39,15 @@ until_put item mark before xs i d old new total lt e here =
 
 pub until_end : {A : Type 0} (item : A → A → List Bool) (mark : List Bool) (before : A) (xs : List A) (i : ℕ) (old total : List Bool) → length xs ≤ i → old ++ until_spelled item mark before (drop i xs) ≡ total → old ++ mark ≡ total
 until_end item mark before xs i old total le e = ap (λ (t : List Bool). old ++ t) (sym (at_drop_all (until_spelled item mark before) xs i le)) ∙ e
+
+-- so many bits off the front of others
+pub front_step : (missing n v : ℕ) (xs ys old mid total : List Bool) → n ≤ missing → missing ≤ length xs → v ≡ value (take n xs) → ys ≡ drop n xs → mid ≡ old ++ bits_of n v → old ++ take missing xs ≡ total → mid ++ take (missing - n) ys ≡ total
+front_step missing n v xs ys old mid total few enough number rest here e =
+    let all : n + (missing - n) ≡ missing = omega arith in
+    let len : length (take n xs) ≡ n = omega (arith, length-take n xs) in
+    let same : bits_of n (value (take n xs)) ≡ take n xs = rw len at (bits_of-value (take n xs)) in
+    let joined : take n xs ++ take (missing - n) (drop n xs) ≡ take missing xs = sym (take-add n (missing - n) xs) ∙ ap (λ (k : ℕ). take k xs) all in
+    rw (here, number, same, rest) (append_assoc old (take n xs) (take (missing - n) (drop n xs)) ∙ ap (λ (t : List Bool). old ++ t) joined ∙ e)
 
 -- ---- one write after another
 

@@ -46,6 +46,13 @@ impl<'a> BitReader<'a> {
         }
     }
 
+    /// How many bits are left, of however many bytes.
+    pub(crate) fn count(&self) -> u128
+        ensures { result ≡ length (bits_left self.now) }
+    {
+        (self.rest.len() as u128 * 8).saturating_sub(self.used as u128)
+    }
+
     /// Takes the number in the next n bits, f(n). After `Short` the reader is as before.
     pub fn bits(&mut self, n: u8) -> Result<u32, Short>
         requires { n ≤ 32 }
@@ -84,7 +91,7 @@ impl<'a> BitReader<'a> {
     }
 
     /// Takes n bits, as many of one byte at a time as it has.
-    fn take_bits(&mut self, n: u8) -> u32
+    pub(crate) fn take_bits(&mut self, n: u8) -> u32
         requires width { n ≤ 32 }
         requires enough { n ≤ length (bits_left self.old) }
         ensures number { result ≡ value (take n (bits_left self.old)) }

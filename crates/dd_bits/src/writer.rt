@@ -1,6 +1,7 @@
-ghost use Rattle.std.specs.Prelude.{◌≡◌, ◌<◌, ◌≤◌, ◌+◌, ◌*◌, ◌-◌, ◌/◌, ◌%◌, ◌^◌, [], ◌++◌, length, slice_index, OnErr};
+ghost use Rattle.std.specs.Prelude.{◌≡◌, ◌<◌, ◌≤◌, ◌+◌, ◌*◌, ◌-◌, ◌/◌, ◌%◌, ◌^◌, [], ◌++◌, length, take, slice_index, OnErr};
 
 use crate::digits::{byte_with, digit_count, digits_at, short_form_count, with_digits};
+use crate::reader::BitReader;
 use thiserror::Error;
 
 /// The bits would pass 2,040 bytes.
@@ -30,6 +31,7 @@ pub struct BitWriter {
 impl BitWriter {
     ghost use Rattle.dd_bits.specs.Bits.{bits_of};
     ghost use Rattle.dd_bits.specs.Numbers.{non_symmetric_bits};
+    ghost use Rattle.dd_bits.specs.Reader.{bits_left, bits_between};
     ghost use Rattle.dd_bits.specs.Writer.{room, written, IsPadded, Puts};
 
     /// A writer in which nothing stands.
@@ -75,6 +77,22 @@ impl BitWriter {
         }
     }
 
+    /// Puts the bits that `from` has left before those of `to`, as a reader took them that was copied as `from` and is now `to`.
+    /// `NoRoom` comes where they would pass 2,040 bytes; the writer is then as before.
+    pub fn put_read(&mut self, from: BitReader<'_>, to: BitReader<'_>) -> Result<(), NoRoom>
+        ensures put { Puts result self.old self.new (bits_between from.entry to.entry) }
+        ensures unchanged { OnErr result (self.new ≡ self.old) }
+        ensures within { length (written self.new) ≤ room }
+    {
+        let count = from.count().saturating_sub(to.count());
+        let free = MOST * 8 - (self.len * 8 + self.used as usize);
+        if count > free as u128 {
+            return Err(NoRoom);
+        }
+        self.put_front(from, count as usize);
+        Ok(())
+    }
+
     /// The bytes that hold the bits, the last with zeros up to its end.
     pub fn bytes(&self) -> &[u8]
         ensures { IsPadded (written self.now) result.now }
@@ -83,6 +101,22 @@ impl BitWriter {
             &self.bytes[..self.len]
         } else {
             &self.bytes[..self.len + 1]
+        }
+    }
+
+    /// Puts so many bits off the front of a reader.
+    fn put_front(&mut self, from: BitReader<'_>, count: usize)
+        requires enough { count ≤ length (bits_left from) }
+        requires fit { length (written self.old) + count ≤ room }
+        ensures { written self.new ≡ written self.old ++ take count (bits_left from.entry) }
+    {
+        let mut bits = from;
+        let mut missing = count;
+        while missing > 0 {
+            let n = missing.min(32) as u8;
+            missing -= n as usize;
+            let number = bits.take_bits(n);
+            self.put_bits(n, number);
         }
     }
 

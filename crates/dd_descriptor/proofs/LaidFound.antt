@@ -51,7 +51,7 @@ flag_laid bits x e =
 then_laid : (part : List Bool) (bits rest others : List Bool) → bits ≡ part ++ rest → rest ≡ others → bits ≡ part ++ others
 then_laid part bits rest others e h = e ∙ ap (λ (t : List Bool). part ++ t) h
 
-head_laid : (bits : List Bool) (x : Head × List Bool) → head_at bits ≡ Ok x → bits ≡ flag_bits x.0.start ++ (flag_bits x.0.end ++ (bits_of 6 x.0.template ++ (bits_of 16 x.0.number ++ x.1)))
+pub head_laid : (bits : List Bool) (x : Head × List Bool) → head_at bits ≡ Ok x → bits ≡ flag_bits x.0.start ++ (flag_bits x.0.end ++ (bits_of 6 x.0.template ++ (bits_of 16 x.0.number ++ x.1)))
 unfolding head_at
 head_laid bits x e0 =
     bind_then (flag_at bits) _ x e0 (λ start es e1.
@@ -299,7 +299,7 @@ none_is (Some x) e = absurd cc
 last_empty : (a b c d : List Bool) → [] ≡ a ++ (b ++ (c ++ d)) → d ≡ []
 last_empty a b c d e = empty_is d (omega (arith, ap length e, length-append a (b ++ (c ++ d)), length-append b (c ++ d), length-append c d))
 
-length-flag_bits : (b : Bool) → length (flag_bits b) ≡ 1
+pub length-flag_bits : (b : Bool) → length (flag_bits b) ≡ 1
 length-flag_bits true = length-bits_of 1 1
 length-flag_bits false = length-bits_of 1 0
 
@@ -320,7 +320,7 @@ rest_empty bytes a b template number rest few is =
       length-bits_of 16 number,
     ))
 
-abbrev content_from : Head → Flags → Option TemplateStructure → Option ℕ × FrameContent → Content
+abbrev pub content_from : Head → Flags → Option TemplateStructure → Option ℕ × FrameContent → Content
 content_from head flags carried body = record { start = head.start; end = head.end; template = head.template; number = head.number; structure = carried; mask = body.0; custom = custom_of flags; frame = body.1 }
 
 four : (a b c d rest : List Bool) → (a ++ (b ++ (c ++ d))) ++ rest ≡ a ++ (b ++ (c ++ (d ++ rest)))

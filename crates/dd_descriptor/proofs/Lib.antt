@@ -5,3 +5,5 @@ pub mod Written
 pub mod Items
 pub mod Found
 pub mod LaidFound
+pub mod Remasked
+pub mod FirstBytes

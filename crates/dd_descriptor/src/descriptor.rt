@@ -68,3 +68,12 @@ impl Descriptor {
         }
     }
 }
+
+/// Whether a packet is the first and the last of its frame, and the frame's number.
+#[derive(Clone, Copy, Debug, PartialEq, Eq)]
+pub struct Edges {
+    pub start: bool,
+    pub end: bool,
+    /// The frame number modulo 65,536.
+    pub number: u16,
+}

@@ -1,8 +1,8 @@
 //! Reads a descriptor, field by field in the order of the bits.
 
 mod custom;
-mod fields;
-mod frame;
+pub mod fields;
+pub mod frame;
 mod template;
 
 ghost use Rattle.std.specs.Prelude.{◌<◌, ◌≤◌, true, IfOk, IfSome, OnOk};
@@ -42,7 +42,7 @@ fn put_structure(bits: &mut BitReader<'_>, out: &mut Option<Structure>) -> Resul
 
 /// The structure that is carried, if one is, in place of what was there.
 #[tactic(auto, unfolding(crate::specs::Reading::carried_at))]
-fn put_carried(
+pub fn put_carried(
     bits: &mut BitReader<'_>,
     is_present: bool,
     out: &mut Option<Structure>,
@@ -61,7 +61,7 @@ fn put_carried(
 
 /// The active decode targets, where they are told or a structure is carried.
 #[tactic(auto, unfolding(crate::specs::Reading::mask_at))]
-fn mask(
+pub fn mask(
     bits: &mut BitReader<'_>,
     is_present: bool,
     carries: bool,
@@ -122,7 +122,7 @@ fn held_body(
 }
 
 /// What a structure keeps, where one is in force.
-fn force_is_well_formed(force: Option<&Structure>)
+pub fn force_is_well_formed(force: Option<&Structure>)
     ensures { IfSome (option_copied force.entry) IsWellFormed }
 {
     if let Some(structure) = force {

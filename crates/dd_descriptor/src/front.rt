@@ -1,0 +1,28 @@
+//! The fields of a descriptor that need no structure.
+
+ghost use Rattle.std.specs.Prelude.{◌≡◌, ◌<◌, ◌↔◌, Ok, Option, IsErr, IfOk, length};
+ghost use Rattle.dd_structure.specs.TemplateStructure.{TemplateStructure};
+ghost use Rattle.dd_descriptor.specs.Content.{Content};
+ghost use Rattle.dd_descriptor.specs.Edges.{edges_of, BeginsWith};
+ghost use Rattle.dd_descriptor.specs.Reading.{descriptor_at};
+
+use crate::descriptor::Edges;
+use crate::reading::fields::head;
+use dd_bits::{BitReader, Short};
+
+/// What the first three bytes of a descriptor say, whatever follows them; `Short` comes where there are fewer.
+pub fn edges(bytes: &[u8]) -> Result<Edges, Short>
+    ensures short { IsErr result ↔ (length bytes.now < 3) }
+    ensures front { IfOk result (BeginsWith bytes.now) }
+    ensures read { (force : Option TemplateStructure) (c : Content) → descriptor_at bytes.now force ≡ Ok c → result ≡ Ok (edges_of c) }
+{
+    let mut bits = BitReader::new(bytes);
+    match head(&mut bits) {
+        Ok(head) => Ok(Edges {
+            start: head.start,
+            end: head.end,
+            number: head.number,
+        }),
+        Err(_) => Err(Short),
+    }
+}

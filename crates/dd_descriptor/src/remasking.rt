@@ -1,0 +1,160 @@
+//! Another mask in a descriptor that else stays as it stands.
+
+ghost use Rattle.std.specs.Prelude.{◌≡◌, ◌<◌, ◌*◌, ◌^◌, ◌↔◌, Some, Ok, IfSome, IsErr, OnOk, OnErr, length};
+ghost use Rattle.std.specs.Option.{option_copied};
+ghost use Rattle.dd_bits.specs.Reader.{bits_left};
+ghost use Rattle.dd_bits.specs.Sequences.{Gives};
+ghost use Rattle.dd_bits.specs.Writer.{Puts, IsPadded};
+ghost use Rattle.dd_descriptor.specs.Content.{Content, holding};
+ghost use Rattle.dd_descriptor.specs.Laid.{IsDescriptor};
+ghost use Rattle.dd_descriptor.specs.Parts.{body_parts_at, held_parts_at, parts_at, part_bits, parts_of, GivesParts, with_mask};
+ghost use Rattle.dd_descriptor.specs.Reading.{descriptor_at};
+ghost use Rattle.dd_descriptor.specs.Remasking.{remasked, with_new_mask, TakesMask};
+
+use crate::descriptor::Custom;
+use crate::fault::DdFault;
+use crate::parts::Flags;
+use crate::reading::fields::{flags, head};
+use crate::reading::frame::{frame, index};
+use crate::reading::{force_is_well_formed, mask, put_carried};
+use crate::writing::MOST;
+use crate::writing::fields::put_flags;
+use dd_bits::{BitReader, BitWriter, NoRoom};
+use dd_structure::Structure;
+use sfu_base::{NoFit, PacketBuf};
+
+/// The bits between two places.
+#[derive(Clone, Copy)]
+pub struct Part<'a> {
+    pub from: BitReader<'a>,
+    pub to: BitReader<'a>,
+}
+
+/// The parts of a descriptor that stay.
+#[derive(Clone, Copy)]
+pub struct Parts<'a> {
+    pub head: Part<'a>,
+    pub flags: Flags,
+    pub structure: Part<'a>,
+    pub targets: u8,
+    pub frame: Part<'a>,
+}
+
+/// How many decode targets there are, and where the frame's definition stands.
+#[tactic(auto, unfolding(crate::specs::Parts::body_parts_at))]
+fn body_parts<'a>(
+    bits: &mut BitReader<'a>,
+    template: u8,
+    flags: Flags,
+    carries: bool,
+    structure: &Structure,
+) -> Result<(u8, Part<'a>), DdFault>
+    requires { template < 64 }
+    ensures { Gives (λ x. (x.0, part_bits x.1)) result bits.new (body_parts_at template flags carries structure.now (bits_left bits.old)) }
+{
+    mask(bits, flags.mask, carries, structure.target_count())?;
+    let from = *bits;
+    let index = index(template, structure)?;
+    frame(bits, flags, structure, index)?;
+    Ok((structure.target_count(), Part { from, to: *bits }))
+}
+
+/// The same by the structure that is carried, or else the one in force.
+#[tactic(auto, unfolding(crate::specs::Parts::held_parts_at))]
+fn held_parts<'a>(
+    bits: &mut BitReader<'a>,
+    template: u8,
+    flags: Flags,
+    carried: &Option<Structure>,
+    force: Option<&Structure>,
+) -> Result<(u8, Part<'a>), DdFault>
+    requires { template < 64 }
+    ensures { Gives (λ x. (x.0, part_bits x.1)) result bits.new (held_parts_at template flags carried.now (option_copied force.entry) (bits_left bits.old)) }
+{
+    match carried {
+        Some(structure) => body_parts(bits, template, flags, true, structure),
+        None => match force {
+            Some(structure) => body_parts(bits, template, flags, false, structure),
+            None => Err(DdFault::NoStructure),
+        },
+    }
+}
+
+/// Where the parts stand in the bytes of a descriptor.
+#[tactic(auto, unfolding(crate::specs::Parts::parts_at))]
+fn parts_in<'a>(bytes: &'a [u8], force: Option<&Structure>) -> Result<Parts<'a>, DdFault>
+    ensures { GivesParts result (parts_at bytes.now (option_copied force.entry)) }
+{
+    let mut bits = BitReader::new(bytes);
+    let begin = bits;
+    let fields = head(&mut bits)?;
+    let head = Part {
+        from: begin,
+        to: bits,
+    };
+    let flags = flags(&mut bits, bytes.len())?;
+    let from = bits;
+    let mut carried = None;
+    put_carried(&mut bits, flags.structure, &mut carried)?;
+    let structure = Part { from, to: bits };
+    let (targets, frame) = held_parts(&mut bits, fields.template, flags, &carried, force)?;
+    Ok(Parts {
+        head,
+        flags,
+        structure,
+        targets,
+        frame,
+    })
+}
+
+/// Puts the parts with this mask.
+fn put_parts(out: &mut BitWriter, parts: &Parts<'_>, mask: u32) -> Result<(), NoRoom>
+    requires { mask < 2 ^ parts.now.targets }
+    ensures { Puts result out.old out.new (with_mask (parts_of parts.now) mask) }
+{
+    let custom = Custom {
+        dtis: parts.flags.dtis,
+        fdiffs: parts.flags.fdiffs,
+        chains: parts.flags.chains,
+    };
+    out.put_read(parts.head.from, parts.head.to)?;
+    put_flags(out, parts.flags.structure, true, custom)?;
+    out.put_read(parts.structure.from, parts.structure.to)?;
+    out.put(parts.targets, mask)?;
+    out.put_read(parts.frame.from, parts.frame.to)
+}
+
+/// Fills `out` anew with the same descriptor but for its mask: bit i of the mask, the lowest first, says whether decode target i is active.
+/// Each part stays bit by bit, what stood behind the frame's definition is gone, and zeros follow up to the end of the last byte. `NoFit` comes
+/// where there would be more than 255 bytes; `out` is then as before.
+///
+/// The bytes must read with the structure in force, and the mask has no bit past the last decode target.
+pub fn remask(
+    bytes: &[u8],
+    force: Option<&Structure>,
+    mask: u32,
+    out: &mut PacketBuf,
+) -> Result<(), NoFit>
+    requires { TakesMask bytes.now (option_copied force) mask }
+    ensures remasked { (c : Content) (d : IsDescriptor bytes.now (option_copied force.entry) c) → OnOk result (IsPadded (remasked d mask) out.new) }
+    ensures full { (c : Content) (d : IsDescriptor bytes.now (option_copied force.entry) c) → IsErr result ↔ (8 * 255 < length (remasked d mask)) }
+    ensures reads { (c : Content) → descriptor_at bytes.now (option_copied force.entry) ≡ Ok c → OnOk result (descriptor_at out.new (option_copied force.entry) ≡ Ok (with_new_mask c mask)) }
+    ensures unchanged { OnErr result (out.new ≡ out.old) }
+{
+    force_is_well_formed(force);
+    let Ok(parts) = parts_in(bytes, force) else {
+        unreachable!()
+    };
+    let mut bits = BitWriter::new();
+    match put_parts(&mut bits, &parts, mask) {
+        Err(_) => Err(NoFit),
+        Ok(()) => {
+            let bytes = bits.bytes();
+            if bytes.len() > MOST {
+                return Err(NoFit);
+            }
+            out.fill(bytes);
+            Ok(())
+        }
+    }
+}
