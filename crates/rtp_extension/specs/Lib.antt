@@ -3,3 +3,4 @@ pub mod Blocks
 pub mod Reading
 pub mod Seen
 pub mod Writing
+pub mod Reblocked

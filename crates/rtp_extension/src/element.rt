@@ -17,7 +17,7 @@ pub struct Element<'a> {
 }
 
 /// An iterator over the elements of a block, seen as the list of those that are left.
-#[derive(Drop)]
+#[derive(Debug, Drop)]
 pub struct Elements<'a> {
     pub(crate) form: Form,
     pub(crate) rest: &'a [u8],
@@ -61,7 +61,7 @@ impl<'a> Iterator for Elements<'a> {
 const RESERVED_ID: u8 = 15;
 
 /// The first element, and the bytes behind it.
-fn first<'a>(form: Form, block: &'a [u8]) -> Option<(Element<'a>, &'a [u8])>
+pub(crate) fn first<'a>(form: Form, block: &'a [u8]) -> Option<(Element<'a>, &'a [u8])>
     ensures { MatchOption result (elements_in form block.now ≡ []) (λ x. elements_in form block.now ≡ plain x.0 ∷ elements_in form x.1.now) }
 {
     let mut rest = block;

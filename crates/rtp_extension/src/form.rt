@@ -1,7 +1,8 @@
 // The two forms of a header extension's elements.
 
-ghost use Rattle.std.specs.Prelude.{◌≡◌};
-ghost use Rattle.rtp_extension.specs.Forms.{form_of};
+ghost use Rattle.std.specs.Prelude.{◌≡◌, ◌+◌, Some, length};
+ghost use Rattle.rtp_extension.specs.Forms.{PlainElement, element_bytes, form_of};
+ghost use Rattle.rtp_extension.specs.Reblocked.{profile_for};
 
 /// How elements are written (RFC 8285, sections 4.2 and 4.3).
 #[derive(Clone, Copy, Debug)]
@@ -10,15 +11,50 @@ pub(crate) enum Form {
     TwoByte,
 }
 
+/// The profile of the one-byte form.
+const ONE_BYTE_PROFILE: u16 = 0xBEDE;
+
+/// The first of the sixteen profiles of the two-byte form.
+const TWO_BYTE_PROFILE: u16 = 0x1000;
+
+/// The bytes that a value has at most in the one-byte form.
+pub(crate) const LONGEST_ONE_BYTE: usize = 16;
+
+/// The bytes that a value has at most in the two-byte form.
+pub(crate) const LONGEST_TWO_BYTE: usize = 255;
+
 /// The form that a profile names.
 pub(crate) fn named_form(profile: u16) -> Option<Form>
     ensures { result ≡ form_of profile }
 {
-    if profile == 0xBEDE {
+    if profile == ONE_BYTE_PROFILE {
         Some(Form::OneByte)
-    } else if profile / 16 == 0x100 {
+    } else if profile / 16 == TWO_BYTE_PROFILE / 16 {
         Some(Form::TwoByte)
     } else {
         None
+    }
+}
+
+/// The profile and the form of a block in this form once an element in it has this value.
+pub(crate) fn wide_enough(profile: u16, form: Form, value: &[u8]) -> (u16, Form)
+    requires { form_of profile ≡ Some form }
+    ensures profile { result.0 ≡ profile_for profile value.now }
+    ensures form { form_of result.0 ≡ Some result.1 }
+{
+    if profile == ONE_BYTE_PROFILE && value.len() > LONGEST_ONE_BYTE {
+        (TWO_BYTE_PROFILE, Form::TwoByte)
+    } else {
+        (profile, form)
+    }
+}
+
+/// The bytes of an element in this form.
+pub(crate) fn element_len(form: Form, value: &[u8]) -> usize
+    ensures { (e : PlainElement) → e.value ≡ value.now → result ≡ length (element_bytes form e) }
+{
+    match form {
+        Form::OneByte => 1 + value.len(),
+        Form::TwoByte => 2 + value.len(),
     }
 }

@@ -1,11 +1,12 @@
 // Laws of the grammar that the calls are held to.
 
-ghost use Rattle.std.specs.Prelude.{◌≡◌, ◌++◌, ◌∷◌, [], ℕ, List};
+ghost use Rattle.std.specs.Prelude.{◌≡◌, ◌≢◌, ◌*◌, ◌/◌, ◌++◌, ◌∷◌, [], IsSome, List, length, ℕ};
 ghost use Rattle.rtp_extension.specs.declared.form.Form.{Form};
 ghost use Rattle.sfu_base.specs.Bytes.{AreBytes};
 ghost use Rattle.rtp_extension.specs.Blocks.{IsBlock, IsWhole};
-ghost use Rattle.rtp_extension.specs.Forms.{PlainElement, Fits, element_bytes};
-ghost use Rattle.rtp_extension.specs.Reading.{elements_in};
+ghost use Rattle.rtp_extension.specs.Forms.{Fits, IsBetween, PlainElement, element_bytes};
+ghost use Rattle.rtp_extension.specs.Reading.{elements_in, elements_of, value_of};
+ghost use Rattle.rtp_extension.specs.Reblocked.{block_with, profile_for, replaced};
 
 /// Each block is in the grammar, with the elements that are read from it.
 pub fn each_block_is_in_the_grammar()
@@ -26,4 +27,18 @@ pub fn whole_blocks_join()
     ensures element { (form : Form) (e : PlainElement) → Fits form e → IsWhole form (element_bytes form e) (e ∷ []) }
     ensures padding { (form : Form) → IsWhole form (0 ∷ []) [] }
     ensures read { (form : Form) (block : List ℕ) (es : List PlainElement) → IsWhole form block es → elements_in form block ≡ es }
+{}
+
+/// A new block has the elements of the old one in order, with one value replaced: so `find` gives the new value for its id and the old
+/// values for every other id. It has whole words.
+pub fn a_new_block_has_the_old_elements_but_one()
+    ensures elements { (profile id : ℕ) (block value : List ℕ) → AreBytes block → IsSome (value_of id (elements_of profile block))
+        → IsBetween 1 255 (length value)
+        → elements_of (profile_for profile value) (block_with profile block id value) ≡ replaced id value (elements_of profile block) }
+    ensures found { (id : ℕ) (value : List ℕ) (es : List PlainElement) → IsSome (value_of id es)
+        → value_of id (replaced id value es) ≡ Some value }
+    ensures others { (id other : ℕ) (value : List ℕ) (es : List PlainElement) → other ≢ id
+        → value_of other (replaced id value es) ≡ value_of other es }
+    ensures words { (profile id : ℕ) (block value : List ℕ)
+        → length (block_with profile block id value) ≡ 4 * (length (block_with profile block id value) / 4) }
 {}

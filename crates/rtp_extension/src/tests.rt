@@ -1,6 +1,6 @@
 // Blocks laid out by hand from RFC 8285, sections 4.2 and 4.3.
 
-use crate::{Element, elements, find, write_one, write_two};
+use crate::{Element, elements, find, reblock, write_one, write_two};
 use sfu_base::{NoFit, PacketBuf};
 use std::process::Abort;
 
@@ -121,4 +121,114 @@ fn what_does_not_fit_is_not_written(rt: HostRuntime) {
     block.fill(&[0; 2046]);
     assert_eq!(rt; write_two(&mut block, 1, &[]), Ok(()));
     assert_eq!(rt; block.bytes().len(), 2048);
+}
+
+// The new block is written where the id is there, and the value has 1 to 255 bytes.
+fn reblocked(
+    profile: u16,
+    block: &[u8],
+    id: u8,
+    value: &[u8],
+    out: &mut PacketBuf,
+) -> Option<Result<(), NoFit>> {
+    if value.is_empty() || value.len() > 255 {
+        return None;
+    }
+    match find(profile, block, id) {
+        Some(_) => Some(reblock(profile, block, id, value, out)),
+        None => None,
+    }
+}
+
+#[test]
+fn one_value_is_replaced(rt: HostRuntime) {
+    let rows: [(u16, &[u8], u8, &[u8], &[u8]); 6] = [
+        // a descriptor of nine bytes gets another mask
+        (
+            0xBEDE,
+            b"\x48\xc0\x00\x01\x80\x00\x3a\x41\x01\x00\x00\x00",
+            4,
+            b"\xc0\x00\x01\xc0\x00\x3a\x41\x01\x40",
+            b"\xbe\xde\x00\x03\x48\xc0\x00\x01\xc0\x00\x3a\x41\x01\x40\x00\x00",
+        ),
+        // padding between elements goes, and so does what stands from id 15 on
+        (
+            0xBEDE,
+            b"\x10\xaa\x00\x20\xbb\xf0\x42\xc1",
+            2,
+            b"\x07\x08",
+            b"\xbe\xde\x00\x02\x10\xaa\x21\x07\x08\x00\x00\x00",
+        ),
+        // 17 bytes take the two-byte form
+        (
+            0xBEDE,
+            b"\x10\xaa\x20\xbb",
+            2,
+            &[7; 17],
+            b"\x10\x00\x00\x06\x01\x01\xaa\x02\x11\x07\x07\x07\x07\x07\x07\x07\x07\x07\x07\x07\x07\x07\x07\x07\x07\x07\x00\x00",
+        ),
+        // 16 don't
+        (
+            0xBEDE,
+            b"\x20\xbb\x10\xaa",
+            2,
+            &[7; 16],
+            b"\xbe\xde\x00\x05\x2f\x07\x07\x07\x07\x07\x07\x07\x07\x07\x07\x07\x07\x07\x07\x07\x07\x10\xaa\x00",
+        ),
+        // the two-byte form keeps its profile, and of two elements with the id the first has the new value
+        (
+            0x100F,
+            b"\x01\x00\x02\x01\x09\x02\x01\x08",
+            2,
+            b"\x05\x06",
+            b"\x10\x0f\x00\x03\x01\x00\x02\x02\x05\x06\x02\x01\x08\x00\x00\x00",
+        ),
+        // whole words without padding
+        (
+            0xBEDE,
+            b"\x31\x01\x02\x00",
+            3,
+            b"\x09\x09\x09",
+            b"\xbe\xde\x00\x01\x32\x09\x09\x09",
+        ),
+    ];
+    for (profile, block, id, value, wanted) in rows {
+        let mut out = PacketBuf::new();
+        assert_eq!(rt;
+            reblocked(profile, block, id, value, &mut out),
+            Some(Ok(()))
+        );
+        assert_eq!(rt; out.bytes(), wanted);
+    }
+}
+
+#[test]
+fn a_new_block_that_has_no_room_is_not_written(rt: HostRuntime) {
+    let mut out = PacketBuf::new();
+    out.fill(&[1; 2041]);
+    let block = [0x31, 1, 2, 0];
+    assert_eq!(rt;
+        reblocked(0xBEDE, &block, 3, &[9, 9, 9], &mut out),
+        Some(Err(NoFit))
+    );
+    assert_eq!(rt; out.bytes(), [1; 2041].as_slice());
+    out.fill(&[1; 2040]);
+    assert_eq!(rt;
+        reblocked(0xBEDE, &block, 3, &[9, 9, 9], &mut out),
+        Some(Ok(()))
+    );
+    assert_eq!(rt; out.bytes().len(), 2048);
+}
+
+#[test]
+fn a_packet_is_given_another_value(rt: HostRuntime) {
+    let block = [0x10, 0xAA, 0x20, 0xBB];
+    let mut extension = PacketBuf::new();
+    if find(0xBEDE, &block, 2).is_some() {
+        assert_eq!(rt; reblock(0xBEDE, &block, 2, &[7, 8], &mut extension), Ok(()));
+    }
+    assert_eq!(rt;
+        extension.bytes(),
+        [0xBE, 0xDE, 0, 2, 0x10, 0xAA, 0x21, 7, 8, 0, 0, 0].as_slice()
+    );
 }

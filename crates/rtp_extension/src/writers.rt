@@ -1,14 +1,14 @@
 // An element appended to a buffer.
 
-ghost use Rattle.std.specs.Prelude.{◌≡◌, ◌++◌, ◌↔◌, IsOk, OnErr, OnOk};
-ghost use Rattle.rtp_extension.specs.Forms.{element_bytes};
+ghost use Rattle.std.specs.Prelude.{◌≡◌, ◌+◌, ◌++◌, ◌≤◌, ◌↔◌, IsOk, OnErr, OnOk, length};
+ghost use Rattle.rtp_extension.specs.Forms.{Fits, element_bytes};
 ghost use Rattle.rtp_extension.specs.Writing.{AddsElement, CanAppend};
 
-use crate::form::Form;
+use crate::form::{Form, LONGEST_ONE_BYTE, LONGEST_TWO_BYTE};
 use sfu_base::{NoFit, PacketBuf};
 
 /// The bytes that a buffer has room for.
-const ROOM: usize = 2048;
+pub(crate) const ROOM: usize = 2048;
 
 /// Appends an element of the one-byte form (RFC 8285, section 4.2). `NoFit` where the id isn't 1 to 14, the value
 /// hasn't 1 to 16 bytes, or the buffer would pass 2,048 bytes; the buffer is then as it was.
@@ -18,14 +18,13 @@ pub fn write_one(out: &mut PacketBuf, id: u8, value: &[u8]) -> Result<(), NoFit>
     ensures reads { OnOk result (AddsElement Form.OneByte out.old out.new (record { id = id; value = value.now })) }
     ensures err { OnErr result (out.new ≡ out.old) }
 {
-    if !(1..=14).contains(&id) || !(1..=16).contains(&value.len()) {
+    if !(1..=14).contains(&id) || !(1..=LONGEST_ONE_BYTE).contains(&value.len()) {
         return Err(NoFit);
     }
     if out.bytes().len() + 1 + value.len() > ROOM {
         return Err(NoFit);
     }
-    out.append(&[id * 16 + (value.len() - 1) as u8]);
-    out.append(value);
+    append_element(out, Form::OneByte, id, value);
     Ok(())
 }
 
@@ -37,13 +36,25 @@ pub fn write_two(out: &mut PacketBuf, id: u8, value: &[u8]) -> Result<(), NoFit>
     ensures reads { OnOk result (AddsElement Form.TwoByte out.old out.new (record { id = id; value = value.now })) }
     ensures err { OnErr result (out.new ≡ out.old) }
 {
-    if id == 0 || value.len() > 255 {
+    if id == 0 || value.len() > LONGEST_TWO_BYTE {
         return Err(NoFit);
     }
     if out.bytes().len() + 2 + value.len() > ROOM {
         return Err(NoFit);
     }
-    out.append(&[id, value.len() as u8]);
-    out.append(value);
+    append_element(out, Form::TwoByte, id, value);
     Ok(())
+}
+
+/// Appends an element that the form can say and the buffer has room for.
+pub(crate) fn append_element(out: &mut PacketBuf, form: Form, id: u8, value: &[u8])
+    requires fits { Fits form (record { id = id; value = value.now }) }
+    requires room { length out.old + length (element_bytes form (record { id = id; value = value.now })) ≤ 2048 }
+    ensures { out.new ≡ out.old ++ element_bytes form (record { id = id; value = value.now }) }
+{
+    match form {
+        Form::OneByte => out.append(&[id * 16 + (value.len() - 1) as u8]),
+        Form::TwoByte => out.append(&[id, value.len() as u8]),
+    }
+    out.append(value);
 }

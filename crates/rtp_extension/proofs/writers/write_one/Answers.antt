@@ -1,4 +1,4 @@
-use Rattle.std.proofs.Common.{◌+◌, ◌-◌, ◌*◌, ◌++◌, ◌∷◌, [], List, ℕ, length, ap, ◌∙◌, append_assoc, arith, rules}
+use Rattle.std.proofs.Common.{length, rules}
 use Rattle.rtp_extension.specs.declared.form.Form.TheVariants.{OneByte}
 use Rattle.rtp_extension.specs.Forms.{IsBetween}
 use Rattle.rtp_extension.proofs.Joining.{adds}
@@ -9,8 +9,4 @@ returns-clause-reads c =
     let value = c.args.value.now in
     let id_fits : IsBetween 1 14 c.args.id = search rules in
     let value_fits : IsBetween 1 16 (length value) = search rules in
-    adds OneByte c.args.out.now c.append-2.new.self (record { id = c.args.id; value = value }) (id_fits, value_fits)
-    (c.append-2.ensures
-    ∙ ap (λ (x : List ℕ). x ++ value) c.append.ensures
-    ∙ append_assoc c.args.out.now ((c.args.id * 16 + (length value - 1)) ∷ []) value
-    ∙ ap (λ (x : ℕ). c.args.out.now ++ x ∷ value) (omega arith))
+    adds OneByte c.args.out.now c.append_element.new.out (record { id = c.args.id; value = value }) (id_fits, value_fits) c.append_element.ensures

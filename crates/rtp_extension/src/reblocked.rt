@@ -1,0 +1,89 @@
+// A header extension in which one element has another value.
+
+ghost use Rattle.std.specs.Prelude.{◌≡◌, ◌+◌, ◌++◌, ◌<◌, ◌≤◌, ◌↔◌, IsOk, IsSome, MatchOption, OnErr, OnOk, length};
+ghost use Rattle.rtp_extension.specs.Forms.{IsBetween};
+ghost use Rattle.rtp_extension.specs.Reading.{elements_of, value_of};
+ghost use Rattle.rtp_extension.specs.Reblocked.{ElementsFit, elements_laid, extension_with};
+ghost use Rattle.rtp_extension.specs.Seen.{elements_left};
+
+use crate::form::{Form, element_len, named_form, wide_enough};
+use crate::replaced::{Replaced, first_left};
+use crate::writers::{ROOM, append_element};
+use sfu_base::{NoFit, PacketBuf};
+
+/// The bytes of the profile and the count of words (RFC 3550, section 5.3.1).
+const EXTENSION_HEADER: usize = 4;
+
+/// The bytes of a word.
+const WORD: usize = 4;
+
+/// Appends a header extension, profile and count of words included, with the elements of a block in their order, of which the first with
+/// the id has this value of 1 to 255 bytes (own rule). What isn't an element isn't in the new block, and zero bytes fill its last word.
+/// The profile stays, but that a value of more than 16 bytes turns the one-byte form into the two-byte form, with profile 1000. `NoFit`
+/// where the buffer would pass 2,048 bytes; it is then as it was.
+pub fn reblock(
+    profile: u16,
+    block: &[u8],
+    id: u8,
+    value: &[u8],
+    out: &mut PacketBuf,
+) -> Result<(), NoFit>
+    requires found { IsSome (value_of id (elements_of profile block.now)) }
+    requires value { IsBetween 1 255 (length value.now) }
+    ensures fits { IsOk result ↔ (length out.old + length (extension_with profile block.now id value.now) ≤ 2048) }
+    ensures ok { OnOk result (out.new ≡ out.old ++ extension_with profile block.now id value.now) }
+    ensures err { OnErr result (out.new ≡ out.old) }
+{
+    let Some(old_form) = named_form(profile) else {
+        unreachable!()
+    };
+    let elements = Replaced {
+        form: old_form,
+        rest: block,
+        id,
+        value: Some(value),
+    };
+    let (profile, form) = wide_enough(profile, old_form, value);
+    let Some(len) = written_len(form, elements) else {
+        return Err(NoFit);
+    };
+    let words = len.div_ceil(WORD);
+    if out.bytes().len() + EXTENSION_HEADER + WORD * words > ROOM {
+        return Err(NoFit);
+    }
+    out.append(&profile.to_be_bytes());
+    out.append(&(words as u16).to_be_bytes());
+    append_elements(out, form, elements);
+    out.append(&[0; WORD][..WORD * words - len]);
+    Ok(())
+}
+
+/// The bytes of the elements in this form, or `None` where they have no room in a buffer.
+fn written_len(form: Form, elements: Replaced<'_>) -> Option<usize>
+    ensures { MatchOption result (2048 < length (elements_laid form (elements_left elements.entry)))
+        (λ n. (n ≡ length (elements_laid form (elements_left elements.entry))) × (n ≤ 2048)) }
+{
+    let mut len = 0;
+    let mut left = elements;
+    while let Some((element, others)) = first_left(left) {
+        len += element_len(form, element.value);
+        if len > ROOM {
+            return None;
+        }
+        left = others;
+    }
+    Some(len)
+}
+
+/// Appends the elements in this form.
+fn append_elements(out: &mut PacketBuf, form: Form, elements: Replaced<'_>)
+    requires fit { ElementsFit form (elements_left elements) }
+    requires room { length out.old + length (elements_laid form (elements_left elements)) ≤ 2048 }
+    ensures { out.new ≡ out.old ++ elements_laid form (elements_left elements.entry) }
+{
+    let mut left = elements;
+    while let Some((element, others)) = first_left(left) {
+        append_element(out, form, element.id, element.value);
+        left = others;
+    }
+}

@@ -1,0 +1,34 @@
+// The elements of a block, one of them with another value.
+
+ghost use Rattle.std.specs.Prelude.{◌≡◌, ◌∷◌, [], MatchOption};
+ghost use Rattle.rtp_extension.specs.Seen.{elements_left, plain};
+
+use crate::element::{Element, first};
+use crate::form::Form;
+
+/// The elements that are left of a block, of which the first with the id has the value, until it is placed.
+#[derive(Clone, Copy, Debug)]
+pub(crate) struct Replaced<'a> {
+    pub(crate) form: Form,
+    pub(crate) rest: &'a [u8],
+    pub(crate) id: u8,
+    pub(crate) value: Option<&'a [u8]>,
+}
+
+/// The first element that is left, and what is left behind it.
+pub(crate) fn first_left<'a>(left: Replaced<'a>) -> Option<(Element<'a>, Replaced<'a>)>
+    ensures { MatchOption result (elements_left left.entry ≡ []) (λ x. elements_left left.entry ≡ plain x.0 ∷ elements_left x.1) }
+{
+    let (element, rest) = first(left.form, left.rest)?;
+    match left.value {
+        Some(value) if element.id == left.id => {
+            let placed = Replaced {
+                rest,
+                value: None,
+                ..left
+            };
+            Some((Element { value, ..element }, placed))
+        }
+        _ => Some((element, Replaced { rest, ..left })),
+    }
+}

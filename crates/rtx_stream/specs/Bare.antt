@@ -1,0 +1,22 @@
+-- A packet without its padding (RFC 4588, section 4, by which the padding of the original is removed): the same parts, laid end to
+-- end with no padding bit and no padding. The code copies the parts of the header and the payload.
+use Rattle.std.specs.Prelude.{◌≡◌, ℕ, false, is_some, List, [], ◌∷◌, ◌++◌}
+use Rattle.byteorder.specs.Endian.{big_bytes}
+use Rattle.rtp_packet.specs.Packet.{IsPacket, Packet, first_byte, second_byte, extension_bytes}
+
+-- a header with no padding bit: the fixed header, the CSRC words (so many, and these bytes), and the extension of so many words
+abbrev pub header_bytes : ℕ → List ℕ → ℕ → Packet → List ℕ
+header_bytes csrc_words csrcs block_words p =
+    (first_byte false (is_some p.profile) csrc_words ∷ second_byte p.marker p.payload_type ∷ [])
+    ++ big_bytes 2 p.sequence ++ big_bytes 4 p.timestamp ++ big_bytes 4 p.ssrc
+    ++ csrcs ++ extension_bytes p.profile block_words p.block
+
+-- the header and the payload
+abbrev pub bare_bytes : ℕ → List ℕ → ℕ → Packet → List ℕ
+bare_bytes csrc_words csrcs block_words p = header_bytes csrc_words csrcs block_words p ++ p.payload
+
+-- `bare` is the packet that `bytes` are, without its padding
+pub record IsBare (bytes bare : List ℕ) : Type 0 where
+  pub said : Packet
+  pub packet : IsPacket bytes said
+  pub laid : bare ≡ bare_bytes packet.csrc_words packet.csrcs packet.block_words said

@@ -1,0 +1,15 @@
+// Why bytes aren't unwrapped.
+
+use sfu_base::RtpFault;
+use thiserror::Error;
+
+/// Why bytes aren't a retransmission packet (RFC 4588, section 4).
+#[derive(Clone, Copy, Debug, PartialEq, Eq, Error)]
+pub enum RtxFault {
+    /// The bytes aren't an RTP packet.
+    #[error("no RTP packet: {0}")]
+    Unreadable(RtpFault),
+    /// The payload has fewer than the two bytes of the original sequence number.
+    #[error("the original sequence number isn't there")]
+    Cut,
+}

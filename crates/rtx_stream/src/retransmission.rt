@@ -1,0 +1,38 @@
+// A packet wrapped for a retransmission stream.
+
+ghost use Rattle.std.specs.Prelude.{◌≡◌, ◌<◌, ◌≤◌, None, length};
+ghost use Rattle.rtp_packet.specs.Faults.{first_fault};
+ghost use Rattle.rtp_packet.specs.Packet.{IsPacket, Packet};
+ghost use Rattle.rtx_stream.specs.Retransmission.{IsRetransmission, retransmitted};
+
+use crate::header::fill_header;
+use rtp_packet::read;
+use sfu_base::PacketBuf;
+
+/// A stream of retransmission packets, beside the stream of the originals (RFC 4588, section 5.3).
+#[derive(Clone, Copy, Debug, PartialEq, Eq)]
+pub struct Rtx {
+    /// Its synchronization source.
+    pub ssrc: u32,
+    /// Its payload type, below 128.
+    pub payload_type: u8,
+}
+
+/// The buffer becomes the retransmission packet (RFC 4588, section 4) of a packet that [`read`](rtp_packet::read) takes, with this
+/// sequence number: the packet without its padding, with its own sequence number as two bytes before the payload.
+pub fn wrap(packet: &[u8], seq: u16, rtx: &Rtx, out: &mut PacketBuf)
+    requires reads { first_fault packet.now ≡ None }
+    requires room { length packet.now ≤ 2046 }
+    requires payload_type { rtx.now.payload_type < 128 }
+    ensures form { IsRetransmission packet.now seq rtx.now out.new }
+    ensures parts { (p : Packet) → IsPacket packet.now p → IsPacket out.new (retransmitted seq rtx.now p) }
+    ensures reads { first_fault out.new ≡ None }
+{
+    rtp_packet::a_packet_is_read();
+    let Ok(original) = read(packet) else {
+        unreachable!()
+    };
+    fill_header(packet, &original, rtx.payload_type, seq, rtx.ssrc, out);
+    out.append(&original.seq.to_be_bytes());
+    out.append(original.payload);
+}
