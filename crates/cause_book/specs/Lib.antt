@@ -1,0 +1,5 @@
+pub mod Book
+pub mod Slots
+pub mod Kept
+pub mod Path
+pub mod Model

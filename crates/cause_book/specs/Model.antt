@@ -1,0 +1,19 @@
+-- That a book tells the causes of the forwarding model. Own statements.
+use Rattle.std.specs.Prelude.{◌≡◌, ◌<◌, ◌≤◌, ◌+◌, ℕ, List, Ok}
+use Rattle.std.specs.declared.option.Option.TheVariants.{Some}
+use Rattle.sfu_base.specs.declared.frame.Step.{Step}
+use Rattle.sfu_base.specs.declared.frame.Wish.{Wish}
+use Rattle.forwarding_model.specs.Causes.{cause, newest_number, verdicts}
+use Rattle.forwarding_model.specs.Timeline.{Event, meanings_of}
+use Rattle.forwarding_model.specs.TrackFrames.{IsOneTrack}
+use Rattle.cause_book.specs.Book.{AreFalling, IsAfter, judged}
+
+-- a book in which each frame of a timeline has its verdict answers by all of them
+pub record TellsCausesOf {S : Type 0} (book : List Step) (wish : Wish) (events : List (Event S)) : Type 0 where
+  pub judged_by_all : (n : ℕ) → judged book n ≡ judged (verdicts wish events) n
+  pub cause : (n newest : ℕ) → newest_number (verdicts wish events) ≡ Some newest → n ≤ newest → newest < n + 4096 → judged book n ≡ Ok (cause wish events n)
+
+-- the frames of one track have falling verdicts, and a book in which they were written tells their causes
+abbrev pub KeepsCauses : Type 0 → Type 0
+KeepsCauses S = (wish : Wish) (events : List (Event S)) → IsOneTrack (meanings_of events)
+    → AreFalling (verdicts wish events) × ((book : List Step) → IsAfter book (verdicts wish events) → TellsCausesOf book wish events)

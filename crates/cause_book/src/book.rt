@@ -1,0 +1,137 @@
+// The book of verdicts.
+ghost use Rattle.std.specs.Prelude.{◌≡◌, ◌<◌, ◌≤◌, ◌∷◌, [], IfOk, List, false, is_some, length, true};
+ghost use Rattle.forwarding_model.specs.Causes.{is_ahead, newest_number};
+ghost use Rattle.cause_book.specs.Book.{AreFalling, IsAboveAll, IsAfter, Steps, judged, recent};
+ghost use Rattle.cause_book.specs.Slots.{IsNextAbove, IsNextBelow, step_at};
+
+use sfu_base::{NoMemory, Refusal, Step, Verdict};
+use std::alloc::Global;
+use std::marker::Model;
+
+/// The numbers that are kept, up to the newest (own rule).
+const SPAN: u64 = 4096;
+
+/// Why the frames of the last 4,096 numbers were or weren't passed on. Clauses see it as the list of their verdicts, the newest first.
+#[derive(Debug, Drop)]
+pub struct CauseBook {
+    newest: Option<u64>,
+    // A frame's verdict stands at its number modulo 4,096, and what stood there is forgotten.
+    steps: Vec<Option<Step>>,
+}
+
+impl Model for CauseBook {
+    ghost use Rattle.std.specs.Prelude.{List};
+    ghost use Rattle.sfu_base.specs.declared.frame.Step.{Step};
+
+    ghost Value = { List Step };
+
+    ghost use Rattle.cause_book.specs.Kept.{IsBook, seen};
+
+    ghost view = { seen };
+
+    ghost invariant = { IsBook };
+}
+
+impl CauseBook {
+    /// Nothing is written. All memory is taken here.
+    pub fn new(alloc: Global) -> Result<CauseBook, NoMemory>
+        ensures { IfOk result (λ book. book ≡ []) }
+    {
+        let Ok(mut steps) = Vec::with_capacity(alloc, SPAN as usize) else {
+            return Err(NoMemory);
+        };
+        while steps.len() < SPAN as usize {
+            steps.push_reserved(None);
+        }
+        Ok(CauseBook {
+            newest: None,
+            steps,
+        })
+    }
+
+    /// Writes the verdict on the frame with this number, which is above all numbers before. Of another number nothing is written.
+    pub fn write(&mut self, number: u64, verdict: Verdict)
+        ensures written { IsAboveAll number self.old → self.new ≡ recent (record { number = number; verdict = verdict } ∷ self.old) }
+        ensures unchanged { is_ahead (newest_number self.old) number ≡ false → self.new ≡ self.old }
+        ensures stands { (steps : Steps) → IsAfter self.old steps → IsAboveAll number steps
+            → IsAfter self.new (record { number = number; verdict = verdict } ∷ steps) }
+    {
+        if let Some(newest) = self.newest {
+            if number <= newest {
+                return;
+            }
+        }
+        self.steps[(number % SPAN) as usize] = Some(Step { number, verdict });
+        self.newest = Some(number);
+    }
+
+    /// The cause of a number: the verdict on its frame, or the hole that no frame has. `Ahead`: the number is above the newest, or there is
+    /// none. `TooOld`: it is 4,096 or more below. A verdict is found in constant time. A hole is as long as its frames are apart, and its
+    /// numbers are all that is looked at.
+    pub fn verdict(&self, number: u64) -> Result<Verdict, Refusal>
+        ensures judged { result ≡ judged self.now number }
+        ensures stands { (steps : Steps) → IsAfter self.now steps → AreFalling steps → result ≡ judged steps number }
+    {
+        let Some(newest) = self.newest else {
+            return Err(Refusal::Ahead { newest: None });
+        };
+        if number > newest {
+            return Err(Refusal::Ahead {
+                newest: Some(newest),
+            });
+        }
+        if newest - number >= SPAN {
+            return Err(Refusal::TooOld {
+                oldest: newest - (SPAN - 1),
+            });
+        }
+        if let Some(step) = step_in(&self.steps, number) {
+            return Ok(step.verdict);
+        }
+        Ok(Verdict::Hole {
+            below: next_below(&self.steps, newest.saturating_sub(SPAN - 1), number),
+            above: next_above(&self.steps, number, newest),
+        })
+    }
+}
+
+// The step with this number, if it is there.
+fn step_in(steps: &[Option<Step>], number: u64) -> Option<Step>
+    requires { length steps.now ≡ 4096 }
+    ensures { result ≡ step_at steps.now number }
+{
+    let step = steps[(number % SPAN) as usize];
+    match step {
+        Some(step) if step.number == number => Some(step),
+        _ => None,
+    }
+}
+
+// The least number above this one that has a step; the newest has one.
+fn next_above(steps: &[Option<Step>], number: u64, newest: u64) -> u64
+    requires places { length steps.now ≡ 4096 }
+    requires lower { number < newest }
+    requires newest { is_some (step_at steps.now newest) ≡ true }
+    ensures { IsNextAbove steps.now number result }
+{
+    for above in number + 1..newest {
+        if step_in(steps, above).is_some() {
+            return above;
+        }
+    }
+    newest
+}
+
+// The greatest number below this one that has a step, from the lowest one on.
+fn next_below(steps: &[Option<Step>], lowest: u64, number: u64) -> Option<u64>
+    requires places { length steps.now ≡ 4096 }
+    requires within { lowest ≤ number }
+    ensures { IsNextBelow steps.now lowest number result }
+{
+    for below in (lowest..number).rev() {
+        if step_in(steps, below).is_some() {
+            return Some(below);
+        }
+    }
+    None
+}

@@ -1,0 +1,13 @@
+//! Why the frames of the last 4,096 numbers were or weren't passed on to a subscriber, and whether a list of causes is a path to a root.
+//! Only the constructor takes memory.
+#![tactic(auto)]
+
+mod book;
+mod laws;
+mod path;
+#[cfg(test)]
+mod tests;
+
+pub use book::CauseBook;
+pub use laws::a_book_tells_causes;
+pub use path::check_path;

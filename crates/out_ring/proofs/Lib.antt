@@ -1,0 +1,6 @@
+pub mod Lists
+pub mod Numbers
+pub mod Steps
+pub mod Calls
+pub mod Histories
+pub mod Modelled

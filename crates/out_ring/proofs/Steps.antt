@@ -1,0 +1,153 @@
+-- What each call makes of the fields, over plain lists.
+use Rattle.std.proofs.Common.{◌≡◌, ◌<◌, ◌≤◌, ℕ, suc, ◌+◌, ◌-◌, ◌%◌, min, List, [], ◌∷◌, ◌++◌, length, map, take, drop, refl, sym, ap, ◌∙◌, arith, Option, Some, None, slice_get, length-append, length-drop, Box}
+use Rattle.std.proofs.lemmas.List.{drop-append-le, drop-drop, drop-map, drop-take, length-map, length-take-le, map-append, take-append-le}
+use Rattle.std.proofs.lemmas.Option.{slice_get-map, slice_get_within}
+use Rattle.std.specs.Option.{option_map}
+use Rattle.std.specs.declared.alloc.Global.{Global}
+use Rattle.circular_buffer.specs.Buffer.{keep_last}
+use Rattle.out_ring.specs.Ring.{Pushed, Ring, Sent, pushed, sent, taken}
+use Rattle.out_ring.specs.History.{numbered}
+use Rattle.out_ring.specs.Places.{SendsFrom, SendsIt}
+use Rattle.out_ring.proofs.Lists.{item_after_drop, take_one_more}
+use Rattle.out_ring.proofs.Numbers.{drop-numbered, length-numbered, numbered-append, numbered_same}
+
+abbrev pub bytes_of : Sent → List ℕ
+bytes_of packet = packet.bytes
+
+-- the ring with these packets, so many of which are kept
+abbrev pub ring_of : ℕ → ℕ → ℕ → List Pushed → Ring
+ring_of ssrc next kept held = record {
+  ssrc = ssrc;
+  next = next;
+  queued = map (λ packet. packet.bytes) (numbered next ssrc (drop kept held));
+  kept = numbered (next + 65536 - kept) ssrc (take kept held);
+}
+
+-- what stands in a slot
+abbrev pub value_of : Box Pushed Global → Pushed
+value_of slot = slot.value
+
+-- ---- a push
+
+-- in a full ring the front place is given up for one at the back
+pub rotated : {X : Type 0} (xs : List X) (x : X) (m : ℕ) → length xs ≡ 1536 → m < 1536
+    → drop m (keep_last 1536 (drop 1 xs ++ x ∷ [])) ≡ drop (m + 1) xs ++ x ∷ []
+rotated xs x m full lt =
+    let size : length (drop 1 xs ++ x ∷ []) - 1536 ≡ 0 = omega (arith, length-append (drop 1 xs) (x ∷ []), length-drop 1 xs, full) in
+    ap (λ k. drop m (drop k (drop 1 xs ++ x ∷ []))) size
+    ∙ drop-append-le m (drop 1 xs) (x ∷ []) (omega (arith, length-drop 1 xs, full))
+    ∙ ap (λ l. l ++ x ∷ []) (drop-drop m 1 xs ∙ ap (λ k. drop k xs) (let e : 1 + m ≡ m + 1 = omega arith in e))
+
+pub ring_pushed : (ssrc next kept : ℕ) (held : List Pushed) (p : Pushed) → kept ≤ length held
+    → ring_of ssrc next kept (held ++ p ∷ []) ≡ pushed p.bytes p.marker (ring_of ssrc next kept held)
+ring_pushed ssrc next kept held p few =
+    let waits : List Pushed = drop kept held in
+    let queue : drop kept (held ++ p ∷ []) ≡ waits ++ p ∷ [] = drop-append-le kept held (p ∷ []) few in
+    let same : take kept (held ++ p ∷ []) ≡ take kept held = take-append-le kept held (p ∷ []) few in
+    let size : length waits ≡ length (map bytes_of (numbered next ssrc waits)) =
+    sym (length-map (numbered next ssrc waits) bytes_of ∙ length-numbered next ssrc waits) in
+    ap (λ (l : List Pushed). record { ssrc = ssrc; next = next; queued = map bytes_of (numbered next ssrc (drop kept (held ++ p ∷ []))); kept = numbered (next + 65536 - kept) ssrc l }) same
+    ∙ ap (λ (l : List Sent). record { ssrc = ssrc; next = next; queued = map bytes_of l; kept = numbered (next + 65536 - kept) ssrc (take kept held) })
+    (ap (numbered next ssrc) queue ∙ numbered-append next ssrc waits (p ∷ []))
+    ∙ ap (λ (l : List (List ℕ)). record { ssrc = ssrc; next = next; queued = l; kept = numbered (next + 65536 - kept) ssrc (take kept held) })
+    (map-append bytes_of (numbered next ssrc waits) (numbered (next + length waits) ssrc (p ∷ [])))
+    ∙ ap (λ (k : ℕ). record { ssrc = ssrc; next = next; queued = map bytes_of (numbered next ssrc waits) ++ (sent ((next + k) % 65536) ssrc p).bytes ∷ []; kept = numbered (next + 65536 - kept) ssrc (take kept held) }) size
+
+-- ---- a take
+
+-- the packet that a place gives
+pub record GivesAt (slots : List (Box Pushed Global)) (place number ssrc : ℕ) (bytes : List ℕ) : Type 0 where
+  pub packet : Pushed
+  pub at : slice_get (map (λ slot. slot.value) slots) place ≡ Some packet
+  pub is : bytes ≡ (sent number ssrc packet).bytes
+
+pub gives_at : (slots : List (Box Pushed Global)) (place number ssrc : ℕ) (bytes : List ℕ) → SendsFrom slots place number ssrc bytes
+    → GivesAt slots place number ssrc bytes
+gives_at slots place number ssrc bytes h = go (slice_get slots place) refl h
+  where
+    go : (o : Option (Box Pushed Global)) → slice_get slots place ≡ o → SendsIt o number ssrc bytes → GivesAt slots place number ssrc bytes
+    go None e sends = absurd sends
+    go (Some slot) e sends = record {
+      packet = slot.value;
+      at = slice_get-map (λ slot. slot.value) slots place ∙ ap (option_map (λ slot. slot.value)) e;
+      is = sends;
+    }
+
+-- the ring whose oldest queued packet p was taken, and where at most 1,024 are kept from then on
+pub ring_taken : (ssrc next kept keeps : ℕ) (held rest : List Pushed) (p : Pushed) → next < 65536 → kept ≤ 1024 → keeps ≡ min (kept + 1) 1024
+    → slice_get held kept ≡ Some p → drop (suc kept) held ≡ rest
+    → ring_of ssrc ((next + 1) % 65536) keeps (drop (kept + 1 - keeps) held)
+    ≡ taken (ring_of ssrc next kept held) (sent next ssrc p).bytes (map bytes_of (numbered (next + 1) ssrc rest))
+ring_taken ssrc next kept keeps held rest p small few is at left =
+    let d : ℕ = kept + 1 - keeps in
+    let now : ℕ = (next + 1) % 65536 in
+    let base : ℕ = next + 65536 - kept in
+    let queue : drop keeps (drop d held) ≡ rest = drop-drop keeps d held ∙ ap (λ (k : ℕ). drop k held) (let e : d + keeps ≡ suc kept = omega (arith, is) in e) ∙ left in
+    let ahead : numbered now ssrc rest ≡ numbered (next + 1) ssrc rest = numbered_same now (next + 1) ssrc rest (omega arith) in
+    let kept_are : take keeps (drop d held) ≡ drop d (take kept held ++ p ∷ []) =
+    sym (drop-take d keeps held) ∙ ap (λ (k : ℕ). drop d (take k held)) (let e : d + keeps ≡ suc kept = omega (arith, is) in e)
+    ∙ ap (drop d) (take_one_more held kept p at) in
+    let size : length (take kept held) ≡ kept = length-take-le kept held (omega (arith, within)) in
+    let numbers : numbered (now + 65536 - keeps) ssrc (take keeps (drop d held)) ≡ drop d (numbered base ssrc (take kept held) ++ sent next ssrc p ∷ []) =
+    ap (numbered (now + 65536 - keeps) ssrc) kept_are
+    ∙ numbered_same (now + 65536 - keeps) (base + d) ssrc (drop d (take kept held ++ p ∷ [])) (omega (arith, is, few, small))
+    ∙ sym (drop-numbered d base ssrc (take kept held ++ p ∷ []))
+    ∙ ap (drop d) (numbered-append base ssrc (take kept held) (p ∷ [])
+    ∙ ap (λ (k : ℕ). numbered base ssrc (take kept held) ++ sent k ssrc p ∷ []) (let e : (base + length (take kept held)) % 65536 ≡ next = omega (arith, size, few, small) in e)) in
+    let last : length (numbered base ssrc (take kept held) ++ sent next ssrc p ∷ []) - 1024 ≡ d =
+    omega (arith, length-append (numbered base ssrc (take kept held)) (sent next ssrc p ∷ []), length-numbered base ssrc (take kept held), size, is) in
+    ap (λ (l : List Sent). record { ssrc = ssrc; next = now; queued = map bytes_of l; kept = numbered (now + 65536 - keeps) ssrc (take keeps (drop d held)) })
+    (ap (numbered now ssrc) queue ∙ ahead)
+    ∙ ap (λ (l : List Sent). record { ssrc = ssrc; next = now; queued = map bytes_of (numbered (next + 1) ssrc rest); kept = l })
+    (numbers ∙ ap (λ (k : ℕ). drop k (numbered base ssrc (take kept held) ++ sent next ssrc p ∷ [])) (sym last))
+  where
+    within : kept < length held
+    within = slice_get_within held kept p at
+
+-- ---- the fields of the ring
+
+pub size_of_held : (slots : List (Box Pushed Global)) (queued kept : ℕ) → length slots ≡ 1536 → queued + kept ≤ 1536
+    → length (map (λ slot. slot.value) (drop (1536 - queued - kept) slots)) ≡ queued + kept
+size_of_held slots queued kept full fit =
+    length-map (drop (1536 - queued - kept) slots) value_of ∙ length-drop (1536 - queued - kept) slots ∙ omega (arith, full, fit)
+
+pub size_of_queue : (ssrc next kept queued : ℕ) (held : List Pushed) → length held ≡ queued + kept → length (ring_of ssrc next kept held).queued ≡ queued
+size_of_queue ssrc next kept queued held size =
+    length-map (numbered next ssrc (drop kept held)) bytes_of ∙ length-numbered next ssrc (drop kept held) ∙ length-drop kept held ∙ omega (arith, size)
+
+-- what is held after a push
+pub held_pushed : (slots : List (Box Pushed Global)) (slot : Box Pushed Global) (queued kept : ℕ) → length slots ≡ 1536 → queued + kept < 1536
+    → map (λ slot. slot.value) (drop (1536 - (queued + 1) - kept) (keep_last 1536 (drop 1 slots ++ slot ∷ [])))
+    ≡ map (λ slot. slot.value) (drop (1536 - queued - kept) slots) ++ slot.value ∷ []
+held_pushed slots slot queued kept full few =
+    ap (map value_of) (rotated slots slot (1536 - (queued + 1) - kept) full (omega arith))
+    ∙ map-append value_of (drop (1536 - (queued + 1) - kept + 1) slots) (slot ∷ [])
+    ∙ ap (λ (k : ℕ). map value_of (drop k slots) ++ slot.value ∷ []) (let e : 1536 - (queued + 1) - kept + 1 ≡ 1536 - queued - kept = omega (arith, few) in e)
+
+-- and after a take
+pub held_taken : (slots : List (Box Pushed Global)) (queued kept keeps : ℕ) → 0 < queued → queued + kept ≤ 1536 → keeps ≤ kept + 1
+    → map (λ slot. slot.value) (drop (1536 - (queued - 1) - keeps) slots)
+    ≡ drop (kept + 1 - keeps) (map (λ slot. slot.value) (drop (1536 - queued - kept) slots))
+held_taken slots queued kept keeps some few most =
+    let d : ℕ = kept + 1 - keeps in
+    ap (λ (k : ℕ). map value_of (drop k slots)) (let e : 1536 - (queued - 1) - keeps ≡ 1536 - queued - kept + d = omega (arith, some, few, most) in e)
+    ∙ ap (map value_of) (sym (drop-drop d (1536 - queued - kept) slots))
+    ∙ sym (drop-map value_of d (drop (1536 - queued - kept) slots))
+
+-- the place of what is held
+pub held_at : (slots : List (Box Pushed Global)) (from i : ℕ) → slice_get (map (λ slot. slot.value) (drop from slots)) i ≡ slice_get (map (λ slot. slot.value) slots) (from + i)
+held_at slots from i = ap (λ (l : List Pushed). slice_get l i) (sym (drop-map value_of from slots)) ∙ item_after_drop (map value_of slots) from i
+
+pub size_rotated : {X : Type 0} (xs : List X) (x : X) → length xs ≡ 1536 → length (keep_last 1536 (drop 1 xs ++ x ∷ [])) ≡ 1536
+size_rotated xs x full =
+    length-drop (length (drop 1 xs ++ x ∷ []) - 1536) (drop 1 xs ++ x ∷ [])
+    ∙ omega (arith, length-append (drop 1 xs) (x ∷ []), length-drop 1 xs, full)
+
+-- the fields after a push
+pub push_fields : (slots : List (Box Pushed Global)) (slot : Box Pushed Global) (ssrc next queued kept : ℕ) → length slots ≡ 1536 → queued < 512 → kept ≤ 1024
+    → ring_of ssrc next kept (map (λ slot. slot.value) (drop (1536 - (queued + 1) - kept) (keep_last 1536 (drop 1 slots ++ slot ∷ []))))
+    ≡ pushed slot.value.bytes slot.value.marker (ring_of ssrc next kept (map (λ slot. slot.value) (drop (1536 - queued - kept) slots)))
+push_fields slots slot ssrc next queued kept full few most =
+    ap (ring_of ssrc next kept) (held_pushed slots slot queued kept full (omega (arith, few, most)))
+    ∙ ring_pushed ssrc next kept (map value_of (drop (1536 - queued - kept) slots)) slot.value
+    (let size = size_of_held slots queued kept full (omega (arith, few, most)) in omega (arith, size))

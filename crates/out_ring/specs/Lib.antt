@@ -1,0 +1,6 @@
+pub mod Ring
+pub mod History
+pub mod Slot
+pub mod Held
+pub mod Places
+pub mod Model

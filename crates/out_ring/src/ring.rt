@@ -1,0 +1,169 @@
+// The ring of one subscriber.
+ghost use Rattle.std.specs.Prelude.{◌≡◌, ◌<◌, ◌≤◌, ◌↔◌, Err, IfOk, None, OnErr, OnOk, length};
+ghost use Rattle.rtp_packet.specs.Faults.{first_fault};
+ghost use Rattle.out_ring.specs.History.{Gives, GaveLately, GaveNoneLately, History, IsAfter, and_push, and_take, nothing_done};
+ghost use Rattle.out_ring.specs.Ring.{Resends, Takes, begun, pushed};
+ghost use Rattle.out_ring.specs.Places.{SendsFrom};
+
+use crate::slot::Slot;
+use circular_buffer::HeapCircularBuffer;
+use sfu_base::{NoMemory, PacketBuf, Refusal};
+use std::alloc::Global;
+use std::marker::Model;
+
+/// The most packets that are kept after they were taken (own rule).
+const MOST_KEPT: u16 = 1024;
+
+/// The places of the ring: as many as are ever kept, and as many as are ever queued, at most 512.
+const PLACES: usize = 1536;
+
+/// The packets that go out to a subscriber. Clauses see it as its SSRC, the sequence number of the next take, the packets that are queued,
+/// and those that are kept with their numbers.
+#[derive(Debug, Drop)]
+pub struct OutRing {
+    ssrc: u32,
+    // the sequence number of the oldest packet that is queued, or will be
+    next: u16,
+    queued: u16,
+    kept: u16,
+    // All places have a packet. The last ones, as many as are queued, are those; before them stand those that are kept.
+    slots: HeapCircularBuffer<Box<Slot>>,
+}
+
+impl Model for OutRing {
+    ghost use Rattle.out_ring.specs.Ring.{Ring};
+
+    ghost Value = { Ring };
+
+    ghost use Rattle.out_ring.specs.Held.{IsFull, seen};
+
+    ghost view = { seen };
+
+    ghost invariant = { IsFull };
+}
+
+impl OutRing {
+    /// Nothing is queued and nothing kept: packets will go out with this SSRC, and with sequence numbers from `first` on. All memory is
+    /// taken here: 1,536 slots of 1,536 bytes.
+    pub fn new(alloc: Global, ssrc: u32, first: u16) -> Result<OutRing, NoMemory>
+        ensures begun { IfOk result (λ ring. ring ≡ begun ssrc first) }
+        ensures stands { IfOk result (λ ring. IsAfter ring (nothing_done ssrc first)) }
+    {
+        Ok(OutRing {
+            ssrc,
+            next: first,
+            queued: 0,
+            kept: 0,
+            slots: full_ring(alloc)?,
+        })
+    }
+
+    /// How many packets are queued, at most 512.
+    pub fn queued(&self) -> u16
+        ensures queued { result ≡ length self.now.queued }
+        ensures few { length self.now.queued ≤ 512 }
+    {
+        self.queued
+    }
+
+    /// Queues an RTP packet of at most 1,536 bytes behind the others. It will go out with the next sequence number, the subscriber's SSRC
+    /// and this marker, and with no other bit changed. Its bytes are copied once. Fewer than 512 are queued before.
+    pub fn push(&mut self, packet: &[u8], marker: bool)
+        requires room { length self.old.queued < 512 }
+        requires reads { first_fault packet.now ≡ None }
+        requires fits { length packet.now ≤ 1536 }
+        ensures pushed { self.new ≡ pushed packet.now marker self.old }
+        ensures stands { (h : History) → IsAfter self.old h → IsAfter self.new (and_push h packet.now marker) }
+    {
+        let Some(mut slot) = self.slots.pop_front() else {
+            unreachable!()
+        };
+        slot.fill(packet, marker);
+        let _ = self.slots.push_back(slot);
+        self.queued += 1;
+    }
+
+    /// Hands out the oldest queued packet, and answers its sequence number. It is kept from then on, and the oldest of 1,025 kept ones is
+    /// forgotten. `Empty`: none is queued; nothing changes then. The bytes are copied once.
+    pub fn take(&mut self, out: &mut PacketBuf) -> Result<u16, Refusal>
+        ensures takes { Takes self.old self.new result out.old out.new }
+        ensures stands { (h : History) → IsAfter self.old h → OnOk result (IsAfter self.new (and_take h)) }
+        ensures gives { (h : History) → IsAfter self.old h
+            → IfOk result (λ n. Gives h h.takes (record { number = n; bytes = out.new })) }
+        ensures empty { (h : History) → IsAfter self.old h → (result ≡ Err Refusal.Empty) ↔ (h.takes ≡ length h.pushes) }
+        ensures unchanged { OnErr result (self.new ≡ self.old) }
+    {
+        if self.queued == 0 {
+            return Err(Refusal::Empty);
+        }
+        let number = self.next;
+        give(
+            &self.slots,
+            PLACES - usize::from(self.queued),
+            number,
+            self.ssrc,
+            out,
+        );
+        self.next = number.wrapping_add(1);
+        self.queued -= 1;
+        self.kept = (self.kept + 1).min(MOST_KEPT);
+        Ok(number)
+    }
+
+    /// Hands out the kept packet with this sequence number, with the bytes that its take gave. `NotKept`: none of the last 1,024 that were
+    /// taken has it; nothing changes then. It is found in constant time, and its bytes are copied once.
+    pub fn resend(&self, seq: u16, out: &mut PacketBuf) -> Result<(), Refusal>
+        ensures resends { Resends self.now seq result out.old out.new }
+        ensures first_bytes { (h : History) → IsAfter self.now h
+            → OnOk result (GaveLately h (record { number = seq; bytes = out.new })) }
+        ensures not_kept { (h : History) → IsAfter self.now h → OnErr result (GaveNoneLately h seq) }
+    {
+        let takes_ago = self.next.wrapping_sub(seq);
+        if takes_ago == 0 || takes_ago > self.kept {
+            return Err(Refusal::NotKept {
+                oldest: self.next.wrapping_sub(self.kept),
+                next: self.next,
+            });
+        }
+        give(
+            &self.slots,
+            PLACES - usize::from(self.queued + takes_ago),
+            seq,
+            self.ssrc,
+            out,
+        );
+        Ok(())
+    }
+}
+
+// The ring with a packet at each place.
+fn full_ring(alloc: Global) -> Result<HeapCircularBuffer<Box<Slot>>, NoMemory>
+    ensures { IfOk result (λ slots. (length slots.items ≡ 1536) × (slots.capacity ≡ 1536)) }
+{
+    let Ok(mut slots) = HeapCircularBuffer::with_capacity(alloc, PLACES) else {
+        return Err(NoMemory);
+    };
+    for _ in 0..PLACES {
+        let Ok(slot) = Box::new(alloc, Slot::new()) else {
+            return Err(NoMemory);
+        };
+        let _ = slots.push_back(slot);
+    }
+    Ok(slots)
+}
+
+// Copies out the packet at this place, with this sequence number and SSRC.
+fn give(
+    slots: &HeapCircularBuffer<Box<Slot>>,
+    place: usize,
+    seq: u16,
+    ssrc: u32,
+    out: &mut PacketBuf,
+)
+    requires { place < length slots.now.items }
+    ensures { SendsFrom slots.now.items place seq ssrc out.new }
+{
+    if let Some(slot) = slots.get(place) {
+        slot.send(seq, ssrc, out);
+    }
+}

@@ -1,0 +1,142 @@
+// Rows of packets in and out of a ring.
+use crate::OutRing;
+use rtp_packet::read;
+use sfu_base::{PacketBuf, Refusal};
+use std::test::Fail;
+
+// A packet of a publisher: version 2, marker 0, payload type 96, a sequence number of its own, timestamp 0, SSRC 11111111, and one word
+// that tells it from others.
+fn packet(word: u32) -> [u8; 16] {
+    let mut bytes = [
+        0x80, 0x60, 0xAB, 0xCD, 0, 0, 0, 0, 0x11, 0x11, 0x11, 0x11, 0, 0, 0, 0,
+    ];
+    bytes[12..].copy_from_slice(&word.to_be_bytes());
+    bytes
+}
+
+// Queues that packet, where fewer than 512 wait.
+fn push(ring: &mut OutRing, word: u32, marker: bool) {
+    let bytes = packet(word);
+    if let (Ok(_), 0..512) = (read(&bytes), ring.queued()) {
+        ring.push(&bytes, marker);
+    }
+}
+
+// What goes out of that packet under SSRC 22222222.
+fn outgoing(word: u32, seq: u16, marker: bool) -> [u8; 16] {
+    let mut bytes = packet(word);
+    bytes[1] = if marker { 0xE0 } else { 0x60 };
+    bytes[2..4].copy_from_slice(&seq.to_be_bytes());
+    bytes[8..12].copy_from_slice(&[0x22; 4]);
+    bytes
+}
+
+#[test]
+fn a_packet_is_queued_taken_and_resent(rt: HostRuntime) -> Result<(), Fail> {
+    let alloc = rt.alloc();
+    let packet: &[u8] = &packet(0);
+    let mut ring = OutRing::new(alloc, 0x2222_2222, 65_535)?;
+    let mut out = PacketBuf::new();
+    if ring.queued() < 512
+        && packet.len() <= 1536
+        && let Ok(_) = read(packet)
+    {
+        ring.push(packet, true);
+    }
+    assert_eq!(rt; ring.take(&mut out), Ok(65_535));
+    assert_eq!(rt; ring.take(&mut out), Err(Refusal::Empty));
+    assert_eq!(rt; ring.resend(65_535, &mut out), Ok(()));
+    assert_eq!(rt; out.bytes(), outgoing(0, 65_535, true).as_slice());
+    let not_kept = Refusal::NotKept {
+        oldest: 65_535,
+        next: 0,
+    };
+    assert_eq!(rt; ring.resend(7, &mut out), Err(not_kept));
+    Ok(())
+}
+
+#[test]
+fn the_last_1024_packets_that_were_taken_are_resent(rt: HostRuntime) -> Result<(), Fail> {
+    let mut ring = OutRing::new(rt.alloc(), 0x2222_2222, 0)?;
+    let mut out = PacketBuf::new();
+    for word in 0..1025u32 {
+        push(&mut ring, word, false);
+        assert_eq!(rt; ring.take(&mut out), Ok(word as u16));
+        assert_eq!(rt; out.bytes(), outgoing(word, word as u16, false).as_slice());
+    }
+    push(&mut ring, 1025, false);
+    assert_eq!(rt; ring.queued(), 1);
+    for word in 1..1025u32 {
+        assert_eq!(rt; ring.resend(word as u16, &mut out), Ok(()));
+        assert_eq!(rt; out.bytes(), outgoing(word, word as u16, false).as_slice());
+    }
+    let not_kept = Err(Refusal::NotKept {
+        oldest: 1,
+        next: 1025,
+    });
+    for seq in [0, 1025, 1026, 65_535] {
+        assert_eq!(rt; ring.resend(seq, &mut out), not_kept);
+    }
+    assert_eq!(rt; out.bytes(), outgoing(1024, 1024, false).as_slice());
+    Ok(())
+}
+
+#[test]
+fn numbers_go_on_over_the_wrap(rt: HostRuntime) -> Result<(), Fail> {
+    let mut ring = OutRing::new(rt.alloc(), 0x2222_2222, 65_534)?;
+    let mut out = PacketBuf::new();
+    let mut wanted = 65_534u16;
+    for word in 0..131_074u32 {
+        push(&mut ring, word, word % 3 == 0);
+        assert_eq!(rt; ring.take(&mut out), Ok(wanted));
+        assert_eq!(rt;
+            out.bytes(),
+            outgoing(word, wanted, word % 3 == 0).as_slice()
+        );
+        wanted = wanted.wrapping_add(1);
+    }
+    assert_eq!(rt; wanted, 0);
+    assert_eq!(rt; ring.resend(65_535, &mut out), Ok(()));
+    assert_eq!(rt; out.bytes(), outgoing(131_073, 65_535, true).as_slice());
+    assert_eq!(rt; ring.resend(64_512, &mut out), Ok(()));
+    assert_eq!(rt; out.bytes(), outgoing(130_050, 64_512, true).as_slice());
+    let not_kept = Err(Refusal::NotKept {
+        oldest: 64_512,
+        next: 0,
+    });
+    assert_eq!(rt; ring.resend(64_511, &mut out), not_kept);
+    assert_eq!(rt; ring.resend(0, &mut out), not_kept);
+    Ok(())
+}
+
+#[test]
+fn packets_of_512_wait_in_order_and_nothing_is_kept_before_a_take(
+    rt: HostRuntime,
+) -> Result<(), Fail> {
+    let mut ring = OutRing::new(rt.alloc(), 0x2222_2222, 1)?;
+    let mut out = PacketBuf::new();
+    assert_eq!(rt; ring.take(&mut out), Err(Refusal::Empty));
+    assert_eq!(rt;
+        ring.resend(0, &mut out),
+        Err(Refusal::NotKept { oldest: 1, next: 1 })
+    );
+    for word in 0..512u32 {
+        push(&mut ring, word, true);
+    }
+    assert_eq!(rt; ring.queued(), 512);
+    assert_eq!(rt;
+        ring.resend(1, &mut out),
+        Err(Refusal::NotKept { oldest: 1, next: 1 })
+    );
+    for word in 0..512u32 {
+        assert_eq!(rt; ring.take(&mut out), Ok(word as u16 + 1));
+        assert_eq!(rt;
+            out.bytes(),
+            outgoing(word, word as u16 + 1, true).as_slice()
+        );
+    }
+    assert_eq!(rt; ring.take(&mut out), Err(Refusal::Empty));
+    assert_eq!(rt; ring.queued(), 0);
+    assert_eq!(rt; out.bytes(), outgoing(511, 512, true).as_slice());
+    Ok(())
+}
