@@ -1,0 +1,7 @@
+use Rattle.std.proofs.Common.{refl}
+use Rattle.ref_window.specs.Words.{held_in}
+use Rattle.ref_window.proofs.window.RefWindow.new.Goals as goal
+
+pub returns : goal.returns
+unfolding held_in
+returns c = refl

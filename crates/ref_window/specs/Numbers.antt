@@ -1,0 +1,21 @@
+-- What a window of numbers holds. Own rule; it is as wide as a frame can refer back (AV1 RTP payload format, Appendix A: frame_fdiff is at
+-- most 4,096). Lists of numbers have the newest first. The code has the greatest number and a ring of bits.
+use Rattle.std.specs.Prelude.{◌+◌, ◌<◌, ◌==◌, ℕ, List, [], ◌∷◌, Bool, filter, nat_le}
+use Rattle.std.specs.List.{AllByRecursion, list_any}
+
+-- the number lies at most 4,096 below the greatest
+abbrev pub is_near : ℕ → ℕ → Bool
+is_near greatest number = nat_le greatest (number + 4096)
+
+-- of the numbers that were inserted those that a window holds: the newest, and all before it that are near
+abbrev pub held_of : List ℕ → List ℕ
+held_of [] = []
+held_of (newest ∷ before) = newest ∷ filter (is_near newest) before
+
+-- the number stands among these
+abbrev pub is_among : List ℕ → ℕ → Bool
+is_among numbers number = list_any (λ n. n == number) numbers
+
+-- the number is greater than each of these
+abbrev pub IsAboveAll : ℕ → List ℕ → Type 0
+IsAboveAll number numbers = AllByRecursion (λ n. n < number) numbers

@@ -1,0 +1,31 @@
+-- What the fields of a window mean: a number's bit stands in a ring of 64 words of 64 bits, at the number modulo 4,096.
+use Rattle.std.specs.Prelude.{◌≡◌, ◌≢◌, ◌+◌, ◌<◌, ◌≤◌, ◌/◌, ◌%◌, ◌==◌, ℕ, zero, suc, List, [], ◌∷◌, Bool, false, if◌then◌else◌, ◌&&◌, slice_index}
+use Rattle.std.specs.declared.option.Option.{Option}
+use Rattle.std.specs.declared.option.Option.TheVariants.{None, Some}
+use Rattle.std.specs.Int.{bit_at}
+use Rattle.ref_window.specs.Numbers.{is_near}
+
+-- the number's bit is 1
+abbrev pub has_bit : List ℕ → ℕ → Bool
+has_bit words number = bit_at (slice_index words (number / 64 % 64)) (number % 64) == 1
+
+-- the numbers below n that pass a test, the greatest first
+unfoldable pub passing_below : (ℕ → Bool) → ℕ → List ℕ
+passing_below test zero = []
+passing_below test (suc n) = if test n then n ∷ passing_below test n else passing_below test n
+
+-- the greatest number, and those near it whose bits are 1
+unfoldable pub held_in : Option ℕ → List ℕ → List ℕ
+held_in None words = []
+held_in (Some greatest) words = greatest ∷ passing_below (λ n. is_near greatest n && has_bit words n) greatest
+
+-- one number's bit, which it shares with those a multiple of 4,096 away, has this value now
+pub record ChangesBit (old new : List ℕ) (number : ℕ) (value : Bool) : Type 0 where
+  pub changed : (n : ℕ) → n % 4096 ≡ number % 4096 → has_bit new n ≡ value
+  pub others : (n : ℕ) → n % 4096 ≢ number % 4096 → has_bit new n ≡ has_bit old n
+
+-- Of the 4,096 numbers below `end`, those from one up to another have the bit 0 now, and the others the bit that they had.
+pub record ClearsBits (old new : List ℕ) (from to end : ℕ) : Type 0 where
+  pub cleared : (n : ℕ) → end ≤ n + 4096 → n < end → from ≤ n → n < to → has_bit new n ≡ false
+  pub below : (n : ℕ) → end ≤ n + 4096 → n < from → has_bit new n ≡ has_bit old n
+  pub above : (n : ℕ) → to ≤ n → n < end → has_bit new n ≡ has_bit old n

@@ -1,0 +1,12 @@
+//! The frame numbers that a later frame can still refer to: a set of numbers that are inserted in rising order, of which those at most
+//! 4,096 below the greatest are held. It has a fixed size and takes no memory.
+#![tactic(auto)]
+
+mod laws;
+#[cfg(test)]
+mod tests;
+mod window;
+mod words;
+
+pub use laws::{forgotten_numbers_are_never_wanted, held_numbers_are_enough};
+pub use window::RefWindow;

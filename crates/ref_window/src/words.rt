@@ -1,0 +1,94 @@
+// The ring of bits. A number's bit lies at that number modulo 4,096, so the ring isn't moved when the window moves on.
+ghost use Rattle.std.specs.Prelude.{◌≡◌, ◌∷◌, ◌+◌, ◌/◌, ◌%◌, ◌<◌, ◌≤◌, ℕ, Some, true, false};
+ghost use Rattle.ref_window.specs.Numbers.{IsAboveAll, held_of};
+ghost use Rattle.ref_window.specs.Words.{ChangesBit, ClearsBits, has_bit, held_in};
+
+/// How far below the greatest number a number may lie.
+pub const SPAN: u64 = 4096;
+
+/// Words in the ring, of `WORD_BITS` bits each.
+pub const WORDS: usize = 64;
+
+const WORD_BITS: u64 = 64;
+
+/// `SPAN` bits.
+pub type Words = [u64; WORDS];
+
+fn word_of(number: u64) -> usize
+    ensures value { result ≡ number / 64 % 64 }
+    ensures below { result < 64 }
+{
+    (number / WORD_BITS % WORDS as u64) as usize
+}
+
+/// Whether a number's bit is 1.
+pub fn bit(words: &Words, number: u64) -> bool
+    ensures { result ≡ has_bit words.now number }
+{
+    (words[word_of(number)] >> (number % WORD_BITS)) % 2 == 1
+}
+
+fn set_bit(words: &mut Words, number: u64)
+    ensures { ChangesBit words.old words.new number true }
+{
+    words[word_of(number)] |= 1 << (number % WORD_BITS);
+}
+
+fn clear_bit(words: &mut Words, number: u64)
+    ensures { ChangesBit words.old words.new number false }
+{
+    words[word_of(number)] &= !(1 << (number % WORD_BITS));
+}
+
+// Makes the bits from one number up to another 0: whole words where it can, so in at most 190 steps.
+fn clear_bits(words: &mut Words, from: u64, to: u64)
+    requires order { from ≤ to }
+    requires span { to ≤ from + 4096 }
+    ensures { ClearsBits words.old words.new from to to }
+{
+    let mut number = from;
+    while number < to {
+        number = clear_some(words, number, to);
+    }
+}
+
+// Makes the bits from a number up to the result 0.
+fn clear_some(words: &mut Words, number: u64, to: u64) -> u64
+    requires order { number < to }
+    requires span { to ≤ number + 4096 }
+    ensures up { number < result }
+    ensures within { result ≤ to }
+    ensures cleared { ClearsBits words.old words.new number result to }
+{
+    if number % WORD_BITS == 0 && to - number >= WORD_BITS {
+        words[word_of(number)] = 0;
+        number + WORD_BITS
+    } else {
+        clear_bit(words, number);
+        number + 1
+    }
+}
+
+fn clear_all(words: &mut Words)
+    ensures { (n : ℕ) → has_bit words.new n ≡ false }
+{
+    *words = [0; WORDS];
+}
+
+/// Makes the bits those of the numbers below one that is inserted after `greatest`, or first.
+pub fn move_on(words: &mut Words, greatest: Option<u64>, number: u64)
+    requires { IsAboveAll number (held_in greatest words.old) }
+    ensures { held_in (Some number) words.new ≡ held_of (number ∷ held_in greatest words.old) }
+{
+    match greatest {
+        None => clear_all(words),
+        Some(greatest) => {
+            if number - greatest <= SPAN {
+                clear_bits(words, greatest + 1, number);
+                set_bit(words, greatest);
+            } else {
+                clear_all(words);
+            }
+        }
+    }
+}
