@@ -1,9 +1,9 @@
 -- What is forgotten is never wanted.
-use Rattle.std.proofs.Common.{◌≡◌, ◌+◌, ◌<◌, ◌≤◌, ℕ, arith, Bool, true, false, cond, ◌||◌, List, [], ◌∷◌, refl, sym, ap, ◌∙◌}
+use Rattle.std.proofs.Common.{◌≡◌, ◌⊎◌, inl, inr, ◌+◌, ◌-◌, ◌<◌, ◌≤◌, ℕ, arith, Bool, true, false, cond, ◌||◌, List, [], ◌∷◌, refl, sym, ap, ◌∙◌}
 use Rattle.std.specs.Prelude.{◌==◌, filter}
-use Rattle.std.proofs.lemmas.Bool.{leb-true, le-leb, eqb-true}
+use Rattle.std.proofs.lemmas.Bool.{cases_eq, leb-true, le-leb, eqb-true, eq-eqb, ne_eqb}
 use Rattle.std.proofs.lemmas.Map.Views.{any-filter_same}
-use Rattle.ref_window.specs.Numbers.{is_near, held_of, is_among, IsAboveAll}
+use Rattle.ref_window.specs.Numbers.{is_near, held_of, is_among, has_below, IsAboveAll}
 
 -- two numbers, the greater later: what is near the later one is near the former
 filter_near_twice : (newer older : ℕ) (numbers : List ℕ) → older < newer → filter (is_near newer) (filter (is_near older) numbers) ≡ filter (is_near newer) numbers
@@ -39,10 +39,28 @@ pub above_all_held : (number : ℕ) (numbers : List ℕ) → IsAboveAll number n
 above_all_held number [] above = tt
 above_all_held number (n ∷ ns) above = (above.0, above_filtered number (is_near n) ns above.1)
 
-pub answers_for_all : (number distance n : ℕ) (numbers : List ℕ) → IsAboveAll number numbers → n + distance ≡ number → distance ≤ 4096
-    → is_among (held_of numbers) n ≡ is_among numbers n
-answers_for_all number distance n [] above at near = refl
-answers_for_all number distance n (m ∷ ms) above at near =
+pub answers_for_all : (number distance : ℕ) (numbers : List ℕ) → IsAboveAll number numbers → distance ≤ 4096
+    → has_below (held_of numbers) number distance ≡ has_below numbers number distance
+answers_for_all number distance [] above near = refl
+answers_for_all number distance (m ∷ ms) above near =
     let lt : m < number = above.0 in
-    ap (λ b. (m == n) || b)
-    (any-filter_same (λ k. k == n) (is_near m) true (λ k is. let same : k ≡ n = eqb-true k n is in le-leb m (k + 4096) (omega arith)) ms)
+    ap (λ b. ((m + distance) == number) || b)
+    (any-filter_same (λ k. (k + distance) == number) (is_near m) true
+    (λ k is. let same : k + distance ≡ number = eqb-true (k + distance) number is in le-leb m (k + 4096) (omega arith)) ms)
+
+-- the test by a distance is one on a number
+pub has_below-is_among : (numbers : List ℕ) (number distance : ℕ) → distance ≤ number
+    → has_below numbers number distance ≡ is_among numbers (number - distance)
+has_below-is_among [] number distance le = refl
+has_below-is_among (m ∷ ms) number distance le =
+    ap (λ b. b || has_below ms number distance) (same (cases_eq m (number - distance)))
+    ∙ ap (λ b. (m == (number - distance)) || b) (has_below-is_among ms number distance le)
+  where
+    same : (m ≡ number - distance) ⊎ (m ≡ number - distance → ⊥) → ((m + distance) == number) ≡ (m == (number - distance))
+    same (inl e) = eq-eqb (m + distance) number (omega arith) ∙ sym (eq-eqb m (number - distance) e)
+    same (inr ne) = ne_eqb (m + distance) number (λ e. ne (omega arith)) ∙ sym (ne_eqb m (number - distance) ne)
+
+pub has_below-far : (numbers : List ℕ) (number distance : ℕ) → number < distance → has_below numbers number distance ≡ false
+has_below-far [] number distance lt = refl
+has_below-far (m ∷ ms) number distance lt =
+    ap (λ b. b || has_below ms number distance) (ne_eqb (m + distance) number (λ e. omega arith)) ∙ has_below-far ms number distance lt

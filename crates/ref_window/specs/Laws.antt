@@ -1,12 +1,12 @@
 -- What a window forgets is never wanted again.
-use Rattle.std.specs.Prelude.{◌≡◌, ◌+◌, ◌≤◌, ℕ, List, ◌∷◌}
-use Rattle.ref_window.specs.Numbers.{held_of, is_among, IsAboveAll}
+use Rattle.std.specs.Prelude.{◌≡◌, ◌≤◌, ℕ, List, ◌∷◌}
+use Rattle.ref_window.specs.Numbers.{held_of, has_below, IsAboveAll}
 
 -- Inserting into what a window holds gives what it holds of all that were inserted.
 abbrev pub ForgetsForGood : Type 0
 ForgetsForGood = (number : ℕ) (numbers : List ℕ) → IsAboveAll number numbers → held_of (number ∷ held_of numbers) ≡ held_of (number ∷ numbers)
 
--- For each number at most 4,096 below one that lies above all inserted, a window answers as all that were inserted do.
+-- Below a number that lies above all that were inserted, a window answers for distances up to 4,096 as all of them do.
 abbrev pub AnswersForAll : Type 0
-AnswersForAll = (number distance n : ℕ) (numbers : List ℕ) → IsAboveAll number numbers → n + distance ≡ number → distance ≤ 4096
-    → is_among (held_of numbers) n ≡ is_among numbers n
+AnswersForAll = (number distance : ℕ) (numbers : List ℕ) → IsAboveAll number numbers → distance ≤ 4096
+    → has_below (held_of numbers) number distance ≡ has_below numbers number distance

@@ -16,6 +16,10 @@ held_of (newest ∷ before) = newest ∷ filter (is_near newest) before
 abbrev pub is_among : List ℕ → ℕ → Bool
 is_among numbers number = list_any (λ n. n == number) numbers
 
+-- one of these numbers lies d below n
+abbrev pub has_below : List ℕ → ℕ → ℕ → Bool
+has_below numbers n d = list_any (λ m. (m + d) == n) numbers
+
 -- the number is greater than each of these
 abbrev pub IsAboveAll : ℕ → List ℕ → Type 0
 IsAboveAll number numbers = AllByRecursion (λ n. n < number) numbers
