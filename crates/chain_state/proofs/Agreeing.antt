@@ -1,0 +1,27 @@
+-- A window answers for links as all that were passed do.
+use Rattle.std.proofs.Common.{◌≡◌, ◌+◌, ◌-◌, ◌≤◌, ℕ, ◌&&◌, ◌||◌, not, cond, List, [], ◌∷◌, ap, refl, ◌∙◌}
+use Rattle.std.specs.Prelude.{◌==◌, nat_lt, nat_le}
+use Rattle.sfu_base.specs.declared.frame.FrameMeaning.{FrameMeaning}
+use Rattle.forwarding_model.specs.forwarding.Selection.{chain_link}
+use Rattle.forwarding_model.specs.forwarding.Standing.{has_below as has_frame_below}
+use Rattle.ref_window.specs.Numbers.{IsAboveAll, has_below, held_of}
+use Rattle.ref_window.proofs.Forgetting.{answers_for_all}
+use Rattle.chain_state.specs.declared.LinkState.TheVariants.{Intact, Broken}
+use Rattle.chain_state.specs.Links.{link_of, numbers_of}
+
+pub has_numbers : (frames : List FrameMeaning) (n d : ℕ) → has_below (numbers_of frames) n d ≡ has_frame_below frames n d
+has_numbers [] n d = refl
+has_numbers (f ∷ frames) n d = ap (λ b. ((f.number + d) == n) || b) (has_numbers frames n d)
+
+-- for each distance up to 4,096 below a frame above all
+pub window_answers : (window : List ℕ) (frames : List FrameMeaning) (n d : ℕ) → window ≡ held_of (numbers_of frames) → IsAboveAll n (numbers_of frames)
+    → d ≤ 4096 → has_below window n d ≡ has_frame_below frames n d
+window_answers window frames n d is above near =
+    ap (λ w. has_below w n d) is ∙ answers_for_all n d (numbers_of frames) above near ∙ has_numbers frames n d
+
+pub link_stands : (window : List ℕ) (frames : List FrameMeaning) (f : FrameMeaning) (target opened : ℕ) → window ≡ held_of (numbers_of frames)
+    → IsAboveAll f.number (numbers_of frames) → chain_link f target ≤ 4096
+    → link_of (has_below window f.number) f target opened ≡ link_of (has_frame_below frames f.number) f target opened
+link_stands window frames f target opened is above near =
+    ap (λ b. cond (nat_lt 0 f.chain_count && (nat_lt 0 (chain_link f target) && (nat_le (opened + chain_link f target) f.number && not b))) (Broken (f.number - chain_link f target)) Intact)
+    (window_answers window frames f.number (chain_link f target) is above near)

@@ -1,0 +1,60 @@
+//! The chain that protects a decode target: whether the frame before a frame in it was passed on (AV1 RTP payload format, Appendix A).
+#![tactic(auto)]
+
+ghost use Rattle.std.specs.Prelude.{◌≡◌, ◌<◌, List};
+ghost use Rattle.sfu_base.specs.Frame.{IsValid};
+ghost use Rattle.sfu_base.specs.declared.frame.FrameMeaning.{FrameMeaning as Frame};
+ghost use Rattle.forwarding_model.specs.forwarding.Selection.{chain_link};
+ghost use Rattle.forwarding_model.specs.forwarding.Standing.{has_below as has_frame_below};
+ghost use Rattle.ref_window.specs.Numbers.{IsAboveAll, has_below, held_of};
+ghost use Rattle.chain_state.specs.Links.{link_of, numbers_of};
+
+use ref_window::RefWindow;
+use sfu_base::FrameMeaning;
+
+#[cfg(test)]
+mod tests;
+
+/// Whether a chain is broken at a frame.
+#[derive(Clone, Copy, Debug, PartialEq, Eq)]
+pub enum LinkState {
+    /// The frame before it in the chain was passed on, or none is needed.
+    Intact,
+    /// The frame before it in the chain has this number, and wasn't passed on.
+    Broken { number: u64 },
+}
+
+/// The state at a frame of the chain that protects an open target, by the numbers of the frames of the epoch that were passed on. `opened` is
+/// the number of the frame at which the target was opened: what lies before it in the chain isn't needed. Where there are no chains, or the
+/// frame's distance in the chain is 0, the chain is intact.
+pub fn link_state(frame: &FrameMeaning, target: u8, opened: u64, passed: &RefWindow) -> LinkState
+    requires valid { IsValid frame.now }
+    requires target { target < frame.now.target_count }
+    ensures state { result ≡ link_of (has_below passed.now frame.now.number) frame.now target opened }
+    ensures stands { (frames : List Frame) → passed.now ≡ held_of (numbers_of frames) → IsAboveAll frame.now.number (numbers_of frames)
+        → result ≡ link_of (has_frame_below frames frame.now.number) frame.now target opened }
+{
+    if frame.chain_count == 0 {
+        return LinkState::Intact;
+    }
+    let distance = u64::from(distance_in_chain(frame, target));
+    if distance == 0 || frame.number < distance || frame.number - distance < opened {
+        return LinkState::Intact;
+    }
+    let number = frame.number - distance;
+    if passed.holds(number) {
+        LinkState::Intact
+    } else {
+        LinkState::Broken { number }
+    }
+}
+
+fn distance_in_chain(frame: &FrameMeaning, target: u8) -> u8
+    requires valid { IsValid frame.now }
+    requires target { target < frame.now.target_count }
+    requires chains { 0 < frame.now.chain_count }
+    ensures { result ≡ chain_link frame.now target }
+{
+    let chain = frame.guards[usize::from(target)];
+    frame.links[usize::from(chain)]
+}
