@@ -1,0 +1,13 @@
+//! Which frames a subscriber is sent: the decode target that is open for it, when it is closed and another is opened, and the verdict on each
+//! frame. Frames come one by one, as their meanings; packets and queues are kept elsewhere. Nothing takes memory.
+#![tactic(auto)]
+
+mod decision;
+mod opening;
+mod selector;
+mod targets;
+#[cfg(test)]
+mod tests;
+mod verdict;
+
+pub use selector::Selector;

@@ -1,0 +1,179 @@
+// The standing of a subscriber, as far as it decides on frames.
+ghost use Rattle.std.specs.Prelude.{◌≡◌, ◌+◌, ◌≤◌, ◌||◌, ◌∷◌, false};
+ghost use Rattle.sfu_base.specs.Frame.{IsValid};
+ghost use Rattle.sfu_base.specs.declared.frame.Verdict.TheVariants.{Passed};
+ghost use Rattle.forwarding_model.specs.forwarding.Outgoing.{is_top_layer};
+ghost use Rattle.forwarding_model.specs.forwarding.Selection.{open_target};
+ghost use Rattle.forwarding_model.specs.forwarding.Standing.{Standing, after_frame, candidate_at, joined, verdict_at};
+ghost use Rattle.ref_window.specs.Numbers.{IsAboveAll as IsAboveAllNumbers, held_of};
+ghost use Rattle.target_selector.specs.Seen.{begun};
+ghost use Rattle.target_selector.specs.Stands.{IsAboveAll, StandsAt, StandsFor, is_opening_at};
+ghost use Rattle.target_selector.specs.Targets.{IsIndexBelow};
+
+use crate::decision::{Decision, decide};
+use crate::targets::is_top_layer;
+use forwarding_model::{CurrentTarget, Reason};
+use ref_window::RefWindow;
+use sfu_base::{FrameMeaning, Verdict, Wish};
+use std::marker::Model;
+
+/// Which frames a subscriber is sent. Clauses see its wish, the epoch, the target or why there is none, which of the epoch's frames were
+/// passed, as far as a later frame can refer to them, and two facts about the last frame.
+#[derive(Debug, Drop)]
+pub struct Selector {
+    wish: Wish,
+    epoch: Option<u64>,
+    target: CurrentTarget,
+    // whether a key frame of the epoch was passed: the window forgets it
+    key_passed: bool,
+    passed: RefWindow,
+    top: bool,
+    opened: bool,
+}
+
+impl Model for Selector {
+    ghost use Rattle.target_selector.specs.Seen.{Seen};
+    ghost use Rattle.target_selector.specs.Targets.{IsIndexBelow};
+
+    ghost Value = { Seen };
+
+    ghost view = { λ s. record {
+      wish = s.wish;
+      epoch = s.epoch;
+      target = s.target;
+      key_passed = s.key_passed;
+      numbers = s.passed;
+      top = s.top;
+      opened = s.opened;
+    } };
+
+    ghost invariant = { λ s. IsIndexBelow 32 s.target };
+}
+
+impl Selector {
+    /// Of a subscriber that has just joined with this wish. No target is open.
+    pub fn new(wish: Wish) -> Selector
+        ensures begun { result ≡ begun wish }
+        ensures stands { StandsFor result (joined wish) }
+    {
+        Selector {
+            wish,
+            epoch: None,
+            target: CurrentTarget::Closed {
+                reason: Reason::NotOpened { since: 0 },
+            },
+            key_passed: false,
+            passed: RefWindow::new(),
+            top: false,
+            opened: false,
+        }
+    }
+
+    /// Changes the wish. It closes nothing: the next frame is judged by it.
+    pub fn aim(&mut self, wish: Wish)
+        ensures wish { self.new ≡ record self.old { wish = wish } }
+        ensures stands { (s : Standing) → StandsFor self.old s → StandsFor self.new (record s { wish = wish }) }
+    {
+        self.wish = wish;
+    }
+
+    /// The target that is open, or none.
+    pub fn target(&self) -> Option<u8>
+        ensures target { result ≡ open_target self.now.target }
+        ensures stands { (s : Standing) → StandsFor self.now s → result ≡ open_target s.target }
+    {
+        match self.target {
+            CurrentTarget::Open { index, opened: _ } => Some(index),
+            CurrentTarget::Closed { reason: _ } => None,
+        }
+    }
+
+    /// The verdict on a frame of so many packets, where so many are queued: whether it is passed on, or why it isn't.
+    pub fn admit(&mut self, frame: &FrameMeaning, packets: u16, queued: u16) -> Verdict
+        requires { IsValid frame.now }
+        ensures verdict { (s : Standing) → StandsFor self.old s → IsAboveAll frame.now s → s.queued ≡ queued → result ≡ verdict_at s frame.now packets }
+        ensures stands { (s : Standing) → StandsFor self.old s → IsAboveAll frame.now s → s.queued ≡ queued
+            → StandsFor self.new (after_frame s frame.now packets) }
+        ensures room { result ≡ Passed → queued + packets ≤ 512 }
+        ensures top { (s : Standing) → StandsFor self.old s → IsAboveAll frame.now s → s.queued ≡ queued → result ≡ Passed
+            → self.new.top ≡ is_top_layer frame.now (candidate_at s frame.now) }
+        ensures opened { (s : Standing) → StandsFor self.old s → IsAboveAll frame.now s → s.queued ≡ queued → result ≡ Passed
+            → self.new.opened ≡ is_opening_at s frame.now }
+        ensures not_top { (result ≡ Passed → ⊥) → self.new.top ≡ false }
+        ensures not_opened { (result ≡ Passed → ⊥) → self.new.opened ≡ false }
+    {
+        self.begin_epoch(frame);
+        let decision = decide(
+            self.wish,
+            self.target,
+            self.key_passed,
+            &self.passed,
+            frame,
+            packets,
+            queued,
+        );
+        match decision.verdict {
+            Verdict::Passed => self.pass(frame, &decision),
+            _ => self.withhold(&decision),
+        }
+        decision.verdict
+    }
+
+    /// Whether the frame that was just passed has the spatial id of its target's layers, so that its last packet ends the temporal unit.
+    /// False where the last frame wasn't passed.
+    pub fn marks_last(&self) -> bool
+        ensures { result ≡ self.now.top }
+    {
+        self.top
+    }
+
+    /// Whether the last frame was passed and opened its target.
+    pub fn opened(&self) -> bool
+        ensures { result ≡ self.now.opened }
+    {
+        self.opened
+    }
+
+    // Where the frame is of another epoch, what was passed is forgotten, and no target is open.
+    fn begin_epoch(&mut self, frame: &FrameMeaning)
+        ensures { (s : Standing) → StandsFor self.old s → StandsAt self.new s frame.now }
+    {
+        if self.epoch == Some(frame.epoch) {
+            return;
+        }
+        self.epoch = Some(frame.epoch);
+        self.target = CurrentTarget::Closed {
+            reason: Reason::NotOpened {
+                since: frame.number,
+            },
+        };
+        self.key_passed = false;
+        self.passed.reset();
+    }
+
+    fn pass(&mut self, frame: &FrameMeaning, decision: &Decision)
+        requires { IsIndexBelow 32 decision.now.candidate }
+        ensures wish { self.new.wish ≡ self.old.wish }
+        ensures epoch { self.new.epoch ≡ self.old.epoch }
+        ensures target { self.new.target ≡ decision.now.candidate }
+        ensures key_passed { self.new.key_passed ≡ (frame.now.key || self.old.key_passed) }
+        ensures numbers { IsAboveAllNumbers frame.now.number self.old.numbers → self.new.numbers ≡ held_of (frame.now.number ∷ self.old.numbers) }
+        ensures top { self.new.top ≡ is_top_layer frame.now decision.now.candidate }
+        ensures opened { self.new.opened ≡ decision.now.opens }
+    {
+        self.target = decision.candidate;
+        self.key_passed |= frame.key;
+        self.passed.insert(frame.number);
+        self.top = is_top_layer(frame, decision.candidate);
+        self.opened = decision.opens;
+    }
+
+    fn withhold(&mut self, decision: &Decision)
+        requires { IsIndexBelow 32 decision.now.kept }
+        ensures { self.new ≡ record self.old { target = decision.now.kept; top = false; opened = false } }
+    {
+        self.target = decision.kept;
+        self.top = false;
+        self.opened = false;
+    }
+}
