@@ -1,0 +1,164 @@
+-- What a command did, by its status.
+use Rattle.std.proofs.Common.{◌≡◌, ◌<◌, ◌⊎◌, inl, inr, ℕ, List, ◌++◌, refl, sym, ap, ◌∙◌, subst, arith, Option, Some, None, Result, Ok, Err}
+use Rattle.std.specs.Prelude.{IfSome, IsOk}
+use Rattle.std.specs.Io.KnownBytes.{Consumes, IsAtEnd}
+use Rattle.sfu_driver.specs.declared.halt.Ending.{Ending}
+use Rattle.sfu_driver.specs.declared.halt.Ending.TheVariants as ending
+use Rattle.sfu_driver.specs.declared.halt.Halt.TheVariants.{Ended, Starved}
+use Rattle.sfu_driver.specs.declared.halt.Stop.{Stop}
+use Rattle.sfu_driver.specs.declared.halt.Stop.TheVariants.{SourceFault, SinkFault, Halted}
+use Rattle.sfu_driver.specs.Outcome.{End, Outcome, takes, then_due}
+use Rattle.sfu_driver.specs.Drive.{CauseOf, Drove, WritesFront, end_by}
+use Rattle.sfu_driver.specs.Statuses.{Completes, Decides, IsPrompt, Statuses, due_of, end_of, full_text, status_for, status_of}
+use Rattle.sfu_driver.proofs.Driving.{ToldBy, told, told_begun}
+
+if_some : (left : Option (List ℕ)) (P Q : List ℕ → Type 0) → ((b : List ℕ) → P b → Q b) → IfSome left P → IfSome left Q
+if_some None P Q f p = tt
+if_some (Some b) P Q f p = f b p
+
+always : (left : Option (List ℕ)) (P : Type 0) → P → IfSome left (λ bytes. P)
+always None P p = tt
+always (Some b) P p = p
+
+no_end : {S : Type 0} (r : Result S End) → IsOk r → end_of r ≡ None
+no_end (Ok s) is = refl
+no_end (Err end) is = absurd cc
+
+ended_by : {S : Type 0} (r : Result S End) (end : End) → r ≡ Err end → end_of r ≡ Some end
+ended_by {S} r end is = ap (λ (x : Result S End). end_of x) is
+
+goes_by : {S : Type 0} (r : Result S End) (s : S) → r ≡ Ok s → end_of r ≡ None
+goes_by {S} r s is = ap (λ (x : Result S End). end_of x) is
+
+completes_none : (e : Option End) (status : ℕ) → e ≡ None → (status ≡ 0) ⊎ (status ≡ 6) → Completes e status
+completes_none e status is either = subst (λ (x : Option End). Completes x status) (sym is) either
+
+completes_some : (e : Option End) (end : End) (status : ℕ) → e ≡ Some end → status ≡ status_of end.why → Completes e status
+completes_some e end status is same = subst (λ (x : Option End). Completes x status) (sym is) (inl same)
+
+completes_six : (e : Option End) → Completes e 6
+completes_six None = inr refl
+completes_six (Some end) = inr refl
+
+-- a number that is no input's status
+no_status : (n : ℕ) (why : Ending) → (n < 5) ⊎ (n ≡ 6) → n ≡ status_of why → ⊥
+no_status n ending.Outside other is = omega arith
+no_status n ending.Complaint other is = omega arith
+
+status_above : (why : Ending) (n : ℕ) → status_of why ≡ n → (n < 5) ⊎ (n ≡ 6) → ⊥
+status_above why n is other = no_status n why other (sym is)
+
+same_why : (why other : Ending) → status_of why ≡ status_of other → why ≡ other
+same_why ending.Outside ending.Outside is = refl
+same_why ending.Outside ending.Complaint is = absurd (omega arith)
+same_why ending.Complaint ending.Outside is = absurd (omega arith)
+same_why ending.Complaint ending.Complaint is = refl
+
+-- the told facts, whatever the source tells
+told_if : {U S T : Type 0} (stands : U → T → Type 0) (byte : S → ℕ → Outcome S) (ends : S → Outcome T) (s : S) (new : U) (left left' w w' : Option (List ℕ)) (f f' : ℕ) (result : Result (Unit {0}) Stop)
+    → Drove stands byte ends s new left left' w w' f f' result → IfSome left (λ b. ToldBy byte ends s b left' w w' f f' result)
+told_if stands byte ends s new None left' w w' f f' result d = tt
+told_if stands byte ends s new (Some b) left' w w' f f' result d = told stands byte ends s b new left' w w' f f' result d
+
+prompt_by : {U S T : Type 0} (stands : U → T → Type 0) (byte : S → ℕ → Outcome S) (ends : S → Outcome T) (s : S) (new : U) (left left' w w' : Option (List ℕ)) (f f' : ℕ) (result : Result (Unit {0}) Stop)
+    → Drove stands byte ends s new left left' w w' f f' result → IfSome left (λ b. IsPrompt (λ taken. due_of (takes byte s taken)) left left' w w')
+prompt_by stands byte ends s new left left' w w' f f' result d = always left _ (record {
+  earlier = d.earlier;
+  piece = d.piece;
+  consumed = d.consumed;
+  small = d.small;
+  goes = no_end (takes byte s d.earlier).result d.first.0;
+  more = d.first.1;
+  wrote = d.first.2;
+})
+
+begun_by : {U S T : Type 0} (stands : U → T → Type 0) (byte : S → ℕ → Outcome S) (ends : S → Outcome T) (s : S) (new : U) (left left' w w' : Option (List ℕ)) (f f' : ℕ) (result : Result (Unit {0}) Stop)
+    → Drove stands byte ends s new left left' w w' f f' result → IfSome left (λ b. WritesFront w w' (full_text (due_of (then_due (takes byte s b) ends))))
+begun_by stands byte ends s new left left' w w' f f' result d =
+    if_some left _ _ (λ b t. told_begun byte ends s b left' w w' f f' result t) (told_if stands byte ends s new left left' w w' f f' result d)
+
+-- the command ended in these bytes, or at the end of all
+decided_by : {S : Type 0} (byte : S → ℕ → Outcome S) (s : S) (taken : List ℕ) (why other : Ending) (left' : Option (List ℕ)) → why ≡ other → ((last : List ℕ) × ((takes byte s taken).result ≡ Err (end_by why last))) ⊎ IsAtEnd left'
+    → Decides (λ bytes. due_of (takes byte s bytes)) other left' taken
+decided_by byte s taken why other left' same (inl bad) =
+    inl (bad.0, ended_by (takes byte s taken).result (end_by why bad.0) bad.1 ∙ ap (λ (e : Ending). Some (end_by e bad.0)) same)
+decided_by byte s taken why other left' same (inr end) = inr end
+
+pub statuses : {U S T : Type 0} (stands : U → T → Type 0) (byte : S → ℕ → Outcome S) (ends : S → Outcome T) (s : S) (new : U) (left left' w w' : Option (List ℕ)) (g g' f f' : ℕ) (result : Result (Unit {0}) Stop)
+    → CauseOf g g' f f' result → Drove stands byte ends s new left left' w w' f f' result
+    → Statuses (λ bytes. due_of (then_due (takes byte s bytes) ends)) (λ taken. due_of (takes byte s taken)) left left' w w' g g' f f' (status_for result)
+statuses {U} {S} {T} stands byte ends s new left left' w w' g g' f f' (Ok _) cause d =
+    let t = told_if stands byte ends s new left left' w w' f f' (Ok tt) d in record {
+      done = λ e. if_some left _ _ (λ b x. (x.0, goes_by (then_due (takes byte s b) ends).result x.1.0 x.1.1, x.2)) t;
+      source = λ e. absurd (omega arith);
+      judged = λ e. absurd (omega arith);
+      sink = λ e. absurd (omega arith);
+      unwritten = λ e. absurd (omega arith);
+      ended = λ why e. absurd (no_status 0 why (inl (omega arith)) e);
+      decided = λ why e. absurd (no_status 0 why (inl (omega arith)) e);
+      memory = λ e. absurd (omega arith);
+      prompt = prompt_by stands byte ends s new left left' w w' f f' (Ok tt) d;
+      begun = begun_by stands byte ends s new left left' w w' f f' (Ok tt) d;
+      only = inl refl;
+      complete = λ a c. if_some left _ _ (λ b x. completes_none (end_of (then_due (takes byte s b) ends).result) 0 (goes_by (then_due (takes byte s b) ends).result x.1.0 x.1.1) (inl refl)) t;
+    }
+statuses {U} {S} {T} stands byte ends s new left left' w w' g g' f f' (Err SourceFault) cause d =
+    let t = told_if stands byte ends s new left left' w w' f f' (Err SourceFault) d in record {
+      done = λ e. absurd (omega arith);
+      source = λ e. cause;
+      judged = λ e. always left _ (d.earlier ++ d.piece, d.consumed, no_end (takes byte s (d.earlier ++ d.piece)).result d.by_result.0, d.by_result.1);
+      sink = λ e. absurd (omega arith);
+      unwritten = λ e. absurd (omega arith);
+      ended = λ why e. absurd (no_status 3 why (inl (omega arith)) e);
+      decided = λ why e. absurd (no_status 3 why (inl (omega arith)) e);
+      memory = λ e. absurd (omega arith);
+      prompt = prompt_by stands byte ends s new left left' w w' f f' (Err SourceFault) d;
+      begun = begun_by stands byte ends s new left left' w w' f f' (Err SourceFault) d;
+      only = inr (inl refl);
+      complete = λ a c. absurd (a cause);
+    }
+statuses {U} {S} {T} stands byte ends s new left left' w w' g g' f f' (Err SinkFault) cause d =
+    let t = told_if stands byte ends s new left left' w w' f f' (Err SinkFault) d in record {
+      done = λ e. absurd (omega arith);
+      source = λ e. absurd (omega arith);
+      judged = λ e. absurd (omega arith);
+      sink = λ e. cause;
+      unwritten = λ e. t;
+      ended = λ why e. absurd (no_status 4 why (inl (omega arith)) e);
+      decided = λ why e. absurd (no_status 4 why (inl (omega arith)) e);
+      memory = λ e. absurd (omega arith);
+      prompt = prompt_by stands byte ends s new left left' w w' f f' (Err SinkFault) d;
+      begun = begun_by stands byte ends s new left left' w w' f f' (Err SinkFault) d;
+      only = inr (inr (inl refl));
+      complete = λ a c. absurd (c cause);
+    }
+statuses {U} {S} {T} stands byte ends s new left left' w w' g g' f f' (Err (Halted Starved)) cause d =
+    let t = told_if stands byte ends s new left left' w w' f f' (Err (Halted Starved)) d in record {
+      done = λ e. absurd (omega arith);
+      source = λ e. absurd (omega arith);
+      judged = λ e. absurd (omega arith);
+      sink = λ e. absurd (omega arith);
+      unwritten = λ e. absurd (omega arith);
+      ended = λ why e. absurd (no_status 6 why (inr refl) e);
+      decided = λ why e. absurd (no_status 6 why (inr refl) e);
+      memory = λ e. always left _ (d.by_result.front, d.by_result.more, subst (Consumes left left') d.by_result.split d.consumed, no_end (takes byte s d.by_result.front).result d.by_result.goes, d.by_result.wrote);
+      prompt = prompt_by stands byte ends s new left left' w w' f f' (Err (Halted Starved)) d;
+      begun = begun_by stands byte ends s new left left' w w' f f' (Err (Halted Starved)) d;
+      only = inr (inr (inr (inl refl)));
+      complete = λ a c. if_some left _ _ (λ b x. completes_six (end_of (then_due (takes byte s b) ends).result)) t;
+    }
+statuses {U} {S} {T} stands byte ends s new left left' w w' g g' f f' (Err (Halted (Ended why))) cause d =
+    let t = told_if stands byte ends s new left left' w w' f f' (Err (Halted (Ended why))) d in record {
+      done = λ e. absurd (status_above why 0 e (inl (omega arith)));
+      source = λ e. absurd (status_above why 3 e (inl (omega arith)));
+      judged = λ e. absurd (status_above why 3 e (inl (omega arith)));
+      sink = λ e. absurd (status_above why 4 e (inl (omega arith)));
+      unwritten = λ e. absurd (status_above why 4 e (inl (omega arith)));
+      ended = λ other e. if_some left _ _ (λ b x. (x.0, ended_by (then_due (takes byte s b) ends).result (end_by why x.0) x.1 ∙ ap (λ (k : Ending). Some (end_by k x.0)) (same_why why other e), x.2)) t;
+      decided = λ other e. always left _ (d.earlier ++ d.piece, d.consumed, decided_by byte s (d.earlier ++ d.piece) why other left' (same_why why other e) d.by_result.0);
+      memory = λ e. absurd (status_above why 6 e (inr refl));
+      prompt = prompt_by stands byte ends s new left left' w w' f f' (Err (Halted (Ended why))) d;
+      begun = begun_by stands byte ends s new left left' w w' f f' (Err (Halted (Ended why))) d;
+      only = inr (inr (inr (inr (d.earlier ++ d.piece, end_by why d.by_result.1.0, ended_by (then_due (takes byte s (d.earlier ++ d.piece)) ends).result (end_by why d.by_result.1.0) d.by_result.1.1, refl))));
+      complete = λ a c. if_some left _ _ (λ b x. completes_some (end_of (then_due (takes byte s b) ends).result) (end_by why x.0) (status_of why) (ended_by (then_due (takes byte s b) ends).result (end_by why x.0) x.1) refl) t;
+    }

@@ -1,0 +1,12 @@
+pub mod Results
+pub mod Takes
+pub mod Cutting
+pub mod Nexts
+pub mod Fronts
+pub mod Feeding
+pub mod Driving
+pub mod LineEnds
+pub mod LineScans
+pub mod LineInputs
+pub mod Answering
+pub mod Meanings

@@ -1,0 +1,151 @@
+-- What a command takes of its source and writes to its sink.
+use Rattle.std.specs.Prelude.{◌≡◌, ◌⊎◌, ℕ, ◌<◌, ◌≤◌, List, [], ◌++◌, length, take, Option, IsOk, Result, Ok, Err}
+use Rattle.std.specs.Io.KnownBytes.{Appends, Consumes, IsAtEnd}
+use Rattle.sfu_base.specs.Faults.{Rose}
+use Rattle.sfu_driver.specs.declared.halt.Ending.{Ending}
+use Rattle.sfu_driver.specs.declared.halt.Halt.{Halt}
+use Rattle.sfu_driver.specs.declared.halt.Halt.TheVariants.{Ended, Starved}
+use Rattle.sfu_driver.specs.declared.halt.Stop.{Stop}
+use Rattle.sfu_driver.specs.declared.halt.Stop.TheVariants.{SourceFault, SinkFault, Halted}
+use Rattle.sfu_driver.specs.Outcome.{End, Outcome, ends_with, takes, then_due}
+
+-- ---- what is written
+
+-- A front of this text was written, which may be all of it.
+abbrev pub WritesFront : Option (List ℕ) → Option (List ℕ) → List ℕ → Type 0
+WritesFront written written' all = (text : List ℕ) × (more : List ℕ) × Appends written written' text × (all ≡ text ++ more)
+
+-- A front of this text was written, and not all of it.
+pub record WritesPart (written written' : Option (List ℕ)) (all : List ℕ) : Type 0 where
+  pub text : List ℕ
+  pub more : List ℕ
+  pub wrote : Appends written written' text
+  pub split : all ≡ text ++ more
+  pub missing : 0 < length more
+
+-- All of this text was written, and then the last text, or a front of it where the sink failed.
+pub record WritesEnd (written written' : Option (List ℕ)) (faults faults' : ℕ) (text last : List ℕ) : Type 0 where
+  pub front : List ℕ
+  pub more : List ℕ
+  pub wrote : Appends written written' (text ++ front)
+  pub split : last ≡ front ++ more
+  pub whole : Rose faults faults' ⊎ (more ≡ [])
+
+-- ---- a unit, and the bytes of a piece
+
+-- why a command ends, and its last text
+abbrev pub end_by : Ending → List ℕ → End
+end_by why text = record { why = why; text = text }
+
+-- The text that is due was put behind those that are ready, and the object stands for the state that is left. Or the command ends, and its
+-- last text alone was put there. Or memory was wanting, and nothing was.
+abbrev pub Judges : {U S : Type 0} → (U → S → Type 0) → Outcome S → U → List ℕ → List ℕ → Result (Unit {0}) Halt → Type 0
+Judges {U} {S} stands due new ready ready' (Ok _) = (later : S) × (due.result ≡ Ok later) × stands new later × (ready' ≡ ready ++ due.text)
+Judges {U} {S} stands due new ready ready' (Err (Ended why)) = (last : List ℕ) × (due ≡ ends_with why last) × (ready' ≡ ready ++ last)
+Judges {U} {S} stands due new ready ready' (Err Starved) = ready' ≡ ready
+
+-- The same for the bytes of a piece: so many of them, or all where the command ends.
+abbrev pub Nexts : {U S : Type 0} → (U → S → Type 0) → (S → ℕ → Outcome S) → S → List ℕ → U → List ℕ → List ℕ → Result ℕ Halt → Type 0
+Nexts stands byte state piece new ready ready' (Ok count) = Judges stands (takes byte state (take count piece)) new ready ready' (Ok tt)
+Nexts stands byte state piece new ready ready' (Err halt) = Judges stands (takes byte state piece) new ready ready' (Err halt)
+
+-- What was written where a unit lets the command end.
+abbrev pub Halts : Stop → Halt → List ℕ → List ℕ → Option (List ℕ) → Option (List ℕ) → ℕ → ℕ → Type 0
+Halts SourceFault halt ready last written written' faults faults' = ⊥
+Halts SinkFault halt ready last written written' faults faults' = Rose faults faults' × WritesPart written written' ready
+Halts (Halted (Ended why)) halt ready last written written' faults faults' = (halt ≡ Ended why) × WritesEnd written written' faults faults' ready last
+Halts (Halted Starved) halt ready last written written' faults faults' = (halt ≡ Starved) × Appends written written' ready
+
+-- ---- bytes that are taken
+
+-- Bytes were taken: some of the text was written behind what was ready, the rest of it is ready, and the object stands for the state that is left.
+pub record Fed {U S : Type 0} (stands : U → S → Type 0) (byte : S → ℕ → Outcome S) (state : S) (bytes : List ℕ) (new : U) (ready ready' : List ℕ) (written written' : Option (List ℕ)) : Type 0 where
+  pub later : S
+  pub goes : (takes byte state bytes).result ≡ Ok later
+  pub at : stands new later
+  pub flushed : List ℕ
+  pub wrote : Appends written written' flushed
+  pub whole : ready ++ (takes byte state bytes).text ≡ flushed ++ ready'
+
+-- All that is due for a front of the bytes was written, and the command would go on.
+pub record WritesFor {S : Type 0} (byte : S → ℕ → Outcome S) (state : S) (bytes ready : List ℕ) (written written' : Option (List ℕ)) : Type 0 where
+  pub front : List ℕ
+  pub more : List ℕ
+  pub split : bytes ≡ front ++ more
+  pub goes : IsOk ((takes byte state front).result)
+  pub wrote : Appends written written' (ready ++ (takes byte state front).text)
+
+-- What was written where the command stopped at these bytes, by why it stopped.
+abbrev pub Stopped : {S : Type 0} → Stop → (S → ℕ → Outcome S) → S → List ℕ → List ℕ → Option (List ℕ) → Option (List ℕ) → ℕ → ℕ → Type 0
+Stopped SourceFault byte state bytes ready written written' faults faults' =
+    IsOk ((takes byte state bytes).result) × Appends written written' (ready ++ (takes byte state bytes).text)
+Stopped SinkFault byte state bytes ready written written' faults faults' =
+    Rose faults faults' × WritesPart written written' (ready ++ (takes byte state bytes).text)
+Stopped (Halted (Ended why)) byte state bytes ready written written' faults faults' =
+    (last : List ℕ) × ((takes byte state bytes).result ≡ Err (end_by why last)) × WritesEnd written written' faults faults' (ready ++ (takes byte state bytes).text) last
+Stopped (Halted Starved) byte state bytes ready written written' faults faults' = WritesFor byte state bytes ready written written'
+
+abbrev pub FeedsBy : {U S : Type 0} → (U → S → Type 0) → (S → ℕ → Outcome S) → S → List ℕ → U → List ℕ → List ℕ → Option (List ℕ) → Option (List ℕ) → ℕ → ℕ → Result (Unit {0}) Stop → Type 0
+FeedsBy stands byte state bytes new ready ready' written written' faults faults' (Ok _) = Fed stands byte state bytes new ready ready' written written'
+FeedsBy stands byte state bytes new ready ready' written written' faults faults' (Err stop) = Stopped stop byte state bytes ready written written' faults faults'
+
+-- The bytes did this, whatever state the object stood for.
+abbrev pub Feeds : {U S : Type 0} → (U → S → Type 0) → (S → ℕ → Outcome S) → U → List ℕ → U → List ℕ → List ℕ → Option (List ℕ) → Option (List ℕ) → ℕ → ℕ → Result (Unit {0}) Stop → Type 0
+Feeds {U} {S} stands byte old bytes new ready ready' written written' faults faults' result =
+    (state : S) → stands old state → FeedsBy stands byte state bytes new ready ready' written written' faults faults' result
+
+-- The command goes on behind these bytes, and all that is due for them was written first.
+abbrev pub WritesFirst : {S : Type 0} → (S → ℕ → Outcome S) → S → List ℕ → Option (List ℕ) → Option (List ℕ) → Type 0
+WritesFirst byte state bytes written written' =
+    IsOk ((takes byte state bytes).result) × (more : List ℕ) × Appends written written' ((takes byte state bytes).text ++ more)
+
+-- Bytes were taken from the source, of which those before the last piece did the first, and all did the second.
+pub record Took {U S : Type 0} (stands : U → S → Type 0) (byte : S → ℕ → Outcome S) (old new : U) (ready ready' : List ℕ) (left left' written written' : Option (List ℕ)) (faults faults' : ℕ) (result : Result (Unit {0}) Stop) : Type 0 where
+  pub earlier : List ℕ
+  pub piece : List ℕ
+  pub consumed : Consumes left left' (earlier ++ piece)
+  pub small : length piece ≤ 65536
+  pub first : (state : S) → stands old state → WritesFirst byte state earlier written written'
+  pub feeds : Feeds stands byte old (earlier ++ piece) new ready ready' written written' faults faults' result
+
+-- A fault comes only where the count of its object rose.
+abbrev pub CauseOf : ℕ → ℕ → ℕ → ℕ → Result (Unit {0}) Stop → Type 0
+CauseOf reads reads' writes writes' (Err SourceFault) = Rose reads reads'
+CauseOf reads reads' writes writes' (Err SinkFault) = Rose writes writes'
+CauseOf reads reads' writes writes' other = Unit {0}
+
+-- ---- the end of the input
+
+-- What was written at the end of the input, by why the command stopped there.
+abbrev pub EndsBy : {U T : Type 0} → (U → T → Type 0) → Outcome T → U → Option (List ℕ) → Option (List ℕ) → ℕ → ℕ → Result (Unit {0}) Stop → Type 0
+EndsBy {U} {T} stands due new written written' faults faults' (Ok _) = (later : T) × (due.result ≡ Ok later) × stands new later × Appends written written' due.text
+EndsBy {U} {T} stands due new written written' faults faults' (Err SourceFault) = ⊥
+EndsBy {U} {T} stands due new written written' faults faults' (Err SinkFault) = WritesPart written written' due.text
+EndsBy {U} {T} stands due new written written' faults faults' (Err (Halted (Ended why))) =
+    (last : List ℕ) × (due.result ≡ Err (end_by why last)) × WritesEnd written written' faults faults' due.text last
+EndsBy {U} {T} stands due new written written' faults faults' (Err (Halted Starved)) = Appends written written' []
+
+-- ---- the whole input
+
+-- What is known of a command that took these bytes, by why it stopped: all that is due for them was written, and at the end of the input
+-- also what is due then. Where it ended by what its input says, that stands in these bytes, or in their end.
+abbrev pub DroveBy : {U S T : Type 0} → (U → T → Type 0) → (S → ℕ → Outcome S) → (S → Outcome T) → S → List ℕ → U → Option (List ℕ) → Option (List ℕ) → Option (List ℕ) → ℕ → ℕ → Result (Unit {0}) Stop → Type 0
+DroveBy {U} {S} {T} stands byte ends state taken new left' written written' faults faults' (Ok _) =
+    IsAtEnd left' × EndsBy stands (then_due (takes byte state taken) ends) new written written' faults faults' (Ok tt)
+DroveBy {U} {S} {T} stands byte ends state taken new left' written written' faults faults' (Err SourceFault) =
+    IsOk ((takes byte state taken).result) × Appends written written' (takes byte state taken).text
+DroveBy {U} {S} {T} stands byte ends state taken new left' written written' faults faults' (Err SinkFault) =
+    WritesPart written written' (takes byte state taken).text ⊎ (IsAtEnd left' × WritesPart written written' (then_due (takes byte state taken) ends).text)
+DroveBy {U} {S} {T} stands byte ends state taken new left' written written' faults faults' (Err (Halted (Ended why))) =
+    (((last : List ℕ) × ((takes byte state taken).result ≡ Err (end_by why last))) ⊎ IsAtEnd left')
+    × EndsBy stands (then_due (takes byte state taken) ends) new written written' faults faults' (Err (Halted (Ended why)))
+DroveBy {U} {S} {T} stands byte ends state taken new left' written written' faults faults' (Err (Halted Starved)) = WritesFor byte state taken [] written written'
+
+-- Bytes were taken from the source, of which those before the last piece did the first, and all did the second.
+pub record Drove {U S T : Type 0} (stands : U → T → Type 0) (byte : S → ℕ → Outcome S) (ends : S → Outcome T) (state : S) (new : U) (left left' written written' : Option (List ℕ)) (faults faults' : ℕ) (result : Result (Unit {0}) Stop) : Type 0 where
+  pub earlier : List ℕ
+  pub piece : List ℕ
+  pub consumed : Consumes left left' (earlier ++ piece)
+  pub small : length piece ≤ 65536
+  pub first : WritesFirst byte state earlier written written'
+  pub by_result : DroveBy stands byte ends state (earlier ++ piece) new left' written written' faults faults' result

@@ -1,0 +1,48 @@
+-- A whole input as its lines. The code never has a whole input in its hands: it reads pieces of any size, and puts lines together from them.
+use Rattle.std.specs.Prelude.{ℕ, ◌+◌, ◌==◌, ◌||◌, Bool, true, false, nat_lt, if◌then◌else◌, List, [], ◌∷◌, length}
+use Rattle.sfu_driver.specs.Outcome.{Outcome, goes_on, then_due}
+use Rattle.sfu_driver.specs.Scan.{Scan}
+use Rattle.sfu_driver.specs.Lines.{short_line, without_cr}
+use Rattle.sfu_driver.specs.Point.{Rule, closed, judged}
+
+-- ---- lines
+
+-- the bytes of a line before its LF, and whether it has one
+pub record Line : Type 0 where
+  pub bytes : List ℕ
+  pub ended : Bool
+
+-- the byte before the others of the first line
+abbrev pub onto_line : ℕ → List Line → List Line
+onto_line b [] = record { bytes = b ∷ []; ended = false } ∷ []
+onto_line b (line ∷ lines) = record { bytes = b ∷ line.bytes; ended = line.ended } ∷ lines
+
+-- the lines of some bytes: each ends by an LF, which the last may lack
+abbrev pub lines_of : List ℕ → List Line
+lines_of [] = []
+lines_of (b ∷ bytes) = if b == 10 then record { bytes = []; ended = true } ∷ lines_of bytes else onto_line b (lines_of bytes)
+
+-- what a line says: the CR directly before its LF is dropped
+abbrev pub said : Line → Scan
+said line = short_line line.bytes (if line.ended then without_cr line.bytes else line.bytes)
+
+-- A line is judged once its LF or its 4,201st byte is there.
+abbrev pub is_judged : Line → Bool
+is_judged line = line.ended || nat_lt 4200 (length line.bytes)
+
+-- the lines that are judged before the end of the input is seen
+abbrev pub judged_lines : List Line → List Line
+judged_lines [] = []
+judged_lines (line ∷ lines) = if is_judged line then line ∷ judged_lines lines else []
+
+-- ---- what is due
+
+-- what is due for units of which the first has this number
+abbrev pub judged_all : {S : Type 0} → Rule S → List Scan → ℕ → S → Outcome S
+judged_all rule [] number state = goes_on state
+judged_all rule (unit ∷ units) number state = then_due (judged rule state number unit) (λ later. judged_all rule units (number + 1) later)
+
+-- the same, and then what is due at the end of the input
+abbrev pub due_all : {S : Type 0} → Rule S → List Scan → ℕ → S → Outcome S
+due_all rule [] number state = closed rule state
+due_all rule (unit ∷ units) number state = then_due (judged rule state number unit) (λ later. due_all rule units (number + 1) later)

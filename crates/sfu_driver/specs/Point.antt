@@ -1,0 +1,59 @@
+-- How far a command has come in its input, and what a byte and the end of the input make of that. Own rule.
+use Rattle.std.specs.Prelude.{ℕ, ◌+◌, nat_le, if◌then◌else◌, List, [], ◌∷◌, ◌++◌}
+use Rattle.sfu_driver.specs.declared.halt.Ending.TheVariants as ending
+use Rattle.sfu_driver.specs.Outcome.{Outcome, ends_with, goes_on, takes, then_due, writes}
+use Rattle.sfu_driver.specs.Scan.{Scan, More, Whole, NoUnit}
+
+-- a state, the number of the unit that is being put together, and its bytes so far
+pub record Point (S : Type 0) : Type 0 where
+  pub state : S
+  pub number : ℕ
+  pub kept : List ℕ
+
+-- What a command makes of units: where they end, what each is due, what is due where one is outside the grammar, and what at the end.
+pub record Rule (S : Type 0) : Type 0 where
+  pub scan : ℕ → List ℕ → ℕ → Scan
+  pub scan_end : ℕ → List ℕ → Scan
+  pub step : S → ℕ → List ℕ → Outcome S
+  pub outside : ℕ → List ℕ
+  pub closing : S → List ℕ
+
+-- a unit is outside the grammar
+abbrev pub is_outside : {S : Type 0} → List ℕ → Outcome S
+is_outside text = ends_with ending.Outside text
+
+-- what is due for a unit with this number; there are at most 4,294,967,295
+abbrev pub judged : {S : Type 0} → Rule S → S → ℕ → Scan → Outcome S
+judged rule state number More = goes_on state
+judged rule state number (Whole text) = if nat_le number 4294967295 then rule.step state number text else is_outside (rule.outside number)
+judged rule state number NoUnit = is_outside (rule.outside number)
+
+-- the point behind a unit that has ended
+abbrev pub behind : {S : Type 0} → ℕ → S → Point S
+behind number state = record { state = state; number = number + 1; kept = [] }
+
+-- where the next unit begins, if this one has ended
+abbrev pub moved : {S : Type 0} → Point S → ℕ → Scan → S → Point S
+moved point b More state = record { state = state; number = point.number; kept = point.kept ++ b ∷ [] }
+moved point b other state = behind point.number state
+
+-- what is due for a unit that has ended
+abbrev pub ended : {S : Type 0} → Rule S → S → ℕ → Scan → Outcome (Point S)
+ended rule state number seen = then_due (judged rule state number seen) (λ later. goes_on (behind number later))
+
+-- what is due for a byte
+abbrev pub byte : {S : Type 0} → Rule S → Point S → ℕ → Outcome (Point S)
+byte rule point b =
+    then_due (judged rule point.state point.number (rule.scan point.number point.kept b)) (λ later. goes_on (moved point b (rule.scan point.number point.kept b) later))
+
+-- what is due at the end of the input
+abbrev pub closed : {S : Type 0} → Rule S → S → Outcome S
+closed rule state = writes (rule.closing state) state
+
+-- what is due at the end of the input, where it may be the end of a unit too
+abbrev pub ends : {S : Type 0} → Rule S → Point S → Outcome S
+ends rule point = then_due (judged rule point.state point.number (rule.scan_end point.number point.kept)) (λ later. closed rule later)
+
+-- what is due for all bytes that are still to come
+abbrev pub due : {S : Type 0} → Rule S → Point S → List ℕ → Outcome S
+due rule point bytes = then_due (takes (byte rule) point bytes) (λ later. ends rule later)

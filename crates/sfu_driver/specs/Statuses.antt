@@ -1,0 +1,96 @@
+-- What each status says, for every command that reads its input unit by unit. `whole` is what is due for all bytes of the source, its end
+-- included, and `part` what is due for bytes whose end hasn't been seen. Where a source or a sink tells nothing of its bytes, nothing is
+-- said of them.
+use Rattle.std.specs.Prelude.{◌≡◌, ◌⊎◌, ℕ, ◌≤◌, List, [], ◌++◌, length, Option, Some, None, IfSome, Result, Ok, Err}
+use Rattle.std.specs.Io.KnownBytes.{Appends, Consumes, IsAtEnd}
+use Rattle.sfu_base.specs.Faults.{Rose}
+use Rattle.sfu_driver.specs.declared.halt.Ending.{Ending}
+use Rattle.sfu_driver.specs.declared.halt.Ending.TheVariants as ending
+use Rattle.sfu_driver.specs.declared.halt.Halt.TheVariants.{Ended, Starved}
+use Rattle.sfu_driver.specs.declared.halt.Stop.{Stop}
+use Rattle.sfu_driver.specs.declared.halt.Stop.TheVariants.{SourceFault, SinkFault, Halted}
+use Rattle.sfu_driver.specs.Outcome.{End, Outcome}
+use Rattle.sfu_driver.specs.Drive.{WritesEnd, WritesFront, WritesPart, end_by}
+
+-- a text, and why the input ends the command behind it, with its last text, if it does
+pub record Due : Type 0 where
+  pub text : List ℕ
+  pub end : Option End
+
+abbrev pub end_of : {S : Type 0} → Result S End → Option End
+end_of (Ok state) = None
+end_of (Err end) = Some end
+
+-- an outcome without its state
+abbrev pub due_of : {S : Type 0} → Outcome S → Due
+due_of outcome = record { text = outcome.text; end = end_of outcome.result }
+
+-- a text before what is due
+abbrev pub text_before : List ℕ → Due → Due
+text_before text due = record { text = text ++ due.text; end = due.end }
+
+-- the last text, if there is one
+abbrev pub last_text : Option End → List ℕ
+last_text None = []
+last_text (Some end) = end.text
+
+-- all that is due
+abbrev pub full_text : Due → List ℕ
+full_text due = due.text ++ last_text due.end
+
+-- the status that says why the input ends the command
+abbrev pub status_of : Ending → ℕ
+status_of ending.Outside = 5
+status_of ending.Complaint = 8
+
+-- the status of a command
+abbrev pub status_for : Result (Unit {0}) Stop → ℕ
+status_for (Ok _) = 0
+status_for (Err SourceFault) = 3
+status_for (Err SinkFault) = 4
+status_for (Err (Halted Starved)) = 6
+status_for (Err (Halted (Ended why))) = status_of why
+
+-- Where nothing of the outside fails, the status is the one of the input, or want of memory.
+abbrev pub Completes : Option End → ℕ → Type 0
+Completes None status = (status ≡ 0) ⊎ (status ≡ 6)
+Completes (Some end) status = (status ≡ status_of end.why) ⊎ (status ≡ 6)
+
+-- The bytes that were taken end the command, or the end of the input does.
+abbrev pub Decides : (List ℕ → Due) → Ending → Option (List ℕ) → List ℕ → Type 0
+Decides part why left' taken = ((last : List ℕ) × ((part taken).end ≡ Some (end_by why last))) ⊎ IsAtEnd left'
+
+-- No more is read than is judged: the bytes before the last piece, which has at most 65,536, don't end the command, and all that is due for
+-- them was written.
+pub record IsPrompt (part : List ℕ → Due) (left left' written written' : Option (List ℕ)) : Type 0 where
+  pub earlier : List ℕ
+  pub piece : List ℕ
+  pub consumed : Consumes left left' (earlier ++ piece)
+  pub small : length piece ≤ 65536
+  pub goes : (part earlier).end ≡ None
+  pub more : List ℕ
+  pub wrote : Appends written written' ((part earlier).text ++ more)
+
+-- What a status says. The first that is met ends the command.
+pub record Statuses (whole part : List ℕ → Due) (left left' written written' : Option (List ℕ)) (reads reads' writes writes' status : ℕ) : Type 0 where
+  -- 0: the source was read to its end, and all that is due was written
+  pub done : status ≡ 0 → IfSome left (λ bytes. IsAtEnd left' × ((whole bytes).end ≡ None) × Appends written written' (whole bytes).text)
+  -- 3: the source failed; the bytes that were taken don't end the command, and what is due for them was written
+  pub source : status ≡ 3 → Rose reads reads'
+  pub judged : status ≡ 3 → IfSome left (λ bytes. (taken : List ℕ) × Consumes left left' taken × ((part taken).end ≡ None) × Appends written written' (part taken).text)
+  -- 4: the sink failed; what was written is a part of what is due before the last text of an ending, and not all of it
+  pub sink : status ≡ 4 → Rose writes writes'
+  pub unwritten : status ≡ 4 → IfSome left (λ bytes. WritesPart written written' (whole bytes).text)
+  -- 5 and 8: the input ended the command; all that is due before was written, and then the last text, or a front of it where the sink failed
+  pub ended : (why : Ending) → status ≡ status_of why → IfSome left (λ bytes. (last : List ℕ) × ((whole bytes).end ≡ Some (end_by why last))
+      × WritesEnd written written' writes writes' (whole bytes).text last)
+  -- and that stands in the bytes that were taken, whatever follows them, or in the input's end
+  pub decided : (why : Ending) → status ≡ status_of why → IfSome left (λ bytes. (taken : List ℕ) × Consumes left left' taken × Decides part why left' taken)
+  -- 6: memory was wanting; what is due for a front of the bytes that were taken was written, and they don't end the command
+  pub memory : status ≡ 6 → IfSome left (λ bytes. (front : List ℕ) × (more : List ℕ) × Consumes left left' (front ++ more) × ((part front).end ≡ None) × Appends written written' (part front).text)
+  -- whatever the status, no more was read than was judged, and a front of what is due was written
+  pub prompt : IfSome left (λ bytes. IsPrompt part left left' written written')
+  pub begun : IfSome left (λ bytes. WritesFront written written' (full_text (whole bytes)))
+  -- no other status comes but those of inputs that end the command
+  pub only : (status ≡ 0) ⊎ (status ≡ 3) ⊎ (status ≡ 4) ⊎ (status ≡ 6) ⊎ ((bytes : List ℕ) × (end : End) × ((whole bytes).end ≡ Some end) × (status ≡ status_of end.why))
+  pub complete : ¬ (Rose reads reads') → ¬ (Rose writes writes') → IfSome left (λ bytes. Completes (whole bytes).end status)

@@ -1,0 +1,168 @@
+// What goes from the source through the units to the sink.
+ghost use Rattle.std.specs.Prelude.{◌≡◌, ◌≢◌, ◌≤◌, ◌<◌, ◌+◌, [], Ok, Err, OnOk, OnErr, IfOk, take, drop, length};
+ghost use Rattle.std.specs.Io.KnownBytes.{Appends, IsAtEnd};
+ghost use Rattle.sfu_base.specs.Faults.{Rose};
+ghost use Rattle.sfu_driver.specs.Drive.{CauseOf, Drove, EndsBy, Feeds, Halts, Took, WritesPart};
+ghost use Rattle.sfu_driver.specs.Point.{Point, byte, ends};
+ghost use Rattle.sfu_driver.specs.Units.{JudgeStands, StandsAt, progress, rule_of};
+
+use crate::sink::write_all;
+use crate::{Cut, Halt, Judge, Stop, Units};
+use sfu_base::{Blob, Sink, Source};
+use std::alloc::Global;
+
+/// So many bytes are read at once at most.
+const MOST_PIECE: usize = 65_536;
+
+/// Texts of so many bytes are written at once, also where a piece of the input has more to say.
+const MOST_READY: usize = 65_536;
+
+// Writes all that is ready.
+fn flush<K: Sink>(ready: &mut Blob, sink: &mut K) -> Result<(), Stop>
+    ensures ok { OnOk result (Appends (K.written sink.old) (K.written sink.new) ready.old) }
+    ensures empty { OnOk result (ready.new ≡ []) }
+    ensures fault { OnErr result (result ≡ Err Stop.SinkFault) }
+    ensures part { OnErr result (WritesPart (K.written sink.old) (K.written sink.new) ready.old) }
+    ensures rose { OnErr result (Rose (K.faults sink.old) (K.faults sink.new)) }
+    ensures never_falls { K.faults sink.old ≤ K.faults sink.new }
+{
+    match write_all(sink, ready.bytes()) {
+        Ok(()) => {
+            ready.clear();
+            Ok(())
+        }
+        Err(_) => Err(Stop::SinkFault),
+    }
+}
+
+// Writes what was ready before the command ended, and then its last text. The sink's failing in the last text changes nothing.
+fn halt<K: Sink>(ready: &Blob, mark: usize, why: Halt, sink: &mut K) -> Stop
+    requires { mark ≤ length ready.now }
+    ensures halts { Halts result why (take mark ready.now) (drop mark ready.now) (K.written sink.old) (K.written sink.new) (K.faults sink.old) (K.faults sink.new) }
+    ensures never_falls { K.faults sink.old ≤ K.faults sink.new }
+{
+    if write_all(sink, &ready.bytes()[..mark]).is_err() {
+        return Stop::SinkFault;
+    }
+    if let Halt::Ended(_) = why {
+        let _ = write_all(sink, &ready.bytes()[mark..]);
+    }
+    Stop::Halted(why)
+}
+
+// Judges at most one unit at the front of a piece, and says how many bytes were taken.
+#[inline(always)]
+fn take_unit<C: Cut, J: Judge, K: Sink>(
+    units: &mut Units<C, J>,
+    ready: &mut Blob,
+    sink: &mut K,
+    piece: &[u8],
+) -> Result<usize, Stop>
+    requires { 0 < length piece.now }
+    ensures feeds { IfOk result (λ count. Feeds (StandsAt J.stands) (byte (rule_of C.scan C.scan_end J.step J.outside J.closing)) units.old (take count piece.now) units.new ready.old ready.new
+        (K.written sink.old) (K.written sink.new) (K.faults sink.old) (K.faults sink.new) (Ok tt)) }
+    ensures stops { (stop : Stop) → result ≡ Err stop → Feeds (StandsAt J.stands) (byte (rule_of C.scan C.scan_end J.step J.outside J.closing)) units.old piece.now units.new ready.old ready.new
+        (K.written sink.old) (K.written sink.new) (K.faults sink.old) (K.faults sink.new) (Err stop) }
+    ensures used { IfOk result (λ count. 0 < count) }
+    ensures within { IfOk result (λ count. count ≤ length piece.now) }
+    ensures progress { IfOk result (λ count. progress units.old + count ≤ progress units.new) }
+    ensures source { result ≢ Err Stop.SourceFault }
+    ensures sink { result ≡ Err Stop.SinkFault → Rose (K.faults sink.old) (K.faults sink.new) }
+    ensures never_falls { K.faults sink.old ≤ K.faults sink.new }
+{
+    let mark = ready.bytes().len();
+    let count = match units.next(piece, ready) {
+        Ok(count) => count,
+        Err(why) => return Err(halt(ready, mark, why, sink)),
+    };
+    if ready.bytes().len() >= MOST_READY {
+        flush(ready, sink)?;
+    }
+    Ok(count)
+}
+
+/// Takes a piece of the input, and writes the texts that are due for it.
+fn feed<C: Cut, J: Judge, K: Sink>(
+    units: &mut Units<C, J>,
+    ready: &mut Blob,
+    sink: &mut K,
+    piece: &[u8],
+) -> Result<(), Stop>
+    ensures feeds { Feeds (StandsAt J.stands) (byte (rule_of C.scan C.scan_end J.step J.outside J.closing)) units.old piece.now units.new ready.old ready.new
+        (K.written sink.old) (K.written sink.new) (K.faults sink.old) (K.faults sink.new) result }
+    ensures progress { OnOk result (progress units.old + length piece.now ≤ progress units.new) }
+    ensures written { OnOk result (ready.new ≡ []) }
+    ensures source { result ≢ Err Stop.SourceFault }
+    ensures sink { result ≡ Err Stop.SinkFault → Rose (K.faults sink.old) (K.faults sink.new) }
+    ensures never_falls { K.faults sink.old ≤ K.faults sink.new }
+{
+    let mut rest = piece;
+    while !rest.is_empty() {
+        let count = take_unit(units, ready, sink, rest)?;
+        rest = &rest[count..];
+    }
+    flush(ready, sink)
+}
+
+// Takes all bytes of the source, piece by piece.
+fn take_all<C: Cut, J: Judge, S: Source, K: Sink>(
+    units: &mut Units<C, J>,
+    ready: &mut Blob,
+    source: &mut S,
+    sink: &mut K,
+) -> Result<(), Stop>
+    requires { ready.old ≡ [] }
+    ensures took { Took (StandsAt J.stands) (byte (rule_of C.scan C.scan_end J.step J.outside J.closing)) units.old units.new ready.old ready.new (S.left source.old) (S.left source.new)
+        (K.written sink.old) (K.written sink.new) (K.faults sink.old) (K.faults sink.new) result }
+    ensures end { OnOk result (IsAtEnd (S.left source.new)) }
+    ensures written { OnOk result (ready.new ≡ []) }
+    ensures cause { CauseOf (S.faults source.old) (S.faults source.new) (K.faults sink.old) (K.faults sink.new) result }
+    ensures never_falls { K.faults sink.old ≤ K.faults sink.new }
+{
+    let mut piece = [0u8; MOST_PIECE];
+    loop {
+        let Ok(count) = source.read(&mut piece) else {
+            return Err(Stop::SourceFault);
+        };
+        if count == 0 {
+            return Ok(());
+        }
+        feed(units, ready, sink, &piece[..count])?;
+    }
+}
+
+// Takes the end of the input, and writes the texts that are due.
+fn finish<C: Cut, J: Judge, K: Sink>(
+    units: &mut Units<C, J>,
+    ready: &mut Blob,
+    sink: &mut K,
+) -> Result<(), Stop>
+    requires { ready.old ≡ [] }
+    ensures ends { (point : Point J.State) → StandsAt J.stands units.old point
+        → EndsBy (JudgeStands J.stands) (ends (rule_of C.scan C.scan_end J.step J.outside J.closing) point) units.new (K.written sink.old) (K.written sink.new) (K.faults sink.old) (K.faults sink.new) result }
+    ensures cause { CauseOf 0 0 (K.faults sink.old) (K.faults sink.new) result }
+    ensures never_falls { K.faults sink.old ≤ K.faults sink.new }
+{
+    match units.finish(ready) {
+        Ok(()) => flush(ready, sink),
+        Err(why) => Err(halt(ready, 0, why, sink)),
+    }
+}
+
+/// Takes the whole input of a command, and writes what is due.
+pub fn drive<C: Cut, J: Judge, S: Source, K: Sink>(
+    alloc: Global,
+    units: &mut Units<C, J>,
+    source: &mut S,
+    sink: &mut K,
+) -> Result<(), Stop>
+    ensures drove { (point : Point J.State) → StandsAt J.stands units.old point
+        → Drove (JudgeStands J.stands) (byte (rule_of C.scan C.scan_end J.step J.outside J.closing)) (ends (rule_of C.scan C.scan_end J.step J.outside J.closing)) point units.new
+        (S.left source.old) (S.left source.new) (K.written sink.old) (K.written sink.new) (K.faults sink.old) (K.faults sink.new) result }
+    ensures cause { CauseOf (S.faults source.old) (S.faults source.new) (K.faults sink.old) (K.faults sink.new) result }
+    ensures never_falls { K.faults sink.old ≤ K.faults sink.new }
+{
+    let mut ready = Blob::new(alloc);
+    take_all(units, &mut ready, source, sink)?;
+    finish(units, &mut ready, sink)
+}

@@ -1,0 +1,42 @@
+// Why a command ends.
+ghost use Rattle.std.specs.Prelude.{◌≡◌};
+ghost use Rattle.sfu_driver.specs.declared.halt.Halt.TheVariants.{Starved};
+
+use sfu_base::NoMemory;
+
+/// Why a command ends by what its input says.
+#[derive(Clone, Copy, Debug, PartialEq, Eq)]
+pub enum Ending {
+    /// A unit is outside the grammar.
+    Outside,
+    /// The strict receiver complains.
+    Complaint,
+}
+
+/// Why a unit lets a command end.
+#[derive(Clone, Copy, Debug, PartialEq, Eq)]
+pub enum Halt {
+    /// By what the input says.
+    Ended(Ending),
+    /// For want of memory.
+    Starved,
+}
+
+impl From<NoMemory> for Halt {
+    ghost from_gives = { λ _ halt. halt ≡ Starved };
+
+    fn from(_: NoMemory) -> Halt {
+        Halt::Starved
+    }
+}
+
+/// Why a command ends before it has done all that its input says.
+#[derive(Clone, Copy, Debug, PartialEq, Eq)]
+pub enum Stop {
+    /// The source failed.
+    SourceFault,
+    /// The sink failed before all texts but the last were written.
+    SinkFault,
+    /// A unit, or the end of the input, let it end.
+    Halted(Halt),
+}

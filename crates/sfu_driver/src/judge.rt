@@ -1,0 +1,40 @@
+// What a command makes of the units of its input.
+ghost use Rattle.std.specs.Prelude.{◌≡◌, ◌≤◌, ◌++◌, length, ℕ, List, OnOk, OnErr};
+ghost use Rattle.sfu_driver.specs.Outcome.{Outcome};
+ghost use Rattle.sfu_driver.specs.Drive.{Judges};
+
+use crate::Halt;
+use sfu_base::{Blob, NoMemory};
+
+/// Judges units one after another, each with its number. Each text goes behind those that are ready; nothing is written here.
+pub trait Judge {
+    /// What the judge can stand for.
+    ghost State: { Type 0 };
+
+    /// It stands for this state.
+    ghost stands: { Self → Self.State → Type 0 };
+
+    /// What is due for the unit with this number.
+    ghost step: { Self.State → ℕ → List ℕ → Outcome Self.State };
+
+    /// The last text where the unit with this number is outside the grammar of units.
+    ghost outside: { ℕ → List ℕ };
+
+    /// The text that is due at the end of the input.
+    ghost closing: { Self.State → List ℕ };
+
+    /// Judges the unit with this number. Where the command ends here, its last text alone was made ready; after want of memory none was.
+    fn judge(&mut self, number: u32, unit: &[u8], ready: &mut Blob) -> Result<(), Halt>
+        ensures judges { (state : Self.State) → Self.stands self.old state → Judges Self.stands (Self.step state number unit.now) self.new ready.old ready.new result }
+        ensures grows { length ready.old ≤ length ready.new };
+
+    /// Gets the last text ready where a unit is outside the grammar of units.
+    fn refuse(&self, number: u64, ready: &mut Blob) -> Result<(), NoMemory>
+        ensures ok { OnOk result (ready.new ≡ ready.old ++ Self.outside number) }
+        ensures err { OnErr result (ready.new ≡ ready.old) };
+
+    /// Gets the text ready that is due at the end of the input.
+    fn close(&mut self, ready: &mut Blob) -> Result<(), NoMemory>
+        ensures ok { OnOk result ((state : Self.State) → Self.stands self.old state → Self.stands self.new state × (ready.new ≡ ready.old ++ Self.closing state)) }
+        ensures err { OnErr result (ready.new ≡ ready.old) };
+}

@@ -1,0 +1,21 @@
+// Laws of input as a whole, each the contract of a function that does nothing.
+ghost use Rattle.std.specs.Prelude.{◌≡◌, ℕ, List, [], map};
+ghost use Rattle.sfu_driver.specs.Outcome.{takes};
+ghost use Rattle.sfu_driver.specs.Lines.{line_scan, line_scan_end};
+ghost use Rattle.sfu_driver.specs.Point.{byte, due};
+ghost use Rattle.sfu_driver.specs.Units.{rule_of};
+ghost use Rattle.sfu_driver.specs.Input.{due_all, judged_all, judged_lines, lines_of, said};
+ghost use Rattle.sfu_driver.specs.Statuses.{due_of};
+
+use crate::Judge;
+
+/// What is due for all bytes of an input, one after another, is what is due for its lines. What is due for bytes whose end hasn't been seen
+/// is what is due for the lines that are judged by then.
+pub fn bytes_make_lines<J: Judge>()
+    ensures whole { (state : J.State) (number : ℕ) (bytes : List ℕ)
+        → due (rule_of line_scan line_scan_end J.step J.outside J.closing) (record { state = state; number = number; kept = [] }) bytes
+        ≡ due_all (rule_of line_scan line_scan_end J.step J.outside J.closing) (map said (lines_of bytes)) number state }
+    ensures part { (state : J.State) (number : ℕ) (bytes : List ℕ)
+        → due_of (takes (byte (rule_of line_scan line_scan_end J.step J.outside J.closing)) (record { state = state; number = number; kept = [] }) bytes)
+        ≡ due_of (judged_all (rule_of line_scan line_scan_end J.step J.outside J.closing) (map said (judged_lines (lines_of bytes))) number state) }
+{}

@@ -1,0 +1,25 @@
+//! One way through the input of every command that reads: it is cut into units, each unit is judged, and the texts that are due are written.
+#![tactic(auto)]
+
+mod conclusion;
+mod cut;
+mod driver;
+mod halt;
+mod judge;
+mod laws;
+mod lines;
+mod sink;
+#[cfg(test)]
+mod tests;
+mod unit_buf;
+mod units;
+
+pub use conclusion::{answer, status};
+pub use cut::{Cut, Found, Last, MOST_UNIT};
+pub use driver::drive;
+pub use halt::{Ending, Halt, Stop};
+pub use judge::Judge;
+pub use laws::bytes_make_lines;
+pub use lines::Lines;
+pub use sink::write_all;
+pub use units::Units;

@@ -1,0 +1,78 @@
+// The unit that is being put together.
+ghost use Rattle.std.specs.Prelude.{◌≡◌, ◌+◌, ◌==◌, ◌≤◌, ◌++◌, [], length};
+
+use std::marker::Model;
+
+/// How many bytes there is room for: the longest unit, and the byte that ends it.
+pub const ROOM: usize = 4201;
+
+/// Up to 4,201 bytes, seen as their list.
+#[derive(Debug, Drop)]
+pub struct UnitBuf {
+    room: [u8; ROOM],
+    count: usize,
+}
+
+impl Model for UnitBuf {
+    ghost use Rattle.std.specs.Prelude.{List, ℕ, take, ◌≤◌};
+    ghost use Rattle.sfu_driver.specs.declared.unit_buf.TheConstants.{ROOM};
+
+    ghost Value = { List ℕ };
+
+    ghost view = { λ unit. take unit.count unit.room };
+
+    ghost invariant = { λ unit. unit.count ≤ ROOM };
+}
+
+impl UnitBuf {
+    /// No bytes.
+    pub fn new() -> UnitBuf
+        ensures { result ≡ [] }
+    {
+        UnitBuf {
+            room: [0; ROOM],
+            count: 0,
+        }
+    }
+
+    /// Takes all bytes out.
+    pub fn clear(&mut self)
+        ensures { self.new ≡ [] }
+    {
+        self.count = 0;
+    }
+
+    /// How many bytes there are.
+    pub fn len(&self) -> usize
+        ensures len { result ≡ length self.now }
+        ensures bounded { length self.now ≤ ROOM }
+    {
+        self.count
+    }
+
+    /// Whether there are none.
+    pub fn is_empty(&self) -> bool
+        ensures { result ≡ (length self.now == 0) }
+    {
+        self.count == 0
+    }
+
+    /// These bytes come behind the others.
+    pub fn append(&mut self, bytes: &[u8])
+        requires { length self.old + length bytes.now ≤ ROOM }
+        ensures { self.new ≡ self.old ++ bytes.now }
+    {
+        let count = self.count;
+        let end = count + bytes.len();
+        self.room[count..end].copy_from_slice(bytes);
+        self.count = end;
+    }
+
+    /// The bytes, in order.
+    pub fn bytes(&self) -> &[u8]
+        ensures bytes { result.now ≡ self.now }
+        ensures bounded { length self.now ≤ ROOM }
+    {
+        &self.room[..self.count]
+    }
+}

@@ -1,0 +1,178 @@
+// Units that are put together from pieces of any size, and judged one after another.
+ghost use Rattle.std.specs.Prelude.{◌≤◌, ◌+◌, length};
+ghost use Rattle.sfu_driver.specs.declared.cut.TheConstants.{MOST_UNIT};
+ghost use Rattle.sfu_driver.specs.declared.units.TheConstants.{MOST_UNITS};
+
+use crate::unit_buf::{ROOM, UnitBuf};
+use crate::{Cut, Ending, Found, Halt, Judge, Last, MOST_UNIT};
+use sfu_base::{Blob, NoMemory};
+
+/// The greatest number of a unit.
+const MOST_UNITS: u64 = 4_294_967_295;
+
+/// The input of a command so far: how it is cut, what judges its units, the number of the unit that is being put together, and its bytes.
+#[derive(Debug, Drop)]
+pub struct Units<C, J> {
+    pub cut: C,
+    pub judge: J,
+    pub number: u64,
+    pub kept: UnitBuf,
+    ghost bounded: { number ≤ MOST_UNITS + 1 },
+    ghost short: { length kept ≤ MOST_UNIT },
+}
+
+impl<C: Cut, J: Judge> Units<C, J> {
+    ghost use Rattle.std.specs.Prelude.{◌≡◌, ◌<◌, ◌++◌, [], Err, IfOk, OnOk};
+    ghost use Rattle.sfu_driver.specs.Drive.{Judges, Nexts};
+    ghost use Rattle.sfu_driver.specs.Point.{Point, byte, ended, ends, is_outside, judged};
+    ghost use Rattle.sfu_driver.specs.Scan.{Whole, between};
+    ghost use Rattle.sfu_driver.specs.Units.{JudgeStands, StandsAt, progress, rule_of};
+
+    /// Input of which nothing was read, where the first unit has this number.
+    pub fn new(cut: C, judge: J, number: u64) -> Self
+        requires { number ≤ 1 }
+        ensures judge { result.judge ≡ judge }
+        ensures number { result.number ≡ number }
+        ensures kept { result.kept ≡ [] }
+    {
+        Units {
+            cut,
+            judge,
+            number,
+            kept: UnitBuf::new(),
+        }
+    }
+
+    // Says that the unit is outside the grammar.
+    fn refuse(&self, ready: &mut Blob) -> Halt
+        ensures judges { (state : J.State) → Judges J.stands (is_outside {S = J.State} (J.outside self.now.number)) self.now.judge ready.old ready.new (Err result) }
+        ensures grows { length ready.old ≤ length ready.new }
+    {
+        match self.judge.refuse(self.number, ready) {
+            Ok(()) => Halt::Ended(Ending::Outside),
+            Err(NoMemory) => Halt::Starved,
+        }
+    }
+
+    // The next unit begins.
+    #[inline(always)]
+    fn begin(&mut self)
+        requires { self.old.number ≤ MOST_UNITS }
+        ensures judge { self.new.judge ≡ self.old.judge }
+        ensures number { self.new.number ≡ self.old.number + 1 }
+        ensures kept { self.new.kept ≡ [] }
+    {
+        self.number += 1;
+        self.kept.clear();
+    }
+
+    // Judges the unit of the bytes that were kept and of those that came, which says the bytes between two places.
+    #[inline(always)]
+    fn judge_between(
+        &mut self,
+        came: &[u8],
+        start: usize,
+        end: usize,
+        ready: &mut Blob,
+    ) -> Result<(), Halt>
+        requires numbered { self.old.number ≤ MOST_UNITS }
+        requires fits { length self.old.kept + length came.now ≤ ROOM }
+        requires order { start ≤ end }
+        requires within { end ≤ length self.old.kept + length came.now }
+        ensures judges { (state : J.State) → J.stands self.old.judge state
+            → Judges J.stands (J.step state self.old.number (between start end (self.old.kept ++ came.now))) self.new.judge ready.old ready.new result }
+        ensures number { self.new.number ≡ self.old.number }
+        ensures grows { length ready.old ≤ length ready.new }
+    {
+        let number = self.number as u32;
+        if self.kept.is_empty() {
+            return self.judge.judge(number, &came[start..end], ready);
+        }
+        self.kept.append(came);
+        let result = self
+            .judge
+            .judge(number, &self.kept.bytes()[start..end], ready);
+        self.kept.clear();
+        result
+    }
+
+    // Judges a unit that has ended.
+    #[inline(always)]
+    fn end_unit(
+        &mut self,
+        came: &[u8],
+        start: usize,
+        end: usize,
+        ready: &mut Blob,
+    ) -> Result<(), Halt>
+        requires fits { length self.old.kept + length came.now ≤ ROOM }
+        requires order { start ≤ end }
+        requires within { end ≤ length self.old.kept + length came.now }
+        ensures judges { (state : J.State) → J.stands self.old.judge state
+            → Judges (StandsAt J.stands) (ended (rule_of C.scan C.scan_end J.step J.outside J.closing) state self.old.number
+            (Whole (between start end (self.old.kept ++ came.now)))) self.new ready.old ready.new result }
+        ensures progress { OnOk result (progress self.old + length came.now ≤ progress self.new) }
+        ensures grows { length ready.old ≤ length ready.new }
+    {
+        if self.number > MOST_UNITS {
+            return Err(self.refuse(ready));
+        }
+        self.judge_between(came, start, end, ready)?;
+        self.begin();
+        Ok(())
+    }
+
+    /// Takes bytes from the front of a piece, until a unit ends or the piece does, and judges the unit. Answers how many they are.
+    #[inline(always)]
+    pub fn next(&mut self, piece: &[u8], ready: &mut Blob) -> Result<usize, Halt>
+        requires { 0 < length piece.now }
+        ensures nexts { (point : Point J.State) → StandsAt J.stands self.old point
+            → Nexts (StandsAt J.stands) (byte (rule_of C.scan C.scan_end J.step J.outside J.closing)) point piece.now self.new ready.old ready.new result }
+        ensures used { IfOk result (λ count. 0 < count) }
+        ensures within { IfOk result (λ count. count ≤ length piece.now) }
+        ensures progress { IfOk result (λ count. progress self.old + count ≤ progress self.new) }
+        ensures grows { length ready.old ≤ length ready.new }
+    {
+        match self.cut.find(self.number, self.kept.bytes(), piece) {
+            Found::More => {
+                self.kept.append(piece);
+                Ok(piece.len())
+            }
+            Found::Whole { count, start, end } => {
+                self.end_unit(&piece[..count], start, end, ready)?;
+                Ok(count)
+            }
+            Found::Outside { .. } => Err(self.refuse(ready)),
+        }
+    }
+
+    // Judges the bytes that are left at the end of the input.
+    fn finish_unit(&mut self, ready: &mut Blob) -> Result<(), Halt>
+        ensures judges { (point : Point J.State) → StandsAt J.stands self.old point
+            → Judges J.stands (judged (rule_of C.scan C.scan_end J.step J.outside J.closing) point.state point.number (C.scan_end point.number point.kept)) self.new.judge ready.old ready.new result }
+        ensures grows { length ready.old ≤ length ready.new }
+    {
+        match self.cut.find_last(self.number, self.kept.bytes()) {
+            Last::Nothing => Ok(()),
+            Last::Whole { start } => {
+                let end = self.kept.len();
+                self.end_unit(&[], start, end, ready)
+            }
+            Last::Outside => Err(self.refuse(ready)),
+        }
+    }
+
+    /// Takes the end of the input.
+    pub fn finish(&mut self, ready: &mut Blob) -> Result<(), Halt>
+        ensures judges { (point : Point J.State) → StandsAt J.stands self.old point
+            → Judges (JudgeStands J.stands) (ends (rule_of C.scan C.scan_end J.step J.outside J.closing) point) self.new ready.old ready.new result }
+    {
+        let start = ready.bytes().len();
+        self.finish_unit(ready)?;
+        if let Err(NoMemory) = self.judge.close(ready) {
+            ready.truncate(start);
+            return Err(Halt::Starved);
+        }
+        Ok(())
+    }
+}
