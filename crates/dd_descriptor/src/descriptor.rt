@@ -14,7 +14,7 @@ pub struct Custom {
 
 /// What the dependency descriptor of a packet says. Of the arrays only the first places count: as many as the structure that holds has
 /// decode targets and chains, and `ref_count`.
-#[derive(Drop)]
+#[derive(Debug, Drop)]
 pub struct Descriptor {
     /// Whether the packet is the first of its frame.
     pub start: bool,
