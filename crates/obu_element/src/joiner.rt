@@ -4,9 +4,11 @@ ghost use Rattle.std.specs.Prelude.{◌≡◌, ◌≢◌, ◌↔◌, ◌++◌, �
 ghost use Rattle.obu_element.specs.Joins.{AreJoined, Flags, IsAfter, Join};
 
 use std::marker::Model;
+use thiserror::Error;
 
 /// Why a packet doesn't go on where the one before ended: one of the two flags is set, and the other isn't.
-#[derive(Clone, Copy, Debug, PartialEq, Eq)]
+#[derive(Clone, Copy, Debug, PartialEq, Eq, Error)]
+#[error("the packet's Z is {continues}, and the former Y {carried}")]
 pub struct JoinFault {
     /// Y of the packet before, or false before the first: its last element goes on.
     pub carried: bool,
@@ -64,5 +66,15 @@ impl Joiner {
         ensures packets { (packets : List Flags) → IsAfter self.now packets → (result ≡ true) ↔ Join packets }
     {
         !self.carries
+    }
+}
+
+impl Default for Joiner {
+    ghost use Rattle.std.specs.Prelude.{◌≡◌, false};
+
+    ghost is_default = { λ joiner. joiner ≡ false };
+
+    fn default() -> Joiner {
+        Joiner::new()
     }
 }

@@ -4,6 +4,8 @@ ghost use Rattle.std.specs.Prelude.{◌≡◌, IfErr, IfOk, None, Some};
 ghost use Rattle.obu_element.specs.Header.{BeginsWith};
 ghost use Rattle.obu_element.specs.Reading.{first_fault, header_of};
 
+use thiserror::Error;
+
 /// What the header of an OBU says (AV1 Bitstream Specification, sections 5.3.2 and 5.3.3).
 #[derive(Clone, Copy, Debug, PartialEq, Eq)]
 pub struct ObuHeader {
@@ -21,13 +23,16 @@ pub struct ObuHeader {
 }
 
 /// Why bytes begin with no OBU header.
-#[derive(Clone, Copy, Debug, PartialEq, Eq)]
+#[derive(Clone, Copy, Debug, PartialEq, Eq, Error)]
 pub enum ObuFault {
     /// There is no byte.
+    #[error("there is no byte")]
     Empty,
     /// obu_forbidden_bit, the first bit, is 1.
+    #[error("obu_forbidden_bit is 1")]
     Forbidden,
     /// The extension byte is missing.
+    #[error("the extension byte is missing")]
     Cut,
 }
 

@@ -2,6 +2,7 @@
 
 use crate::{JoinFault, Joiner, ObuFault, ObuHeader, header};
 use std::process::Abort;
+use std::test::Fail;
 
 const fn obu(kind: u8, temporal: u8, spatial: u8, has_size: bool, len: u8) -> ObuHeader {
     ObuHeader {
@@ -79,4 +80,19 @@ fn packets_join_where_z_is_the_former_y(rt: HostRuntime) {
     for (packets, wanted, closed) in rows {
         assert_eq!(rt; fed(packets), (wanted, closed));
     }
+}
+
+#[test]
+fn two_packets_carry_one_frame_header(rt: HostRuntime) -> Result<(), Fail> {
+    let mut joiner = Joiner::new();
+    joiner.feed(false, true)?;
+    assert!(rt; !joiner.is_closed());
+    joiner.feed(true, false)?;
+    assert!(rt; joiner.is_closed());
+    let read = header(&[0x34, 0x75])?;
+    assert_eq!(rt;
+        (read.kind, read.temporal, read.spatial, read.len),
+        (6, 3, 2, 2)
+    );
+    Ok(())
 }

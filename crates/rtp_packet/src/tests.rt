@@ -140,3 +140,22 @@ fn the_timestamp_is_rewritten(rt: HostRuntime) -> Result<(), Fail> {
     assert_eq!(rt; packet.bytes(), wanted.as_slice());
     Ok(())
 }
+
+#[test]
+fn a_packet_is_read_and_goes_out(rt: HostRuntime) -> Result<(), Fail> {
+    let mut packet = PacketBuf::new();
+    packet.fill(&[0x80, 0xE0, 0, 7, 0, 0, 0, 9, 0, 0, 0, 1, 0xAA]);
+    let parts = read(packet.bytes())?;
+    assert_eq!(rt;
+        (parts.marker, parts.seq, parts.timestamp, parts.ssrc),
+        (true, 7, 9, 1)
+    );
+    assert_eq!(rt; parts.payload, [0xAA].as_slice());
+    rewrite(&mut packet, 8, 2, false);
+    restamp(&mut packet, 90_000);
+    assert_eq!(rt;
+        packet.bytes(),
+        [0x80, 0x60, 0, 8, 0, 1, 0x5F, 0x90, 0, 0, 0, 2, 0xAA].as_slice()
+    );
+    Ok(())
+}
