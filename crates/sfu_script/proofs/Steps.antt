@@ -9,7 +9,7 @@ use Rattle.sfu_script.proofs.Filled.{number_found, number_again, ssrc_found, ssr
 pair_is : {X : Type 0} (x : X) (rest : List ℕ) (p : X × List ℕ) → Some (x, rest) ≡ Some p → (x, rest) ≡ p
 pair_is x rest p e = cc
 
-field_found : {X : Type 0} (read : List ℕ → Option X) (text : List ℕ) (p : X × List ℕ) → field read text ≡ Some p
+pub field_found : {X : Type 0} (read : List ℕ → Option X) (text : List ℕ) (p : X × List ℕ) → field read text ≡ Some p
     → (word : List ℕ) × (read word ≡ Some p.0) × (text ≡ word ++ 32 ∷ p.1)
 field_found {X = X} read text p e =
     let a = bind_some (cut text) (λ parts. read parts.0 >>= (λ value. Some (value, parts.1))) p e in
@@ -17,7 +17,7 @@ field_found {X = X} read text p e =
     let q = pair_is b.0 (a.0).1 p b.2 in
     ((a.0).0, b.1 ∙ ap (λ (r : X × List ℕ). Some r.0) q, cut_found text a.0 a.1 ∙ ap (λ (r : X × List ℕ). (a.0).0 ++ 32 ∷ r.1) q)
 
-field_again : {X : Type 0} (read : List ℕ → Option X) (word rest text : List ℕ) (x : X) → no_space word ≡ true → read word ≡ Some x
+pub field_again : {X : Type 0} (read : List ℕ → Option X) (word rest text : List ℕ) (x : X) → no_space word ≡ true → read word ≡ Some x
     → text ≡ word ++ 32 ∷ rest → field read text ≡ Some (x, rest)
 field_again read word rest text x h e is = ap (field read) is ∙ rw (cut_again word rest h, e) refl
 

@@ -1,5 +1,6 @@
 -- What is written for a call is a line that says it.
 use Rattle.std.proofs.Common.{◌≡◌, ◌<◌, ℕ, zero, suc, ◌^◌, ◌/◌, ◌%◌, List, [], ◌∷◌, refl, Some, arith}
+use Rattle.std.proofs.lemmas.List.{append-nil}
 use Rattle.std.specs.Int.{to_be_bytes, w32}
 use Rattle.hex.specs.Hex.{IsBytes}
 use Rattle.hex.proofs.HexLemmas.{decode_of-encode_lower}
@@ -25,10 +26,10 @@ word_fills (Number bits n) h = (h, refl)
 word_fills (Ssrc ssrc) h = (h, decode_of-encode_lower (to_be_bytes w32 ssrc) (ssrc_bytes ssrc h))
 word_fills (Hex bytes) h = (h.0, h.1, decode_of-encode_lower bytes h.2)
 
-pub text_spells : (places : List Place) → AllWithin places → Spells places (text_of places)
+pub text_spells : (all : List Place) → AllWithin all → Spells all (text_of all)
 text_spells [] h = refl
-text_spells (place ∷ []) h = word_fills place h.0
-text_spells (place ∷ next ∷ places) h = (word_of place, text_of (next ∷ places), word_fills place h.0, text_spells (next ∷ places) h.1, refl)
+text_spells (place ∷ []) h = rw append-nil (word_fills place h.0)
+text_spells (place ∷ next ∷ others) h = (word_of place, text_of (next ∷ others), word_fills place h.0, text_spells (next ∷ others) h.1, refl)
 
 pub read_back : (call : Call) → HasLine call → call_of (line_of call) ≡ Some call
 read_back call h = call_again call (line_of call) (text_spells (places call) h)

@@ -2,6 +2,7 @@
 -- The code cuts a line at each space in turn and reads the words one by one.
 use Rattle.std.specs.Prelude.{◌≡◌, ℕ, ◌^◌, ◌<◌, ◌≤◌, List, [], ◌∷◌, ◌++◌, length, Ok, decimal}
 use Rattle.std.specs.Int.{to_be_bytes, w32}
+use Rattle.std.specs.List.{flat_map}
 use Rattle.hex.specs.Hex.{decode_of, encode_lower, IsBytes}
 
 -- a place in a line, with what stands there
@@ -47,8 +48,7 @@ word_of (Hex bytes) = encode_lower bytes
 -- the text as it is written
 abbrev pub text_of : List Place → List ℕ
 text_of [] = []
-text_of (place ∷ []) = word_of place
-text_of (place ∷ next ∷ places) = word_of place ++ 32 ∷ text_of (next ∷ places)
+text_of (place ∷ places) = word_of place ++ flat_map (λ next. 32 ∷ word_of next) places
 
 -- every value is one that its place can say
 abbrev pub AllWithin : List Place → Type 0

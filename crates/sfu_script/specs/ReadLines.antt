@@ -1,20 +1,51 @@
 -- The call that a line says, as a function: what whole scripts are computed with.
-use Rattle.std.specs.Prelude.{ℕ, if◌then◌else◌, List, Option, Some, None, codes}
+use Rattle.std.specs.Prelude.{ℕ, if◌then◌else◌, List, [], ◌∷◌, Option, Some, None, codes}
+use Rattle.std.specs.Option.{option_map_or}
 use Rattle.std.specs.Str.{bytes_eq}
 use Rattle.sfu_base.specs.declared.call.Call.{Call}
-use Rattle.sfu_base.specs.declared.call.Call.TheVariants.{Publish, Packet, Join, Take}
-use Rattle.sfu_base.specs.declared.call.Kind.TheVariants.{Plain}
-use Rattle.sfu_script.specs.Reading.{◌>>=◌, cut, field, number_of, ssrc_of, bytes_of}
+use Rattle.sfu_base.specs.declared.call.Call.TheVariants.{Publish, Unpublish, Packet, Tick, Join, Leave, Aim, Take, Resend, Missing, KeyWanted, Plead, Why}
+use Rattle.sfu_base.specs.declared.call.Kind.TheVariants.{Plain, Layered}
+use Rattle.sfu_script.specs.Reading.{◌>>=◌, cut, field, number_of, bytes_of}
+use Rattle.sfu_script.specs.Commands.{track_command_of, subscriber_command_of}
+use Rattle.sfu_script.specs.Fields.{fields_of}
+use Rattle.sfu_script.specs.declared.commands.TrackCommand.{TrackCommand}
+use Rattle.sfu_script.specs.declared.commands.TrackCommand.TheVariants as of_track
+use Rattle.sfu_script.specs.declared.commands.SubscriberCommand.{SubscriberCommand}
+use Rattle.sfu_script.specs.declared.commands.SubscriberCommand.TheVariants as of_subscriber
+use Rattle.sfu_script.specs.declared.fields.Field.TheVariants.{Number8, Number16, Number32, Number64, Ssrc}
+
+-- ---- a call of one, two, three or six numbers
+
+abbrev pub of_one : (ℕ → Call) → List ℕ → Option Call
+of_one call (a ∷ []) = Some (call a)
+of_one call numbers = None
+
+abbrev pub of_two : (ℕ → ℕ → Call) → List ℕ → Option Call
+of_two call (a ∷ b ∷ []) = Some (call a b)
+of_two call numbers = None
+
+abbrev pub of_three : (ℕ → ℕ → ℕ → Call) → List ℕ → Option Call
+of_three call (a ∷ b ∷ c ∷ []) = Some (call a b c)
+of_three call numbers = None
+
+abbrev pub of_six : (ℕ → ℕ → ℕ → ℕ → ℕ → ℕ → Call) → List ℕ → Option Call
+of_six call (a ∷ b ∷ c ∷ d ∷ e ∷ f ∷ []) = Some (call a b c d e f)
+of_six call numbers = None
+
+-- ---- what stands behind the first word
 
 -- behind `publish`: the track, and then by the word of its kind
-unfoldable pub plain_of : ℕ → List ℕ → Option Call
-plain_of track rest = do
-  ssrc ← field ssrc_of rest
-  hold ← number_of 32 ssrc.1
-  Some (Publish track Plain ssrc.0 hold)
+abbrev pub plain_of : ℕ → List ℕ → Option Call
+plain_of track rest = fields_of (Ssrc ∷ Number32 ∷ []) rest >>= of_two (λ ssrc hold. Publish track Plain ssrc hold)
+
+abbrev pub layered_of : ℕ → List ℕ → Option Call
+layered_of track rest = fields_of (Ssrc ∷ Number32 ∷ Number8 ∷ []) rest >>= of_three (λ ssrc hold id. Publish track (Layered id) ssrc hold)
 
 abbrev pub kind_of : ℕ → List ℕ → List ℕ → Option Call
-kind_of track word rest = if bytes_eq word (codes "plain") then plain_of track rest else None
+kind_of track word rest =
+    if bytes_eq word (codes "plain") then plain_of track rest
+    else if bytes_eq word (codes "layered") then layered_of track rest
+    else None
 
 unfoldable pub publish_of : List ℕ → Option Call
 publish_of rest = do
@@ -35,31 +66,33 @@ packet_of rest = do
   bytes ← bytes_of head.2
   Some (Packet head.0 head.1 bytes)
 
--- behind `join`
-unfoldable pub join_of : List ℕ → Option Call
-join_of rest = do
-  subscriber ← field (number_of 32) rest
-  track ← field (number_of 32) subscriber.1
-  ssrc ← field ssrc_of track.1
-  first ← field (number_of 16) ssrc.1
-  spatial ← field (number_of 8) first.1
-  temporal ← number_of 8 spatial.1
-  Some (Join subscriber.0 track.0 ssrc.0 first.0 (record { spatial = spatial.0; temporal = temporal }))
+-- the call of a track's command and what stands behind it
+abbrev pub track_call_of : TrackCommand → List ℕ → Option Call
+track_call_of of_track.Publish rest = publish_of rest
+track_call_of of_track.Unpublish rest = fields_of (Number32 ∷ []) rest >>= of_one (λ track. Unpublish track)
+track_call_of of_track.Packet rest = packet_of rest
+track_call_of of_track.Tick rest = fields_of (Number32 ∷ Number64 ∷ []) rest >>= of_two (λ track moment. Tick track moment)
+track_call_of of_track.Missing rest = fields_of (Number32 ∷ []) rest >>= of_one (λ track. Missing track)
+track_call_of of_track.Key rest = fields_of (Number32 ∷ []) rest >>= of_one (λ track. KeyWanted track)
 
--- behind `take`
-unfoldable pub take_of : List ℕ → Option Call
-take_of rest = do
-  subscriber ← number_of 32 rest
-  Some (Take subscriber)
+-- the call of a subscriber's command and what stands behind it
+abbrev pub subscriber_call_of : SubscriberCommand → List ℕ → Option Call
+subscriber_call_of of_subscriber.Join rest =
+    fields_of (Number32 ∷ Number32 ∷ Ssrc ∷ Number16 ∷ Number8 ∷ Number8 ∷ []) rest
+    >>= of_six (λ subscriber track ssrc first spatial temporal. Join subscriber track ssrc first (record { spatial = spatial; temporal = temporal }))
+subscriber_call_of of_subscriber.Leave rest = fields_of (Number32 ∷ []) rest >>= of_one (λ subscriber. Leave subscriber)
+subscriber_call_of of_subscriber.Aim rest =
+    fields_of (Number32 ∷ Number8 ∷ Number8 ∷ []) rest
+    >>= of_three (λ subscriber spatial temporal. Aim subscriber (record { spatial = spatial; temporal = temporal }))
+subscriber_call_of of_subscriber.Take rest = fields_of (Number32 ∷ []) rest >>= of_one (λ subscriber. Take subscriber)
+subscriber_call_of of_subscriber.Resend rest = fields_of (Number32 ∷ Number16 ∷ []) rest >>= of_two (λ subscriber seq. Resend subscriber seq)
+subscriber_call_of of_subscriber.Plead rest = fields_of (Number32 ∷ []) rest >>= of_one (λ subscriber. Plead subscriber)
+subscriber_call_of of_subscriber.Why rest = fields_of (Number32 ∷ Number64 ∷ []) rest >>= of_two (λ subscriber number. Why subscriber number)
 
--- the call of a command's word and what stands behind it
+-- the call of a first word and what stands behind it
 abbrev pub command_of : List ℕ → List ℕ → Option Call
 command_of word rest =
-    if bytes_eq word (codes "publish") then publish_of rest
-    else if bytes_eq word (codes "packet") then packet_of rest
-    else if bytes_eq word (codes "join") then join_of rest
-    else if bytes_eq word (codes "take") then take_of rest
-    else None
+    option_map_or (λ command. track_call_of command rest) (track_command_of word) (subscriber_command_of word >>= (λ command. subscriber_call_of command rest))
 
 -- the call that a line says
 abbrev pub call_of : List ℕ → Option Call

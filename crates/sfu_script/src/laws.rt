@@ -1,12 +1,10 @@
 // Laws of the texts, each the contract of a function that does nothing.
 ghost use Rattle.std.specs.Prelude.{◌≡◌, ◌↔◌, ℕ, List, Some};
 ghost use Rattle.sfu_base.specs.declared.call.Call.{Call};
-ghost use Rattle.sfu_base.specs.Answer.{Answer};
 ghost use Rattle.sfu_script.specs.Lines.{IsLine, line_of, HasLine};
 ghost use Rattle.sfu_script.specs.ReadLines.{call_of};
-ghost use Rattle.sfu_script.specs.Replies.{answer_text, HasText};
 
-/// A line is read as a call exactly where the grammar says that the line says that call.
+/// A line is read as a call exactly when the grammar says that the line says that call.
 pub fn reads_exactly_the_lines()
     ensures { (call : Call) (line : List ℕ) → (call_of line ≡ Some call) ↔ IsLine call line }
 {}
@@ -19,9 +17,4 @@ pub fn lines_say_one_call()
 /// What is written for a call is read back as that call.
 pub fn lines_read_back()
     ensures { (call : Call) → HasLine call → call_of (line_of call) ≡ Some call }
-{}
-
-/// A reply's text says one answer.
-pub fn replies_say_one_answer()
-    ensures { (one other : Answer) → HasText one → HasText other → answer_text one ≡ answer_text other → one ≡ other }
 {}

@@ -1,22 +1,43 @@
 //! The texts of scripts: each line says a call of the room, and each reply has its line.
 #![tactic(auto)]
 
+mod actor_line;
+mod commands;
+mod complaints;
+mod ends;
+mod entries;
+mod fields;
 mod hex_text;
+mod journal;
 mod laws;
 mod line_fault;
 mod line_reader;
 mod lines;
 mod number_text;
+mod packet_line;
+mod pieces;
+mod refusals;
 mod replies;
+mod short;
+mod skipped;
 #[cfg(test)]
 mod tests;
 mod undo;
+mod verdicts;
 mod words;
+mod written_lines;
 
-pub use laws::{
-    lines_read_back, lines_say_one_call, reads_exactly_the_lines, replies_say_one_answer,
-};
+pub use actor_line::read_actor_line;
+pub use complaints::write_complaint;
+pub use ends::write_end;
+pub use entries::write_entry;
+pub use journal::{Actors, Calls, Entry, Journal};
+pub use laws::{lines_read_back, lines_say_one_call, reads_exactly_the_lines};
 pub use line_fault::write_line_fault;
 pub use line_reader::LineReader;
 pub use lines::{NoLine, read_call};
+pub use packet_line::read_packet;
 pub use replies::write_reply;
+pub use short::write_short;
+pub use skipped::is_skipped;
+pub use written_lines::write_call;

@@ -1,8 +1,9 @@
 // Lines read one after another.
 ghost use Rattle.std.specs.Prelude.{◌≡◌, IsTrue, MatchResult, None, Some};
 ghost use Rattle.sfu_script.specs.Kept.{is_packet, is_take};
-ghost use Rattle.sfu_script.specs.ReadLines.{call_of, packet_of, take_of};
+ghost use Rattle.sfu_script.specs.ReadLines.{call_of, packet_of, subscriber_call_of};
 
+use crate::commands::SubscriberCommand;
 use crate::hex_text::decode;
 use crate::lines::packet;
 use crate::words::{number32, split};
@@ -57,9 +58,8 @@ impl LineReader {
         }
     }
 
-    #[tactic(auto, unfolding(crate::specs::ReadLines::take_of))]
     fn read_take(&mut self, rest: &[u8]) -> Result<(), NoLine>
-        ensures { MatchResult result (λ _. take_of rest.now ≡ Some self.new.take) (λ _. take_of rest.now ≡ None) }
+        ensures { MatchResult result (λ _. subscriber_call_of SubscriberCommand.Take rest.now ≡ Some self.new.take) (λ _. subscriber_call_of SubscriberCommand.Take rest.now ≡ None) }
     {
         let number = number32(rest)?;
         match &mut self.take {

@@ -1,43 +1,47 @@
-// Lines and replies as tables.
-use crate::{LineReader, NoLine, read_call, write_line_fault, write_reply};
-use sfu_base::{Blob, Call, PacketBuf, Refusal, Reply, Scratch, SeqList};
+// Lines, replies and the other texts as tables.
+use crate::{
+    Calls, Entry, Journal, LineReader, is_skipped, read_actor_line, read_call, read_packet,
+    write_call, write_complaint, write_end, write_entry, write_line_fault, write_reply,
+    write_short,
+};
+use forwarding_model::Complaint;
+use sfu_base::{Blob, Call, Kind, PacketBuf, Refusal, Reply, RtpFault, Scratch, SeqList, Verdict};
 use std::test::Fail;
 
-// A call as numbers: which it is, and its fields; of a packet the length, the first byte and the last.
+// A packet as its length, its first byte and its last.
+fn ends(bytes: &PacketBuf) -> [u64; 3] {
+    let bytes = bytes.bytes();
+    let first = bytes.first().copied().unwrap_or(0);
+    let last = bytes.last().copied().unwrap_or(0);
+    [bytes.len() as u64, u64::from(first), u64::from(last)]
+}
+
+// A call as numbers: which it is, and its fields.
 fn numbers(call: &Call) -> [u64; 7] {
     match call {
         Call::Publish {
             track,
+            kind,
             ssrc,
             hold,
-            ..
-        } => [
-            1,
-            u64::from(*track),
-            u64::from(*ssrc),
-            u64::from(*hold),
-            0,
-            0,
-            0,
-        ],
+        } => {
+            let (which, id) = match kind {
+                Kind::Plain => (1, 0),
+                Kind::Layered { id } => (2, u64::from(*id)),
+            };
+            let (track, ssrc) = (u64::from(*track), u64::from(*ssrc));
+            [which, track, ssrc, u64::from(*hold), id, 0, 0]
+        }
+        Call::Unpublish { track } => [3, u64::from(*track), 0, 0, 0, 0, 0],
         Call::Packet {
             track,
             moment,
             bytes,
         } => {
-            let bytes = bytes.bytes();
-            let first = bytes.first().copied().unwrap_or(0);
-            let last = bytes.last().copied().unwrap_or(0);
-            [
-                2,
-                u64::from(*track),
-                *moment,
-                bytes.len() as u64,
-                u64::from(first),
-                u64::from(last),
-                0,
-            ]
+            let [count, first, last] = ends(bytes);
+            [4, u64::from(*track), *moment, count, first, last, 0]
         }
+        Call::Tick { track, moment } => [5, u64::from(*track), *moment, 0, 0, 0, 0],
         Call::Join {
             subscriber,
             track,
@@ -45,7 +49,7 @@ fn numbers(call: &Call) -> [u64; 7] {
             first,
             wish,
         } => [
-            3,
+            6,
             u64::from(*subscriber),
             u64::from(*track),
             u64::from(*ssrc),
@@ -53,44 +57,97 @@ fn numbers(call: &Call) -> [u64; 7] {
             u64::from(wish.spatial),
             u64::from(wish.temporal),
         ],
-        Call::Take { subscriber } => [4, u64::from(*subscriber), 0, 0, 0, 0, 0],
+        Call::Leave { subscriber } => [7, u64::from(*subscriber), 0, 0, 0, 0, 0],
+        Call::Aim { subscriber, wish } => [
+            8,
+            u64::from(*subscriber),
+            u64::from(wish.spatial),
+            u64::from(wish.temporal),
+            0,
+            0,
+            0,
+        ],
+        Call::Take { subscriber } => [9, u64::from(*subscriber), 0, 0, 0, 0, 0],
+        Call::Resend { subscriber, seq } => {
+            [10, u64::from(*subscriber), u64::from(*seq), 0, 0, 0, 0]
+        }
+        Call::Missing { track } => [11, u64::from(*track), 0, 0, 0, 0, 0],
+        Call::KeyWanted { track } => [12, u64::from(*track), 0, 0, 0, 0, 0],
+        Call::Plead { subscriber } => [13, u64::from(*subscriber), 0, 0, 0, 0, 0],
+        Call::Why { subscriber, number } => [14, u64::from(*subscriber), *number, 0, 0, 0, 0],
     }
 }
 
 // The lines of the grammar, each with its call. Numbers stand at 0 and at the end of their type.
-const LINES: [(&[u8], [u64; 7]); 13] = [
+const LINES: [(&[u8], [u64; 7]); 31] = [
     (
         b"publish 1 plain 11111111 100",
-        [1, 1, 0x1111_1111, 100, 0, 0, 0],
+        [1, 1, 286331153, 100, 0, 0, 0],
     ),
     (b"publish 0 plain 00000000 0", [1, 0, 0, 0, 0, 0, 0]),
     (
-        b"publish 4294967295 plain FFFFffff 4294967295",
+        b"publish 4294967295 plain ffffffff 4294967295",
         [1, 4294967295, 4294967295, 4294967295, 0, 0, 0],
     ),
-    (b"publish 10 plain 0000000a 10", [1, 10, 10, 10, 0, 0, 0]),
+    (
+        b"publish 1 layered 11111111 100 4",
+        [2, 1, 286331153, 100, 4, 0, 0],
+    ),
+    (
+        b"publish 4294967295 layered 0000000a 4294967295 255",
+        [2, 4294967295, 10, 4294967295, 255, 0, 0],
+    ),
+    (b"unpublish 3", [3, 3, 0, 0, 0, 0, 0]),
+    (b"unpublish 4294967295", [3, 4294967295, 0, 0, 0, 0, 0]),
     (
         b"packet 1 0 806000010000000011111111aabb",
-        [2, 1, 0, 14, 0x80, 0xbb, 0],
+        [4, 1, 0, 14, 128, 187, 0],
     ),
-    (b"packet 0 0 00", [2, 0, 0, 1, 0, 0, 0]),
+    (b"packet 0 0 00", [4, 0, 0, 1, 0, 0, 0]),
     (
-        b"packet 4294967295 18446744073709551615 AbCdEf",
-        [2, 4294967295, 18446744073709551615, 3, 0xab, 0xef, 0],
+        b"packet 4294967295 18446744073709551615 abcdef",
+        [4, 4294967295, 18446744073709551615, 3, 171, 239, 0],
     ),
-    (b"join 1 2 22222222 7 3 4", [3, 1, 2, 0x2222_2222, 7, 3, 4]),
-    (b"join 0 0 00000000 0 0 0", [3, 0, 0, 0, 0, 0, 0]),
+    (b"tick 1 50", [5, 1, 50, 0, 0, 0, 0]),
+    (
+        b"tick 4294967295 18446744073709551615",
+        [5, 4294967295, 18446744073709551615, 0, 0, 0, 0],
+    ),
+    (b"join 1 2 22222222 7 3 4", [6, 1, 2, 572662306, 7, 3, 4]),
+    (b"join 0 0 00000000 0 0 0", [6, 0, 0, 0, 0, 0, 0]),
     (
         b"join 4294967295 4294967295 ffffffff 65535 255 255",
-        [3, 4294967295, 4294967295, 4294967295, 65535, 255, 255],
+        [6, 4294967295, 4294967295, 4294967295, 65535, 255, 255],
     ),
-    (b"take 1", [4, 1, 0, 0, 0, 0, 0]),
-    (b"take 0", [4, 0, 0, 0, 0, 0, 0]),
-    (b"take 4294967295", [4, 4294967295, 0, 0, 0, 0, 0]),
+    (b"leave 2", [7, 2, 0, 0, 0, 0, 0]),
+    (b"leave 4294967295", [7, 4294967295, 0, 0, 0, 0, 0]),
+    (b"aim 1 2 3", [8, 1, 2, 3, 0, 0, 0]),
+    (
+        b"aim 4294967295 255 255",
+        [8, 4294967295, 255, 255, 0, 0, 0],
+    ),
+    (b"take 1", [9, 1, 0, 0, 0, 0, 0]),
+    (b"take 4294967295", [9, 4294967295, 0, 0, 0, 0, 0]),
+    (b"resend 1 1000", [10, 1, 1000, 0, 0, 0, 0]),
+    (
+        b"resend 4294967295 65535",
+        [10, 4294967295, 65535, 0, 0, 0, 0],
+    ),
+    (b"missing 1", [11, 1, 0, 0, 0, 0, 0]),
+    (b"missing 4294967295", [11, 4294967295, 0, 0, 0, 0, 0]),
+    (b"key 1", [12, 1, 0, 0, 0, 0, 0]),
+    (b"key 4294967295", [12, 4294967295, 0, 0, 0, 0, 0]),
+    (b"plead 1", [13, 1, 0, 0, 0, 0, 0]),
+    (b"plead 4294967295", [13, 4294967295, 0, 0, 0, 0, 0]),
+    (b"why 1 7", [14, 1, 7, 0, 0, 0, 0]),
+    (
+        b"why 4294967295 18446744073709551615",
+        [14, 4294967295, 18446744073709551615, 0, 0, 0, 0],
+    ),
 ];
 
 // Lines outside the grammar.
-const OUTSIDE: [&[u8]; 60] = [
+const OUTSIDE: [&[u8]; 86] = [
     b"",
     b" ",
     b"#",
@@ -115,7 +172,9 @@ const OUTSIDE: [&[u8]; 60] = [
     b"take 99999999999999999999999999",
     b"TAKE 1",
     b"takes 1",
-    b"leave 1",
+    b"leave",
+    b"leave 4294967296",
+    b"leaves 1",
     b"publish",
     b"publish 1",
     b"publish 1 plain",
@@ -130,10 +189,15 @@ const OUTSIDE: [&[u8]; 60] = [
     b"publish 1 plain 100 11111111",
     b"publish plain 1 11111111 100",
     b"publish 1 Plain 11111111 100",
-    b"publish 1 layered 11111111 100 4",
+    b"publish 1 layered 11111111 100",
+    b"publish 1 layered 11111111 100 256",
+    b"publish 1 layered 11111111 100 4 4",
+    b"publish 1 layer 11111111 100 4",
     b"publish 4294967296 plain 11111111 100",
     b"publish 1 plain 11111111 4294967296",
     b"publish 1 plain 11111111 0100",
+    b"unpublish 4294967296",
+    b"unpublish 1 1",
     b"packet 1 0",
     b"packet 1 0 ",
     b"packet 1 0 8",
@@ -144,6 +208,9 @@ const OUTSIDE: [&[u8]; 60] = [
     b"packet 1 00 00",
     b"packet 4294967296 0 00",
     b"packet 1 18446744073709551616 00",
+    b"tick 1",
+    b"tick 1 18446744073709551616",
+    b"tick 1 0 0",
     b"join 1 1 22222222 7 0",
     b"join 1 1 22222222 7 0 0 0",
     b"join 4294967296 1 22222222 7 0 0",
@@ -151,16 +218,39 @@ const OUTSIDE: [&[u8]; 60] = [
     b"join 1 1 22222222 65536 0 0",
     b"join 1 1 22222222 7 256 0",
     b"join 1 1 22222222 7 0 256",
+    b"aim 1 2",
+    b"aim 1 256 0",
+    b"aim 1 0 256",
+    b"aim 1 0 0 0",
+    b"resend 1",
+    b"resend 1 65536",
+    b"missing",
+    b"missing 1 1",
+    b"key 1 1",
+    b"keys 1",
+    b"plead 1 ",
+    b"why 1",
+    b"why 1 18446744073709551616",
+    b"why 1 none",
+    b"@1 take 1",
+    b"port 1",
 ];
 
 #[test]
-fn lines_say_their_calls(rt: HostRuntime) -> Result<(), Fail> {
+fn lines_say_their_calls_and_are_written_as_they_stand(rt: HostRuntime) -> Result<(), Fail> {
     let mut reader = LineReader::new();
+    let mut out = Blob::new(rt.alloc());
     for (line, said) in LINES.iter() {
         let call = read_call(line)?;
         assert_eq!(rt; numbers(&call), *said);
         let call = reader.read(line)?;
         assert_eq!(rt; numbers(call), *said);
+        out.clear();
+        if let Call::Packet { bytes, .. } = call {
+            assert!(rt; !bytes.bytes().is_empty());
+        }
+        write_call(call, &mut out)?;
+        assert_eq!(rt; out.bytes(), *line);
     }
     for line in OUTSIDE.iter() {
         assert!(rt; read_call(line).is_err());
@@ -170,23 +260,215 @@ fn lines_say_their_calls(rt: HostRuntime) -> Result<(), Fail> {
 }
 
 #[test]
+fn hex_digits_of_either_case_are_read(rt: HostRuntime) -> Result<(), Fail> {
+    let call = read_call(b"publish 10 plain 0000000A 10")?;
+    assert_eq!(rt; numbers(&call), [1, 10, 10, 10, 0, 0, 0]);
+    let call = read_call(b"packet 1 0 AbCdEF")?;
+    assert_eq!(rt; numbers(&call), [4, 1, 0, 3, 0xab, 0xef, 0]);
+    let mut packet = PacketBuf::new();
+    read_packet(b"FFfF00", &mut packet)?;
+    assert_eq!(rt; packet.bytes(), b"\xff\xff\x00".as_slice());
+    Ok(())
+}
+
+#[test]
 fn a_packet_has_up_to_2048_bytes(rt: HostRuntime) -> Result<(), Fail> {
     let mut line = [b'f'; 11 + 2 * 2049];
     line[..11].copy_from_slice(b"packet 1 0 ");
     let mut reader = LineReader::new();
+    let mut packet = PacketBuf::new();
     for count in [1, 2, 255, 256, 257, 1500, 2047, 2048, 1] {
         let whole = &line[..11 + 2 * count];
-        let said = [2, 1, 0, count as u64, 255, 255, 0];
+        let said = [4, 1, 0, count as u64, 255, 255, 0];
         let call = read_call(whole)?;
         assert_eq!(rt; numbers(&call), said);
         let call = reader.read(whole)?;
         assert_eq!(rt; numbers(call), said);
         assert!(rt; read_call(&line[..11 + 2 * count - 1]).is_err());
+        read_packet(&line[11..11 + 2 * count], &mut packet)?;
+        assert_eq!(rt; ends(&packet), [count as u64, 255, 255]);
+        assert!(rt; read_packet(&line[11..11 + 2 * count - 1], &mut packet).is_err());
+        assert_eq!(rt; packet.bytes().len(), count);
     }
     assert!(rt; read_call(&line).is_err());
     assert!(rt; reader.read(&line).is_err());
+    assert!(rt; read_packet(&line[11..], &mut packet).is_err());
+    assert!(rt; read_packet(b"", &mut packet).is_err());
+    assert!(rt; read_packet(b" ff", &mut packet).is_err());
+    assert_eq!(rt; ends(&packet), [1, 255, 255]);
     Ok(())
 }
+
+#[test]
+fn actors_have_the_numbers_1_to_8(rt: HostRuntime) -> Result<(), Fail> {
+    let (actor, call) = read_actor_line(b"@1 take 3")?;
+    assert_eq!(rt; actor, 1);
+    assert_eq!(rt; numbers(&call), [9, 3, 0, 0, 0, 0, 0]);
+    let (actor, call) = read_actor_line(b"@8 why 1 7")?;
+    assert_eq!(rt; actor, 8);
+    assert_eq!(rt; numbers(&call), [14, 1, 7, 0, 0, 0, 0]);
+    let outside: [&[u8]; 10] = [
+        b"take 1",
+        b"@0 take 1",
+        b"@9 take 1",
+        b"@10 take 1",
+        b"@ take 1",
+        b"@1 # c",
+        b"@1 ",
+        b"@1",
+        b"@1  take 1",
+        b"@1 @1 take 1",
+    ];
+    for line in outside {
+        assert!(rt; read_actor_line(line).is_err());
+    }
+    Ok(())
+}
+
+#[test]
+fn empty_lines_and_comments_are_skipped(rt: HostRuntime) {
+    assert!(rt; is_skipped(b""));
+    assert!(rt; is_skipped(b"#"));
+    assert!(rt; is_skipped(b"# take 1 \xff"));
+    assert!(rt; !is_skipped(b" #"));
+    assert!(rt; !is_skipped(b"take 1"));
+    assert!(rt; !is_skipped(b"\r"));
+}
+
+// Replies that are neither packets nor numbers, with their texts.
+const REPLIES: [(Reply, &[u8]); 37] = [
+    (Reply::Done, b"ok"),
+    (Reply::Key { wanted: true }, b"key yes"),
+    (Reply::Key { wanted: false }, b"key no"),
+    (Reply::Cause(Verdict::Passed), b"passed"),
+    (
+        Reply::Cause(Verdict::NotOfTarget { target: Some(1) }),
+        b"notoftarget 1",
+    ),
+    (
+        Reply::Cause(Verdict::NotOfTarget { target: None }),
+        b"notoftarget none",
+    ),
+    (
+        Reply::Cause(Verdict::Behind { fdiff: 2, start: 5 }),
+        b"behind 2 5",
+    ),
+    (
+        Reply::Cause(Verdict::Reference { number: 3 }),
+        b"reference 3",
+    ),
+    (
+        Reply::Cause(Verdict::Full {
+            queued: 511,
+            needed: 2,
+        }),
+        b"full 511 2",
+    ),
+    (
+        Reply::Cause(Verdict::Link { at: 4, number: 3 }),
+        b"link 4 3",
+    ),
+    (Reply::Cause(Verdict::Unopened { since: 1 }), b"unopened 1"),
+    (
+        Reply::Cause(Verdict::Hole {
+            below: None,
+            above: 5,
+        }),
+        b"hole none 5",
+    ),
+    (
+        Reply::Cause(Verdict::Hole {
+            below: Some(1),
+            above: 18446744073709551615,
+        }),
+        b"hole 1 18446744073709551615",
+    ),
+    (Reply::Refused(Refusal::NotBuilt), b"refused notbuilt"),
+    (
+        Reply::Refused(Refusal::OutOfOrder { next: 65535 }),
+        b"refused outoforder 65535",
+    ),
+    (Reply::Refused(Refusal::NoTrack), b"refused notrack"),
+    (
+        Reply::Refused(Refusal::NoSubscriber),
+        b"refused nosubscriber",
+    ),
+    (
+        Reply::Refused(Refusal::NumberUsed {
+            highest: 4294967295,
+        }),
+        b"refused numberused 4294967295",
+    ),
+    (
+        Reply::Refused(Refusal::TooMany { live: 64 }),
+        b"refused toomany 64",
+    ),
+    (
+        Reply::Refused(Refusal::BadExtensionId),
+        b"refused badextensionid",
+    ),
+    (
+        Reply::Refused(Refusal::TooBig { len: 1501 }),
+        b"refused toobig 1501",
+    ),
+    (
+        Reply::Refused(Refusal::Unreadable(RtpFault::Short)),
+        b"refused unreadable short",
+    ),
+    (
+        Reply::Refused(Refusal::Unreadable(RtpFault::Version)),
+        b"refused unreadable version",
+    ),
+    (
+        Reply::Refused(Refusal::Unreadable(RtpFault::Csrc)),
+        b"refused unreadable csrc",
+    ),
+    (
+        Reply::Refused(Refusal::Unreadable(RtpFault::Extension)),
+        b"refused unreadable extension",
+    ),
+    (
+        Reply::Refused(Refusal::Unreadable(RtpFault::Padding)),
+        b"refused unreadable padding",
+    ),
+    (
+        Reply::Refused(Refusal::WrongSsrc {
+            got: 0xA,
+            wanted: 0x1111_1111,
+        }),
+        b"refused wrongssrc 0000000a 11111111",
+    ),
+    (Reply::Refused(Refusal::Spent), b"refused spent"),
+    (
+        Reply::Refused(Refusal::Late {
+            next: 18446744073709551615,
+        }),
+        b"refused late 18446744073709551615",
+    ),
+    (Reply::Refused(Refusal::Repeat), b"refused repeat"),
+    (Reply::Refused(Refusal::Empty), b"empty"),
+    (
+        Reply::Refused(Refusal::NotKept {
+            oldest: 7,
+            next: 65535,
+        }),
+        b"notkept 7 65535",
+    ),
+    (
+        Reply::Refused(Refusal::Ahead { newest: Some(9) }),
+        b"refused ahead 9",
+    ),
+    (
+        Reply::Refused(Refusal::Ahead { newest: None }),
+        b"refused ahead none",
+    ),
+    (
+        Reply::Refused(Refusal::TooOld { oldest: 5 }),
+        b"refused tooold 5",
+    ),
+    (Reply::Refused(Refusal::Plain), b"refused plain"),
+    (Reply::Refused(Refusal::NoMemory), b"refused nomemory"),
+];
 
 #[test]
 fn replies_have_their_texts(rt: HostRuntime) -> Result<(), Fail> {
@@ -195,30 +477,29 @@ fn replies_have_their_texts(rt: HostRuntime) -> Result<(), Fail> {
         names: SeqList::new(),
     };
     scratch.packet.fill(b"\x80\x0f\xab");
-    let texts: [(Reply, &[u8]); 8] = [
-        (Reply::Done, b"ok"),
-        (Reply::Packet, b"packet 800fab"),
-        (Reply::Refused(Refusal::NotBuilt), b"refused notbuilt"),
-        (
-            Reply::Refused(Refusal::OutOfOrder { next: 0 }),
-            b"refused outoforder 0",
-        ),
-        (
-            Reply::Refused(Refusal::OutOfOrder { next: 2 }),
-            b"refused outoforder 2",
-        ),
-        (
-            Reply::Refused(Refusal::OutOfOrder { next: 65535 }),
-            b"refused outoforder 65535",
-        ),
-        (Reply::Refused(Refusal::Empty), b"empty"),
-        (Reply::Refused(Refusal::NoMemory), b"refused nomemory"),
-    ];
-    for (reply, text) in texts.iter() {
-        let mut out = Blob::new(rt.alloc());
+    let mut out = Blob::new(rt.alloc());
+    let mut short = PacketBuf::new();
+    for (reply, text) in REPLIES.iter() {
+        out.clear();
         write_reply(reply, &scratch, &mut out)?;
         assert_eq!(rt; out.bytes(), *text);
+        if !matches!(reply, Reply::Packet | Reply::Names) {
+            write_short(reply, &mut short);
+            assert_eq!(rt; short.bytes(), *text);
+        }
     }
+    out.clear();
+    write_reply(&Reply::Packet, &scratch, &mut out)?;
+    assert_eq!(rt; out.bytes(), b"packet 800fab".as_slice());
+    out.clear();
+    write_reply(&Reply::Names, &scratch, &mut out)?;
+    assert_eq!(rt; out.bytes(), b"missing".as_slice());
+    scratch.names.push(65_535);
+    scratch.names.push(0);
+    scratch.names.push(7);
+    out.clear();
+    write_reply(&Reply::Names, &scratch, &mut out)?;
+    assert_eq!(rt; out.bytes(), b"missing 65535 0 7".as_slice());
     Ok(())
 }
 
@@ -246,5 +527,63 @@ fn texts_are_appended(rt: HostRuntime) -> Result<(), Fail> {
         assert!(rt; text.len() > 7);
         assert!(rt; text[7..].chunks(2).all(|digits| digits == b"a5".as_slice()));
     }
+    Ok(())
+}
+
+#[test]
+fn complaints_and_ends_have_their_texts(rt: HostRuntime) -> Result<(), Fail> {
+    let complaints: [(Complaint, &[u8]); 6] = [
+        (Complaint::Unread, b"line 3 unread"),
+        (
+            Complaint::OtherSource {
+                had: 0x1111_1111,
+                got: 0x2222_222b,
+            },
+            b"line 3 othersource 11111111 2222222b",
+        ),
+        (
+            Complaint::Sequence { had: 65535, got: 1 },
+            b"line 3 sequence 65535 1",
+        ),
+        (Complaint::NoStructure, b"line 3 nostructure"),
+        (Complaint::NotWhole, b"line 3 notwhole"),
+        (
+            Complaint::MissingReference { frame: 3, fdiff: 2 },
+            b"line 3 missingreference 3 2",
+        ),
+    ];
+    let mut out = Blob::new(rt.alloc());
+    for (complaint, text) in complaints.iter() {
+        out.clear();
+        write_complaint(3, complaint, &mut out)?;
+        assert_eq!(rt; out.bytes(), *text);
+    }
+    out.clear();
+    write_end(1, None, &mut out)?;
+    write_end(64, Some(18446744073709551615), &mut out)?;
+    assert_eq!(rt;
+        out.bytes(),
+        b"session 1 allsession 64 fault 18446744073709551615".as_slice()
+    );
+    Ok(())
+}
+
+#[test]
+fn an_entry_has_two_lines(rt: HostRuntime) -> Result<(), Fail> {
+    let entry = Entry {
+        actor: 8,
+        call: Call::Take { subscriber: 2 },
+        reply: Blob::of(b"refused nosubscriber".to_vec(rt.alloc())?),
+    };
+    let mut out = Blob::new(rt.alloc());
+    write_entry(&entry, &mut out)?;
+    assert_eq!(rt;
+        out.bytes(),
+        b"@8 take 2\nrefused nosubscriber\n".as_slice()
+    );
+    let journal = Journal::of(vec![in rt.alloc(); entry]?);
+    assert_eq!(rt; journal.entries().len(), 1);
+    let calls = Calls::of(vec![in rt.alloc(); Call::Take { subscriber: 2 }]?);
+    assert_eq!(rt; calls.calls().len(), 1);
     Ok(())
 }

@@ -1,0 +1,11 @@
+use Rattle.std.proofs.Common.{◌≡◌, ◌∷◌, ◌++◌, drop}
+use Rattle.std.specs.Prelude.{decimal}
+use Rattle.std.specs.List.{flat_map}
+use Rattle.sfu_script.specs.Texts.{GoesOn}
+use Rattle.sfu_script.proofs.replies.append_names.Given as goal
+
+abbrev pub invariant-loop-number : goal.invariant-loop-number
+invariant-loop-number l = record {
+  written : l.out ++ flat_map (λ n. 32 ∷ decimal n) (drop l.number-index l.numbers) ≡ l.initial.out ++ flat_map (λ n. 32 ∷ decimal n) l.numbers;
+  begun : GoesOn l.fn.out l.out;
+}

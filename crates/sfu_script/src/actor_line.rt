@@ -1,0 +1,28 @@
+// A line of one of the actors that run at the same time.
+ghost use Rattle.std.specs.Prelude.{◌≡◌};
+ghost use Rattle.std.specs.Result.{result_ok};
+ghost use Rattle.sfu_script.specs.ActorLines.{actor_call_of, actor_of};
+
+use crate::NoLine;
+use crate::lines::call;
+use crate::words::split;
+use sfu_base::Call;
+
+fn actor(word: &[u8]) -> Result<u8, NoLine>
+    ensures { result_ok result ≡ actor_of word.now }
+{
+    match word {
+        [b'@', digit @ b'1'..=b'8'] => Ok(*digit - b'0'),
+        _ => Err(NoLine),
+    }
+}
+
+/// The actor, 1 to 8, and the call that a line `@K line` says. `NoLine` exactly when it says none. Takes no memory.
+pub fn read_actor_line(line: &[u8]) -> Result<(u8, Call), NoLine>
+    ensures { result_ok result ≡ actor_call_of line.now }
+{
+    let (word, rest) = split(line)?;
+    let actor = actor(word)?;
+    let call = call(rest)?;
+    Ok((actor, call))
+}

@@ -1,0 +1,57 @@
+// The first words of lines.
+ghost use Rattle.std.specs.Prelude.{◌≡◌};
+ghost use Rattle.sfu_script.specs.Commands.{subscriber_command_of, track_command_of};
+
+/// What a line says of a track.
+#[derive(Clone, Copy, Debug, PartialEq, Eq)]
+pub enum TrackCommand {
+    Publish,
+    Unpublish,
+    Packet,
+    Tick,
+    Missing,
+    Key,
+}
+
+/// What a line says of a subscriber.
+#[derive(Clone, Copy, Debug, PartialEq, Eq)]
+pub enum SubscriberCommand {
+    Join,
+    Leave,
+    Aim,
+    Take,
+    Resend,
+    Plead,
+    Why,
+}
+
+/// The command of a track that a word names.
+pub fn track_command(word: &[u8]) -> Option<TrackCommand>
+    ensures { result ≡ track_command_of word.now }
+{
+    match word {
+        b"publish" => Some(TrackCommand::Publish),
+        b"unpublish" => Some(TrackCommand::Unpublish),
+        b"packet" => Some(TrackCommand::Packet),
+        b"tick" => Some(TrackCommand::Tick),
+        b"missing" => Some(TrackCommand::Missing),
+        b"key" => Some(TrackCommand::Key),
+        _ => None,
+    }
+}
+
+/// The command of a subscriber that a word names.
+pub fn subscriber_command(word: &[u8]) -> Option<SubscriberCommand>
+    ensures { result ≡ subscriber_command_of word.now }
+{
+    match word {
+        b"join" => Some(SubscriberCommand::Join),
+        b"leave" => Some(SubscriberCommand::Leave),
+        b"aim" => Some(SubscriberCommand::Aim),
+        b"take" => Some(SubscriberCommand::Take),
+        b"resend" => Some(SubscriberCommand::Resend),
+        b"plead" => Some(SubscriberCommand::Plead),
+        b"why" => Some(SubscriberCommand::Why),
+        _ => None,
+    }
+}

@@ -1,0 +1,55 @@
+// The numbers of a line: a list of typed places, and the one reader over such lists.
+ghost use Rattle.std.specs.Prelude.{◌≡◌, IfOk, MatchResult, None, Some};
+ghost use Rattle.std.specs.Result.{result_ok};
+ghost use Rattle.sfu_script.specs.Fields.{field_of, fields_of, AreWithin};
+
+use crate::NoLine;
+use crate::words::{number8, number16, number32, number64, split, ssrc};
+
+/// What a word has to be.
+#[derive(Clone, Copy, Debug, PartialEq, Eq)]
+pub enum Field {
+    /// A number of 8 bits in decimal digits without a leading zero.
+    Number8,
+    /// One of 16 bits.
+    Number16,
+    /// One of 32 bits.
+    Number32,
+    /// One of 64 bits.
+    Number64,
+    /// A number of 32 bits in eight hex digits.
+    Ssrc,
+}
+
+impl Field {
+    fn read(self, word: &[u8]) -> Result<u64, NoLine>
+        ensures { result_ok result ≡ field_of self word.now }
+    {
+        match self {
+            Field::Number8 => Ok(u64::from(number8(word)?)),
+            Field::Number16 => Ok(u64::from(number16(word)?)),
+            Field::Number32 => Ok(u64::from(number32(word)?)),
+            Field::Number64 => number64(word),
+            Field::Ssrc => Ok(u64::from(ssrc(word)?)),
+        }
+    }
+}
+
+/// The numbers that the words of a text say, one for each place, with one space between them.
+pub fn read_fields<const N: usize>(places: &[Field; N], text: &[u8]) -> Result<[u64; N], NoLine>
+    ensures value { MatchResult result (λ numbers. fields_of places.now text.now ≡ Some numbers) (λ _. fields_of places.now text.now ≡ None) }
+    ensures within { IfOk result (λ numbers. AreWithin places.now numbers) }
+{
+    let mut numbers = [0; N];
+    let mut rest = text;
+    for (i, place) in places.iter().enumerate() {
+        if i + 1 == N {
+            numbers[i] = place.read(rest)?;
+            return Ok(numbers);
+        }
+        let (word, after) = split(rest)?;
+        numbers[i] = place.read(word)?;
+        rest = after;
+    }
+    Err(NoLine)
+}

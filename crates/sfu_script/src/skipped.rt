@@ -1,0 +1,13 @@
+// Lines that say nothing.
+ghost use Rattle.std.specs.Prelude.{◌≡◌};
+ghost use Rattle.sfu_script.specs.Skipped.{is_skipped};
+
+/// Whether a line is empty or begins with `#`: it is counted, and says nothing. Takes no memory.
+pub fn is_skipped(line: &[u8]) -> bool
+    ensures value { result ≡ is_skipped line.now }
+{
+    match line {
+        [] => true,
+        [first, ..] => *first == b'#',
+    }
+}

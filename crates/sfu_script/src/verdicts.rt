@@ -1,0 +1,55 @@
+// Why a frame was or wasn't passed on, in words.
+ghost use Rattle.std.specs.Prelude.{◌≡◌, ◌≤◌};
+ghost use Rattle.sfu_script.specs.Grammar.{text_of, word_of};
+ghost use Rattle.sfu_script.specs.Pieces.{piece_word, pieces_text};
+ghost use Rattle.sfu_script.specs.Sizes.{piece_size, pieces_size};
+ghost use Rattle.sfu_script.specs.Replies.{or_none, verdict_places};
+
+use crate::pieces::Piece::{self, Number, Text};
+use crate::pieces::Pieces;
+use sfu_base::Verdict;
+
+/// The number, or the word `none`.
+pub fn number_or_none(number: Option<u64>) -> Piece<'static>
+    ensures word { piece_word result ≡ word_of (or_none 64 number) }
+    ensures short { piece_size result ≤ 20 }
+{
+    match number {
+        None => Text(b"none"),
+        Some(number) => Number(number),
+    }
+}
+
+/// The words of a verdict.
+pub fn verdict_pieces(verdict: &Verdict) -> Pieces<'static>
+    ensures text { pieces_text result ≡ text_of (verdict_places verdict.now) }
+    ensures short { pieces_size result ≤ 100 }
+{
+    match verdict {
+        Verdict::Passed => Pieces::of(&[Text(b"passed")]),
+        Verdict::NotOfTarget { target } => Pieces::of(&[
+            Text(b"notoftarget"),
+            number_or_none(target.map(u64::from)),
+        ]),
+        Verdict::Behind { fdiff, start } => Pieces::of(&[
+            Text(b"behind"),
+            Number(u64::from(*fdiff)),
+            Number(*start),
+        ]),
+        Verdict::Reference { number } => Pieces::of(&[Text(b"reference"), Number(*number)]),
+        Verdict::Full { queued, needed } => Pieces::of(&[
+            Text(b"full"),
+            Number(u64::from(*queued)),
+            Number(u64::from(*needed)),
+        ]),
+        Verdict::Link { at, number } => {
+            Pieces::of(&[Text(b"link"), Number(*at), Number(*number)])
+        }
+        Verdict::Unopened { since } => Pieces::of(&[Text(b"unopened"), Number(*since)]),
+        Verdict::Hole { below, above } => Pieces::of(&[
+            Text(b"hole"),
+            number_or_none(*below),
+            Number(*above),
+        ]),
+    }
+}
