@@ -154,3 +154,14 @@ impl BitWriter {
         }
     }
 }
+
+impl Default for BitWriter {
+    ghost use Rattle.std.specs.Prelude.{◌≡◌, []};
+    ghost use Rattle.dd_bits.specs.Writer.{written};
+
+    ghost is_default = { λ w. written w ≡ [] };
+
+    fn default() -> BitWriter {
+        BitWriter::new()
+    }
+}

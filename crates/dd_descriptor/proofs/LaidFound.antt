@@ -6,6 +6,7 @@ use Rattle.std.proofs.lemmas.List.{length-append}
 use Rattle.std.proofs.lemmas.Bool.{cases_lt, cases_Bool, eqb-true, ltb-true, ltb-false, cond-true, cond-false}
 use Rattle.std.proofs.Math.Nat.{pow-le-pow_right}
 use Rattle.sfu_base.specs.declared.frame.Dti.{Dti}
+use Rattle.sfu_base.specs.Frame.{dti_of}
 use Rattle.dd_bits.specs.Bits.{bits_of, bits_of_bytes}
 use Rattle.dd_bits.specs.Numbers.{fixed}
 use Rattle.dd_bits.specs.Sequences.{◌>>=◌, until_at, repeat_at, going_on}
@@ -14,9 +15,9 @@ use Rattle.dd_bits.proofs.Values.{length-bits_of}
 use Rattle.dd_bits.proofs.ReadBack.{fixed_found}
 use Rattle.dd_bits.proofs.SequenceLaws.{bind_ok, bind_then, chosen, done, ok_is, some_is, or_fault_ok, Takes, repeat_found}
 use Rattle.dd_structure.specs.TemplateStructure.{TemplateStructure, template_at}
-use Rattle.dd_structure.specs.Reading.{structure_at, indication_of}
+use Rattle.dd_structure.specs.Reading.{structure_at}
 use Rattle.dd_structure.specs.Spelling.{indication_bits, IsWellFormed}
-use Rattle.dd_structure.proofs.Found.{structure_found, indication_code-of}
+use Rattle.dd_structure.proofs.Found.{structure_found, dti_code-of}
 use Rattle.dd_descriptor.specs.declared.descriptor.Custom.{Custom}
 use Rattle.dd_descriptor.specs.declared.fault.DdFault.{DdFault}
 use Rattle.dd_descriptor.specs.declared.fault.DdFault.TheVariants as faults
@@ -114,10 +115,10 @@ mask_laid false (Some t) targets bits x same e =
 indication_laid : (bits : List Bool) (x : Dti × List Bool) → indication_at bits ≡ Ok x → Takes (λ d. Unit {0}) indication_bits bits x
 unfolding indication_at
 indication_laid bits x e =
-    let a = bind_ok (number_at 2 bits) (λ code. Ok (indication_of code.0, code.1)) x e in
+    let a = bind_ok (number_at 2 bits) (λ code. Ok (dti_of code.0, code.1)) x e in
     let number = number_laid 2 bits a.0 a.1 in
-    subst (λ (y : Dti × List Bool). Takes (λ d. Unit {0}) indication_bits bits y) (ok_is {E = DdFault} (indication_of a.0.0, a.0.1) x a.2)
-    (tt, number.1 ∙ ap (λ (code : ℕ). bits_of 2 code ++ a.0.1) (sym (indication_code-of a.0.0 (omega (arith, number.0)))))
+    subst (λ (y : Dti × List Bool). Takes (λ d. Unit {0}) indication_bits bits y) (ok_is {E = DdFault} (dti_of a.0.0, a.0.1) x a.2)
+    (tt, number.1 ∙ ap (λ (code : ℕ). bits_of 2 code ++ a.0.1) (sym (dti_code-of a.0.0 (omega (arith, number.0)))))
 
 -- what the next distance was read from, or the end of them
 record IsNext (bits : List Bool) (d : ℕ) (rest : List Bool) : Type 0 where

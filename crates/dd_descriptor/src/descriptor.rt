@@ -69,6 +69,12 @@ impl Descriptor {
     }
 }
 
+impl Default for Descriptor {
+    fn default() -> Descriptor {
+        Descriptor::new()
+    }
+}
+
 /// Whether a packet is the first and the last of its frame, and the frame's number.
 #[derive(Clone, Copy, Debug, PartialEq, Eq)]
 pub struct Edges {

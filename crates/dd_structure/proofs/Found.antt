@@ -3,6 +3,7 @@ use Rattle.std.proofs.Common.{◌≡◌, ℕ, zero, suc, ◌+◌, ◌-◌, ◌�
 use Rattle.std.specs.List.{flat_map, AllByRecursion}
 use Rattle.std.proofs.lemmas.Bool.{ltb-true, lt-ltb, le-ltb, ne_eqb}
 use Rattle.sfu_base.specs.declared.frame.Dti.{Dti}
+use Rattle.sfu_base.specs.Frame.{dti_code, dti_of}
 use Rattle.dd_bits.specs.Bits.{bits_of}
 use Rattle.dd_bits.specs.Numbers.{fixed, non_symmetric, non_symmetric_bits}
 use Rattle.dd_bits.specs.Sequences.{◌>>=◌, repeat_at, until_at, EachAfter}
@@ -12,8 +13,8 @@ use Rattle.dd_structure.specs.declared.layer.Layer.{Layer}
 use Rattle.dd_structure.specs.declared.fault.StructureFault.{StructureFault}
 use Rattle.dd_structure.specs.declared.fault.StructureFault.TheVariants as faults
 use Rattle.dd_structure.specs.TemplateStructure.{TemplateStructure, first_layer, templates_of, layers_of, indications_of, distances_of, links_of}
-use Rattle.dd_structure.specs.Reading.{number_at, below_at, layer_after, next_layer_at, layers_at, indication_of, indication_at, next_distance_at, distances_at, guard_count, guards_at, resolution_count, resolution_at, resolutions_at, structure_at, greatest_spatial}
-use Rattle.dd_structure.specs.Spelling.{layer_code, layer_bits, layers_bits, indication_code, indication_bits, distance_bits, distances_bits, resolution_bits, resolutions_bits, head_bits, template_bits, chain_bits, structure_bits, Follows, AreLayers, IsDistance, IsResolution, AreResolutions, IsWellFormed}
+use Rattle.dd_structure.specs.Reading.{number_at, below_at, layer_after, next_layer_at, layers_at, indication_at, next_distance_at, distances_at, guard_count, guards_at, resolution_count, resolution_at, resolutions_at, structure_at, greatest_spatial}
+use Rattle.dd_structure.specs.Spelling.{layer_code, layer_bits, layers_bits, indication_bits, distance_bits, distances_bits, resolution_bits, resolutions_bits, head_bits, template_bits, chain_bits, structure_bits, Follows, AreLayers, IsDistance, IsResolution, AreResolutions, IsWellFormed}
 use Rattle.dd_structure.proofs.TemplateLemmas.{AreAligned, layers_of-templates_of, indications_of-templates_of, distances_of-templates_of, links_of-templates_of, templates_are}
 
 -- ---- numbers
@@ -122,19 +123,19 @@ layers_found bits x e =
 
 -- ---- indications
 
-pub indication_code-of : (n : ℕ) → n < 4 → indication_code (indication_of n) ≡ n
-indication_code-of zero small = refl
-indication_code-of (suc zero) small = refl
-indication_code-of (suc (suc zero)) small = refl
-indication_code-of (suc (suc (suc n))) small = omega arith
+pub dti_code-of : (n : ℕ) → n < 4 → dti_code (dti_of n) ≡ n
+dti_code-of zero small = refl
+dti_code-of (suc zero) small = refl
+dti_code-of (suc (suc zero)) small = refl
+dti_code-of (suc (suc (suc n))) small = omega arith
 
 pub indication_found : (bits : List Bool) (x : Dti × List Bool) → indication_at bits ≡ Ok x → Takes (λ d. Unit {0}) indication_bits bits x
 unfolding indication_at
 indication_found bits x e =
-    let a = bind_ok (number_at 2 bits) (λ code. Ok (indication_of code.0, code.1)) x e in
+    let a = bind_ok (number_at 2 bits) (λ code. Ok (dti_of code.0, code.1)) x e in
     let number = number_found 2 bits a.0 a.1 in
-    subst (λ (y : Dti × List Bool). Takes (λ d. Unit {0}) indication_bits bits y) (ok_is {E = StructureFault} (indication_of a.0.0, a.0.1) x a.2)
-    (tt, number.1 ∙ ap (λ (code : ℕ). bits_of 2 code ++ a.0.1) (sym (indication_code-of a.0.0 (omega (arith, number.0)))))
+    subst (λ (y : Dti × List Bool). Takes (λ d. Unit {0}) indication_bits bits y) (ok_is {E = StructureFault} (dti_of a.0.0, a.0.1) x a.2)
+    (tt, number.1 ∙ ap (λ (code : ℕ). bits_of 2 code ++ a.0.1) (sym (dti_code-of a.0.0 (omega (arith, number.0)))))
 
 -- ---- distances
 

@@ -4,7 +4,7 @@
 -- The code fills arrays of fixed length in one pass.
 use Rattle.std.specs.Prelude.{ℕ, zero, suc, ◌+◌, ◌==◌, nat_lt, max, Bool, List, [], ◌∷◌, length, map, Option, Some, None, Result, Ok, Err, if◌then◌else◌}
 use Rattle.sfu_base.specs.declared.frame.Dti.{Dti}
-use Rattle.sfu_base.specs.declared.frame.Dti.TheVariants.{NotPresent, Discardable, Switch, Required}
+use Rattle.sfu_base.specs.Frame.{dti_of}
 use Rattle.dd_bits.specs.Numbers.{fixed, non_symmetric}
 use Rattle.dd_bits.specs.Sequences.{◌>>=◌, or_fault, repeat_at, until_at}
 use Rattle.dd_structure.specs.declared.layer.Layer.{Layer}
@@ -43,16 +43,10 @@ layers_at bits = do
 
 -- ---- template_dtis
 
-abbrev pub indication_of : ℕ → Dti
-indication_of zero = NotPresent
-indication_of (suc zero) = Discardable
-indication_of (suc (suc zero)) = Switch
-indication_of (suc (suc (suc n))) = Required
-
 unfoldable pub indication_at : List Bool → Result (Dti × List Bool) StructureFault
 indication_at bits = do
   code ← number_at 2 bits
-  Ok (indication_of code.0, code.1)
+  Ok (dti_of code.0, code.1)
 
 -- ---- template_fdiffs
 

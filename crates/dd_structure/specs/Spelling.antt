@@ -4,7 +4,7 @@
 use Rattle.std.specs.Prelude.{◌≡◌, ℕ, ◌+◌, ◌-◌, ◌<◌, ◌≤◌, ◌^◌, nat_lt, Bool, List, [], ◌∷◌, ◌++◌, length, Some, Ok, if◌then◌else◌}
 use Rattle.std.specs.List.{flat_map, AllByRecursion}
 use Rattle.sfu_base.specs.declared.frame.Dti.{Dti}
-use Rattle.sfu_base.specs.declared.frame.Dti.TheVariants.{NotPresent, Discardable, Switch, Required}
+use Rattle.sfu_base.specs.Frame.{dti_code}
 use Rattle.dd_bits.specs.Bits.{bits_of}
 use Rattle.dd_bits.specs.Numbers.{non_symmetric_bits}
 use Rattle.dd_bits.specs.Sequences.{until_spelled, EachAfter}
@@ -27,14 +27,8 @@ layers_bits (first ∷ others) = until_spelled layer_bits (bits_of 2 3) first ot
 
 -- ---- template_dtis
 
-abbrev pub indication_code : Dti → ℕ
-indication_code NotPresent = 0
-indication_code Discardable = 1
-indication_code Switch = 2
-indication_code Required = 3
-
 abbrev pub indication_bits : Dti → List Bool
-indication_bits d = bits_of 2 (indication_code d)
+indication_bits d = bits_of 2 (dti_code d)
 
 -- ---- template_fdiffs
 

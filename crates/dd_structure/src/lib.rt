@@ -21,6 +21,7 @@ pub use fault::StructureFault;
 pub use laws::{structure_reads_back, structures_are_well_formed};
 pub use layer::Layer;
 pub use structure::Structure;
+pub use writing::indications::put_indications;
 
 #[cfg(test)]
 mod tests;

@@ -2,7 +2,7 @@
 
 mod chains;
 mod distances;
-mod indications;
+pub mod indications;
 mod layers;
 mod resolutions;
 

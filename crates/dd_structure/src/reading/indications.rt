@@ -13,12 +13,7 @@ fn indication(bits: &mut BitReader<'_>) -> Result<Dti, StructureFault>
     ensures { Gives (λ v. v) result bits.new (indication_at (bits_left bits.old)) }
 {
     let code = number(bits, 2)?;
-    Ok(match code {
-        0 => Dti::NotPresent,
-        1 => Dti::Discardable,
-        2 => Dti::Switch,
-        _ => Dti::Required,
-    })
+    Ok(Dti::from_code(code))
 }
 
 /// A template's indications, decode target by decode target.

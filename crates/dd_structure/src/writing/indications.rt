@@ -1,28 +1,17 @@
 ghost use Rattle.std.specs.Prelude.{◌≡◌, ◌<◌, ◌≤◌, take};
 ghost use Rattle.std.specs.List.{flat_map};
 ghost use Rattle.dd_bits.specs.Writer.{Puts};
-ghost use Rattle.dd_structure.specs.Spelling.{indication_code, indication_bits};
+ghost use Rattle.dd_structure.specs.Spelling.{indication_bits};
 
 use dd_bits::{BitWriter, NoRoom};
 use sfu_base::Dti;
 
-fn code_of(indication: Dti) -> u32
-    ensures value { result ≡ indication_code indication }
-    ensures small { result < 4 }
-{
-    match indication {
-        Dti::NotPresent => 0,
-        Dti::Discardable => 1,
-        Dti::Switch => 2,
-        Dti::Required => 3,
-    }
-}
-
-fn put_indications(out: &mut BitWriter, row: &[Dti]) -> Result<(), NoRoom>
+/// An indication for each decode target.
+pub fn put_indications(out: &mut BitWriter, row: &[Dti]) -> Result<(), NoRoom>
     ensures { Puts result out.old out.new (flat_map indication_bits row.now) }
 {
     for indication in row {
-        out.put(2, code_of(*indication))?;
+        out.put(2, indication.code())?;
     }
     Ok(())
 }

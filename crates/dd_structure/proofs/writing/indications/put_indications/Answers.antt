@@ -7,4 +7,4 @@ use Rattle.dd_structure.proofs.writing.indications.put_indications.Goals as goal
 pub returns-in_err-put : goal.returns-in_err-put
 returns-in_err-put c =
     let p = err_from_is_err_and c.from_residual.result c.from_residual.ensures.1 in
-    rw p.1 (no_room_at indication_bits _ c.loop-indication.indication-index NotPresent _ _ _ c.loop-indication-test.true c.loop-indication.invariant (rw c.code_of.ensures.value at c.in_err-put.ensures.put))
+    rw p.1 (no_room_at indication_bits _ c.loop-indication.indication-index NotPresent _ _ _ c.loop-indication-test.true c.loop-indication.invariant (rw c.code.ensures.value at c.in_err-put.ensures.put))
