@@ -8,7 +8,6 @@ use Rattle.forwarding_model.specs.Lists.{last_part}
 use Rattle.forwarding_model.specs.Timeline.{Packet, Event, takes_of}
 use Rattle.forwarding_model.specs.Outgoing.{Sender, Subscriber, forwarded, kept, next_number, oldest_number, oldest_of, outgoing, queue, resent, taken}
 use Rattle.forwarding_model.specs.Outgoing as model
-use Rattle.forwarding_model.proofs.Outgoings.{length-numbered}
 use Rattle.out_ring.specs.Ring.{Pushed, Ring, Sent, oldest_in, sent}
 use Rattle.out_ring.specs.History.{History, IsAfter, numbered}
 use Rattle.out_ring.specs.History as history
@@ -28,6 +27,10 @@ same_count [] [] h = refl
 same_count [] (packet ∷ packets) h = absurd h
 same_count (p ∷ ps) [] h = absurd h
 same_count (p ∷ ps) (packet ∷ packets) h = ap suc (same_count ps packets h.1)
+
+length-numbered : (n ssrc : ℕ) (packets : List Packet) → length (model.numbered n ssrc packets) ≡ length packets
+length-numbered n ssrc [] = refl
+length-numbered n ssrc (packet ∷ packets) = ap suc (length-numbered (n + 1) ssrc packets)
 
 last_part-map : {X Y : Type 0} (f : X → Y) (n : ℕ) (xs : List X) → last_part n (map f xs) ≡ map f (last_part n xs)
 last_part-map f n xs = ap (λ (k : ℕ). drop (k - n) (map f xs)) (length-map xs f) ∙ drop-map f (length xs - n) xs
