@@ -59,17 +59,17 @@ number_again bits n word small h =
 
 -- ---- bytes in hex digits
 
-hex_no_space : (word bytes : List ℕ) → IsHex bytes word → no_space word ≡ true
+pub hex_no_space : (word bytes : List ℕ) → IsHex bytes word → no_space word ≡ true
 hex_no_space word bytes h = no_space_passes is_hex_digit refl word ((decode_of-ok word bytes h).1)
 
 ok_is : {E : Type 0} (r : Result (List ℕ) E) (bytes : List ℕ) → result_ok r ≡ Some bytes → r ≡ Ok bytes
 ok_is (Ok x) bytes e = cc
 ok_is (Err x) bytes e = cc
 
-le_of : (m n : ℕ) → leb m n ≡ true → m ≤ n
+pub le_of : (m n : ℕ) → leb m n ≡ true → m ≤ n
 le_of m n e = grind (arith, nat_tests)
 
-le_test : (m n : ℕ) → m ≤ n → leb m n ≡ true
+pub le_test : (m n : ℕ) → m ≤ n → leb m n ≡ true
 le_test m n h = grind (arith, nat_tests)
 
 pub bytes_found : (word bytes : List ℕ) → bytes_of word ≡ Some bytes → Fills (Hex bytes) word

@@ -1,3 +1,4 @@
+pub mod ActorLaws
 pub mod Arities
 pub mod Cutting
 pub mod FieldLaws
@@ -11,6 +12,7 @@ pub mod PacketLine
 pub mod Parsing
 pub mod PieceSteps
 pub mod PublishLine
+pub mod ReplyLaws
 pub mod Spaces
 pub mod Steps
 pub mod Written

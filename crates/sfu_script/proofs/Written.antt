@@ -20,7 +20,7 @@ four_bytes a b c d p q r s (suc (suc (suc (suc i)))) = omega arith
 ssrc_bytes : (ssrc : ℕ) → ssrc < 2 ^ 32 → IsBytes (to_be_bytes w32 ssrc)
 ssrc_bytes ssrc h = four_bytes (ssrc / 16777216 % 256) (ssrc / 65536 % 256) (ssrc / 256 % 256) (ssrc % 256) (omega arith) (omega arith) (omega arith) (omega arith)
 
-word_fills : (place : Place) → IsWithin place → Fills place (word_of place)
+pub word_fills : (place : Place) → IsWithin place → Fills place (word_of place)
 word_fills (Word text) h = refl
 word_fills (Number bits n) h = (h, refl)
 word_fills (Ssrc ssrc) h = (h, decode_of-encode_lower (to_be_bytes w32 ssrc) (ssrc_bytes ssrc h))

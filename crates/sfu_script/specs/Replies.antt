@@ -1,5 +1,6 @@
 -- The texts of replies, without their line end. Own rule.
 use Rattle.std.specs.Prelude.{ℕ, Bool, true, false, Option, Some, None, List, [], ◌∷◌, ◌++◌, map, codes, decimal}
+use Rattle.hex.specs.Hex.{IsBytes}
 use Rattle.sfu_base.specs.Answer.{Answer, Done, Sent, Named, KeyIs, Told, Refused}
 use Rattle.sfu_base.specs.declared.call.Reply.{Reply}
 use Rattle.sfu_base.specs.declared.call.Reply.TheVariants as reply
@@ -9,7 +10,7 @@ use Rattle.sfu_base.specs.declared.call.RtpFault.{RtpFault}
 use Rattle.sfu_base.specs.declared.call.RtpFault.TheVariants.{Short, Version, Csrc, Extension, Padding}
 use Rattle.sfu_base.specs.declared.frame.Verdict.{Verdict}
 use Rattle.sfu_base.specs.declared.frame.Verdict.TheVariants.{Passed, NotOfTarget, Behind, Reference, Full, Link, Unopened, Hole}
-use Rattle.sfu_script.specs.Grammar.{Place, Word, Number, Ssrc, Hex, text_of}
+use Rattle.sfu_script.specs.Grammar.{Place, Word, Number, Ssrc, Hex, text_of, AllWithin}
 
 -- the number, or the word `none`
 abbrev pub or_none : ℕ → Option ℕ → Place
@@ -77,6 +78,11 @@ answer_places (Refused why) = refusal_places why
 -- the text of an answer
 abbrev pub answer_text : Answer → List ℕ
 answer_text answer = text_of (answer_places answer)
+
+-- An answer is one that a room can give: each number is within its type, and a packet is bytes.
+abbrev pub HasText : Answer → Type 0
+HasText (Sent bytes) = IsBytes bytes
+HasText answer = AllWithin (answer_places answer)
 
 -- A reply whose text is bounded: all but packets and numbers.
 abbrev pub IsShort : Reply → Type 0

@@ -1,8 +1,13 @@
 // Laws of the texts, each the contract of a function that does nothing.
 ghost use Rattle.std.specs.Prelude.{◌≡◌, ◌↔◌, ℕ, List, Some};
 ghost use Rattle.sfu_base.specs.declared.call.Call.{Call};
+ghost use Rattle.sfu_base.specs.Answer.{Answer};
+ghost use Rattle.sfu_script.specs.ActorLines.{actor_call_of, IsActorLine};
+ghost use Rattle.sfu_script.specs.Grammar.{Fills, Hex};
 ghost use Rattle.sfu_script.specs.Lines.{IsLine, line_of, HasLine};
 ghost use Rattle.sfu_script.specs.ReadLines.{call_of};
+ghost use Rattle.sfu_script.specs.Reading.{bytes_of};
+ghost use Rattle.sfu_script.specs.Replies.{answer_text, HasText};
 
 /// A line is read as a call exactly when the grammar says that the line says that call.
 pub fn reads_exactly_the_lines()
@@ -17,4 +22,19 @@ pub fn lines_say_one_call()
 /// What is written for a call is read back as that call.
 pub fn lines_read_back()
     ensures { (call : Call) → HasLine call → call_of (line_of call) ≡ Some call }
+{}
+
+/// A reply's text says one answer.
+pub fn replies_say_one_answer()
+    ensures { (one other : Answer) → HasText one → HasText other → answer_text one ≡ answer_text other → one ≡ other }
+{}
+
+/// A line is read as a packet exactly when it has the packet's 1 to 2,048 bytes in hex digits.
+pub fn reads_exactly_the_packets()
+    ensures { (bytes line : List ℕ) → (bytes_of line ≡ Some bytes) ↔ Fills (Hex bytes) line }
+{}
+
+/// A line is read as an actor's call exactly when it is `@K` with K from 1 to 8, a space and a line that says the call.
+pub fn reads_exactly_the_actors_lines()
+    ensures { (actor : ℕ) (call : Call) (line : List ℕ) → (actor_call_of line ≡ Some (actor, call)) ↔ IsActorLine actor call line }
 {}

@@ -32,7 +32,10 @@ pub use complaints::write_complaint;
 pub use ends::write_end;
 pub use entries::write_entry;
 pub use journal::{Actors, Calls, Entry, Journal};
-pub use laws::{lines_read_back, lines_say_one_call, reads_exactly_the_lines};
+pub use laws::{
+    lines_read_back, lines_say_one_call, reads_exactly_the_actors_lines, reads_exactly_the_lines,
+    reads_exactly_the_packets, replies_say_one_answer,
+};
 pub use line_fault::write_line_fault;
 pub use line_reader::LineReader;
 pub use lines::{NoLine, read_call};
