@@ -1,12 +1,1 @@
-pub mod LineEnds
-pub mod Found
-pub mod OneWord
-pub mod Due
-pub mod Fronts
-pub mod Feeding
-pub mod Lines
-pub mod Pieces
-pub mod Taking
-pub mod Ending
-pub mod Laws
-pub mod Runs
+pub mod Replies

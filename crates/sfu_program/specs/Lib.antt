@@ -1,5 +1,4 @@
 pub mod Script
-pub mod Outcome
-pub mod Session
-pub mod Feeds
-pub mod Status
+pub mod Run
+pub mod Help
+pub mod Words

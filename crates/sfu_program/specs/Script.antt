@@ -1,55 +1,52 @@
 -- What the bytes of a script say, and which texts are due for it. Own rule. The code never has a whole script in its hands: it reads
--- pieces of any size, and puts lines together from them.
-use Rattle.std.specs.Prelude.{ℕ, ◌+◌, ◌==◌, ◌&&◌, nat_le, false, if◌then◌else◌, List, [], ◌∷◌, ◌++◌, length, Option, Some, None, Result, Ok, Err}
+-- pieces of any size, and serves the lines one after another.
+use Rattle.std.specs.Prelude.{ℕ, ◌+◌, nat_le, if◌then◌else◌, List, [], ◌∷◌, ◌++◌, false, Option, Some, None}
 use Rattle.sfu_base.specs.declared.call.Call.{Call}
 use Rattle.room_core.specs.History.{Entry, reply_of}
+use Rattle.sfu_driver.specs.Input.{Line, judged_lines, lines_of, said}
+use Rattle.sfu_driver.specs.Scan.{Scan, More, Whole, NoUnit}
 use Rattle.sfu_script.specs.ReadLines.{call_of}
 use Rattle.sfu_script.specs.Replies.{answer_text, line_fault_text}
+use Rattle.sfu_script.specs.Skipped.{is_skipped}
 
--- ---- lines and calls
+-- ---- calls
 
--- the byte before the others of the first line
-abbrev pub onto_line : ℕ → List (List ℕ) → List (List ℕ)
-onto_line b [] = (b ∷ []) ∷ []
-onto_line b (line ∷ lines) = (b ∷ line) ∷ lines
+-- the calls of the lines before the first that is outside the grammar, and that line's number, if there is one
+pub record Script : Type 0 where
+  pub calls : List Call
+  pub fault : Option ℕ
 
--- the lines of some bytes, each without its LF, which the last may lack
-abbrev pub lines_of : List ℕ → List (List ℕ)
-lines_of [] = []
-lines_of (b ∷ bytes) = if b == 10 then [] ∷ lines_of bytes else onto_line b (lines_of bytes)
+-- the line with this number is outside the grammar
+abbrev pub stops_at : ℕ → Script
+stops_at number = record { calls = []; fault = Some number }
 
--- the call of the line with this number: a line has at most 4,200 bytes, and there are at most 4,294,967,295
-abbrev pub line_call : ℕ → List ℕ → Option Call
-line_call number line = if nat_le number 4294967295 && nat_le (length line) 4200 then call_of line else None
+-- a call before the others, or a line that says none
+abbrev pub with_call : Option Call → ℕ → Script → Script
+with_call None number others = stops_at number
+with_call (Some call) number others = record { calls = call ∷ others.calls; fault = others.fault }
 
--- one more line before others
-abbrev pub then_calls : ℕ → Option Call → Result (List Call) ℕ → Result (List Call) ℕ
-then_calls number None calls = Err number
-then_calls number (Some call) (Ok calls) = Ok (call ∷ calls)
-then_calls number (Some call) (Err bad) = Err bad
+-- a line with this text: a skipped one is counted, and says nothing
+abbrev pub with_text : List ℕ → ℕ → Script → Script
+with_text text number others = if is_skipped text then others else with_call (call_of text) number others
 
--- the calls of lines of which the first has this number, or the number of the first line that is none
-abbrev pub calls_of : List (List ℕ) → ℕ → Result (List Call) ℕ
-calls_of [] number = Ok []
-calls_of (line ∷ lines) number = then_calls number (line_call number line) (calls_of lines (number + 1))
+-- a line before the others; there are at most 4,294,967,295
+abbrev pub with_line : Scan → ℕ → Script → Script
+with_line More number others = others
+with_line (Whole text) number others = if nat_le number 4294967295 then with_text text number others else stops_at number
+with_line NoUnit number others = stops_at number
 
--- the calls of a script, or the number of its first line outside the grammar
-abbrev pub script_of : List ℕ → Result (List Call) ℕ
+-- what lines say of which the first has this number
+abbrev pub calls_of : List Line → ℕ → Script
+calls_of [] number = record { calls = []; fault = None }
+calls_of (line ∷ lines) number = with_line (said line) number (calls_of lines (number + 1))
+
+-- what a whole script says
+abbrev pub script_of : List ℕ → Script
 script_of bytes = calls_of (lines_of bytes) 1
 
--- a call before others, if there is one
-abbrev pub then_front : Option Call → List Call → List Call
-then_front None calls = []
-then_front (Some call) calls = call ∷ calls
-
--- the calls of lines up to the first that is none
-abbrev pub front_of : List (List ℕ) → ℕ → List Call
-front_of [] number = []
-front_of (line ∷ lines) number = then_front (line_call number line) (front_of lines (number + 1))
-
--- the calls of a script before its first line outside the grammar
-abbrev pub calls_before_fault : List ℕ → List Call
-calls_before_fault bytes = front_of (lines_of bytes) 1
+-- what the lines say that are judged before the end of the script is seen
+abbrev pub script_so_far : List ℕ → Script
+script_so_far bytes = calls_of (judged_lines (lines_of bytes)) 1
 
 -- ---- texts
 
@@ -69,12 +66,3 @@ run_text (call ∷ calls) history = reply_line history call ++ run_text calls (h
 -- the line that says which line is outside the grammar
 abbrev pub fault_line : ℕ → List ℕ
 fault_line number = line_fault_text number ++ 10 ∷ []
-
--- that line where there is one
-abbrev pub fault_part : Result (List Call) ℕ → List ℕ
-fault_part (Ok calls) = []
-fault_part (Err number) = fault_line number
-
--- all that is due for a script: the replies before the first line outside the grammar, and then its fault
-abbrev pub due_text : List ℕ → List ℕ
-due_text bytes = run_text (calls_before_fault bytes) [] ++ fault_part (script_of bytes)

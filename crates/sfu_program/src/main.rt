@@ -1,30 +1,33 @@
-//! The program `sfu`: its top call over any source and sink, and a `main` that hands in standard input and output.
+//! The program `sfu`: its top calls over any source and sink, and a `main` that hands in standard input and output.
 #![tactic(auto)]
 
-mod feed;
-mod line_buf;
 mod run;
-mod session;
 mod sfu;
-mod sink;
 #[cfg(test)]
 mod tests;
+mod texts;
+mod usage;
+mod words;
 
 use sfu_base::{StdSink, StdSource};
 use std::process::ExitCode;
 use std::{env, io};
 
-// The words after the program's name.
-fn words(rt: &HostRuntime) -> io::Result<Vec<String>> {
+// The words after the program's name. None is no command: so are words that aren't UTF-8.
+fn arguments(rt: &HostRuntime) -> io::Result<Vec<String>> {
     let mut words = Vec::new(rt.alloc());
-    for word in env::args(rt)?.skip(1) {
+    let all = match env::args(rt) {
+        Err(fault) if fault.kind() == io::ErrorKind::InvalidData => return Ok(words),
+        all => all?,
+    };
+    for word in all.skip(1) {
         words.push(word)?;
     }
     Ok(words)
 }
 
 fn main(rt: HostRuntime) -> ExitCode {
-    let Ok(words) = words(&rt) else {
+    let Ok(words) = arguments(&rt) else {
         return ExitCode::from(6);
     };
     let mut source = StdSource::new(rt.stdin());

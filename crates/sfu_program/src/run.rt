@@ -1,85 +1,91 @@
-// A run of a script.
-ghost use Rattle.std.specs.Prelude.{◌≡◌, ◌≤◌, ◌+◌, [], IsTrue, OnOk, OnErr, List, ℕ};
-ghost use Rattle.std.specs.Io.KnownBytes.{IsAtEnd};
+// The command `run`.
+ghost use Rattle.std.specs.Prelude.{◌≡◌, [], List};
+ghost use Rattle.sfu_base.specs.Answer.{is_starved};
 ghost use Rattle.room_core.specs.History.{Entry};
-ghost use Rattle.sfu_program.specs.Outcome.{is_unended};
-ghost use Rattle.sfu_program.specs.Session.{StandsFor};
-ghost use Rattle.sfu_program.specs.Feeds.{CauseOf, EndsFrom, Took};
-ghost use Rattle.sfu_program.specs.Status.{HasBadScript, IsBegun, IsPartlyReplied, IsReplied, IsShown, IsWritten};
+ghost use Rattle.room_core.specs.Serves.{Stands};
+ghost use Rattle.sfu_program.specs.Run.{IsRunStatus, Runs, served, untold};
+ghost use Rattle.sfu_program.specs.Script.{fault_line};
 
-use crate::feed::feed;
-use crate::line_buf::LineBuf;
-use crate::session::{Session, Stop};
-use sfu_base::{Sink, Source};
+use crate::texts::{add_fault, add_reply};
+use room_core::{KeepNone, Room};
+use sfu_base::{Blob, NoMemory, PacketBuf, Refusal, Reply, Scratch, SeqList, Sink, Source};
+use sfu_driver::{Ending, Halt, Judge, Lines, Units, answer};
+use sfu_script::{LineReader, is_skipped};
 use std::alloc::Global;
 
-// Takes all bytes of the source, piece by piece.
-fn take_all<S: Source, K: Sink>(
-    session: &mut Session,
-    line: &mut LineBuf,
-    source: &mut S,
-    sink: &mut K,
-) -> Result<(), Stop>
-    requires kept { IsTrue (is_unended line.old) }
-    requires written { session.old.ready ≡ [] }
-    ensures took { Took session.old session.new line.old line.new (S.left source.old) (S.left source.new) (K.written sink.old) (K.written sink.new)
-        (K.faults sink.old) (K.faults sink.new) result }
-    ensures end { OnOk result (IsAtEnd (S.left source.new)) }
-    ensures unended { OnOk result (IsTrue (is_unended line.new)) }
-    ensures written { OnOk result (session.new.ready ≡ []) }
-    ensures cause { CauseOf (S.faults source.old) (S.faults source.new) (K.faults sink.old) (K.faults sink.new) result }
-    ensures never_falls { K.faults sink.old ≤ K.faults sink.new }
+/// Serves the call of each line by seat 0 on a room that keeps nothing.
+#[derive(Drop)]
+pub struct LineServer {
+    pub reader: LineReader,
+    pub room: Room<KeepNone>,
+    pub scratch: Scratch,
+}
+
+// Whether a reply is want of memory.
+fn wants_memory(reply: &Reply) -> bool
+    ensures { result ≡ is_starved reply.now }
 {
-    let mut piece = [0u8; 65_536];
-    loop {
-        let _length = line.len();
-        let _count = session.count;
-        match source.read(&mut piece) {
-            Ok(0) => return Ok(()),
-            Ok(count) => match feed(session, line, sink, &piece[..count]) {
-                Ok(()) => {}
-                Err(stop) => return Err(stop),
+    matches!(reply, Reply::Refused(Refusal::NoMemory))
+}
+
+impl LineServer {
+    /// A server that has served nothing.
+    pub fn new(alloc: Global) -> LineServer
+        ensures { Stands untold result.room [] }
+    {
+        LineServer {
+            reader: LineReader::new(),
+            room: Room::new(alloc, KeepNone::new()),
+            scratch: Scratch {
+                packet: PacketBuf::new(),
+                names: SeqList::new(),
             },
-            Err(_) => return Err(Stop::SourceFault),
         }
     }
 }
 
-// Judges the last line, where it has no line end.
-fn finish<K: Sink>(session: &mut Session, line: &LineBuf, sink: &mut K) -> Result<(), Stop>
-    requires kept { IsTrue (is_unended line.now) }
-    requires written { session.old.ready ≡ [] }
-    ensures ends { (history : List Entry) → StandsFor session.old history
-        → EndsFrom (session.old.count + 1) line.now (K.written sink.old) (K.written sink.new) (K.faults sink.old) (K.faults sink.new) result history }
-    ensures cause { CauseOf 0 0 (K.faults sink.old) (K.faults sink.new) result }
-{
-    if line.len() == 0 {
-        return Ok(());
+impl Judge for LineServer {
+    ghost State = { List Entry };
+
+    ghost stands = { λ server history. Stands untold server.room history };
+
+    ghost step = { served };
+
+    ghost outside = { fault_line };
+
+    ghost closing = { λ _. [] };
+
+    fn judge(&mut self, number: u32, line: &[u8], ready: &mut Blob) -> Result<(), Halt> {
+        if is_skipped(line) {
+            return Ok(());
+        }
+        let Ok(call) = self.reader.read(line) else {
+            add_fault(u64::from(number), ready)?;
+            return Err(Halt::Ended(Ending::Outside));
+        };
+        let reply = self.room.serve(0, call, &mut self.scratch);
+        if wants_memory(&reply) {
+            return Err(Halt::Starved);
+        }
+        add_reply(&reply, &self.scratch, ready)?;
+        Ok(())
     }
-    match session.judge(line.bytes()) {
-        Ok(()) => {}
-        Err(why) => return Err(session.halt(sink, why)),
+
+    fn refuse(&self, number: u64, ready: &mut Blob) -> Result<(), NoMemory> {
+        add_fault(number, ready)
     }
-    match session.flush(sink) {
-        Ok(()) => Ok(()),
-        Err(_) => Err(Stop::SinkFault),
+
+    fn close(&mut self, _ready: &mut Blob) -> Result<(), NoMemory> {
+        Ok(())
     }
 }
 
-/// Runs a script: serves the call of each line by seat 0 on a room that keeps nothing, and writes the reply lines.
-pub fn run<S: Source, K: Sink>(alloc: Global, source: &mut S, sink: &mut K) -> Result<(), Stop>
-    ensures done { OnOk result (IsWritten (S.left source.old) (S.left source.new) (K.written sink.old) (K.written sink.new)) }
-    ensures begun { OnErr result (IsBegun (S.left source.old) (K.written sink.old) (K.written sink.new)) }
-    ensures bad { result ≡ Err Stop.BadLine → HasBadScript (S.left source.old) }
-    ensures shown { result ≡ Err Stop.BadLine → IsShown (S.left source.old) (K.written sink.old) (K.written sink.new) (K.faults sink.old) (K.faults sink.new) }
-    ensures replied { result ≡ Err Stop.SourceFault → IsReplied (S.left source.old) (S.left source.new) (K.written sink.old) (K.written sink.new) }
-    ensures partly { result ≡ Err Stop.Starved → IsPartlyReplied (S.left source.old) (K.written sink.old) (K.written sink.new) }
-    ensures cause { CauseOf (S.faults source.old) (S.faults source.new) (K.faults sink.old) (K.faults sink.new) result }
+/// Runs a script: serves the calls of the source's lines, writes a line for each reply, and answers the status.
+pub fn run<S: Source, K: Sink>(alloc: Global, source: &mut S, sink: &mut K) -> u8
+    ensures runs { Runs (S.left source.old) (S.left source.new) (K.written sink.old) (K.written sink.new) (S.faults source.old) (S.faults source.new)
+        (K.faults sink.old) (K.faults sink.new) result }
+    ensures only { IsRunStatus result }
 {
-    let mut session = Session::new(alloc);
-    let mut line = LineBuf::new();
-    match take_all(&mut session, &mut line, source, sink) {
-        Ok(()) => finish(&mut session, &line, sink),
-        Err(stop) => Err(stop),
-    }
+    let mut units = Units::new(Lines, LineServer::new(alloc), 1);
+    answer(alloc, &mut units, source, sink)
 }

@@ -1,5 +1,5 @@
 // The top call over sources and sinks in memory: scripts with their replies and statuses, and each fault of the outside.
-use crate::sfu::sfu;
+use crate::sfu::{sfu, sfu_alone};
 use sfu_base::{CalmSink, CalmSource, Failed, MemSink, MemSource, Source};
 use std::alloc::{AllocError, Global};
 use std::test::Fail;
@@ -8,6 +8,8 @@ const FIRST: &str =
     "publish 1 plain 11111111 100\njoin 1 1 22222222 7 0 0\ntake 1\npacket 1 0 806000010000000011111111aabb\n";
 
 const FIRST_REPLIES: &str = "ok\nok\nempty\nok\n";
+
+const USAGE: &str = "usage: run, together, trial, check, serve, help\n";
 
 // Gives a script byte by byte.
 #[derive(Drop)]
@@ -36,16 +38,11 @@ fn words(alloc: Global, texts: &[&str]) -> Result<Vec<String>, AllocError> {
     Ok(words)
 }
 
-// The status and what was written, where the calls at these places fail.
-fn run(
-    alloc: Global,
-    script: &str,
-    read_fails: &[u64],
-    write_fails: &[u64],
-) -> Result<(u8, Vec<u8>), AllocError> {
+// The status of a script, and what was written.
+fn run(alloc: Global, script: &str) -> Result<(u8, Vec<u8>), AllocError> {
     let words = words(alloc, &["run"])?;
-    let mut source = MemSource::new(script.as_bytes().to_vec(alloc)?, read_fails.to_vec(alloc)?);
-    let mut sink = MemSink::new(alloc, write_fails.to_vec(alloc)?);
+    let mut source = MemSource::new(script.as_bytes().to_vec(alloc)?, Vec::new(alloc));
+    let mut sink = MemSink::new(alloc, Vec::new(alloc));
     let status = sfu(alloc, words.as_slice(), &mut source, &mut sink);
     Ok((status, sink.written().to_vec(alloc)?))
 }
@@ -110,6 +107,20 @@ fn scripts_get_their_replies_and_statuses(rt: HostRuntime) -> Result<(), Fail> {
             0,
             "refused notbuilt\n",
         ),
+        // Skipped lines are counted and have no reply; a CR directly before an LF is dropped.
+        ("", "# a\n\ntake 1\r\n", 0, "refused notbuilt\n"),
+        (
+            "",
+            "# a\n\ntake 1\ntake 01",
+            5,
+            "refused notbuilt\nline 4\n",
+        ),
+        ("", "\r\n#\r\n# \u{e9}\ntake 01\n", 5, "line 4\n"),
+        // A CR at the end of input stays, and so does one of two before an LF.
+        ("", "take 1\r", 5, "line 1\n"),
+        ("", "take 1\r\r\n", 5, "line 1\n"),
+        ("", "\r", 5, "line 1\n"),
+        (" ", "", 5, "line 1\n"),
         // Upper case is read, lower case is written.
         (
             FIRST,
@@ -120,9 +131,9 @@ fn scripts_get_their_replies_and_statuses(rt: HostRuntime) -> Result<(), Fail> {
     ];
     for (front, script, status, replies) in cases {
         let text = format!(in rt.alloc(); "{front}{script}")?;
-        let before = if front.is_empty() { "" } else { FIRST_REPLIES };
+        let before = if front == FIRST { FIRST_REPLIES } else { "" };
         let wanted = format!(in rt.alloc(); "{before}{replies}")?;
-        let (got, written) = run(rt.alloc(), text.as_str(), &[], &[])?;
+        let (got, written) = run(rt.alloc(), text.as_str())?;
         assert_eq!(rt; got, status, "{text}");
         assert_eq!(rt; written.as_slice(), wanted.as_bytes(), "{text}");
     }
@@ -136,17 +147,15 @@ fn other_words_get_the_usage_line(rt: HostRuntime) -> Result<(), Fail> {
         ["run", "run", ""].as_slice(),
         &[],
         &["trial", "0", "7", "0"],
-        &["help"],
+        &["help", "run"],
         &["Run"],
+        &["help "],
     ] {
         let words = words(alloc, texts)?;
         let mut source = MemSource::new(FIRST.as_bytes().to_vec(alloc)?, [0u64].to_vec(alloc)?);
         let mut sink = MemSink::new(alloc, Vec::new(alloc));
         assert_eq!(rt; sfu(alloc, words.as_slice(), &mut source, &mut sink), 2);
-        assert_eq!(rt;
-            sink.written(),
-            b"usage: run, together, trial, check, serve, help\n".as_slice()
-        );
+        assert_eq!(rt; sink.written(), USAGE.as_bytes());
         // The number stays where the sink fails.
         let mut sink = MemSink::new(alloc, [0u64].to_vec(alloc)?);
         assert_eq!(rt; sfu(alloc, words.as_slice(), &mut source, &mut sink), 2);
@@ -159,44 +168,79 @@ fn other_words_get_the_usage_line(rt: HostRuntime) -> Result<(), Fail> {
 }
 
 #[test]
+fn help_writes_the_usage_line(rt: HostRuntime) -> Result<(), Fail> {
+    let alloc = rt.alloc();
+    let words = words(alloc, &["help"])?;
+    for (write_fails, status, text) in [([].as_slice(), 0, USAGE), (&[0], 4, "")] {
+        let mut source = MemSource::new(FIRST.as_bytes().to_vec(alloc)?, [0u64].to_vec(alloc)?);
+        let mut sink = MemSink::new(alloc, write_fails.to_vec(alloc)?);
+        assert_eq!(rt;
+            sfu_alone(alloc, words.as_slice(), &mut source, &mut sink),
+            status
+        );
+        assert_eq!(rt; sink.written(), text.as_bytes());
+        // Nothing was read: the first read is still to come, and fails.
+        assert_eq!(rt; source.read(&mut [0u8; 8]), Err(Failed));
+    }
+    Ok(())
+}
+
+#[test]
 fn each_fault_of_the_outside_ends_the_run(rt: HostRuntime) -> Result<(), Fail> {
     let alloc = rt.alloc();
-    // The second read fails: the replies to what the first gave were written.
-    let (status, written) = run(alloc, FIRST, &[1], &[])?;
-    assert_eq!(rt; status, 3);
-    assert_eq!(rt; written.as_slice(), FIRST_REPLIES.as_bytes());
-    let (status, written) = run(alloc, FIRST, &[0], &[])?;
-    assert_eq!(rt; status, 3);
-    assert_eq!(rt; written.as_slice(), b"".as_slice());
-    // The n-th write fails, where each line is written by itself.
     let run_word = words(alloc, &["run"])?;
-    for n in 0..6u64 {
-        let mut source = ByteSource {
-            inner: MemSource::new(FIRST.as_bytes().to_vec(alloc)?, Vec::new(alloc)),
-        };
-        let mut sink = MemSink::new(alloc, [n].to_vec(alloc)?);
-        let status = sfu(alloc, run_word.as_slice(), &mut source, &mut sink);
-        assert_eq!(rt; status, if n < 4 { 4 } else { 0 });
-        let prefix = [
-            "",
-            "ok\n",
-            "ok\nok\n",
-            "ok\nok\nempty\n",
-            FIRST_REPLIES,
-            FIRST_REPLIES,
-        ];
-        if let Some(text) = prefix.get(n as usize) {
-            assert_eq!(rt; sink.written(), text.as_bytes());
+    // Byte by byte, so that each line is written by itself: the n-th write fails, for a script with a bad line and for one without.
+    let bad = format!(in alloc; "{FIRST}take 01\ntake 1\n")?;
+    let written_before = [
+        "",
+        "ok\n",
+        "ok\nok\n",
+        "ok\nok\nempty\n",
+        FIRST_REPLIES,
+        FIRST_REPLIES,
+    ];
+    for (script, whole, last) in [(FIRST, 0, ""), (bad.as_str(), 5, "line 5\n")] {
+        for n in 0..6u64 {
+            let mut source = ByteSource {
+                inner: MemSource::new(script.as_bytes().to_vec(alloc)?, Vec::new(alloc)),
+            };
+            let mut sink = MemSink::new(alloc, [n].to_vec(alloc)?);
+            let status = sfu(alloc, run_word.as_slice(), &mut source, &mut sink);
+            // The sink's failing in the last text, the fifth, leaves the status as it is.
+            assert_eq!(rt;
+                status,
+                if n < 4 { 4 } else { whole },
+                "write {n} of {script}"
+            );
+            let front = written_before.get(n as usize).copied().unwrap_or("");
+            let wanted = format!(in alloc; "{front}{}", if n == 5 { last } else { "" })?;
+            assert_eq!(rt; sink.written(), wanted.as_bytes(), "write {n} of {script}");
         }
     }
-    // The sink fails in the line's fault, which keeps its number, and in the replies before it.
-    let text = format!(in alloc; "{FIRST}take 01\n")?;
-    let (status, written) = run(alloc, text.as_str(), &[], &[1])?;
-    assert_eq!(rt; status, 5);
-    assert_eq!(rt; written.as_slice(), FIRST_REPLIES.as_bytes());
-    let (status, written) = run(alloc, text.as_str(), &[], &[0])?;
-    assert_eq!(rt; status, 4);
-    assert_eq!(rt; written.as_slice(), b"".as_slice());
+    // The n-th read fails: what is due for the bytes before was written, and nothing is read behind the bad line.
+    for (n, status, text) in [
+        (0, 3, ""),
+        (28, 3, ""),
+        (29, 3, "ok\n"),
+        (107, 3, FIRST_REPLIES),
+        (108, 5, ""),
+    ] {
+        let mut source = ByteSource {
+            inner: MemSource::new(bad.as_bytes().to_vec(alloc)?, [n].to_vec(alloc)?),
+        };
+        let mut sink = MemSink::new(alloc, Vec::new(alloc));
+        assert_eq!(rt;
+            sfu(alloc, run_word.as_slice(), &mut source, &mut sink),
+            status,
+            "read {n}"
+        );
+        if status == 3 {
+            assert_eq!(rt; sink.written(), text.as_bytes(), "read {n}");
+        } else {
+            // The read that was to fail is still to come.
+            assert_eq!(rt; source.read(&mut [0u8; 8]), Err(Failed));
+        }
+    }
     Ok(())
 }
 
@@ -204,38 +248,39 @@ fn each_fault_of_the_outside_ends_the_run(rt: HostRuntime) -> Result<(), Fail> {
 fn pieces_of_any_size_make_the_same_lines(rt: HostRuntime) -> Result<(), Fail> {
     let alloc = rt.alloc();
     let run_word = words(alloc, &["run"])?;
-    let text = format!(in alloc; "{FIRST}take 1\ntake 01")?;
+    let text = format!(in alloc; "{FIRST}# a\r\ntake 1\r\ntake 01")?;
     let mut source = ByteSource {
         inner: MemSource::new(text.as_bytes().to_vec(alloc)?, Vec::new(alloc)),
     };
     let mut sink = MemSink::new(alloc, Vec::new(alloc));
     assert_eq!(rt; sfu(alloc, run_word.as_slice(), &mut source, &mut sink), 5);
-    let wanted = format!(in alloc; "{FIRST_REPLIES}packet 806000070000000022222222aabb\nline 6\n")?;
+    let wanted = format!(in alloc; "{FIRST_REPLIES}packet 806000070000000022222222aabb\nline 7\n")?;
     assert_eq!(rt; sink.written(), wanted.as_bytes());
     // The calm forms never fail.
     let mut source = CalmSource::new(text.as_bytes().to_vec(alloc)?);
-    assert_eq!(rt;
-        sfu(
-            alloc,
-            run_word.as_slice(),
-            &mut source,
-            &mut CalmSink::new()
-        ),
-        5
-    );
-    // A line is judged at its 4,201st byte: before it a failing read comes first.
-    let mut line = Vec::new(alloc);
-    for _ in 0..4200 {
+    let mut sink = CalmSink::new();
+    assert_eq!(rt; sfu(alloc, run_word.as_slice(), &mut source, &mut sink), 5);
+    // A comment has at most 4,200 bytes too.
+    let mut line = [b'#'].to_vec(alloc)?;
+    for _ in 1..4200 {
         line.push(b'a')?;
     }
-    let mut source = MemSource::new(line.clone()?, [1u64].to_vec(alloc)?);
-    let mut sink = MemSink::new(alloc, Vec::new(alloc));
-    assert_eq!(rt; sfu(alloc, run_word.as_slice(), &mut source, &mut sink), 3);
-    assert_eq!(rt; sink.written(), b"".as_slice());
-    line.push(b'a')?;
-    let mut source = MemSource::new(line, [1u64].to_vec(alloc)?);
-    let mut sink = MemSink::new(alloc, Vec::new(alloc));
-    assert_eq!(rt; sfu(alloc, run_word.as_slice(), &mut source, &mut sink), 5);
-    assert_eq!(rt; sink.written(), b"line 1\n".as_slice());
+    for (more, status, replies) in [
+        ("", 0, ""),
+        ("\n", 0, ""),
+        ("a", 5, "line 1\n"),
+        ("\r\n", 5, "line 1\n"),
+    ] {
+        let mut bytes = line.clone()?;
+        bytes.extend_from_slice(more.as_bytes())?;
+        let mut source = MemSource::new(bytes, Vec::new(alloc));
+        let mut sink = MemSink::new(alloc, Vec::new(alloc));
+        assert_eq!(rt;
+            sfu(alloc, run_word.as_slice(), &mut source, &mut sink),
+            status,
+            "{more:?}"
+        );
+        assert_eq!(rt; sink.written(), replies.as_bytes(), "{more:?}");
+    }
     Ok(())
 }

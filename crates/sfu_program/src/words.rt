@@ -1,0 +1,34 @@
+// The words after the program's name.
+ghost use Rattle.std.specs.Prelude.{map};
+ghost use Rattle.std.specs.String.{string_bytes};
+ghost use Rattle.sfu_program.specs.Words.{Reads, ReadsWord};
+
+/// A command that waits for nobody.
+#[derive(Clone, Copy, Debug, PartialEq, Eq)]
+pub enum Command {
+    /// Serves the calls of a script.
+    Run,
+    /// Writes the usage line.
+    Help,
+}
+
+// The command of one word.
+fn read_word(word: &str) -> Option<Command>
+    ensures { ReadsWord word.now result }
+{
+    match word {
+        "run" => Some(Command::Run),
+        "help" => Some(Command::Help),
+        _ => None,
+    }
+}
+
+/// The command that the words are; `None` exactly when they are none.
+pub fn read_words(words: &[String]) -> Option<Command>
+    ensures { Reads (map string_bytes words.now) result }
+{
+    match words {
+        [word] => read_word(word.as_str()),
+        _ => None,
+    }
+}
