@@ -4,7 +4,7 @@ use Rattle.std.specs.Prelude.{◌==◌, nat_lt}
 use Rattle.std.specs.Option.{option_map}
 use Rattle.std.proofs.lemmas.Bool.{eqb-true, eq-eqb, ne_eqb, lt-ltb, le-ltb, ltb-true, ltb-false}
 use Rattle.sfu_base.specs.declared.frame.Step.{Step}
-use Rattle.forwarding_model.specs.Causes.{newest_number, next_above, next_below, number_or, verdict_among}
+use Rattle.forwarding_model.specs.forwarding.Causes.{newest_number, next_above, next_below, number_or, verdict_among}
 use Rattle.cause_book.specs.Book.{near}
 use Rattle.cause_book.specs.Slots.{NoneBetween, and_step, step_at, steps_down}
 use Rattle.cause_book.proofs.Places.{number_at}

@@ -8,7 +8,7 @@ use Rattle.sfu_base.specs.declared.call.Refusal.TheVariants.{Ahead, TooOld}
 use Rattle.sfu_base.specs.declared.frame.Step.{Step}
 use Rattle.sfu_base.specs.declared.frame.Verdict.{Verdict}
 use Rattle.sfu_base.specs.declared.frame.Verdict.TheVariants.{Hole}
-use Rattle.forwarding_model.specs.Causes.{is_ahead, is_too_old, newest_number, next_above, next_below, number_or, oldest_asked, verdict_among, verdict_or_hole}
+use Rattle.forwarding_model.specs.forwarding.Causes.{is_ahead, is_too_old, newest_number, next_above, next_below, number_or, oldest_asked, verdict_among, verdict_or_hole}
 use Rattle.cause_book.specs.Book.{judged}
 use Rattle.cause_book.specs.Kept.{IsNewest, steps_to}
 use Rattle.cause_book.specs.Slots.{IsNextAbove, IsNextBelow, step_at}

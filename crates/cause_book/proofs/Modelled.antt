@@ -7,10 +7,10 @@ use Rattle.sfu_base.specs.declared.call.Refusal.TheVariants.{Ahead, TooOld}
 use Rattle.sfu_base.specs.declared.frame.FrameMeaning.{FrameMeaning}
 use Rattle.sfu_base.specs.declared.frame.Step.{Step}
 use Rattle.sfu_base.specs.declared.frame.Wish.{Wish}
-use Rattle.forwarding_model.specs.Causes.{cause_among, is_ahead, is_too_old, newest_number, number_or, oldest_asked, verdicts}
-use Rattle.forwarding_model.specs.Timeline.{Event, meanings_of}
-use Rattle.forwarding_model.specs.Timeline.Event.{WholeFrame, PlainPacket, WishChange, Take}
-use Rattle.forwarding_model.specs.TrackFrames.{IsOneTrack, Precedes}
+use Rattle.forwarding_model.specs.forwarding.Causes.{cause_among, is_ahead, is_too_old, newest_number, number_or, oldest_asked, verdicts}
+use Rattle.forwarding_model.specs.forwarding.Timeline.{Event, meanings_of}
+use Rattle.forwarding_model.specs.forwarding.Timeline.Event.{WholeFrame, PlainPacket, WishChange, Take}
+use Rattle.forwarding_model.specs.frames.TrackFrames.{IsOneTrack, Precedes}
 use Rattle.cause_book.specs.Book.{AreFalling, IsAboveAll, IsAfter, judged}
 use Rattle.cause_book.specs.Model.{TellsCausesOf}
 use Rattle.cause_book.proofs.Recent.{judged_recent}

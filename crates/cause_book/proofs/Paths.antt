@@ -7,7 +7,7 @@ use Rattle.std.specs.declared.option.Option.TheVariants.{None, Some}
 use Rattle.sfu_base.specs.declared.frame.Verdict.{Verdict}
 use Rattle.sfu_base.specs.declared.frame.Verdict.TheVariants.{Passed, NotOfTarget, Behind, Reference, Full, Link, Unopened, Hole}
 use Rattle.sfu_base.specs.declared.frame.Step.{Step}
-use Rattle.forwarding_model.specs.Causes.{IsPath, IsPathFrom, IsRoot, followed}
+use Rattle.forwarding_model.specs.forwarding.Causes.{IsPath, IsPathFrom, IsRoot, followed}
 use Rattle.cause_book.specs.Path.{is_number, is_path, is_path_from, is_root, leads_to}
 
 pub path_after_step : (xs : List Step) (j : ℕ) (d : Step) → suc j < length xs

@@ -3,7 +3,7 @@ use Rattle.std.proofs.Common.{◌≡◌, ◌<◌, ◌≤◌, ℕ, suc, ◌+◌, 
 use Rattle.std.specs.Prelude.{slice_set}
 use Rattle.std.proofs.lemmas.Bool.{lt-ltb, ltb-true}
 use Rattle.sfu_base.specs.declared.frame.Step.{Step}
-use Rattle.forwarding_model.specs.Causes.{is_ahead, newest_number}
+use Rattle.forwarding_model.specs.forwarding.Causes.{is_ahead, newest_number}
 use Rattle.cause_book.specs.Book.{IsAboveAll, near, recent}
 use Rattle.cause_book.specs.Kept.{IsNewest, steps_to}
 use Rattle.cause_book.specs.Slots.{and_step, step_at, steps_down}

@@ -6,7 +6,7 @@ use Rattle.sfu_base.specs.declared.call.Refusal.{Refusal}
 use Rattle.sfu_base.specs.declared.call.Refusal.TheVariants.{Ahead, TooOld}
 use Rattle.sfu_base.specs.declared.frame.Step.{Step}
 use Rattle.sfu_base.specs.declared.frame.Verdict.{Verdict}
-use Rattle.forwarding_model.specs.Causes.{cause_among, is_ahead, is_too_old, newest_number, number_or, oldest_asked}
+use Rattle.forwarding_model.specs.forwarding.Causes.{cause_among, is_ahead, is_too_old, newest_number, number_or, oldest_asked}
 
 -- verdicts with their numbers, the newest first
 abbrev pub Steps : Type 0

@@ -3,9 +3,9 @@ use Rattle.std.specs.Prelude.{◌≡◌, ◌<◌, ◌≤◌, ◌+◌, ℕ, List,
 use Rattle.std.specs.declared.option.Option.TheVariants.{Some}
 use Rattle.sfu_base.specs.declared.frame.Step.{Step}
 use Rattle.sfu_base.specs.declared.frame.Wish.{Wish}
-use Rattle.forwarding_model.specs.Causes.{cause, newest_number, verdicts}
-use Rattle.forwarding_model.specs.Timeline.{Event, meanings_of}
-use Rattle.forwarding_model.specs.TrackFrames.{IsOneTrack}
+use Rattle.forwarding_model.specs.forwarding.Causes.{cause, newest_number, verdicts}
+use Rattle.forwarding_model.specs.forwarding.Timeline.{Event, meanings_of}
+use Rattle.forwarding_model.specs.frames.TrackFrames.{IsOneTrack}
 use Rattle.cause_book.specs.Book.{AreFalling, IsAfter, judged}
 
 -- a book in which each frame of a timeline has its verdict answers by all of them

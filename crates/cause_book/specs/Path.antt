@@ -5,7 +5,7 @@ use Rattle.std.specs.declared.option.Option.TheVariants.{None, Some}
 use Rattle.sfu_base.specs.declared.frame.Verdict.{Verdict}
 use Rattle.sfu_base.specs.declared.frame.Verdict.TheVariants.{Passed, NotOfTarget, Behind, Reference, Full, Link, Unopened, Hole}
 use Rattle.sfu_base.specs.declared.frame.Step.{Step}
-use Rattle.forwarding_model.specs.Causes.{followed}
+use Rattle.forwarding_model.specs.forwarding.Causes.{followed}
 
 abbrev pub is_root : Verdict → Bool
 is_root Passed = false

@@ -1,6 +1,6 @@
 // The book of verdicts.
 ghost use Rattle.std.specs.Prelude.{◌≡◌, ◌<◌, ◌≤◌, ◌∷◌, [], IfOk, List, false, is_some, length, true};
-ghost use Rattle.forwarding_model.specs.Causes.{is_ahead, newest_number};
+ghost use Rattle.forwarding_model.specs.forwarding.Causes.{is_ahead, newest_number};
 ghost use Rattle.cause_book.specs.Book.{AreFalling, IsAboveAll, IsAfter, Steps, judged, recent};
 ghost use Rattle.cause_book.specs.Slots.{IsNextAbove, IsNextBelow, step_at};
 

@@ -1,6 +1,6 @@
 // The test of a path of causes.
 ghost use Rattle.std.specs.Prelude.{◌≡◌, ◌↔◌, IsTrue};
-ghost use Rattle.forwarding_model.specs.Causes.{IsPath, followed};
+ghost use Rattle.forwarding_model.specs.forwarding.Causes.{IsPath, followed};
 ghost use Rattle.cause_book.specs.Path.{is_path, is_root, leads_to};
 
 use sfu_base::{Step, Verdict};

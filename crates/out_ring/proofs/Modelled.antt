@@ -5,9 +5,9 @@ use Rattle.std.specs.List.{find}
 use Rattle.std.specs.Option.{option_map}
 use Rattle.std.proofs.lemmas.List.{drop-map, length-map, length-take-le, take-map}
 use Rattle.forwarding_model.specs.Lists.{last_part}
-use Rattle.forwarding_model.specs.Timeline.{Packet, Event, takes_of}
-use Rattle.forwarding_model.specs.Outgoing.{Sender, Subscriber, forwarded, kept, next_number, oldest_number, oldest_of, outgoing, queue, resent, taken}
-use Rattle.forwarding_model.specs.Outgoing as model
+use Rattle.forwarding_model.specs.forwarding.Timeline.{Packet, Event, takes_of}
+use Rattle.forwarding_model.specs.forwarding.Outgoing.{Sender, Subscriber, forwarded, kept, next_number, oldest_number, oldest_of, outgoing, queue, resent, taken}
+use Rattle.forwarding_model.specs.forwarding.Outgoing as model
 use Rattle.out_ring.specs.Ring.{Pushed, Ring, Sent, oldest_in, sent}
 use Rattle.out_ring.specs.History.{History, IsAfter, numbered}
 use Rattle.out_ring.specs.History as history

@@ -4,8 +4,8 @@ use Rattle.std.specs.Prelude.{◌≡◌, ◌==◌, ℕ, List, [], ◌∷◌, Boo
 use Rattle.std.specs.List.{find}
 use Rattle.std.specs.Option.{option_map}
 use Rattle.rtp_packet.specs.Rewritten.{rewritten}
-use Rattle.forwarding_model.specs.Timeline.{Packet, Event, takes_of}
-use Rattle.forwarding_model.specs.Outgoing.{Sender, Subscriber, forwarded, kept, next_number, oldest_number, queue, resent}
+use Rattle.forwarding_model.specs.forwarding.Timeline.{Packet, Event, takes_of}
+use Rattle.forwarding_model.specs.forwarding.Outgoing.{Sender, Subscriber, forwarded, kept, next_number, oldest_number, queue, resent}
 use Rattle.out_ring.specs.Ring.{Pushed, Ring, Sent, oldest_in}
 use Rattle.out_ring.specs.History.{History, IsAfter}
 

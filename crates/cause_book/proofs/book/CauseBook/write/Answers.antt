@@ -1,7 +1,7 @@
 use Rattle.std.proofs.Common.{◌≡◌, ◌∷◌, ℕ, List, Option, Some, None, refl, true, true≢false, sym, ap, ◌∙◌}
 use Rattle.std.proofs.lemmas.Bool.{lt-ltb}
 use Rattle.sfu_base.specs.declared.frame.Step.{Step}
-use Rattle.forwarding_model.specs.Causes.{is_ahead, newest_number}
+use Rattle.forwarding_model.specs.forwarding.Causes.{is_ahead, newest_number}
 use Rattle.cause_book.specs.Book.{recent}
 use Rattle.cause_book.proofs.Recent.{recent_again}
 use Rattle.cause_book.proofs.Writing.{newest_seen, write_seen}
