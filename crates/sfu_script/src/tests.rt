@@ -2,7 +2,7 @@
 use crate::{
     Calls, Entry, Journal, LineReader, PortLine, PortRole, is_skipped, read_actor_line, read_call,
     read_packet, read_port, write_call, write_complaint, write_end, write_entry, write_line_fault,
-    write_reply, write_short,
+    write_obu, write_record_fault, write_reply, write_short,
 };
 use forwarding_model::Complaint;
 use sfu_base::{Blob, Call, Kind, PacketBuf, Refusal, Reply, RtpFault, Scratch, SeqList, Verdict};
@@ -558,6 +558,13 @@ fn complaints_and_ends_have_their_texts(rt: HostRuntime) -> Result<(), Fail> {
         write_complaint(3, complaint, &mut out)?;
         assert_eq!(rt; out.bytes(), *text);
     }
+    out.clear();
+    write_obu(4294967295, &mut out)?;
+    write_record_fault(4294967296, &mut out)?;
+    assert_eq!(rt;
+        out.bytes(),
+        b"line 4294967295 oburecord 4294967296".as_slice()
+    );
     out.clear();
     write_end(1, None, &mut out)?;
     write_end(64, Some(18446744073709551615), &mut out)?;
