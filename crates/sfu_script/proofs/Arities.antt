@@ -14,7 +14,7 @@ one_of call [] said e = cc
 one_of call (a ∷ []) said e = (a, refl, cc)
 one_of call (a ∷ b ∷ more) said e = cc
 
-two_of : (call : ℕ → ℕ → Call) (numbers : List ℕ) (said : Call) → of_two call numbers ≡ Some said
+two_of : {X : Type 0} (call : ℕ → ℕ → X) (numbers : List ℕ) (said : X) → of_two call numbers ≡ Some said
     → (a b : ℕ) × (numbers ≡ a ∷ b ∷ []) × (call a b ≡ said)
 two_of call [] said e = cc
 two_of call (a ∷ []) said e = cc
@@ -49,7 +49,7 @@ one_read places rest call said e =
     let p = one_of call r.0 said r.2 in
     (p.0, subst (λ (ns : List ℕ). Spells (places_of places ns) rest) p.1 (fields_found places rest r.0 r.1), p.2)
 
-pub two_read : (places : List Field) (rest : List ℕ) (call : ℕ → ℕ → Call) (said : Call) → (fields_of places rest >>= of_two call) ≡ Some said
+pub two_read : {X : Type 0} (places : List Field) (rest : List ℕ) (call : ℕ → ℕ → X) (said : X) → (fields_of places rest >>= of_two call) ≡ Some said
     → (a b : ℕ) × Spells (places_of places (a ∷ b ∷ [])) rest × (call a b ≡ said)
 two_read places rest call said e =
     let r = bind_some (fields_of places rest) (of_two call) said e in

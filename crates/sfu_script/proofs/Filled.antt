@@ -98,7 +98,7 @@ mapped : (o : Option (List ℕ)) (n : ℕ) → option_map (from_be_bytes w32) o 
 mapped None n e = cc
 mapped (Some bytes) n e = (bytes, refl, cc)
 
-four_bytes : (bytes : List ℕ) → length bytes ≡ 4 → IsBytes bytes → from_be_bytes w32 bytes < 2 ^ 32
+pub four_bytes : (bytes : List ℕ) → length bytes ≡ 4 → IsBytes bytes → from_be_bytes w32 bytes < 2 ^ 32
 four_bytes bytes four small =
     let a : slice_index bytes 0 < 256 = small 0 in
     let b : slice_index bytes 1 < 256 = small 1 in

@@ -11,6 +11,7 @@ pub mod Options
 pub mod PacketLine
 pub mod Parsing
 pub mod PieceSteps
+pub mod PortLaws
 pub mod PublishLine
 pub mod ReplyLaws
 pub mod Spaces

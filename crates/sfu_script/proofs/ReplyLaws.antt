@@ -16,7 +16,7 @@ use Rattle.sfu_base.specs.declared.call.Refusal.TheVariants as refusal
 use Rattle.sfu_base.specs.declared.call.RtpFault.TheVariants.{Short, Version, Csrc, Extension, Padding}
 use Rattle.sfu_base.specs.declared.frame.Verdict.{Verdict}
 use Rattle.sfu_base.specs.declared.frame.Verdict.TheVariants.{Passed, NotOfTarget, Behind, Reference, Full, Link, Unopened, Hole}
-use Rattle.sfu_script.specs.Grammar.{Place, Word, Number, Ssrc, Hex, IsWithin, AllWithin, word_of, text_of}
+use Rattle.sfu_script.specs.Grammar.{Place, Word, Number, Ssrc, Hex, Address, IsWithin, AllWithin, word_of, text_of}
 use Rattle.sfu_script.specs.Reading.{◌>>=◌, number_of, ssrc_of}
 use Rattle.sfu_script.specs.Replies.{verdict_places, refusal_places, answer_places, answer_text, HasText}
 use Rattle.sfu_script.proofs.Options.{some_same}
@@ -74,6 +74,7 @@ abbrev are_plain : List Place → Bool
 are_plain [] = true
 are_plain (Word text ∷ others) = no_space text && are_plain others
 are_plain (Number bits n ∷ others) = leb (2 ^ bits) (2 ^ 64) && are_plain others
+are_plain (Address ip port ∷ others) = false
 are_plain (place ∷ others) = are_plain others
 
 are_words : (all : List Place) → are_plain all ≡ true → AllWithin all → AreWords all
@@ -85,6 +86,7 @@ are_words (Number bits n ∷ others) p h =
     ((number_again bits n (decimal n) (le_of (2 ^ bits) (2 ^ 64) parts.0) (h.0, refl)).0, are_words others parts.1 h.1)
 are_words (Ssrc ssrc ∷ others) p h = ((ssrc_again (word_of (Ssrc ssrc)) ssrc (word_fills (Ssrc ssrc) h.0)).0, are_words others p h.1)
 are_words (Hex bytes ∷ others) p h = (hex_no_space (encode_lower bytes) bytes (decode_of-encode_lower bytes h.0.2), are_words others p h.1)
+are_words (Address ip port ∷ others) p h = cc
 
 -- ---- what words say
 

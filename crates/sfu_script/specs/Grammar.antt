@@ -1,6 +1,6 @@
 -- What a line of text is made of: words with one space between them, each as its place says. Own rule.
 -- The code cuts a line at each space in turn and reads the words one by one.
-use Rattle.std.specs.Prelude.{◌≡◌, ℕ, ◌^◌, ◌<◌, ◌≤◌, List, [], ◌∷◌, ◌++◌, length, Ok, decimal}
+use Rattle.std.specs.Prelude.{◌≡◌, ℕ, ◌^◌, ◌/◌, ◌%◌, ◌<◌, ◌≤◌, List, [], ◌∷◌, ◌++◌, length, Ok, decimal}
 use Rattle.std.specs.Int.{to_be_bytes, w32}
 use Rattle.std.specs.List.{flat_map}
 use Rattle.hex.specs.Hex.{decode_of, encode_lower, IsBytes}
@@ -11,6 +11,12 @@ pub data Place : Type 0 where
   Number : (bits n : ℕ) → Place
   Ssrc : (ssrc : ℕ) → Place
   Hex : (bytes : List ℕ) → Place
+  Address : (ip port : ℕ) → Place
+
+-- an IPv4 address and a port: the four numbers of the address with dots between them, a colon, and the port
+abbrev pub address_text : ℕ → ℕ → List ℕ
+address_text ip port =
+    (decimal (ip / 16777216 % 256) ++ 46 ∷ (decimal (ip / 65536 % 256) ++ 46 ∷ (decimal (ip / 256 % 256) ++ 46 ∷ decimal (ip % 256)))) ++ 58 ∷ decimal port
 
 -- The text says the bytes: two hex digits each, of either case.
 abbrev pub IsHex : List ℕ → List ℕ → Type 0
@@ -22,14 +28,16 @@ IsWithin (Word text) = Unit {0}
 IsWithin (Number bits n) = n < 2 ^ bits
 IsWithin (Ssrc ssrc) = ssrc < 2 ^ 32
 IsWithin (Hex bytes) = (0 < length bytes) × (length bytes ≤ 2048) × IsBytes bytes
+IsWithin (Address ip port) = (ip < 2 ^ 32) × (port < 2 ^ 16)
 
 -- The word is right at its place: this very text; the number in decimal digits without a leading zero; the number in eight hex
--- digits; the bytes in hex digits.
+-- digits; the bytes in hex digits; the address.
 abbrev pub Fills : Place → List ℕ → Type 0
 Fills (Word text) word = word ≡ text
 Fills (Number bits n) word = (n < 2 ^ bits) × (word ≡ decimal n)
 Fills (Ssrc ssrc) word = (ssrc < 2 ^ 32) × IsHex (to_be_bytes w32 ssrc) word
 Fills (Hex bytes) word = (0 < length bytes) × (length bytes ≤ 2048) × IsHex bytes word
+Fills (Address ip port) word = (ip < 2 ^ 32) × (port < 2 ^ 16) × (word ≡ address_text ip port)
 
 -- The text is one word for each place, in order, with one space between them.
 abbrev pub Spells : List Place → List ℕ → Type 0
@@ -44,6 +52,7 @@ word_of (Word text) = text
 word_of (Number bits n) = decimal n
 word_of (Ssrc ssrc) = encode_lower (to_be_bytes w32 ssrc)
 word_of (Hex bytes) = encode_lower bytes
+word_of (Address ip port) = address_text ip port
 
 -- the text as it is written
 abbrev pub text_of : List Place → List ℕ

@@ -8,6 +8,7 @@ pub mod Grammar
 pub mod Kept
 pub mod Lines
 pub mod Pieces
+pub mod Ports
 pub mod ReadLines
 pub mod Reading
 pub mod Replies

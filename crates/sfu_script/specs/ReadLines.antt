@@ -20,7 +20,7 @@ abbrev pub of_one : (ℕ → Call) → List ℕ → Option Call
 of_one call (a ∷ []) = Some (call a)
 of_one call numbers = None
 
-abbrev pub of_two : (ℕ → ℕ → Call) → List ℕ → Option Call
+abbrev pub of_two : {X : Type 0} → (ℕ → ℕ → X) → List ℕ → Option X
 of_two call (a ∷ b ∷ []) = Some (call a b)
 of_two call numbers = None
 

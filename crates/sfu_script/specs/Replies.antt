@@ -93,3 +93,11 @@ IsShort answered = Unit {0}
 -- the text of a line outside the grammar
 abbrev pub line_fault_text : ℕ → List ℕ
 line_fault_text line = codes "line " ++ decimal line
+
+-- the text of a record outside the grammar
+abbrev pub record_fault_text : ℕ → List ℕ
+record_fault_text record_number = codes "record " ++ decimal record_number
+
+-- the text of a packet at a line whose frame has an OBU that isn't one
+abbrev pub obu_text : ℕ → List ℕ
+obu_text line = text_of (Word (codes "line") ∷ Number 32 line ∷ Word (codes "obu") ∷ [])

@@ -6,6 +6,8 @@ ghost use Rattle.sfu_script.specs.ActorLines.{actor_call_of, IsActorLine};
 ghost use Rattle.sfu_script.specs.Grammar.{Fills, Hex};
 ghost use Rattle.sfu_script.specs.Lines.{IsLine, line_of, HasLine};
 ghost use Rattle.sfu_script.specs.ReadLines.{call_of};
+ghost use Rattle.sfu_script.specs.Ports.{port_of, IsPortLine};
+ghost use Rattle.sfu_script.specs.declared.ports.PortLine.{PortLine};
 ghost use Rattle.sfu_script.specs.Reading.{bytes_of};
 ghost use Rattle.sfu_script.specs.Replies.{answer_text, HasText};
 
@@ -37,4 +39,9 @@ pub fn reads_exactly_the_packets()
 /// A line is read as an actor's call exactly when it is `@K` with K from 1 to 8, a space and a line that says the call.
 pub fn reads_exactly_the_actors_lines()
     ensures { (actor : ℕ) (call : Call) (line : List ℕ) → (actor_call_of line ≡ Some (actor, call)) ↔ IsActorLine actor call line }
+{}
+
+/// A line is read as a port exactly when the grammar says that the line says that port.
+pub fn reads_exactly_the_ports()
+    ensures { (port : PortLine) (line : List ℕ) → (port_of line ≡ Some port) ↔ IsPortLine port line }
 {}

@@ -14,8 +14,11 @@ mod line_fault;
 mod line_reader;
 mod lines;
 mod number_text;
+mod obu_fault;
 mod packet_line;
 mod pieces;
+mod ports;
+mod record_fault;
 mod refusals;
 mod replies;
 mod short;
@@ -34,12 +37,15 @@ pub use entries::write_entry;
 pub use journal::{Actors, Calls, Entry, Journal};
 pub use laws::{
     lines_read_back, lines_say_one_call, reads_exactly_the_actors_lines, reads_exactly_the_lines,
-    reads_exactly_the_packets, replies_say_one_answer,
+    reads_exactly_the_packets, reads_exactly_the_ports, replies_say_one_answer,
 };
 pub use line_fault::write_line_fault;
 pub use line_reader::LineReader;
 pub use lines::{NoLine, read_call};
+pub use obu_fault::write_obu;
 pub use packet_line::read_packet;
+pub use ports::{PortLine, PortRole, read_port};
+pub use record_fault::write_record_fault;
 pub use replies::write_reply;
 pub use short::write_short;
 pub use skipped::is_skipped;

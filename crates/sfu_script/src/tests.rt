@@ -1,8 +1,8 @@
 // Lines, replies and the other texts as tables.
 use crate::{
-    Calls, Entry, Journal, LineReader, is_skipped, read_actor_line, read_call, read_packet,
-    write_call, write_complaint, write_end, write_entry, write_line_fault, write_reply,
-    write_short,
+    Calls, Entry, Journal, LineReader, PortLine, PortRole, is_skipped, read_actor_line, read_call,
+    read_packet, read_port, write_call, write_complaint, write_end, write_entry, write_line_fault,
+    write_obu, write_record_fault, write_reply, write_short,
 };
 use forwarding_model::Complaint;
 use sfu_base::{Blob, Call, Kind, PacketBuf, Refusal, Reply, RtpFault, Scratch, SeqList, Verdict};
@@ -559,6 +559,13 @@ fn complaints_and_ends_have_their_texts(rt: HostRuntime) -> Result<(), Fail> {
         assert_eq!(rt; out.bytes(), *text);
     }
     out.clear();
+    write_obu(4294967295, &mut out)?;
+    write_record_fault(4294967296, &mut out)?;
+    assert_eq!(rt;
+        out.bytes(),
+        b"line 4294967295 oburecord 4294967296".as_slice()
+    );
+    out.clear();
     write_end(1, None, &mut out)?;
     write_end(64, Some(18446744073709551615), &mut out)?;
     assert_eq!(rt;
@@ -585,5 +592,75 @@ fn an_entry_has_two_lines(rt: HostRuntime) -> Result<(), Fail> {
     assert_eq!(rt; journal.entries().len(), 1);
     let calls = Calls::of(vec![in rt.alloc(); Call::Take { subscriber: 2 }]?);
     assert_eq!(rt; calls.calls().len(), 1);
+    Ok(())
+}
+
+// A port line's addresses and role, as numbers.
+fn port_numbers(line: &PortLine) -> [u64; 7] {
+    let (role, number, ssrc) = match line.role {
+        PortRole::Publisher { track, ssrc } => (1, track, ssrc),
+        PortRole::Subscriber { subscriber, ssrc } => (2, subscriber, ssrc),
+        PortRole::Control => (3, 0, 0),
+    };
+    [
+        u64::from(line.local.ip),
+        u64::from(line.local.port),
+        u64::from(line.peer.ip),
+        u64::from(line.peer.port),
+        role,
+        u64::from(number),
+        u64::from(ssrc),
+    ]
+}
+
+#[test]
+fn port_lines_say_addresses_and_roles(rt: HostRuntime) -> Result<(), Fail> {
+    let lines: [(&[u8], [u64; 7]); 4] = [
+        (
+            b"port 127.0.0.1:5000 10.1.2.3:6000 publisher 1 11111111",
+            [0x7f00_0001, 5000, 0x0a01_0203, 6000, 1, 1, 0x1111_1111],
+        ),
+        (
+            b"port 0.0.0.0:0 255.255.255.255:65535 subscriber 4294967295 FFFFffff",
+            [0, 0, 4294967295, 65535, 2, 4294967295, 4294967295],
+        ),
+        (
+            b"port 255.255.255.255:65535 0.0.0.0:0 subscriber 0 00000000",
+            [4294967295, 65535, 0, 0, 2, 0, 0],
+        ),
+        (
+            b"port 1.2.3.4:5 6.7.8.9:10 control",
+            [0x0102_0304, 5, 0x0607_0809, 10, 3, 0, 0],
+        ),
+    ];
+    for (line, said) in lines.iter() {
+        let port = read_port(line)?;
+        assert_eq!(rt; port_numbers(&port), *said);
+    }
+    let outside: [&[u8]; 20] = [
+        b"port",
+        b"port 1.2.3.4:5 6.7.8.9:10",
+        b"port 1.2.3.4:5 6.7.8.9:10 ",
+        b"port 1.2.3.4:5 6.7.8.9:10 control ",
+        b"port 1.2.3.4:5 6.7.8.9:10 control 1",
+        b"port 1.2.3.4:5  6.7.8.9:10 control",
+        b"port 256.2.3.4:5 6.7.8.9:10 control",
+        b"port 1.256.3.4:5 6.7.8.9:10 control",
+        b"port 1.2.256.4:5 6.7.8.9:10 control",
+        b"port 1.2.3.256:5 6.7.8.9:10 control",
+        b"port 1.2.3.4:65536 6.7.8.9:10 control",
+        b"port 1.2.3.4:05 6.7.8.9:10 control",
+        b"port 01.2.3.4:5 6.7.8.9:10 control",
+        b"port 1.2.3:5 6.7.8.9:10 control",
+        b"port 1.2.3.4.5:5 6.7.8.9:10 control",
+        b"port 1.2.3.4 6.7.8.9:10 control",
+        b"port 1.2.3.4:5:5 6.7.8.9:10 control",
+        b"port 1.2.3.4:5 6.7.8.9:10 publisher 4294967296 11111111",
+        b"port 1.2.3.4:5 6.7.8.9:10 publisher 1 1111111",
+        b"port 1.2.3.4:5 6.7.8.9:10 subscriber 1",
+    ];
+    for line in outside {
+        assert!(rt; read_port(line).is_err());
+    }
     Ok(())
 }

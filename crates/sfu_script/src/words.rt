@@ -3,21 +3,29 @@ ghost use Rattle.std.specs.Prelude.{◌≡◌, ◌≢◌, ◌<◌, ◌^◌, ◌&
 ghost use Rattle.std.specs.Result.{result_ok};
 ghost use Rattle.std.specs.Str.{all_ascii_digits};
 ghost use Rattle.std.specs.Str.Parse.{digits_value};
-ghost use Rattle.sfu_script.specs.Reading.{cut, number_of, ssrc_of};
+ghost use Rattle.sfu_script.specs.Reading.{cut, cut_at, number_of, ssrc_of};
 
 use crate::NoLine;
 use std::str;
+
+/// What stands before the first such byte and behind it.
+#[inline(always)]
+pub fn split_at(text: &[u8], mark: u8) -> Result<(&[u8], &[u8]), NoLine>
+    ensures { MatchResult result (λ parts. cut_at mark text.now ≡ Some (parts.0.now, parts.1.now)) (λ _. cut_at mark text.now ≡ None) }
+{
+    for (i, byte) in text.iter().enumerate() {
+        if *byte == mark {
+            return Ok((&text[..i], &text[i + 1..]));
+        }
+    }
+    Err(NoLine)
+}
 
 /// What stands before the first space and behind it.
 pub fn split(text: &[u8]) -> Result<(&[u8], &[u8]), NoLine>
     ensures { MatchResult result (λ parts. cut text.now ≡ Some (parts.0.now, parts.1.now)) (λ _. cut text.now ≡ None) }
 {
-    for (i, byte) in text.iter().enumerate() {
-        if *byte == b' ' {
-            return Ok((&text[..i], &text[i + 1..]));
-        }
-    }
-    Err(NoLine)
+    split_at(text, b' ')
 }
 
 // The number that digits are, where it fits.

@@ -1,0 +1,78 @@
+-- The lines that say which ports are served, and the functions that read them. Own rule.
+use Rattle.std.specs.Prelude.{ℕ, if◌then◌else◌, List, [], ◌∷◌, Option, Some, None, codes}
+use Rattle.std.specs.Int.{from_be_bytes, w32}
+use Rattle.std.specs.Str.{bytes_eq}
+use Rattle.sfu_base.specs.declared.address.Address.{Address}
+use Rattle.sfu_script.specs.declared.ports.PortLine.{PortLine}
+use Rattle.sfu_script.specs.declared.ports.PortRole.{PortRole}
+use Rattle.sfu_script.specs.declared.ports.PortRole.TheVariants.{Publisher, Subscriber, Control}
+use Rattle.sfu_script.specs.Grammar.{Place, Word, Number, Spells}
+use Rattle.sfu_script.specs.Grammar.{Ssrc as SsrcPlace, Address as AddressPlace}
+use Rattle.sfu_script.specs.Fields.{fields_of}
+use Rattle.sfu_script.specs.declared.fields.Field.TheVariants.{Number32, Ssrc}
+use Rattle.sfu_script.specs.Reading.{◌>>=◌, cut, cut_at, field, number_of}
+use Rattle.sfu_script.specs.ReadLines.{of_two}
+
+-- the places of what a port is for
+abbrev pub role_places : PortRole → List Place
+role_places (Publisher track ssrc) = Word (codes "publisher") ∷ Number 32 track ∷ SsrcPlace ssrc ∷ []
+role_places (Subscriber subscriber ssrc) = Word (codes "subscriber") ∷ Number 32 subscriber ∷ SsrcPlace ssrc ∷ []
+role_places Control = Word (codes "control") ∷ []
+
+-- The line says the port: its own address, its peer's, and what it is for.
+abbrev pub IsPortLine : PortLine → List ℕ → Type 0
+IsPortLine port line = Spells
+    (Word (codes "port") ∷ AddressPlace port.local.ip port.local.port ∷ AddressPlace port.peer.ip port.peer.port ∷ role_places port.role) line
+
+-- ---- reading
+
+-- the IPv4 address that four numbers with dots between them are
+unfoldable pub ip_of : List ℕ → Option ℕ
+ip_of word = do
+  first ← cut_at 46 word
+  second ← cut_at 46 first.1
+  third ← cut_at 46 second.1
+  a ← number_of 8 first.0
+  b ← number_of 8 second.0
+  c ← number_of 8 third.0
+  d ← number_of 8 third.1
+  Some (from_be_bytes w32 (a ∷ b ∷ c ∷ d ∷ []))
+
+-- the address `a.b.c.d:port`
+unfoldable pub address_of : List ℕ → Option Address
+address_of word = do
+  parts ← cut_at 58 word
+  ip ← ip_of parts.0
+  port ← number_of 16 parts.1
+  Some (record { ip = ip; port = port })
+
+-- a publisher's or a subscriber's number and SSRC
+abbrev pub publisher_of : List ℕ → Option PortRole
+publisher_of rest = fields_of (Number32 ∷ Ssrc ∷ []) rest >>= of_two (λ track ssrc. Publisher track ssrc)
+
+abbrev pub subscriber_of : List ℕ → Option PortRole
+subscriber_of rest = fields_of (Number32 ∷ Ssrc ∷ []) rest >>= of_two (λ subscriber ssrc. Subscriber subscriber ssrc)
+
+abbrev pub named_role_of : List ℕ → List ℕ → Option PortRole
+named_role_of word rest =
+    if bytes_eq word (codes "publisher") then publisher_of rest
+    else if bytes_eq word (codes "subscriber") then subscriber_of rest
+    else None
+
+-- what a port is for
+unfoldable pub role_of : List ℕ → Option PortRole
+role_of rest = if bytes_eq rest (codes "control") then Some Control else (cut rest >>= (λ parts. named_role_of parts.0 parts.1))
+
+-- behind `port`: the port's own address, its peer's, and what it is for
+unfoldable pub addressed : List ℕ → Option PortLine
+addressed rest = do
+  local ← field address_of rest
+  peer ← field address_of local.1
+  role ← role_of peer.1
+  Some (record { local = local.0; peer = peer.0; role = role })
+
+-- the port that a line says
+abbrev pub port_of : List ℕ → Option PortLine
+port_of line = do
+  parts ← cut line
+  if bytes_eq parts.0 (codes "port") then addressed parts.1 else None

@@ -1,0 +1,118 @@
+// The lines that say which UDP ports are served, and for whom.
+ghost use Rattle.std.specs.Prelude.{◌≡◌};
+ghost use Rattle.std.specs.Result.{result_ok};
+ghost use Rattle.sfu_script.specs.Ports.{address_of, addressed, ip_of, named_role_of, port_of, publisher_of, role_of, subscriber_of};
+
+use crate::NoLine;
+use crate::fields::Field::{Number32, Ssrc};
+use crate::fields::read_fields;
+use crate::words::{number8, number16, split, split_at};
+use sfu_base::Address;
+
+/// What a port is for. SSRCs are the publisher's own, and that of what goes out to the subscriber.
+#[derive(Clone, Copy, Debug, PartialEq, Eq)]
+pub enum PortRole {
+    /// The packets of a track come in.
+    Publisher { track: u32, ssrc: u32 },
+    /// A subscriber's packets go out, and its feedback comes in.
+    Subscriber { subscriber: u32, ssrc: u32 },
+    /// Lines of calls come in, and their replies go out.
+    Control,
+}
+
+/// A port that is served: its own address, its peer's, and what it is for.
+#[derive(Clone, Copy, Debug, PartialEq, Eq)]
+pub struct PortLine {
+    pub local: Address,
+    pub peer: Address,
+    pub role: PortRole,
+}
+
+#[tactic(auto, unfolding(crate::specs::Ports::ip_of))]
+fn ip(word: &[u8]) -> Result<u32, NoLine>
+    ensures { result_ok result ≡ ip_of word.now }
+{
+    let (first, rest) = split_at(word, b'.')?;
+    let (second, rest) = split_at(rest, b'.')?;
+    let (third, fourth) = split_at(rest, b'.')?;
+    let first = number8(first)?;
+    let second = number8(second)?;
+    let third = number8(third)?;
+    let fourth = number8(fourth)?;
+    Ok(u32::from_be_bytes([first, second, third, fourth]))
+}
+
+#[tactic(auto, unfolding(crate::specs::Ports::address_of))]
+fn address(word: &[u8]) -> Result<Address, NoLine>
+    ensures { result_ok result ≡ address_of word.now }
+{
+    let (host, port) = split_at(word, b':')?;
+    let ip = ip(host)?;
+    let port = number16(port)?;
+    Ok(Address { ip, port })
+}
+
+fn publisher(rest: &[u8]) -> Result<PortRole, NoLine>
+    ensures { result_ok result ≡ publisher_of rest.now }
+{
+    let [track, ssrc] = read_fields(&[Number32, Ssrc], rest)?;
+    Ok(PortRole::Publisher {
+        track: track as u32,
+        ssrc: ssrc as u32,
+    })
+}
+
+fn subscriber(rest: &[u8]) -> Result<PortRole, NoLine>
+    ensures { result_ok result ≡ subscriber_of rest.now }
+{
+    let [subscriber, ssrc] = read_fields(&[Number32, Ssrc], rest)?;
+    Ok(PortRole::Subscriber {
+        subscriber: subscriber as u32,
+        ssrc: ssrc as u32,
+    })
+}
+
+fn named_role(word: &[u8], rest: &[u8]) -> Result<PortRole, NoLine>
+    ensures { result_ok result ≡ named_role_of word.now rest.now }
+{
+    match word {
+        b"publisher" => publisher(rest),
+        b"subscriber" => subscriber(rest),
+        _ => Err(NoLine),
+    }
+}
+
+#[tactic(auto, unfolding(crate::specs::Ports::role_of))]
+fn role(rest: &[u8]) -> Result<PortRole, NoLine>
+    ensures { result_ok result ≡ role_of rest.now }
+{
+    if rest == b"control".as_slice() {
+        return Ok(PortRole::Control);
+    }
+    let (word, rest) = split(rest)?;
+    named_role(word, rest)
+}
+
+#[tactic(auto, unfolding(crate::specs::Ports::addressed))]
+fn behind(rest: &[u8]) -> Result<PortLine, NoLine>
+    ensures { result_ok result ≡ addressed rest.now }
+{
+    let (word, rest) = split(rest)?;
+    let local = address(word)?;
+    let (word, rest) = split(rest)?;
+    let peer = address(word)?;
+    let role = role(rest)?;
+    Ok(PortLine { local, peer, role })
+}
+
+/// The port that a line `port LOCAL PEER ROLE` says, where both addresses are `a.b.c.d:port` and the role is `publisher T SSRC`,
+/// `subscriber S SSRC` or `control`. `NoLine` exactly when it says none. Takes no memory.
+pub fn read_port(line: &[u8]) -> Result<PortLine, NoLine>
+    ensures { result_ok result ≡ port_of line.now }
+{
+    let (word, rest) = split(line)?;
+    match word {
+        b"port" => behind(rest),
+        _ => Err(NoLine),
+    }
+}
