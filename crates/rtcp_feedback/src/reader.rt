@@ -7,13 +7,12 @@ ghost use Rattle.rtcp_feedback.specs.Reading.{feedback_of};
 
 use crate::fault::RtcpFault;
 use crate::feedback::Feedback;
-use crate::names::Names;
 use crate::packet::checked_length;
-use crate::place::{Place, first_item};
+use crate::place::{Place, at_pairs, first_item};
 use std::marker::Model;
 
 /// An iterator over the feedback of a datagram, seen as the list of what is left of it.
-#[derive(Drop)]
+#[derive(Debug, Drop)]
 pub struct Feedbacks<'a> {
     place: Place<'a>,
 }
@@ -68,12 +67,6 @@ pub fn read<'a>(bytes: &'a [u8]) -> Result<Feedbacks<'a>, RtcpFault>
         let length = checked_length(rest)?;
         rest = &rest[length..];
     }
-    let names = Names { next: 0, bits: 0 };
-    let place = Place {
-        names,
-        media: 0,
-        pairs: &[],
-        packets: bytes,
-    };
+    let place = at_pairs(0, &[], bytes);
     Ok(Feedbacks { place })
 }

@@ -3,7 +3,7 @@ use Rattle.std.proofs.lemmas.List.{take_rest}
 use Rattle.std.proofs.lemmas.Result.{err_from_is_err_and}
 use Rattle.rtcp_feedback.specs.Faults.{fault_among, packets_in}
 use Rattle.rtcp_feedback.proofs.Cutting.{fault_here, fault_behind, fault_of_some, no_packet_fault, some_bytes, no_bytes}
-use Rattle.rtcp_feedback.proofs.Marks.{nothing_left}
+use Rattle.rtcp_feedback.proofs.Marks.{no_pair_names}
 use Rattle.rtcp_feedback.specs.Datagram.{IsDatagram}
 use Rattle.rtcp_feedback.specs.declared.feedback.Feedback.{Feedback}
 use Rattle.rtcp_feedback.proofs.Datagrams.{is_datagram}
@@ -25,10 +25,12 @@ loop-rest-preserved c =
     ∙ c.loop-rest.invariant
 
 pub invariant_of-result : goal.invariant_of-result
-invariant_of-result c = sym c.loop-rest.invariant ∙ no_packet_fault c.loop-rest.rest.now (no_bytes _ c.loop-rest-test.ensures)
+invariant_of-result c =
+    ap (λ (xs : List ℕ). fault_among (packets_in xs)) c.at_pairs-place.ensures.packets
+    ∙ sym c.loop-rest.invariant ∙ no_packet_fault c.loop-rest.rest.now (no_bytes _ c.loop-rest-test.ensures)
 
 pub returns-clause-items : goal.returns-clause-items
-returns-clause-items c = nothing_left 0 0 c.args.bytes.now
+returns-clause-items c = c.at_pairs-place.ensures.left ∙ no_pair_names 0 c.args.bytes.now
 
 pub returns-clause-ok : goal.returns-clause-ok
 returns-clause-ok c =
@@ -37,5 +39,5 @@ returns-clause-ok c =
 
 pub returns-clause-grammar : goal.returns-clause-grammar
 returns-clause-grammar c =
-    subst (λ (items : List Feedback). IsDatagram c.args.bytes.now items) (sym (nothing_left 0 0 c.args.bytes.now))
+    subst (λ (items : List Feedback). IsDatagram c.args.bytes.now items) (sym (returns-clause-items c))
     (is_datagram c.args.bytes.now (λ i. omega (arith, c.type_inv.bytes i)) (returns-clause-ok c))
