@@ -4,7 +4,7 @@ use crate::left::{Left, first_element};
 use std::marker::Model;
 
 /// An iterator over the elements of a payload, each where it lies there, seen as the list of those that are left.
-#[derive(Drop)]
+#[derive(Debug, Drop)]
 pub struct PayloadElements<'a> {
     pub(crate) left: Left<'a>,
 }

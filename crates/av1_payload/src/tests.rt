@@ -2,6 +2,7 @@
 
 use crate::{PayloadFault, read};
 use std::process::Abort;
+use std::test::Fail;
 
 // Z, Y and N of a payload, and its elements.
 type Row<'a> = (&'a [u8], [bool; 3], &'a [&'a [u8]]);
@@ -133,4 +134,15 @@ fn an_element_of_300_bytes_is_read(rt: HostRuntime) {
     check_payload(&rt, (&bytes, NO_FLAGS, &[&[7; 300], &[9]]));
     bytes[0] = 0x00;
     check_payload(&rt, (&bytes[..303], NO_FLAGS, &[&[7; 300]]));
+}
+
+#[test]
+fn a_payload_is_taken_apart(rt: HostRuntime) -> Result<(), Fail> {
+    let payload = read(&[0x68, 0x02, 0x30, 0xAA, 0x10])?;
+    assert!(rt; payload.carries && payload.new_sequence && !payload.continues);
+    let mut elements = payload.elements();
+    assert_eq!(rt; elements.next(), Some([0x30, 0xAA].as_slice()));
+    assert_eq!(rt; elements.next(), Some([0x10].as_slice()));
+    assert_eq!(rt; elements.next(), None);
+    Ok(())
 }
