@@ -1,2 +1,3 @@
 pub mod Bests
 pub mod Stepping
+pub mod Validity
