@@ -1,0 +1,17 @@
+//! What the definitions say together.
+
+ghost use Rattle.std.specs.Prelude.{◌≡◌, ◌↔◌, true};
+ghost use Rattle.forwarding_model.specs.frames.Reading.{IsLayout};
+ghost use Rattle.dd_structure.specs.Spelling.{IsWellFormed};
+ghost use Rattle.dd_structure.specs.TemplateStructure.{TemplateStructure};
+ghost use Rattle.dd_layout.specs.Layouts.{is_same_structure, layout_of};
+
+/// A law: a structure that bits spell has at most 32 decode targets and 32 chains, and each target is protected by one of its chains.
+pub fn carried_structures_have_layouts()
+    ensures { (s : TemplateStructure) → IsWellFormed s → IsLayout (layout_of s) }
+{}
+
+/// A law: two structures are the same, field by field, exactly where they are equal.
+pub fn same_structures_are_equal()
+    ensures { (a b : TemplateStructure) → (is_same_structure a b ≡ true) ↔ (a ≡ b) }
+{}
