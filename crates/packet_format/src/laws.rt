@@ -1,0 +1,17 @@
+// What the definitions say together.
+
+ghost use Rattle.std.specs.Prelude.{ℕ};
+ghost use Rattle.forwarding_model.specs.frames.Reading.{IsFormat};
+ghost use Rattle.packet_format.specs.Formats.{format_of};
+ghost use Rattle.packet_format.specs.Packets.{PacketsAreSent, RestsSayTheSame};
+
+/// Whatever the id, its packets are read by a format that has all the facts on which the laws of forwarding rest.
+pub fn formats_have_the_facts()
+    ensures { (id : ℕ) → IsFormat (format_of id) }
+{}
+
+/// A packet is sent as the bytes that it came as, but for the three fields; and the rest of a packet says what its bytes say.
+pub fn packets_are_sent_as_they_came()
+    ensures sent { PacketsAreSent }
+    ensures rests { RestsSayTheSame }
+{}

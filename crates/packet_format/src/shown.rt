@@ -1,0 +1,97 @@
+// What a packet shows by the structure in force.
+
+ghost use Rattle.std.specs.Prelude.{◌≡◌, ◌≤◌, ℕ, List, Option, Some, take, true};
+ghost use Rattle.std.specs.Option.{option_copied};
+ghost use Rattle.forwarding_model.specs.frames.Reading.{is_key_start, keeps_structure, obeys_structure, shown};
+ghost use Rattle.dd_structure.specs.TemplateStructure.{TemplateStructure};
+ghost use Rattle.dd_layout.specs.Layouts.{structures_alone};
+ghost use Rattle.packet_format.specs.Formats.{said};
+ghost use Rattle.dd_descriptor.specs.Seen.{content_of};
+ghost use Rattle.packet_format.specs.Formats.{format_of};
+ghost use Rattle.packet_format.specs.Packets.{packet_of};
+ghost use Rattle.packet_format.specs.Shown.{HasDistances, IsOf, fault_shown, shows, showing_said};
+
+use crate::look::{PayloadFlags, descriptor_bytes, payload_flags};
+use dd_descriptor::{DdFault, Descriptor, read_into};
+use dd_structure::Structure;
+use rtp_packet::Rtp;
+
+/// What a packet shows by the structure in force.
+#[derive(Clone, Copy, Debug, PartialEq, Eq)]
+pub enum Shown {
+    /// Its descriptor needs a structure, and none is carried or in force.
+    LacksStructure,
+    /// It has no descriptor, or one that doesn't read or carries another structure without beginning a key frame.
+    Unread,
+    /// It has a descriptor that is read, and a payload with these flags.
+    Shows(PayloadFlags),
+}
+
+/// What a packet shows by the structure in force. Its descriptor, where it has one that is read, is left in `newest`, which may else say
+/// anything.
+pub fn show(packet: &Rtp<'_>, id: u8, force: Option<&Structure>, newest: &mut Descriptor) -> Shown
+    ensures references { shows result ≡ true → HasDistances newest.new }
+    ensures shown { (bytes : List ℕ) → IsOf bytes packet.now
+        → showing_said (option_copied force.entry) newest.new result ≡ shown (format_of id) (option_copied force.entry) (packet_of bytes).rest }
+{
+    let Some(element) = descriptor_bytes(packet, id) else {
+        return Shown::Unread;
+    };
+    match read_into(element, force, newest) {
+        Err(fault) => of_fault(fault),
+        Ok(()) => {
+            if obeys(newest, force) {
+                Shown::Shows(payload_flags(packet.payload))
+            } else {
+                Shown::Unread
+            }
+        }
+    }
+}
+
+/// What a packet shows whose descriptor has this fault.
+fn of_fault(fault: DdFault) -> Shown
+    ensures { result ≡ fault_shown fault }
+{
+    match fault {
+        DdFault::NoStructure => Shown::LacksStructure,
+        _ => Shown::Unread,
+    }
+}
+
+/// Whether only a key start brings a structure that isn't in force.
+fn obeys(descriptor: &Descriptor, force: Option<&Structure>) -> bool
+    requires { descriptor.now.ref_count ≤ 16 }
+    ensures { result ≡ obeys_structure structures_alone (option_copied force.entry) (said (content_of (option_copied force.entry) descriptor.now)) }
+{
+    let key = begins_epoch(descriptor);
+    match &descriptor.structure {
+        None => true,
+        Some(structure) => key || is_in_force(structure, force),
+    }
+}
+
+fn is_in_force(structure: &Structure, force: Option<&Structure>) -> bool
+    ensures { result ≡ keeps_structure structures_alone (option_copied force.entry) (Some structure.now) }
+{
+    match force {
+        Some(current) => structure.same(current),
+        None => false,
+    }
+}
+
+/// How many frames back each frame is that a descriptor refers to.
+fn references(descriptor: &Descriptor) -> &[u16]
+    requires { descriptor.now.ref_count ≤ 16 }
+    ensures { result.now ≡ take descriptor.now.ref_count descriptor.now.refs }
+{
+    &descriptor.refs[..descriptor.ref_count as usize]
+}
+
+/// Whether a descriptor begins a key frame: it carries a structure, has the start bit and refers to nothing.
+pub fn begins_epoch(descriptor: &Descriptor) -> bool
+    requires { descriptor.now.ref_count ≤ 16 }
+    ensures { (force : Option TemplateStructure) → result ≡ is_key_start (said (content_of force descriptor.now)) }
+{
+    descriptor.structure.is_some() && descriptor.start && references(descriptor).is_empty()
+}
