@@ -1,0 +1,315 @@
+// What is in force.
+
+ghost use Rattle.std.specs.Prelude.{◌≡◌, ◌≤◌, ◌<◌, ◌+◌, ◌-◌, ◌^◌, IfSome, IfOk, Option, Some, is_some, option_copied, take, true};
+ghost use Rattle.sfu_base.specs.Frame.{IsValid};
+ghost use Rattle.forwarding_model.specs.frames.Frames.{no_force};
+ghost use Rattle.forwarding_model.specs.frames.Reading.{is_key_start, keeps_structure};
+ghost use Rattle.dd_structure.specs.Spelling.{IsWellFormed};
+ghost use Rattle.dd_structure.specs.TemplateStructure.{TemplateStructure};
+ghost use Rattle.dd_layout.specs.Layouts.{layout_of, structures_alone};
+ghost use Rattle.frame_table.specs.Seen.{IsFirst, IsReadBy, IsMaskOf, answer, begun, masked, meant, numbered, said_of, seen_by};
+ghost use Rattle.frame_table.specs.Heads.{HasReferences, head_of, meaning_at, meant_at, number_or_stale, numbered_at};
+
+use crate::fill::{filled_distances, filled_indications, filled_numbers, filled_pairs};
+use dd_descriptor::Descriptor;
+use dd_structure::Structure;
+use sfu_base::{Dti, FrameMeaning, Wish};
+use std::marker::Model;
+use thiserror::Error;
+use wrap_number::above;
+
+/// What a descriptor is to what is in force.
+#[derive(Clone, Copy, Debug, PartialEq, Eq)]
+pub enum Reading {
+    /// It begins a key frame: its structure is in force now.
+    Key,
+    /// It is read by the structure in force.
+    Part,
+    /// It carries another structure and begins no key frame, so it isn't read.
+    Unread,
+}
+
+/// A whole frame's number isn't above the newest, so it is no frame (own rule).
+#[derive(Clone, Copy, Debug, PartialEq, Eq, Error)]
+#[error("the frame's number isn't above {newest}, the newest")]
+pub struct Stale {
+    /// The newest frame number.
+    pub newest: u64,
+}
+
+/// What of a frame's first descriptor its meaning takes. Of the arrays only the first places count, as in the meaning.
+#[derive(Clone, Copy, Debug, PartialEq, Eq)]
+pub struct FrameHead {
+    /// Whether the frame is a key frame: its first descriptor carries a structure and refers to nothing.
+    pub key: bool,
+    /// The frame number modulo 65,536.
+    pub number: u16,
+    /// Spatial id, 0 to 3.
+    pub spatial: u8,
+    /// Temporal id, 0 to 7.
+    pub temporal: u8,
+    /// The frame's indication for each decode target.
+    pub dtis: [Dti; 32],
+    /// How many frames back each chain's previous frame is, 0 where none is needed.
+    pub links: [u8; 32],
+    /// How many frames this one refers to, at most 16.
+    pub ref_count: u8,
+    /// How many frames back each of them is, 1 to 4,096.
+    pub refs: [u16; 16],
+}
+
+/// What is in force on a layered track (RTP Payload Format For AV1, Appendix A; epochs and stale numbers are own rules).
+#[derive(Debug, Drop)]
+pub struct FrameTable {
+    structure: Option<Structure>,
+    // What the structure says of targets and chains, filled up as a frame's meaning has it.
+    target_count: u8,
+    chain_count: u8,
+    pairs: [Option<Wish>; 32],
+    guards: [u8; 32],
+    mask: u32,
+    epoch: u64,
+    start: u64,
+    newest: u64,
+}
+
+/// A number that lies further ahead is read as behind.
+const FARTHEST_AHEAD: u64 = 32767;
+
+impl Model for FrameTable {
+    ghost use Rattle.forwarding_model.specs.frames.Frames.{Force};
+    ghost use Rattle.dd_structure.specs.TemplateStructure.{TemplateStructure};
+
+    ghost Value = { Force TemplateStructure };
+
+    ghost use Rattle.frame_table.specs.Kept.{IsKept, in_force};
+
+    ghost view = { in_force };
+
+    ghost invariant = { IsKept };
+}
+
+impl FrameTable {
+    /// Nothing is in force before the first key start.
+    pub fn new() -> FrameTable
+        ensures { result ≡ no_force }
+    {
+        FrameTable {
+            structure: None,
+            target_count: 0,
+            chain_count: 0,
+            pairs: [None; 32],
+            guards: [0; 32],
+            mask: 0,
+            epoch: 0,
+            start: 0,
+            newest: 0,
+        }
+    }
+
+    /// The structure in force, or none before the first key start.
+    pub fn force(&self) -> Option<&Structure>
+        ensures { option_copied result ≡ self.now.structure }
+    {
+        self.structure.as_ref()
+    }
+
+    /// The next descriptor, which was read by the structure in force. A key start, which carries a structure, has the start bit and refers to
+    /// nothing, puts its structure in force, begins an epoch and is numbered. A structure in any other descriptor must be the one in force,
+    /// or the descriptor isn't read and changes nothing. A mask that is told is in force from then on.
+    pub fn see(&mut self, descriptor: &Descriptor) -> Reading
+        requires read { IsReadBy self.old.structure descriptor.now }
+        requires bound { IfSome self.old.structure (λ _. self.old.newest < 2 ^ 63) }
+        ensures reading { result ≡ answer self.old descriptor.now }
+        ensures force { self.new ≡ seen_by self.old descriptor.now }
+        ensures near { self.new.newest ≤ self.old.newest + 65536 }
+    {
+        self.is_well_formed();
+        let key = begins_epoch(descriptor);
+        match &descriptor.structure {
+            None => {
+                self.take_mask(descriptor.mask);
+                Reading::Part
+            }
+            Some(structure) => {
+                if key {
+                    self.begin_epoch(structure, descriptor.mask, descriptor.number);
+                    return Reading::Key;
+                }
+                if !self.has(structure) {
+                    return Reading::Unread;
+                }
+                self.take_mask(descriptor.mask);
+                Reading::Part
+            }
+        }
+    }
+
+    /// What the frame means that just got whole, by its first descriptor. Every descriptor of the frame was seen and read. Its number is then
+    /// the newest; where it isn't above the newest the frame is stale, and nothing changes.
+    pub fn whole(&mut self, first: &Descriptor) -> Result<FrameMeaning, Stale>
+        requires first { IsFirst self.old first.now }
+        requires bound { self.old.newest < 2 ^ 63 }
+        ensures meaning { (s : TemplateStructure) → self.old.structure ≡ Some s → result ≡ meant s self.old first.now }
+        ensures valid { IfOk result IsValid }
+        ensures force { self.new ≡ numbered self.old first.now }
+    {
+        let head = self.head(first);
+        self.whole_of(&head)
+    }
+
+    /// What of a frame's first descriptor its meaning takes: all that has to be kept until the frame is whole.
+    pub fn head(&self, first: &Descriptor) -> FrameHead
+        requires { IsFirst self.now first.now }
+        ensures head { result ≡ head_of (said_of self.now.structure first.now) }
+        ensures references { HasReferences result }
+    {
+        self.is_well_formed();
+        let key = begins_epoch(first);
+        self.fields(first, key)
+    }
+
+    /// What the frame means that just got whole, by what was kept of its first descriptor. The same as [`FrameTable::whole`].
+    pub fn whole_of(&mut self, head: &FrameHead) -> Result<FrameMeaning, Stale>
+        requires structure { is_some self.old.structure ≡ true }
+        requires references { HasReferences head.now }
+        requires bound { self.old.newest < 2 ^ 63 }
+        ensures meaning { (s : TemplateStructure) → self.old.structure ≡ Some s → result ≡ meant_at s self.old head.now }
+        ensures valid { IfOk result IsValid }
+        ensures force { self.new ≡ numbered_at self.old head.now }
+        ensures near { self.new.newest ≤ self.old.newest + 65536 }
+    {
+        let number = self.number(head)?;
+        self.newest = number;
+        Ok(self.meaning(number, head))
+    }
+
+    // What a head has of each field.
+    fn fields(&self, first: &Descriptor, key: bool) -> FrameHead
+        requires first { IsFirst self.now first.now }
+        requires key { key ≡ is_key_start (said_of self.now.structure first.now) }
+        ensures { result ≡ head_of (said_of self.now.structure first.now) }
+    {
+        FrameHead {
+            key,
+            number: first.number,
+            spatial: first.spatial,
+            temporal: first.temporal,
+            dtis: filled_indications(&first.dtis[..self.target_count as usize]),
+            links: filled_numbers(&first.links[..self.chain_count as usize]),
+            ref_count: first.ref_count,
+            refs: filled_distances(&first.refs[..first.ref_count as usize]),
+        }
+    }
+
+    // The structure in force is one that bits spell.
+    fn is_well_formed(&self)
+        ensures { IfSome self.now.structure IsWellFormed }
+    {
+        let _ = &self.structure;
+    }
+
+    // A mask that is told is in force from now on.
+    fn take_mask(&mut self, mask: Option<u32>)
+        requires { IfSome self.old.structure (IsMaskOf mask) }
+        ensures { self.new ≡ masked self.old mask }
+    {
+        if let Some(mask) = mask {
+            self.mask = mask;
+        }
+    }
+
+    // A key start with this structure, mask and frame number.
+    fn begin_epoch(&mut self, structure: &Structure, mask: Option<u32>, number: u16)
+        requires mask { IsMaskOf mask structure.now }
+        requires told { is_some mask ≡ true }
+        requires bound { IfSome self.old.structure (λ _. self.old.newest < 2 ^ 63) }
+        ensures begun { self.new ≡ begun self.old structure.now mask number }
+        ensures near { self.new.newest ≤ self.old.newest + 65536 }
+    {
+        let start = match &self.structure {
+            None => u64::from(number),
+            Some(_) => above(self.newest, number),
+        };
+        self.structure = Some(structure.copied());
+        self.target_count = structure.target_count();
+        self.chain_count = structure.chain_count();
+        self.pairs = filled_pairs(structure);
+        self.guards = filled_numbers(structure.guards());
+        self.mask = mask.unwrap_or(0);
+        self.epoch += 1;
+        self.start = start;
+        self.newest = start;
+    }
+
+    // Whether this structure is the one in force.
+    fn has(&self, structure: &Structure) -> bool
+        ensures { result ≡ keeps_structure structures_alone self.now.structure (Some structure.now) }
+    {
+        match &self.structure {
+            Some(current) => structure.same(current),
+            None => false,
+        }
+    }
+
+    // The number of a whole frame with this head.
+    fn number(&self, head: &FrameHead) -> Result<u64, Stale>
+        requires { self.now.newest < 2 ^ 63 }
+        ensures number { result ≡ number_or_stale self.now head.now }
+        ensures small { IfOk result (λ n. self.now.start ≤ n) }
+        ensures near { IfOk result (λ n. n ≤ self.now.newest + 65536) }
+    {
+        if head.key {
+            return Ok(self.start);
+        }
+        let number = above(self.newest, head.number);
+        if number - self.newest > FARTHEST_AHEAD {
+            return Err(Stale {
+                newest: self.newest,
+            });
+        }
+        Ok(number)
+    }
+
+    // What a frame of this number means.
+    fn meaning(&self, number: u64, head: &FrameHead) -> FrameMeaning
+        requires references { HasReferences head.now }
+        requires start { self.now.start ≤ number }
+        ensures meaning { (s : TemplateStructure) → self.now.structure ≡ Some s → result ≡ meaning_at (layout_of s) self.now number head.now }
+        ensures valid { is_some self.now.structure ≡ true → IsValid result }
+    {
+        FrameMeaning {
+            number,
+            start: self.start,
+            epoch: self.epoch,
+            spatial: head.spatial,
+            temporal: head.temporal,
+            key: head.key,
+            mask: self.mask,
+            target_count: self.target_count,
+            dtis: head.dtis,
+            pairs: self.pairs,
+            chain_count: self.chain_count,
+            guards: self.guards,
+            links: head.links,
+            ref_count: head.ref_count,
+            refs: head.refs,
+        }
+    }
+}
+
+// How many frames back each frame is that a descriptor refers to.
+fn references(descriptor: &Descriptor) -> &[u16]
+    requires { descriptor.now.ref_count ≤ 16 }
+    ensures { result.now ≡ take descriptor.now.ref_count descriptor.now.refs }
+{
+    &descriptor.refs[..descriptor.ref_count as usize]
+}
+
+// Whether a descriptor begins a key frame: it carries a structure, has the start bit and refers to nothing.
+fn begins_epoch(descriptor: &Descriptor) -> bool
+    requires { descriptor.now.ref_count ≤ 16 }
+    ensures { (force : Option TemplateStructure) → result ≡ is_key_start (said_of force descriptor.now) }
+{
+    descriptor.structure.is_some() && descriptor.start && references(descriptor).is_empty()
+}
