@@ -1,0 +1,11 @@
+pub mod Mapped
+pub mod Looking
+pub mod Firsts
+pub mod Heads
+pub mod Pushing
+pub mod Standing
+pub mod TakenPieces
+pub mod Packets
+pub mod Orders
+pub mod Bounds
+pub mod TakenPackets

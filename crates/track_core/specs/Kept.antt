@@ -1,0 +1,31 @@
+-- What the fields of a track stand for, and what they keep.
+use Rattle.std.specs.Prelude.{◌≡◌, ℕ, Bool, true, if◌then◌else◌, List, [], ◌∷◌, Option, None, Some}
+use Rattle.reorder_window.specs.Events.{Event, Piece}
+use Rattle.track_core.specs.declared.track.Track.TheInside.{Inside}
+use Rattle.track_core.specs.declared.layers.Layers.{Layers}
+use Rattle.track_core.specs.Pieces.{IsTaken}
+use Rattle.track_core.specs.Track.{Seen, StandsFor}
+
+-- the packets of what was made: a plain one in the buffer, or those of a whole frame
+abbrev pub packets_in : Option Layers → List ℕ → List (List ℕ)
+packets_in None buffer = buffer ∷ []
+packets_in (Some l) buffer = l.assembly.frame
+
+abbrev pub seen : Inside → Seen
+seen t = record {
+  ssrc = t.ssrc;
+  window = t.window;
+  layers = t.layers;
+  packets = if t.given then packets_in t.layers t.buffer else [];
+}
+
+-- there are events that it stands for
+pub record HasStood (track : Seen) : Type 0 where
+  pub events : List Event
+  pub worked : List Piece
+  pub stands : StandsFor track events worked
+
+-- and where a packet or a frame was made, the buffer has a packet that was taken in
+pub record IsKept (t : Inside) : Type 0 where
+  pub stood : HasStood (seen t)
+  pub buffer : t.given ≡ true → IsTaken t.buffer

@@ -1,0 +1,154 @@
+-- What contracts see of a track, what it stands for, and what its steps make.
+use Rattle.std.specs.Prelude.{◌≡◌, ◌*◌, ◌≤◌, ℕ, Bool, true, false, if◌then◌else◌, ◌==◌, nat_lt, List, [], ◌∷◌, ◌++◌, Option, None, Some, Result, Ok, Err, IfSome, length, map, slice_get}
+use Rattle.std.specs.List.{AllByRecursion}
+use Rattle.sfu_base.specs.declared.call.RtpFault.{RtpFault}
+use Rattle.forwarding_model.specs.forwarding.Timeline.{Frame}
+use Rattle.forwarding_model.specs.frames.Frames.{Item, made_by_item, state_after}
+use Rattle.reorder_window.specs.declared.arrival.Arrival.{Arrival}
+use Rattle.reorder_window.specs.declared.arrival.Arrival.TheVariants as arrival
+use Rattle.reorder_window.specs.Events.{Event, Arrives, Ticks, Held, Piece, Got, Gone}
+use Rattle.reorder_window.specs.Order.{Order, items_of as order_items, judged_sequence}
+use Rattle.reorder_window.specs.Window.{Seen as Window, IsAfter as WindowAfter}
+use Rattle.rtp_packet.specs.Fields.{sequence_of, ssrc_of}
+use Rattle.rtp_packet.specs.Faults.{first_fault}
+use Rattle.dd_structure.specs.TemplateStructure.{TemplateStructure}
+use Rattle.packet_format.specs.Formats.{format_of}
+use Rattle.packet_format.specs.Packets.{bytes_of}
+use Rattle.sfu_base.specs.declared.call.Refusal.{Refusal}
+use Rattle.sfu_base.specs.declared.call.Refusal.TheVariants as refusal
+use Rattle.track_core.specs.declared.track.Made.{Made}
+use Rattle.track_core.specs.declared.track.Made.TheVariants as made
+use Rattle.track_core.specs.declared.layers.Layers.{Layers}
+use Rattle.sfu_base.specs.declared.call.Kind.{Kind}
+use Rattle.sfu_base.specs.declared.call.Kind.TheVariants as kind
+use Rattle.reorder_window.specs.declared.arrival.Item.{Item as OrderItem}
+use Rattle.reorder_window.specs.declared.arrival.Item.TheVariants as item
+use Rattle.sfu_base.specs.declared.frame.FrameMeaning.{FrameMeaning}
+use Rattle.sfu_base.specs.Frame.{IsValid}
+use Rattle.std.specs.Option.{option_map}
+use Rattle.track_core.specs.Layers.{IsAfter, meaning_made}
+use Rattle.track_core.specs.Pieces.{IsTakenIn, item_by, item_of, items_of}
+
+-- The SSRC, the order with the pieces that wait, what a layered track keeps, and the packets of what the last step made.
+pub record Seen : Type 0 where
+  pub ssrc : ℕ
+  pub window : Window
+  pub layers : Option Layers
+  pub packets : List (List ℕ)
+
+-- The track stands for these events, the newest first, of whose pieces these, the oldest first, are worked off.
+pub record StandsFor (track : Seen) (events : List Event) (worked : List Piece) : Type 0 where
+  pub window : WindowAfter track.window events
+  pub taken : AllByRecursion IsTakenIn events
+  pub pieces : worked ++ track.window.waiting ≡ order_items track.window.hold events
+  pub layers : IfSome track.layers (λ l. IsAfter l (items_of worked))
+  pub numbers : IfSome track.layers (λ l. l.table.newest ≤ 131072 * length worked)
+
+-- ---- refusals
+
+abbrev pub refused : Arrival → Refusal
+refused arrival.Spent = refusal.Spent
+refused (arrival.Late next) = refusal.Late next
+refused arrival.Repeat = refusal.Repeat
+
+abbrev pub order_refusal : Result ℕ Arrival → Option Refusal
+order_refusal (Ok n) = None
+order_refusal (Err why) = Some (refused why)
+
+abbrev pub source_refusal : Seen → List ℕ → Option Refusal
+source_refusal track bytes =
+    if ssrc_of bytes == track.ssrc then order_refusal (judged_sequence track.window.order (sequence_of bytes))
+    else Some (refusal.WrongSsrc (ssrc_of bytes) track.ssrc)
+
+abbrev pub read_refusal : Seen → Option RtpFault → List ℕ → Option Refusal
+read_refusal track None bytes = source_refusal track bytes
+read_refusal track (Some fault) bytes = Some (refusal.Unreadable fault)
+
+-- the first refusal that stands, or none
+abbrev pub first_refusal : Seen → List ℕ → Option Refusal
+first_refusal track bytes = if nat_lt 1500 (length bytes) then Some (refusal.TooBig (length bytes)) else read_refusal track (first_fault bytes) bytes
+
+abbrev pub refusal_of : {T : Type 0} → Result T Refusal → Option Refusal
+refusal_of (Ok x) = None
+refusal_of (Err why) = Some why
+
+-- ---- steps
+
+abbrev pub made_frame : Option (Frame TemplateStructure) → Made
+made_frame None = made.Nothing
+made_frame (Some frame) = made.Frame frame.meaning
+
+abbrev pub frame_packets : Option (Frame TemplateStructure) → List (List ℕ)
+frame_packets None = []
+frame_packets (Some frame) = map bytes_of frame.packets
+
+-- the frame that a piece makes after others
+abbrev pub frame_by : ℕ → List Piece → Piece → Option (Frame TemplateStructure)
+frame_by id worked piece = (made_by_item (format_of id) (state_after (format_of id) (items_of worked)) (item_of piece)).frame
+
+abbrev pub made_plain : Piece → Made
+made_plain (Got h) = made.Packet
+made_plain (Gone from to) = made.Nothing
+
+abbrev pub plain_packets : Piece → List (List ℕ)
+plain_packets (Got h) = h.bytes ∷ []
+plain_packets (Gone from to) = []
+
+-- what a step makes of the piece that waits first, if one does
+abbrev pub made_of : Option Layers → List Piece → Option Piece → Made
+made_of layers worked None = made.Idle
+made_of None worked (Some piece) = made_plain piece
+made_of (Some l) worked (Some piece) = made_frame (frame_by l.id worked piece)
+
+abbrev pub packets_of : Option Layers → List Piece → Option Piece → List (List ℕ)
+packets_of layers worked None = []
+packets_of None worked (Some piece) = plain_packets piece
+packets_of (Some l) worked (Some piece) = frame_packets (frame_by l.id worked piece)
+
+-- a frame that was made means something valid
+abbrev pub IsMadeValid : Made → Type 0
+IsMadeValid made.Idle = Unit {0}
+IsMadeValid made.Nothing = Unit {0}
+IsMadeValid made.Packet = Unit {0}
+IsMadeValid (made.Frame meaning) = IsValid meaning
+
+-- the structure in force once these pieces were worked off
+abbrev pub structure_after : Option Layers → List Piece → Option TemplateStructure
+structure_after None worked = None
+structure_after (Some l) worked = (state_after (format_of l.id) (items_of worked)).force.structure
+
+-- the pieces that are worked off then
+abbrev pub and_piece : List Piece → Option Piece → List Piece
+and_piece worked None = worked
+and_piece worked (Some piece) = worked ++ piece ∷ []
+
+abbrev pub id_of : Layers → ℕ
+id_of l = l.id
+
+abbrev pub HasKind : Option Layers → Kind → Type 0
+HasKind layers kind.Plain = layers ≡ None
+HasKind layers (kind.Layered id) = option_map id_of layers ≡ Some id
+
+-- ---- steps of the code
+
+abbrev pub structure_in : Option Layers → Option TemplateStructure
+structure_in None = None
+structure_in (Some l) = l.table.structure
+
+abbrev pub is_got : OrderItem → Bool
+is_got (item.Got number moment) = true
+is_got (item.Gone from to) = false
+
+abbrev pub made_meaning : Option FrameMeaning → Made
+made_meaning None = made.Nothing
+made_meaning (Some meaning) = made.Frame meaning
+
+abbrev pub made_by : Option Layers → List Item → Bool → List ℕ → Made
+made_by None past came bytes = if came then made.Packet else made.Nothing
+made_by (Some l) past came bytes = made_meaning (meaning_made l.id past (item_by came bytes))
+
+abbrev pub gives : Made → Bool
+gives made.Idle = false
+gives made.Nothing = false
+gives made.Packet = true
+gives (made.Frame meaning) = true

@@ -1,0 +1,186 @@
+// The packets of a layered track, once they are in order.
+
+ghost use Rattle.std.specs.Prelude.{◌≡◌, ◌≤◌, ◌<◌, ◌+◌, ◌-◌, ◌^◌, ◌∷◌, [], true, false, IfOk, IfSome, List, ℕ, is_some, length};
+ghost use Rattle.sfu_base.specs.Frame.{IsValid};
+ghost use Rattle.forwarding_model.specs.frames.Cuts.{Mark as CutMark, Part};
+ghost use Rattle.forwarding_model.specs.frames.Frames.{Item, ReadPacket};
+ghost use Rattle.forwarding_model.specs.frames.Frames.Item.{Missing, Arrived};
+ghost use Rattle.dd_structure.specs.TemplateStructure.{TemplateStructure};
+ghost use Rattle.frame_assembly.specs.Assembled.{marked};
+ghost use Rattle.packet_format.specs.Packets.{packet_of};
+ghost use Rattle.packet_format.specs.Shown.{IsOf};
+ghost use Rattle.track_core.specs.Layers.{HasStood, IsAfter, IsHeadOf, IsPushable, IsRunning, Looked, Pushed, StartsAs, meaning_made, sent_of, starts};
+ghost use Rattle.track_core.specs.Mapped.{mark_with};
+ghost use Rattle.track_core.specs.Pieces.{IsTaken, item_by};
+ghost use Rattle.frame_table.specs.Seen.{IsFirst};
+
+use dd_descriptor::{Descriptor, read_into};
+use frame_assembly::{Assembly, Mark, Outcome};
+use frame_table::{FrameHead, FrameTable, Reading};
+use packet_format::{PayloadFlags, descriptor_bytes, payload_flags};
+use rtp_packet::Rtp;
+use sfu_base::{Dti, FrameMeaning, NoMemory};
+use std::alloc::Global;
+
+/// A layered track between two items: what is in force, the frame under assembly, and what is kept of that frame's first descriptor. The
+/// newest descriptor is only there to be read into.
+#[derive(Drop)]
+pub struct Layers {
+    pub id: u8,
+    pub table: FrameTable,
+    pub assembly: Assembly,
+    pub head: FrameHead,
+    pub newest: Descriptor,
+}
+
+const NO_HEAD: FrameHead = FrameHead {
+    key: false,
+    number: 0,
+    spatial: 0,
+    temporal: 0,
+    dtis: [Dti::NotPresent; 32],
+    links: [0; 32],
+    ref_count: 0,
+    refs: [0; 16],
+};
+
+impl Layers {
+    /// No packet came yet.
+    pub fn new(alloc: Global, id: u8) -> Result<Layers, NoMemory>
+        ensures id { IfOk result (λ layers. layers.id ≡ id) }
+        ensures stands { IfOk result (λ layers. IsAfter layers []) }
+        ensures newest { IfOk result (λ layers. layers.table.newest ≡ 0) }
+    {
+        Ok(Layers {
+            id,
+            table: FrameTable::new(),
+            assembly: Assembly::new(alloc)?,
+            head: NO_HEAD,
+            newest: Descriptor::new(),
+        })
+    }
+
+    /// Numbers were given up: the frame so far is torn.
+    pub fn give_up(&mut self)
+        ensures id { self.new.id ≡ self.old.id }
+        ensures near { self.new.table.newest ≤ self.old.table.newest }
+        ensures stands { (past : List Item) → IsAfter self.old past → IsAfter self.new (Missing ∷ past) }
+    {
+        let _ = self.assembly.push(&Mark::Gone, &[]);
+    }
+
+    /// The next packet, with its bytes. Answers what the frame means that it made whole, if it made one.
+    pub fn take(&mut self, packet: &Rtp<'_>, bytes: &[u8]) -> Option<FrameMeaning>
+        requires length { length bytes.now ≤ 1500 }
+        requires packet { IsOf bytes.now packet.now }
+        requires stood { HasStood self.old }
+        requires bound { self.old.table.newest ≤ 2 ^ 63 - 131072 }
+        ensures id { self.new.id ≡ self.old.id }
+        ensures stands { (past : List Item) → IsAfter self.old past → IsAfter self.new (Arrived (packet_of bytes.now) ∷ past) }
+        ensures near { self.new.table.newest ≤ self.old.table.newest + 131072 }
+        ensures made { (past : List Item) → IsAfter self.old past → result ≡ meaning_made self.old.id past (Arrived (packet_of bytes.now)) }
+        ensures valid { IfSome result IsValid }
+    {
+        let mark = self.look(packet, bytes);
+        self.push(&mark, bytes)
+    }
+
+    // What a packet is to the frame under assembly. Its descriptor, where it has one that is read, acts on what is in force.
+    fn look(&mut self, packet: &Rtp<'_>, bytes: &[u8]) -> Mark
+        requires packet { IsOf bytes.now packet.now }
+        requires bound { self.old.table.newest ≤ 2 ^ 63 - 131072 }
+        ensures looked { Looked self.old.id self.old.table self.new.table self.new.newest result bytes.now }
+        ensures near { self.new.table.newest ≤ self.old.table.newest + 65536 }
+        ensures id { self.new.id ≡ self.old.id }
+        ensures assembly { self.new.assembly ≡ self.old.assembly }
+        ensures head { self.new.head ≡ self.old.head }
+    {
+        let flags = payload_flags(packet.payload);
+        if let PayloadFlags::Empty = flags {
+            return Mark::Pad;
+        }
+        let Some(element) = descriptor_bytes(packet, self.id) else {
+            return Mark::Unread;
+        };
+        if read_into(element, self.table.force(), &mut self.newest).is_err() {
+            return Mark::Unread;
+        }
+        if let Reading::Unread = self.table.see(&self.newest) {
+            return Mark::Unread;
+        }
+        match flags {
+            PayloadFlags::Elements { continues, carries } => Mark::Part {
+                start: self.newest.start,
+                end: self.newest.end,
+                number: self.newest.number,
+                continues,
+                carries,
+            },
+            _ => Mark::Unread,
+        }
+    }
+
+    // The mark goes to the frame under assembly, with its packet.
+    fn push(&mut self, mark: &Mark, bytes: &[u8]) -> Option<FrameMeaning>
+        requires length { length bytes.now ≤ 1500 }
+        requires bound { self.old.table.newest < 2 ^ 63 }
+        requires pushable { IsPushable self.old mark.now bytes.now }
+        ensures id { self.new.id ≡ self.old.id }
+        ensures near { self.new.table.newest ≤ self.old.table.newest + 65536 }
+        ensures pushed { (marks : List (CutMark (ReadPacket TemplateStructure))) (m : CutMark (ReadPacket TemplateStructure)) → IsRunning self.old marks
+            → marked mark.now bytes.now ≡ mark_with sent_of m → StartsAs self.old.table self.old.newest m → Pushed self.old self.new result marks m }
+        ensures valid { IfSome result IsValid }
+    {
+        self.head = self.next_head(mark);
+        match self.assembly.push(mark, bytes) {
+            Outcome::Whole => self.table.whole_of(&self.head).ok(),
+            _ => None,
+        }
+    }
+
+    // What is kept of the first descriptor of the frame that goes on with this mark.
+    fn next_head(&self, mark: &Mark) -> FrameHead
+        requires { starts mark.now ≡ true → IsFirst self.now.table self.now.newest }
+        ensures started { starts mark.now ≡ true → IsHeadOf self.now.table self.now.newest result }
+        ensures kept { starts mark.now ≡ false → result ≡ self.now.head }
+    {
+        if is_start(mark) {
+            self.table.head(&self.newest)
+        } else {
+            self.head
+        }
+    }
+}
+
+/// Works off one item of a layered track: the packet with these bytes, or numbers that were given up.
+pub fn work_off(layers: &mut Layers, came: bool, bytes: &[u8]) -> Option<FrameMeaning>
+    requires taken { came ≡ true → IsTaken bytes.now }
+    requires stood { HasStood layers.old }
+    requires bound { layers.old.table.newest ≤ 2 ^ 63 - 131072 }
+    ensures id { layers.new.id ≡ layers.old.id }
+    ensures near { layers.new.table.newest ≤ layers.old.table.newest + 131072 }
+    ensures stands { (past : List Item) → IsAfter layers.old past → IsAfter layers.new (item_by came bytes.now ∷ past) }
+    ensures made { (past : List Item) → IsAfter layers.old past → result ≡ meaning_made layers.old.id past (item_by came bytes.now) }
+    ensures valid { IfSome result IsValid }
+    ensures came { is_some result ≡ true → came ≡ true }
+{
+    if !came {
+        layers.give_up();
+        return None;
+    }
+    match rtp_packet::read(bytes) {
+        Ok(packet) => layers.take(&packet, bytes),
+        // It was taken in, so RTP reads it.
+        Err(_) => None,
+    }
+}
+
+// Whether a mark begins a frame.
+fn is_start(mark: &Mark) -> bool
+    ensures { result ≡ starts mark.now }
+{
+    match mark {
+        Mark::Part { start, .. } => *start,
+        _ => false,
+    }
+}

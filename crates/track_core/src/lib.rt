@@ -1,0 +1,9 @@
+//! One publisher's pipeline: packets come in any order, are put into one, and become plain packets or whole frames. Only the constructor
+//! takes memory.
+#![tactic(auto)]
+
+mod layers;
+mod track;
+
+pub use layers::Layers;
+pub use track::{Made, Track};

@@ -1,0 +1,270 @@
+// One publisher's pipeline.
+
+ghost use Rattle.std.specs.Prelude.{◌≡◌, ◌≤◌, ◌<◌, ◌-◌, ◌^◌, ◌+◌, ◌∷◌, ◌↔◌, [], ℕ, true, IfOk, IfSome, IsOk, List, None, Some, OnErr, drop, length, option_copied, slice_get};
+ghost use Rattle.reorder_window.specs.Events.{Arrives, Event, Piece, Ticks};
+ghost use Rattle.reorder_window.specs.Missing.{missing_sequences};
+ghost use Rattle.rtp_packet.specs.Faults.{first_fault};
+ghost use Rattle.rtp_packet.specs.Fields.{sequence_of};
+ghost use Rattle.track_core.specs.Track.{HasKind, IsMadeValid, StandsFor, and_piece, first_refusal, gives, id_of, is_got, made_by, made_of, packets_of, refusal_of, refused, structure_after, structure_in};
+ghost use Rattle.track_core.specs.Layers.{HasStood, IsAfter};
+ghost use Rattle.track_core.specs.Pieces.{IsTaken, item_by};
+ghost use Rattle.forwarding_model.specs.frames.Frames.{Item};
+ghost use Rattle.std.specs.List.{AllByRecursion};
+ghost use Rattle.std.specs.Option.{option_map};
+
+use crate::layers::{Layers, work_off};
+use dd_structure::Structure;
+use reorder_window::{Arrival, Item as OrderItem, Window};
+use sfu_base::{FrameMeaning, Kind, NoMemory, PacketBuf, Refusal, SeqList};
+use std::alloc::Global;
+use std::marker::Model;
+
+/// What one item made.
+#[derive(Clone, Copy, Debug)]
+pub enum Made {
+    /// No item waits.
+    Idle,
+    /// Neither a packet nor a frame.
+    Nothing,
+    /// A packet of a plain track.
+    Packet,
+    /// A whole frame of a layered track.
+    Frame(FrameMeaning),
+}
+
+/// One publisher's packets, from their arrival to plain packets or whole frames. Clauses see it as its SSRC, the order with the pieces that
+/// wait, what a layered track keeps, and the packets of what the last step made.
+#[derive(Drop)]
+pub struct Track {
+    ssrc: u32,
+    window: Window,
+    // The packet that is worked off.
+    buffer: PacketBuf,
+    layers: Option<Layers>,
+    // Whether the last step made a packet or a frame.
+    given: bool,
+}
+
+impl Model for Track {
+    ghost use Rattle.track_core.specs.Track.{Seen};
+
+    ghost Value = { Seen };
+
+    ghost use Rattle.track_core.specs.Kept.{IsKept, seen};
+
+    ghost view = { seen };
+
+    ghost invariant = { IsKept };
+}
+
+/// The longest packet that is taken in.
+const MOST_BYTES: usize = 1500;
+
+impl Track {
+    /// A track before its first packet, that holds a packet behind a gap for so many milliseconds. All its memory is taken here.
+    pub fn new(alloc: Global, kind: Kind, ssrc: u32, hold: u32) -> Result<Track, NoMemory>
+        ensures stands { IfOk result (λ track. StandsFor track [] []) }
+        ensures ssrc { IfOk result (λ track. track.ssrc ≡ ssrc) }
+        ensures hold { IfOk result (λ track. track.window.hold ≡ hold) }
+        ensures kind { IfOk result (λ track. HasKind track.layers kind) }
+    {
+        let layers = layers_of(alloc, kind)?;
+        Ok(Track {
+            ssrc,
+            window: Window::new(alloc, hold)?,
+            buffer: PacketBuf::new(),
+            layers,
+            given: false,
+        })
+    }
+
+    /// Takes in a packet that arrives at this moment, in milliseconds. The refusal is the first that stands, and changes nothing. All that
+    /// waited was worked off.
+    pub fn arrive(&mut self, moment: u64, bytes: &[u8]) -> Result<(), Refusal>
+        requires idle { self.old.window.waiting ≡ [] }
+        requires length { length bytes.now ≤ 4294967295 }
+        ensures refusal { refusal_of result ≡ first_refusal self.old bytes.now }
+        ensures unchanged { OnErr result (self.new ≡ self.old) }
+        ensures stands { (events : List Event) (worked : List Piece) → StandsFor self.old events worked → IsOk result
+            → StandsFor self.new (Arrives (sequence_of bytes.now) moment bytes.now ∷ events) worked }
+    {
+        if bytes.len() > MOST_BYTES {
+            return Err(Refusal::TooBig {
+                len: bytes.len() as u32,
+            });
+        }
+        let packet = match rtp_packet::read(bytes) {
+            Ok(packet) => packet,
+            Err(fault) => return Err(Refusal::Unreadable(fault)),
+        };
+        if packet.ssrc != self.ssrc {
+            return Err(Refusal::WrongSsrc {
+                got: packet.ssrc,
+                wanted: self.ssrc,
+            });
+        }
+        match self.window.arrive(packet.seq, moment, bytes) {
+            Ok(()) => Ok(()),
+            Err(why) => Err(refused(why)),
+        }
+    }
+
+    /// Time has come to this moment, in milliseconds. All that waited was worked off.
+    pub fn tick(&mut self, moment: u64)
+        requires { self.old.window.waiting ≡ [] }
+        ensures { (events : List Event) (worked : List Piece) → StandsFor self.old events worked → StandsFor self.new (Ticks moment ∷ events) worked }
+    {
+        self.window.tick(moment);
+    }
+
+    /// The missing sequence numbers, ascending by their unwrapped numbers.
+    pub fn missing(&self, out: &mut SeqList)
+        ensures { out.new ≡ missing_sequences self.now.window.order }
+    {
+        self.window.missing(out);
+    }
+
+    /// The template structure in force on a layered track, once its newest item was worked off: none before the first key start, and none
+    /// on a plain track.
+    pub fn force(&self) -> Option<&Structure>
+        ensures { (events : List Event) (worked : List Piece) → StandsFor self.now events worked
+            → option_copied result ≡ structure_after self.now.layers worked }
+    {
+        structure_of(&self.layers)
+    }
+
+    /// Works off one item. `Idle` comes exactly where none waits.
+    pub fn step(&mut self) -> Made
+        ensures rest { self.new.window ≡ record self.old.window { waiting = drop 1 self.old.window.waiting } }
+        ensures idle { (result ≡ Made.Idle) ↔ (self.old.window.waiting ≡ []) }
+        ensures stands { (events : List Event) (worked : List Piece) → StandsFor self.old events worked
+            → StandsFor self.new events (and_piece worked (slice_get self.old.window.waiting 0)) }
+        ensures made { (events : List Event) (worked : List Piece) → StandsFor self.old events worked
+            → result ≡ made_of self.old.layers worked (slice_get self.old.window.waiting 0) }
+        ensures packets { (events : List Event) (worked : List Piece) → StandsFor self.old events worked
+            → self.new.packets ≡ packets_of self.old.layers worked (slice_get self.old.window.waiting 0) }
+        ensures valid { IsMadeValid result }
+    {
+        self.given = false;
+        let Some(item) = self.window.next_item(&mut self.buffer) else {
+            return Made::Idle;
+        };
+        let made = worked(&mut self.layers, is_packet(&item), self.buffer.bytes());
+        self.given = is_given(&made);
+        made
+    }
+
+    /// How many packets the last step made: 1 after a packet, those of the frame after a frame, else 0.
+    pub fn count(&self) -> u16
+        ensures count { result ≡ length self.now.packets }
+        ensures few { length self.now.packets ≤ 512 }
+    {
+        if !self.given {
+            return 0;
+        }
+        match &self.layers {
+            None => 1,
+            Some(layers) => layers.assembly.count(),
+        }
+    }
+
+    /// The bytes of a packet that the last step made, by its place from 0: at most 1,500, and RTP reads them.
+    pub fn packet(&self, place: u16) -> &[u8]
+        requires { place < length self.now.packets }
+        ensures at { slice_get self.now.packets place ≡ Some result.now }
+        ensures reads { first_fault result.now ≡ None }
+        ensures fits { length result.now ≤ 1500 }
+    {
+        self.are_taken();
+        self.packet_at(place)
+    }
+
+    // Each packet that the last step made was taken in.
+    fn are_taken(&self)
+        ensures { AllByRecursion IsTaken self.now.packets }
+    {
+        let _ = &self.given;
+    }
+
+    fn packet_at(&self, place: u16) -> &[u8]
+        requires { place < length self.now.packets }
+        ensures { slice_get self.now.packets place ≡ Some result.now }
+    {
+        match &self.layers {
+            None => self.buffer.bytes(),
+            Some(layers) => layers.assembly.packet(place),
+        }
+    }
+}
+
+// What a track of this kind keeps before its first item.
+fn layers_of(alloc: Global, kind: Kind) -> Result<Option<Layers>, NoMemory>
+    ensures stands { IfOk result (λ o. IfSome o (λ l. IsAfter l [])) }
+    ensures newest { IfOk result (λ o. IfSome o (λ l. l.table.newest ≡ 0)) }
+    ensures kind { IfOk result (λ o. HasKind o kind) }
+{
+    match kind {
+        Kind::Plain => Ok(None),
+        Kind::Layered { id } => Ok(Some(Layers::new(alloc, id)?)),
+    }
+}
+
+// The structure in force, if the track is layered.
+fn structure_of(layers: &Option<Layers>) -> Option<&Structure>
+    ensures { option_copied result ≡ structure_in layers.now }
+{
+    match layers {
+        Some(layers) => layers.table.force(),
+        None => None,
+    }
+}
+
+// Works off one item: the packet with these bytes, or numbers that were given up.
+fn worked(layers: &mut Option<Layers>, came: bool, bytes: &[u8]) -> Made
+    requires taken { came ≡ true → IsTaken bytes.now }
+    requires stood { IfSome layers.old HasStood }
+    requires bound { IfSome layers.old (λ l. l.table.newest ≤ 2 ^ 63 - 131072) }
+    ensures kind { option_map id_of layers.new ≡ option_map id_of layers.old }
+    ensures near { (n : ℕ) → IfSome layers.old (λ l. l.table.newest ≤ n) → IfSome layers.new (λ l. l.table.newest ≤ n + 131072) }
+    ensures stands { (past : List Item) → IfSome layers.old (λ l. IsAfter l past) → IfSome layers.new (λ l. IsAfter l (item_by came bytes.now ∷ past)) }
+    ensures made { (past : List Item) → IfSome layers.old (λ l. IsAfter l past) → result ≡ made_by layers.old past came bytes.now }
+    ensures some { result ≡ Made.Idle → ⊥ }
+    ensures came { gives result ≡ true → came ≡ true }
+    ensures valid { IsMadeValid result }
+{
+    match layers {
+        None => { if came { Made::Packet } else { Made::Nothing } }
+        Some(layers) => match work_off(layers, came, bytes) {
+            Some(meaning) => Made::Frame(meaning),
+            None => Made::Nothing,
+        },
+    }
+}
+
+fn is_given(made: &Made) -> bool
+    ensures { result ≡ gives made.now }
+{
+    match made {
+        Made::Packet | Made::Frame(_) => true,
+        Made::Idle | Made::Nothing => false,
+    }
+}
+
+fn is_packet(item: &OrderItem) -> bool
+    ensures { result ≡ is_got item.now }
+{
+    match item {
+        OrderItem::Got { .. } => true,
+        OrderItem::Gone { .. } => false,
+    }
+}
+
+fn refused(why: Arrival) -> Refusal
+    ensures { result ≡ refused why }
+{
+    match why {
+        Arrival::Spent => Refusal::Spent,
+        Arrival::Late { next } => Refusal::Late { next },
+        Arrival::Repeat => Refusal::Repeat,
+    }
+}
