@@ -3,7 +3,7 @@
 -- Word 0 is the next ticket, word 1 the ticket that is served, and the only slot has the value. A seat's number is its place in the table's
 -- list of views. The log is the history. The seats in the queue have the tickets from the served one on, in order, so the front seat alone
 -- may have the value. While no seat has it, it is in the slot and stands for the log.
-use Rattle.std.specs.Prelude.{◌≡◌, ◌≢◌, ℕ, ◌+◌, ◌-◌, ◌^◌, ◌<◌, ◌≤◌, max, List, [], ◌∷◌, ◌++◌, length, Some}
+use Rattle.std.specs.Prelude.{◌≡◌, ◌≢◌, ℕ, ◌+◌, ◌-◌, ◌^◌, ◌≤◌, max, List, [], ◌∷◌, length, Some}
 use mathlib.Core.Option.{Option, none, some}
 use mathlib.Core.List.{IsPrefix}
 use lib.ListN.{get_elem?}

@@ -13,3 +13,6 @@ mod view;
 pub use held::Held;
 pub use history::{Entry, Joined};
 pub use lock::{Seat, Turn, Turns, Worn};
+
+#[cfg(test)]
+mod tests;
