@@ -1,6 +1,8 @@
 // Lines read one after another.
-ghost use Rattle.std.specs.Prelude.{◌≡◌, IsTrue, MatchResult, None, Some};
+ghost use Rattle.std.specs.Prelude.{◌≡◌, IfOk, IsTrue, MatchResult, None, OnErr, Some};
+ghost use Rattle.sfu_base.specs.declared.call.Call.{Call};
 ghost use Rattle.sfu_script.specs.Kept.{is_packet, is_take};
+ghost use Rattle.sfu_script.specs.Lines.{IsLine};
 ghost use Rattle.sfu_script.specs.ReadLines.{call_of, packet_of, subscriber_call_of};
 
 use crate::commands::SubscriberCommand;
@@ -80,8 +82,8 @@ impl LineReader {
         Ok(())
     }
 
-    /// The call that a line says, which is kept until the next line is read. `NoLine` exactly where it says none. Takes no memory.
-    pub fn read(&mut self, line: &[u8]) -> Result<&Call, NoLine>
+    #[inline(always)]
+    fn lend(&mut self, line: &[u8]) -> Result<&Call, NoLine>
         ensures { MatchResult result (λ said. call_of line.now ≡ Some said.now) (λ _. call_of line.now ≡ None) }
     {
         let (word, rest) = split(line)?;
@@ -99,5 +101,14 @@ impl LineReader {
                 Ok(&self.other)
             }
         }
+    }
+
+    /// The call that a line says, which is kept until the next line is read. `NoLine` exactly where it says none. Takes no memory.
+    pub fn read(&mut self, line: &[u8]) -> Result<&Call, NoLine>
+        ensures value { MatchResult result (λ said. call_of line.now ≡ Some said.now) (λ _. call_of line.now ≡ None) }
+        ensures ok { IfOk result (λ said. IsLine said.now line.now) }
+        ensures err { OnErr result ((said : Call) → ¬ (IsLine said line.now)) }
+    {
+        self.lend(line)
     }
 }
