@@ -6,7 +6,7 @@ ghost use Rattle.sfu_script.specs.Lines.{IsLine};
 ghost use Rattle.sfu_script.specs.ReadLines.{call_of, packet_of, subscriber_call_of};
 
 use crate::commands::SubscriberCommand;
-use crate::hex_text::decode;
+use crate::hex_text::{MOST_BYTES, decode};
 use crate::lines::packet;
 use crate::words::{number32, split};
 use crate::{NoLine, read_call};
@@ -14,9 +14,9 @@ use sfu_base::{Call, PacketBuf};
 
 /// Reads lines one after another, as [`read_call`] does, and keeps the room of the calls: the lines that come most often write no more
 /// than they say.
-#[derive(Drop)]
+#[derive(Debug, Drop)]
 pub struct LineReader {
-    room: [u8; 2048],
+    room: [u8; MOST_BYTES],
     packet: Call,
     take: Call,
     other: Call,
@@ -28,7 +28,7 @@ impl LineReader {
     /// A reader that has read no line.
     pub fn new() -> LineReader {
         LineReader {
-            room: [0; 2048],
+            room: [0; MOST_BYTES],
             packet: Call::Packet {
                 track: 0,
                 moment: 0,

@@ -2,7 +2,7 @@
 ghost use Rattle.std.specs.Prelude.{◌≡◌, ◌≤◌};
 ghost use Rattle.sfu_script.specs.Grammar.{text_of, word_of, AllWithin, IsWithin};
 ghost use Rattle.sfu_script.specs.Pieces.{piece_word, pieces_text};
-ghost use Rattle.sfu_script.specs.Sizes.{piece_size, pieces_size};
+ghost use Rattle.sfu_script.specs.Sizes.{most_short, piece_size, pieces_size};
 ghost use Rattle.sfu_script.specs.Replies.{or_none, verdict_places};
 
 use crate::pieces::Piece::{self, Number, Text};
@@ -36,7 +36,7 @@ fn target_or_none(target: Option<u8>) -> Piece<'static>
 pub fn verdict_pieces(verdict: &Verdict) -> Pieces<'static>
     ensures text { pieces_text result ≡ text_of (verdict_places verdict.now) }
     ensures within { AllWithin (verdict_places verdict.now) }
-    ensures short { pieces_size result ≤ 100 }
+    ensures short { pieces_size result ≤ most_short }
 {
     match verdict {
         Verdict::Passed => Pieces::of(&[Text(b"passed")]),
