@@ -47,3 +47,17 @@ fn a_writer_holds_2040_bytes(rt: HostRuntime) -> Result<(), Fail> {
     assert_eq!(rt; out.bytes().last().copied(), Some(4));
     Ok(())
 }
+
+#[test]
+fn bits_that_were_read_are_put_again(rt: HostRuntime) -> Result<(), Fail> {
+    let mut bits = BitReader::new(&[0xcb, 0x5a]);
+    let begin = bits;
+    assert_eq!(rt; bits.ns(5)?, 3);
+    assert_eq!(rt; bits.bits(4)?, 5);
+    assert_eq!(rt; bits.left(), 9);
+    let mut out = BitWriter::new();
+    out.put(2, 1)?;
+    out.put_read(begin, bits)?;
+    assert_eq!(rt; out.bytes(), [0x72, 0x80].as_slice());
+    Ok(())
+}

@@ -9,6 +9,9 @@ const FIRST: &str =
 
 const FIRST_REPLIES: &str = "ok\nok\nempty\nok\n";
 
+// The texts of `FIRST`, one for each line, and the last text where its next line is outside the grammar.
+const TEXTS: [&str; 5] = ["ok\n", "ok\n", "empty\n", "ok\n", "line 5\n"];
+
 const USAGE: &str = "usage: run, together, trial, check, serve, help\n";
 
 // Gives a script byte by byte.
@@ -47,95 +50,121 @@ fn run(alloc: Global, script: &str) -> Result<(u8, Vec<u8>), AllocError> {
     Ok((status, sink.written().to_vec(alloc)?))
 }
 
+// The first of the texts, so many of them.
+fn first_texts(alloc: Global, count: usize) -> Result<String, AllocError> {
+    let mut all = String::new(alloc);
+    for text in TEXTS.iter().take(count) {
+        all.push_str(text)?;
+    }
+    Ok(all)
+}
+
+// How many lines end in the first bytes of a script.
+fn line_ends(script: &str, count: usize) -> usize {
+    script
+        .bytes()
+        .take(count)
+        .filter(|byte| *byte == b'\n')
+        .count()
+}
+
+// The status of a script that comes byte by byte, where these reads and writes fail; what was written; and whether the next read fails.
+fn run_bytes(
+    alloc: Global,
+    script: &str,
+    read_fails: &[u64],
+    write_fails: &[u64],
+) -> Result<(u8, Vec<u8>, bool), AllocError> {
+    let words = words(alloc, &["run"])?;
+    let inner = MemSource::new(script.as_bytes().to_vec(alloc)?, read_fails.to_vec(alloc)?);
+    let mut source = ByteSource { inner };
+    let mut sink = MemSink::new(alloc, write_fails.to_vec(alloc)?);
+    let status = sfu(alloc, words.as_slice(), &mut source, &mut sink);
+    let fails = source.read(&mut [0u8; 1]).is_err();
+    Ok((status, sink.written().to_vec(alloc)?, fails))
+}
+
 #[test]
 fn scripts_get_their_replies_and_statuses(rt: HostRuntime) -> Result<(), Fail> {
-    let cases = [
-        // Nothing is read, and nothing is written.
-        ("", "", 0, ""),
-        // The last line may lack its LF.
-        ("", "take 1", 0, "refused notbuilt\n"),
+    let alloc = rt.alloc();
+    for (script, status, replies) in [
         // The packet goes out under its own number and SSRC; then nothing is left.
         (
-            FIRST,
             "take 1\ntake 1\n",
             0,
             "packet 806000070000000022222222aabb\nempty\n",
         ),
         // A line outside the grammar, behind the replies.
-        (FIRST, "packet 1 0 80605", 5, "line 5\n"),
-        (FIRST, "packet 1 0 80605\ntake 1\n", 5, "line 5\n"),
+        ("packet 1 0 80605", 5, "line 5\n"),
+        ("packet 1 0 80605\ntake 1\n", 5, "line 5\n"),
         // A packet out of sequence.
         (
-            FIRST,
             "packet 1 0 806000030000000011111111cc\n",
             0,
             "refused outoforder 2\n",
         ),
-        (FIRST, "packet 1 0 806000020000000011111111cc\n", 0, "ok\n"),
-        // What isn't built: a second track, another track, a second subscriber, another subscriber.
-        (
-            FIRST,
-            "publish 2 plain 11111111 0\n",
-            0,
-            "refused notbuilt\n",
-        ),
-        (FIRST, "join 2 2 33333333 0 0 0\n", 0, "refused notbuilt\n"),
-        (FIRST, "join 2 1 33333333 0 0 0\n", 0, "refused notbuilt\n"),
-        (FIRST, "take 2\n", 0, "refused notbuilt\n"),
-        // What isn't built of packets: another track, 11 bytes, another first byte, another SSRC.
-        (
-            FIRST,
-            "packet 2 0 806000020000000011111111\n",
-            0,
-            "refused notbuilt\n",
-        ),
-        (
-            FIRST,
-            "packet 1 0 8060000200000000111111\n",
-            0,
-            "refused notbuilt\n",
-        ),
-        (
-            FIRST,
-            "packet 1 0 906000020000000011111111\n",
-            0,
-            "refused notbuilt\n",
-        ),
-        (
-            FIRST,
-            "packet 1 0 806000020000000011111112\n",
-            0,
-            "refused notbuilt\n",
-        ),
-        // Skipped lines are counted and have no reply; a CR directly before an LF is dropped.
-        ("", "# a\n\ntake 1\r\n", 0, "refused notbuilt\n"),
-        (
-            "",
-            "# a\n\ntake 1\ntake 01",
-            5,
-            "refused notbuilt\nline 4\n",
-        ),
-        ("", "\r\n#\r\n# \u{e9}\ntake 01\n", 5, "line 4\n"),
-        // A CR at the end of input stays, and so does one of two before an LF.
-        ("", "take 1\r", 5, "line 1\n"),
-        ("", "take 1\r\r\n", 5, "line 1\n"),
-        ("", "\r", 5, "line 1\n"),
-        (" ", "", 5, "line 1\n"),
+        ("packet 1 0 806000020000000011111111cc\n", 0, "ok\n"),
         // Upper case is read, lower case is written.
         (
-            FIRST,
             "packet 1 0 80E000020000000011111111FF\ntake 1\ntake 1\n",
             0,
             "ok\npacket 806000070000000022222222aabb\npacket 80e000080000000022222222ff\n",
         ),
-    ];
-    for (front, script, status, replies) in cases {
-        let text = format!(in rt.alloc(); "{front}{script}")?;
-        let before = if front == FIRST { FIRST_REPLIES } else { "" };
-        let wanted = format!(in rt.alloc(); "{before}{replies}")?;
-        let (got, written) = run(rt.alloc(), text.as_str())?;
-        assert_eq!(rt; got, status, "{text}");
-        assert_eq!(rt; written.as_slice(), wanted.as_bytes(), "{text}");
+    ] {
+        let text = format!(in alloc; "{FIRST}{script}")?;
+        let wanted = format!(in alloc; "{FIRST_REPLIES}{replies}")?;
+        let (got, written) = run(alloc, text.as_str())?;
+        assert_eq!(rt; got, status, "{script}");
+        assert_eq!(rt; written.as_slice(), wanted.as_bytes(), "{script}");
+    }
+    Ok(())
+}
+
+#[test]
+fn what_the_room_lacks_is_refused(rt: HostRuntime) -> Result<(), Fail> {
+    let alloc = rt.alloc();
+    let wanted = format!(in alloc; "{FIRST_REPLIES}refused notbuilt\n")?;
+    for script in [
+        // A second track, another track, a second subscriber, another subscriber.
+        "publish 2 plain 11111111 0\n",
+        "join 2 2 33333333 0 0 0\n",
+        "join 2 1 33333333 0 0 0\n",
+        "take 2\n",
+        // Of packets: another track, 11 bytes, another first byte, another SSRC.
+        "packet 2 0 806000020000000011111111\n",
+        "packet 1 0 8060000200000000111111\n",
+        "packet 1 0 906000020000000011111111\n",
+        "packet 1 0 806000020000000011111112\n",
+    ] {
+        let text = format!(in alloc; "{FIRST}{script}")?;
+        let (got, written) = run(alloc, text.as_str())?;
+        assert_eq!(rt; got, 0, "{script}");
+        assert_eq!(rt; written.as_slice(), wanted.as_bytes(), "{script}");
+    }
+    Ok(())
+}
+
+#[test]
+fn lines_are_skipped_and_end_as_they_should(rt: HostRuntime) -> Result<(), Fail> {
+    let alloc = rt.alloc();
+    for (script, status, text) in [
+        // Nothing is read, and nothing is written.
+        ("", 0, ""),
+        // The last line may lack its LF.
+        ("take 1", 0, "refused notbuilt\n"),
+        // Skipped lines are counted and have no reply; a CR directly before an LF is dropped.
+        ("# a\n\ntake 1\r\n", 0, "refused notbuilt\n"),
+        ("# a\n\ntake 1\ntake 01", 5, "refused notbuilt\nline 4\n"),
+        ("\r\n#\r\n# \u{e9}\ntake 01\n", 5, "line 4\n"),
+        // A CR at the end of input stays, and so does one of two before an LF.
+        ("take 1\r", 5, "line 1\n"),
+        ("take 1\r\r\n", 5, "line 1\n"),
+        ("\r", 5, "line 1\n"),
+        (" ", 5, "line 1\n"),
+    ] {
+        let (got, written) = run(alloc, script)?;
+        assert_eq!(rt; got, status, "{script:?}");
+        assert_eq!(rt; written.as_slice(), text.as_bytes(), "{script:?}");
     }
     Ok(())
 }
@@ -144,8 +173,11 @@ fn scripts_get_their_replies_and_statuses(rt: HostRuntime) -> Result<(), Fail> {
 fn other_words_get_the_usage_line(rt: HostRuntime) -> Result<(), Fail> {
     let alloc = rt.alloc();
     for texts in [
-        ["run", "run", ""].as_slice(),
+        ["run", "run"].as_slice(),
         &[],
+        &["--help"],
+        &["--version"],
+        &["check", "4"],
         &["trial", "0", "7", "0"],
         &["help", "run"],
         &["Run"],
@@ -188,58 +220,73 @@ fn help_writes_the_usage_line(rt: HostRuntime) -> Result<(), Fail> {
 #[test]
 fn each_fault_of_the_outside_ends_the_run(rt: HostRuntime) -> Result<(), Fail> {
     let alloc = rt.alloc();
-    let run_word = words(alloc, &["run"])?;
-    // Byte by byte, so that each line is written by itself: the n-th write fails, for a script with a bad line and for one without.
     let bad = format!(in alloc; "{FIRST}take 01\ntake 1\n")?;
-    let written_before = [
-        "",
-        "ok\n",
-        "ok\nok\n",
-        "ok\nok\nempty\n",
-        FIRST_REPLIES,
-        FIRST_REPLIES,
-    ];
-    for (script, whole, last) in [(FIRST, 0, ""), (bad.as_str(), 5, "line 5\n")] {
-        for n in 0..6u64 {
-            let mut source = ByteSource {
-                inner: MemSource::new(script.as_bytes().to_vec(alloc)?, Vec::new(alloc)),
-            };
-            let mut sink = MemSink::new(alloc, [n].to_vec(alloc)?);
-            let status = sfu(alloc, run_word.as_slice(), &mut source, &mut sink);
-            // The sink's failing in the last text, the fifth, leaves the status as it is.
+    // Byte by byte, so that each line is written by itself. The reads, the writes and the status where none fails: the script without a
+    // bad line has 100 bytes, and one more read finds its end; behind the eight bytes of the bad line nothing is read or written.
+    for (script, reads, writes, status) in [(FIRST, 101, 4, 0), (bad.as_str(), 108, 5, 5)] {
+        // The n-th read fails: the texts of the lines that ended before it were written.
+        for n in 0..=reads {
+            let (got, written, unread) = run_bytes(alloc, script, &[n], &[])?;
+            let wanted = first_texts(alloc, line_ends(script, n as usize))?;
             assert_eq!(rt;
-                status,
-                if n < 4 { 4 } else { whole },
+                got,
+                if n < reads { 3 } else { status },
+                "read {n} of {script}"
+            );
+            assert_eq!(rt;
+                written.as_slice(),
+                wanted.as_bytes(),
+                "read {n} of {script}"
+            );
+            assert_eq!(rt; unread, n == reads, "read {n} of {script}");
+        }
+        // The n-th write fails: the texts before were written. In the last text, the fifth, this leaves the status as it is.
+        for n in 0..=writes {
+            let (got, written, _) = run_bytes(alloc, script, &[], &[n])?;
+            let wanted = first_texts(alloc, n as usize)?;
+            assert_eq!(rt;
+                got,
+                if n < 4 { 4 } else { status },
                 "write {n} of {script}"
             );
-            let front = written_before.get(n as usize).copied().unwrap_or("");
-            let wanted = format!(in alloc; "{front}{}", if n == 5 { last } else { "" })?;
-            assert_eq!(rt; sink.written(), wanted.as_bytes(), "write {n} of {script}");
+            assert_eq!(rt;
+                written.as_slice(),
+                wanted.as_bytes(),
+                "write {n} of {script}"
+            );
         }
     }
-    // The n-th read fails: what is due for the bytes before was written, and nothing is read behind the bad line.
-    for (n, status, text) in [
-        (0, 3, ""),
-        (28, 3, ""),
-        (29, 3, "ok\n"),
-        (107, 3, FIRST_REPLIES),
-        (108, 5, ""),
+    Ok(())
+}
+
+#[test]
+fn the_read_behind_a_whole_script_fails(rt: HostRuntime) -> Result<(), Fail> {
+    let alloc = rt.alloc();
+    let words = words(alloc, &["run"])?;
+    // The first read gives the whole script. All its lines have their replies, but for a last one that has no LF; behind a bad line no
+    // second read is made.
+    for (more, status, last) in [
+        ("", 3, ""),
+        (
+            "take 1\ntake 1\n",
+            3,
+            "packet 806000070000000022222222aabb\nempty\n",
+        ),
+        ("take 1", 3, ""),
+        ("take 01", 3, ""),
+        ("take 01\n", 5, "line 5\n"),
+        ("take 01\ntake 1", 5, "line 5\n"),
     ] {
-        let mut source = ByteSource {
-            inner: MemSource::new(bad.as_bytes().to_vec(alloc)?, [n].to_vec(alloc)?),
-        };
+        let script = format!(in alloc; "{FIRST}{more}")?;
+        let mut source = MemSource::new(script.as_bytes().to_vec(alloc)?, [1u64].to_vec(alloc)?);
         let mut sink = MemSink::new(alloc, Vec::new(alloc));
+        let wanted = format!(in alloc; "{FIRST_REPLIES}{last}")?;
         assert_eq!(rt;
-            sfu(alloc, run_word.as_slice(), &mut source, &mut sink),
+            sfu(alloc, words.as_slice(), &mut source, &mut sink),
             status,
-            "read {n}"
+            "{script}"
         );
-        if status == 3 {
-            assert_eq!(rt; sink.written(), text.as_bytes(), "read {n}");
-        } else {
-            // The read that was to fail is still to come.
-            assert_eq!(rt; source.read(&mut [0u8; 8]), Err(Failed));
-        }
+        assert_eq!(rt; sink.written(), wanted.as_bytes(), "{script}");
     }
     Ok(())
 }

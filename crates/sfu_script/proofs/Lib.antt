@@ -8,11 +8,13 @@ pub mod HexText
 pub mod LineLaws
 pub mod NamesText
 pub mod Options
+pub mod Outcomes
 pub mod PacketLine
 pub mod Parsing
 pub mod PieceSteps
 pub mod PortLaws
 pub mod PublishLine
+pub mod Ranges
 pub mod ReplyLaws
 pub mod Spaces
 pub mod Steps

@@ -13,3 +13,7 @@ piece_size (Ssrc ssrc) = 8
 abbrev pub pieces_size : List Piece → ℕ
 pieces_size [] = 0
 pieces_size (piece ∷ pieces) = 1 + piece_size piece + pieces_size pieces
+
+-- the most that a verdict or a refusal has
+abbrev pub most_short : ℕ
+most_short = 100

@@ -1,7 +1,8 @@
 // A line of one of the actors that run at the same time.
-ghost use Rattle.std.specs.Prelude.{◌≡◌};
+ghost use Rattle.std.specs.Prelude.{◌≡◌, IfOk, OnErr, ℕ};
 ghost use Rattle.std.specs.Result.{result_ok};
-ghost use Rattle.sfu_script.specs.ActorLines.{actor_call_of, actor_of};
+ghost use Rattle.sfu_base.specs.declared.call.Call.{Call};
+ghost use Rattle.sfu_script.specs.ActorLines.{IsActorLine, actor_call_of, actor_of};
 
 use crate::NoLine;
 use crate::lines::call;
@@ -17,12 +18,21 @@ fn actor(word: &[u8]) -> Result<u8, NoLine>
     }
 }
 
-/// The actor, 1 to 8, and the call that a line `@K line` says. `NoLine` exactly when it says none. Takes no memory.
-pub fn read_actor_line(line: &[u8]) -> Result<(u8, Call), NoLine>
+#[inline(always)]
+fn actor_call(line: &[u8]) -> Result<(u8, Call), NoLine>
     ensures { result_ok result ≡ actor_call_of line.now }
 {
     let (word, rest) = split(line)?;
     let actor = actor(word)?;
     let call = call(rest)?;
     Ok((actor, call))
+}
+
+/// The actor, 1 to 8, and the call that a line `@K line` says. `NoLine` exactly when it says none. Takes no memory.
+pub fn read_actor_line(line: &[u8]) -> Result<(u8, Call), NoLine>
+    ensures value { result_ok result ≡ actor_call_of line.now }
+    ensures ok { IfOk result (λ said. IsActorLine said.0 said.1 line.now) }
+    ensures err { OnErr result ((said : ℕ × Call) → ¬ (IsActorLine said.0 said.1 line.now)) }
+{
+    actor_call(line)
 }

@@ -11,6 +11,7 @@ use crate::written_lines::append_call;
 use sfu_base::{Blob, NoMemory};
 
 fn append_entry(entry: &Entry, out: &mut Blob) -> Result<(), NoMemory>
+    requires { HasBytes entry.now.call }
     ensures ok { OnOk result (out.new ≡ out.old ++ entry_text entry.now) }
     ensures begun { GoesOn out.old out.new }
 {

@@ -7,6 +7,11 @@ ghost use Rattle.sfu_script.specs.Texts.{GoesOn};
 use crate::NoLine;
 use sfu_base::{Blob, NoMemory};
 
+/// The most bytes that a packet has.
+pub const MOST_BYTES: usize = 2048;
+
+const MOST_DIGITS: usize = 2 * MOST_BYTES;
+
 // How many bytes are written at once: few enough that clearing the room for their digits costs little.
 const CHUNK: usize = 256;
 
@@ -14,10 +19,10 @@ const CHUNK: usize = 256;
 /// Reads the 1 to 2,048 bytes that a word is in hex digits into the front of the room, and says how many they are. `NoLine` where the word
 /// has no digits, more than 4,096, an odd number of them, or anything else.
 #[inline(never)]
-pub fn decode(word: &[u8], room: &mut [u8; 2048]) -> Result<usize, NoLine>
-    ensures { MatchResult result (λ count. (count ≤ 2048) × (bytes_of word.now ≡ Some (take count room.new))) (λ _. bytes_of word.now ≡ None) }
+pub fn decode(word: &[u8], room: &mut [u8; MOST_BYTES]) -> Result<usize, NoLine>
+    ensures { MatchResult result (λ count. (count ≤ MOST_BYTES) × (bytes_of word.now ≡ Some (take count room.new))) (λ _. bytes_of word.now ≡ None) }
 {
-    if word.is_empty() || word.len() > 4096 || word.len() % 2 == 1 {
+    if word.is_empty() || word.len() > MOST_DIGITS || word.len() % 2 == 1 {
         return Err(NoLine);
     }
     let count = word.len() / 2;

@@ -2,6 +2,7 @@
 #![tactic(auto)]
 
 mod actor_line;
+mod byte_ranges;
 mod commands;
 mod complaints;
 mod ends;

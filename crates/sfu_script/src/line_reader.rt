@@ -1,10 +1,12 @@
 // Lines read one after another.
-ghost use Rattle.std.specs.Prelude.{◌≡◌, IsTrue, MatchResult, None, Some};
+ghost use Rattle.std.specs.Prelude.{◌≡◌, IfOk, IsTrue, MatchResult, None, OnErr, Some};
+ghost use Rattle.sfu_base.specs.declared.call.Call.{Call};
 ghost use Rattle.sfu_script.specs.Kept.{is_packet, is_take};
+ghost use Rattle.sfu_script.specs.Lines.{IsLine};
 ghost use Rattle.sfu_script.specs.ReadLines.{call_of, packet_of, subscriber_call_of};
 
 use crate::commands::SubscriberCommand;
-use crate::hex_text::decode;
+use crate::hex_text::{MOST_BYTES, decode};
 use crate::lines::packet;
 use crate::words::{number32, split};
 use crate::{NoLine, read_call};
@@ -12,9 +14,9 @@ use sfu_base::{Call, PacketBuf};
 
 /// Reads lines one after another, as [`read_call`] does, and keeps the room of the calls: the lines that come most often write no more
 /// than they say.
-#[derive(Drop)]
+#[derive(Debug, Drop)]
 pub struct LineReader {
-    room: [u8; 2048],
+    room: [u8; MOST_BYTES],
     packet: Call,
     take: Call,
     other: Call,
@@ -26,7 +28,7 @@ impl LineReader {
     /// A reader that has read no line.
     pub fn new() -> LineReader {
         LineReader {
-            room: [0; 2048],
+            room: [0; MOST_BYTES],
             packet: Call::Packet {
                 track: 0,
                 moment: 0,
@@ -80,8 +82,8 @@ impl LineReader {
         Ok(())
     }
 
-    /// The call that a line says, which is kept until the next line is read. `NoLine` exactly where it says none. Takes no memory.
-    pub fn read(&mut self, line: &[u8]) -> Result<&Call, NoLine>
+    #[inline(always)]
+    fn lend(&mut self, line: &[u8]) -> Result<&Call, NoLine>
         ensures { MatchResult result (λ said. call_of line.now ≡ Some said.now) (λ _. call_of line.now ≡ None) }
     {
         let (word, rest) = split(line)?;
@@ -99,5 +101,14 @@ impl LineReader {
                 Ok(&self.other)
             }
         }
+    }
+
+    /// The call that a line says, which is kept until the next line is read. `NoLine` exactly where it says none. Takes no memory.
+    pub fn read(&mut self, line: &[u8]) -> Result<&Call, NoLine>
+        ensures value { MatchResult result (λ said. call_of line.now ≡ Some said.now) (λ _. call_of line.now ≡ None) }
+        ensures ok { IfOk result (λ said. IsLine said.now line.now) }
+        ensures err { OnErr result ((said : Call) → ¬ (IsLine said line.now)) }
+    {
+        self.lend(line)
     }
 }

@@ -1,18 +1,21 @@
 // A line that is a packet.
-ghost use Rattle.std.specs.Prelude.{◌≡◌, MatchResult, None, OnErr, Some};
+ghost use Rattle.std.specs.Prelude.{◌≡◌, List, MatchResult, None, OnErr, OnOk, Some, ℕ};
+ghost use Rattle.sfu_script.specs.Grammar.{Fills, Hex};
 ghost use Rattle.sfu_script.specs.Reading.{bytes_of};
 
 use crate::NoLine;
-use crate::hex_text::decode;
+use crate::hex_text::{MOST_BYTES, decode};
 use sfu_base::PacketBuf;
 
 /// Fills the buffer with the 1 to 2,048 bytes that a line is in hex digits. `NoLine` exactly when the line is none such; the buffer is as
 /// before then. Takes no memory.
 pub fn read_packet(line: &[u8], out: &mut PacketBuf) -> Result<(), NoLine>
     ensures value { MatchResult result (λ _. bytes_of line.now ≡ Some out.new) (λ _. bytes_of line.now ≡ None) }
+    ensures ok { OnOk result (Fills (Hex out.new) line.now) }
+    ensures none { OnErr result ((bytes : List ℕ) → ¬ (Fills (Hex bytes) line.now)) }
     ensures err { OnErr result (out.new ≡ out.old) }
 {
-    let mut room = [0; 2048];
+    let mut room = [0; MOST_BYTES];
     let count = decode(line, &mut room)?;
     out.fill(&room[..count]);
     Ok(())

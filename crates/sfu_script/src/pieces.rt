@@ -19,32 +19,36 @@ pub enum Piece<'a> {
     Ssrc(u32),
 }
 
+// As many as the line of a call with the most words has.
+const MOST_PIECES: usize = 7;
+
 /// Up to seven words, seen as their list.
 #[derive(Debug, Drop)]
 pub struct Pieces<'a> {
-    items: [Piece<'a>; 7],
+    items: [Piece<'a>; MOST_PIECES],
     count: usize,
 }
 
 impl<'a> Model for Pieces<'a> {
     ghost use Rattle.std.specs.Prelude.{List, take, ◌≤◌};
     ghost use Rattle.sfu_script.specs.declared.pieces.Piece.{Piece};
+    ghost use Rattle.sfu_script.specs.declared.pieces.TheConstants.{MOST_PIECES};
 
     ghost Value = { List Piece };
 
     ghost view = { λ p. take p.count p.items };
 
-    ghost invariant = { λ p. p.count ≤ 7 };
+    ghost invariant = { λ p. p.count ≤ MOST_PIECES };
 }
 
 impl<'a> Pieces<'a> {
     /// These words.
     pub fn of(words: &[Piece<'a>]) -> Pieces<'a>
-        requires { length words.now ≤ 7 }
+        requires { length words.now ≤ MOST_PIECES }
         ensures { result ≡ words.now }
     {
         let count = words.len();
-        let mut items = [Piece::Text(b""); 7];
+        let mut items = [Piece::Text(b""); MOST_PIECES];
         items[..count].copy_from_slice(words);
         Pieces { items, count }
     }

@@ -1,7 +1,8 @@
 // The lines that say which UDP ports are served, and for whom.
-ghost use Rattle.std.specs.Prelude.{◌≡◌};
+ghost use Rattle.std.specs.Prelude.{◌≡◌, IfOk, OnErr};
 ghost use Rattle.std.specs.Result.{result_ok};
-ghost use Rattle.sfu_script.specs.Ports.{address_of, addressed, ip_of, named_role_of, port_of, publisher_of, role_of, subscriber_of};
+ghost use Rattle.sfu_script.specs.declared.ports.PortLine.{PortLine};
+ghost use Rattle.sfu_script.specs.Ports.{IsPortLine, address_of, addressed, ip_of, named_role_of, port_of, publisher_of, role_of, subscriber_of};
 
 use crate::NoLine;
 use crate::fields::Field::{Number32, Ssrc};
@@ -105,9 +106,7 @@ fn behind(rest: &[u8]) -> Result<PortLine, NoLine>
     Ok(PortLine { local, peer, role })
 }
 
-/// The port that a line `port LOCAL PEER ROLE` says, where both addresses are `a.b.c.d:port` and the role is `publisher T SSRC`,
-/// `subscriber S SSRC` or `control`. `NoLine` exactly when it says none. Takes no memory.
-pub fn read_port(line: &[u8]) -> Result<PortLine, NoLine>
+fn port(line: &[u8]) -> Result<PortLine, NoLine>
     ensures { result_ok result ≡ port_of line.now }
 {
     let (word, rest) = split(line)?;
@@ -115,4 +114,14 @@ pub fn read_port(line: &[u8]) -> Result<PortLine, NoLine>
         b"port" => behind(rest),
         _ => Err(NoLine),
     }
+}
+
+/// The port that a line `port LOCAL PEER ROLE` says, where both addresses are `a.b.c.d:port` and the role is `publisher T SSRC`,
+/// `subscriber S SSRC` or `control`. `NoLine` exactly when it says none. Takes no memory.
+pub fn read_port(line: &[u8]) -> Result<PortLine, NoLine>
+    ensures value { result_ok result ≡ port_of line.now }
+    ensures ok { IfOk result (λ said. IsPortLine said line.now) }
+    ensures err { OnErr result ((said : PortLine) → ¬ (IsPortLine said line.now)) }
+{
+    port(line)
 }

@@ -1,8 +1,8 @@
 // Why a call was refused, in words.
 ghost use Rattle.std.specs.Prelude.{◌≡◌, ◌≤◌, ◌+◌, [], ◌∷◌, length};
-ghost use Rattle.sfu_script.specs.Grammar.{text_of, Word};
+ghost use Rattle.sfu_script.specs.Grammar.{text_of, AllWithin, Word};
 ghost use Rattle.sfu_script.specs.Pieces.{piece_word, pieces_text};
-ghost use Rattle.sfu_script.specs.Sizes.{piece_size, pieces_size};
+ghost use Rattle.sfu_script.specs.Sizes.{most_short, piece_size, pieces_size};
 ghost use Rattle.sfu_script.specs.Replies.{fault_word, refusal_places, refused};
 
 use crate::pieces::Piece::{self, Number, Ssrc, Text};
@@ -41,7 +41,8 @@ fn refused_with<'a>(word: &'a [u8], what: Piece<'a>) -> Pieces<'a>
 /// The words of a refusal.
 pub fn refusal_pieces(why: &Refusal) -> Pieces<'static>
     ensures text { pieces_text result ≡ text_of (refusal_places why.now) }
-    ensures short { pieces_size result ≤ 100 }
+    ensures within { AllWithin (refusal_places why.now) }
+    ensures short { pieces_size result ≤ most_short }
 {
     match why {
         Refusal::NotBuilt => refused_as(b"notbuilt"),

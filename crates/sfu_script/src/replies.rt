@@ -2,9 +2,10 @@
 ghost use Rattle.std.specs.Prelude.{◌≡◌, ◌++◌, map, OnErr, OnOk};
 ghost use Rattle.std.specs.List.{flat_map};
 ghost use Rattle.sfu_base.specs.Answer.{answer_of, Named, Sent};
-ghost use Rattle.sfu_script.specs.Replies.{answer_text};
+ghost use Rattle.sfu_script.specs.Replies.{answer_text, HasText};
 ghost use Rattle.sfu_script.specs.Texts.{GoesOn};
 
+use crate::byte_ranges::are_bytes;
 use crate::hex_text::append_hex;
 use crate::number_text::append_number;
 use crate::pieces::append_pieces;
@@ -15,14 +16,17 @@ use sfu_base::{Blob, NoMemory, Reply, Scratch};
 
 fn append_packet(bytes: &[u8], out: &mut Blob) -> Result<(), NoMemory>
     ensures ok { OnOk result (out.new ≡ out.old ++ answer_text (Sent bytes.now)) }
+    ensures says { HasText (Sent bytes.now) }
     ensures begun { GoesOn out.old out.new }
 {
+    are_bytes(bytes);
     out.append(b"packet ")?;
     append_hex(bytes, out)
 }
 
 fn append_names(numbers: &[u16], out: &mut Blob) -> Result<(), NoMemory>
     ensures ok { OnOk result (out.new ≡ out.old ++ answer_text (Named numbers.now)) }
+    ensures says { OnOk result (HasText (Named numbers.now)) }
     ensures begun { GoesOn out.old out.new }
 {
     out.append(b"missing")?;
@@ -35,6 +39,7 @@ fn append_names(numbers: &[u16], out: &mut Blob) -> Result<(), NoMemory>
 
 fn append_reply(reply: &Reply, scratch: &Scratch, out: &mut Blob) -> Result<(), NoMemory>
     ensures ok { OnOk result (out.new ≡ out.old ++ answer_text (answer_of reply.now scratch.now.packet scratch.now.names)) }
+    ensures says { OnOk result (HasText (answer_of reply.now scratch.now.packet scratch.now.names)) }
     ensures begun { GoesOn out.old out.new }
 {
     match reply {
@@ -51,6 +56,7 @@ fn append_reply(reply: &Reply, scratch: &Scratch, out: &mut Blob) -> Result<(), 
 /// Appends the text of a reply, whose bytes and numbers stand in the scratch, without a line end. After `NoMemory` all is as before.
 pub fn write_reply(reply: &Reply, scratch: &Scratch, out: &mut Blob) -> Result<(), NoMemory>
     ensures ok { OnOk result (out.new ≡ out.old ++ answer_text (answer_of reply.now scratch.now.packet scratch.now.names)) }
+    ensures says { OnOk result (HasText (answer_of reply.now scratch.now.packet scratch.now.names)) }
     ensures err { OnErr result (out.new ≡ out.old) }
 {
     let start = out.bytes().len();

@@ -4,7 +4,7 @@ ghost use Rattle.std.specs.Int.{to_be_bytes, w32};
 ghost use Rattle.hex.specs.Hex.{encode_lower};
 ghost use Rattle.sfu_base.specs.Answer.{answer_of};
 ghost use Rattle.sfu_script.specs.Pieces.{piece_word, pieces_text};
-ghost use Rattle.sfu_script.specs.Replies.{answer_text, IsShort};
+ghost use Rattle.sfu_script.specs.Replies.{answer_text, HasText, IsShort};
 ghost use Rattle.sfu_script.specs.Sizes.{piece_size, pieces_size};
 
 use crate::pieces::Piece;
@@ -61,7 +61,8 @@ fn put_pieces(pieces: &[Piece], out: &mut PacketBuf)
 /// Fills the buffer anew with the text of a reply that is neither a packet nor numbers, without a line end. Takes no memory.
 pub fn write_short(reply: &Reply, out: &mut PacketBuf)
     requires { IsShort reply.now }
-    ensures { (bytes numbers : List ℕ) → out.new ≡ answer_text (answer_of reply.now bytes numbers) }
+    ensures text { (bytes numbers : List ℕ) → out.new ≡ answer_text (answer_of reply.now bytes numbers) }
+    ensures says { (bytes numbers : List ℕ) → HasText (answer_of reply.now bytes numbers) }
 {
     out.fill(b"");
     match reply {

@@ -1,5 +1,5 @@
 -- One more target, and one more reference.
-use Rattle.std.proofs.Common.{◌≡◌, ◌+◌, ◌<◌, ◌^◌, ℕ, zero, suc, cond, Bool, true, false, ◌&&◌, ◌||◌, List, length, drop, get_or, drop-cons, subst, sym, ap, ◌∙◌, inl, inr, true≢false, arith, refl}
+use Rattle.std.proofs.Common.{◌≡◌, ◌+◌, ◌<◌, ◌≤◌, ◌^◌, ℕ, zero, suc, cond, Bool, true, false, ◌&&◌, ◌||◌, List, length, drop, get_or, drop-cons, subst, sym, ap, ◌∙◌, inl, inr, true≢false, arith, refl}
 use Rattle.std.specs.Prelude.{◌==◌, is_none, is_some}
 use Rattle.std.specs.declared.option.Option.{Option}
 use Rattle.std.specs.declared.option.Option.TheVariants.{None, Some}
@@ -32,6 +32,28 @@ and_false true true = refl
 and_false true false = refl
 and_false false true = refl
 and_false false false = refl
+
+-- the same of the targets below a number
+pub none_below : (f : FrameMeaning) (test : ℕ → Bool) (n : ℕ) → ((t : ℕ) → t < n → test t ≡ false) → best_below f test n ≡ None
+none_below f test zero none = refl
+none_below f test (suc t) none =
+    ap (λ b. better_one f b t (best_below f test t)) (none t (omega arith))
+    ∙ ap (λ o. better_one f false t o) (none_below f test t (λ u lt. none u (omega arith)))
+
+false_and : (a b : Bool) → b ≡ false → (a && b) ≡ false
+false_and true b never = never
+false_and false b never = refl
+
+false_front : (b c : Bool) → b ≡ false → (b && c) ≡ false
+false_front b c never = ap (λ x. x && c) never
+
+-- a frame that begins none of its targets opens none
+pub none_begun : (wish : Wish) (f : FrameMeaning) (current : CurrentTarget) → f.target_count ≤ 32
+    → ((t : ℕ) → t < 32 → (is_switch f t || (f.key && is_present f t)) ≡ false)
+    → best f (can_open wish true true f current) ≡ None
+none_begun wish f current few none =
+    none_below f (can_open wish true true f current) f.target_count
+    (λ t lt. false_and (is_allowed wish f t) _ (false_front (is_switch f t || (f.key && is_present f t)) _ (none t (omega arith))))
 
 -- nothing opens where a reference wasn't passed, or no key frame of the epoch was
 pub opening_where : (wish : Wish) (complete keyed : Bool) (f : FrameMeaning) (current : CurrentTarget)

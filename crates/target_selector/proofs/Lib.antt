@@ -1,3 +1,4 @@
 pub mod Bests
 pub mod Stepping
 pub mod Validity
+pub mod Verdicts

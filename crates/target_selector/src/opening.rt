@@ -1,11 +1,11 @@
 // The best target that a frame can open, and the best that a wish allows. Own rules.
-ghost use Rattle.std.specs.Prelude.{◌≡◌, ◌≤◌, ◌<◌, ◌||◌, ◌&&◌, true};
+ghost use Rattle.std.specs.Prelude.{◌≡◌, ◌≤◌, ◌<◌, ◌||◌, ◌&&◌, ℕ, true, false};
 ghost use Rattle.sfu_base.specs.Frame.{IsValid};
 ghost use Rattle.forwarding_model.specs.forwarding.Selection.{can_open};
 ghost use Rattle.forwarding_model.specs.forwarding.Targets.{aim, best, better_one, is_allowed, is_present, is_switch};
 ghost use Rattle.target_selector.specs.Targets.{IsBelow, IsIndexBelow, allowed_one};
 
-use crate::targets::{beats, is_allowed};
+use crate::targets::{TARGETS, beats, is_allowed, is_switch};
 use forwarding_model::CurrentTarget;
 use sfu_base::{Dti, FrameMeaning, Wish};
 
@@ -31,8 +31,34 @@ pub fn opening(
     }
 }
 
-#[tactic(auto, using(crate::proofs::Bests::best_step))]
+// A frame that isn't a switch for any target, and no key frame, is left at once.
 fn best_opening(wish: Wish, frame: &FrameMeaning, current: CurrentTarget) -> Option<u8>
+    requires valid { IsValid frame.now }
+    requires index { IsIndexBelow 32 current }
+    ensures value { result ≡ best frame.now (can_open wish true true frame.now current) }
+    ensures below { IsBelow 32 result }
+{
+    if begins_some(frame) {
+        best_of_targets(wish, frame, current)
+    } else {
+        None
+    }
+}
+
+// Whether the frame is a key frame, or a switch for a target. All places are looked at, so that the compiler compares many at once.
+fn begins_some(frame: &FrameMeaning) -> bool
+    ensures { (target : ℕ) → target < 32 → result ≡ false → (is_switch frame.now target || (frame.now.key && is_present frame.now target)) ≡ false }
+{
+    let mut begins = frame.key;
+    for target in 0..TARGETS {
+        begins |= is_switch(frame, target);
+    }
+    begins
+}
+
+#[inline(never)]
+#[tactic(auto, using(crate::proofs::Bests::best_step))]
+fn best_of_targets(wish: Wish, frame: &FrameMeaning, current: CurrentTarget) -> Option<u8>
     requires valid { IsValid frame.now }
     requires index { IsIndexBelow 32 current }
     ensures value { result ≡ best frame.now (can_open wish true true frame.now current) }
@@ -64,8 +90,8 @@ fn better_opening(
     ensures below { IsBelow 32 result }
 {
     if begins(frame, target)
-        && is_allowed(wish, frame, target)
         && beats(frame, target, allowed)
+        && is_allowed(wish, frame, target)
         && beats(frame, target, best)
     {
         Some(target)

@@ -3,7 +3,7 @@
 ghost use Rattle.std.specs.Prelude.{◌≡◌, ◌≤◌, ◌<◌};
 ghost use Rattle.forwarding_model.specs.forwarding.Outgoing.{has_spatial, is_top_layer};
 ghost use Rattle.forwarding_model.specs.forwarding.Selection.{is_present_in};
-ghost use Rattle.forwarding_model.specs.forwarding.Targets.{is_active, is_allowed, is_better, is_better_pair, is_present, is_within};
+ghost use Rattle.forwarding_model.specs.forwarding.Targets.{is_active, is_allowed, is_better, is_better_pair, is_present, is_switch, is_within};
 ghost use Rattle.target_selector.specs.Targets.{IsBelow, IsIndexBelow, beats};
 
 use forwarding_model::CurrentTarget;
@@ -18,6 +18,14 @@ pub fn is_present(frame: &FrameMeaning, target: u8) -> bool
     ensures { result ≡ is_present frame.now target }
 {
     target < frame.target_count && frame.dtis[usize::from(target)] != Dti::NotPresent
+}
+
+/// Whether a decoder can switch to the target at the frame.
+pub fn is_switch(frame: &FrameMeaning, target: u8) -> bool
+    requires { target < 32 }
+    ensures { result ≡ is_switch frame.now target }
+{
+    frame.dtis[usize::from(target)] == Dti::Switch
 }
 
 /// Whether the frame belongs to the target that is open, if one is.

@@ -5,7 +5,7 @@ ghost use Rattle.sfu_base.specs.declared.frame.Verdict.TheVariants.{Behind, Refe
 ghost use Rattle.forwarding_model.specs.forwarding.Selection.{candidate_verdict, has_room, reference_verdict, target_of, target_verdict};
 
 use crate::opening::aim;
-use crate::targets::is_present;
+use crate::targets::{is_present, is_present_in};
 use forwarding_model::{CurrentTarget, Reason};
 use sfu_base::{FrameMeaning, Verdict, Wish};
 
@@ -14,7 +14,28 @@ const QUEUE: u32 = 512;
 
 /// The verdict on a frame, by its first reference that wasn't passed, if there is one, and the best target that it can open, else the one
 /// that is open.
+#[tactic(auto, using(crate::proofs::Verdicts::passed_where))]
 pub fn verdict(
+    wish: Wish,
+    frame: &FrameMeaning,
+    missing: Option<u16>,
+    candidate: CurrentTarget,
+    packets: u16,
+    queued: u16,
+) -> Verdict
+    requires valid { IsValid frame.now }
+    ensures { result ≡ target_verdict frame.now (target_of wish frame.now candidate) (reference_verdict frame.now missing (candidate_verdict queued packets candidate)) }
+{
+    if missing.is_none() && is_present_in(frame, candidate) && has_room(packets, queued) {
+        Verdict::Passed
+    } else {
+        first_verdict(wish, frame, missing, candidate, packets, queued)
+    }
+}
+
+// The first verdict that fits.
+#[inline(never)]
+fn first_verdict(
     wish: Wish,
     frame: &FrameMeaning,
     missing: Option<u16>,

@@ -4,7 +4,7 @@ ghost use Rattle.std.specs.Result.{result_ok};
 ghost use Rattle.sfu_script.specs.ReadLines.{packet_head_of, packet_of};
 
 use crate::NoLine;
-use crate::hex_text::decode;
+use crate::hex_text::{MOST_BYTES, decode};
 use crate::words::{number32, number64, split};
 use sfu_base::{Call, PacketBuf};
 
@@ -27,7 +27,7 @@ pub fn read(rest: &[u8]) -> Result<Call, NoLine>
     ensures { result_ok result ≡ packet_of rest.now }
 {
     let (track, moment, digits) = head(rest)?;
-    let mut room = [0; 2048];
+    let mut room = [0; MOST_BYTES];
     let count = decode(digits, &mut room)?;
     Ok(Call::Packet {
         track,

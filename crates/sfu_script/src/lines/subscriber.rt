@@ -43,6 +43,28 @@ fn aim(rest: &[u8]) -> Result<Call, NoLine>
     })
 }
 
+#[inline(always)]
+fn resend(rest: &[u8]) -> Result<Call, NoLine>
+    ensures { result_ok result ≡ subscriber_call_of SubscriberCommand.Resend rest.now }
+{
+    let [subscriber, seq] = read_fields(&[Number32, Number16], rest)?;
+    Ok(Call::Resend {
+        subscriber: subscriber as u32,
+        seq: seq as u16,
+    })
+}
+
+#[inline(always)]
+fn why(rest: &[u8]) -> Result<Call, NoLine>
+    ensures { result_ok result ≡ subscriber_call_of SubscriberCommand.Why rest.now }
+{
+    let [subscriber, number] = read_fields(&[Number32, Number64], rest)?;
+    Ok(Call::Why {
+        subscriber: subscriber as u32,
+        number,
+    })
+}
+
 /// The call that a command says with the words behind it.
 #[inline(always)]
 pub fn read(command: SubscriberCommand, rest: &[u8]) -> Result<Call, NoLine>
@@ -63,25 +85,13 @@ pub fn read(command: SubscriberCommand, rest: &[u8]) -> Result<Call, NoLine>
                 subscriber: subscriber as u32,
             })
         }
-        SubscriberCommand::Resend => {
-            let [subscriber, seq] = read_fields(&[Number32, Number16], rest)?;
-            Ok(Call::Resend {
-                subscriber: subscriber as u32,
-                seq: seq as u16,
-            })
-        }
+        SubscriberCommand::Resend => resend(rest),
         SubscriberCommand::Plead => {
             let [subscriber] = read_fields(&[Number32], rest)?;
             Ok(Call::Plead {
                 subscriber: subscriber as u32,
             })
         }
-        SubscriberCommand::Why => {
-            let [subscriber, number] = read_fields(&[Number32, Number64], rest)?;
-            Ok(Call::Why {
-                subscriber: subscriber as u32,
-                number,
-            })
-        }
+        SubscriberCommand::Why => why(rest),
     }
 }

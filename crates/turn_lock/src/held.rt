@@ -1,0 +1,38 @@
+//! What a lock may hold.
+ghost use Rattle.std.specs.Prelude.{ℕ, Bool, List, [], ◌∷◌, ◌++◌};
+ghost use Rattle.turn_lock.specs.declared.history.Entry.{Entry};
+ghost use Rattle.turn_lock.specs.History.{entry};
+
+use std::marker::Brand;
+
+/// A value that serves calls and stands for the list of the calls that it served.
+pub trait Held: Drop {
+    type Call;
+
+    type Reply;
+
+    /// Room of the caller's, in which a reply leaves what is too large for it.
+    type Scratch;
+
+    /// The value stands for this list of entries.
+    ghost stands: { Self → List (Entry Self.Call) → Type 0 };
+
+    /// After these entries this call of the seat with this number gets this reply, and finds this in the scratch.
+    ghost gives: { List (Entry Self.Call) → ℕ → Self.Call → Self.Reply → Self.Scratch → Type 0 };
+
+    /// The reply is want of memory.
+    ghost starves: { Self.Reply → Bool };
+
+    /// Serves a call of the seat with this number.
+    fn serve(&mut self, seat: u32, call: &Self::Call, scratch: &mut Self::Scratch) -> Self::Reply
+        ensures { (h : List (Entry Self.Call)) → stands self.old h → stands self.new (h ++ entry seat call.now (starves result) ∷ []) × gives h seat call.now result scratch.new };
+}
+
+/// The entries that a serve step adds to the history. The caller of the step picks them.
+pub(crate) trait Naming<C> {
+    ghost adds: { List (Entry C) };
+}
+
+impl<C> Naming<C> for Brand {
+    ghost adds = { [] };
+}

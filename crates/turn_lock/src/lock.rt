@@ -1,0 +1,304 @@
+//! The lock, its seats, and the steps of a turn.
+ghost use Rattle.std.specs.Prelude.{◌≡◌, ◌+◌, ◌^◌, ◌<◌, ◌≤◌, [], ◌∷◌, ◌++◌, length, List, ℕ, Some, IfSome, IfNone, IfOk, IfErr};
+ghost use mathlib.Core.List.{IsPrefix};
+ghost use Rattle.turn_lock.specs.declared.history.Entry.{Entry};
+ghost use Rattle.turn_lock.specs.declared.view.Stage.TheVariants.{Waiting, Holding};
+ghost use Rattle.turn_lock.specs.History.{entry};
+ghost use Rattle.turn_lock.specs.Known.{Known, Fits, MakesTurn, FindsWorn, opened, counted, another, together, AllJoinedIn};
+ghost use Rattle.turn_lock.specs.Views.{Sound, seeing, serving};
+ghost use Rattle.turn_lock.specs.Rule.{IsSame, Rests, Waits, IsWorn, Has};
+
+use crate::held::{Held, Naming};
+use crate::plays::{Both, Draw, Look, Next, Serve, Tell, Ticketed};
+use crate::view::View;
+use atomic_table::Table;
+use crossbeam_utils::Backoff;
+use sfu_base::NoMemory;
+use std::alloc::Global;
+use std::marker::{Brand, Model};
+use std::sync::Wait;
+use thiserror::Error;
+
+/// The word with the next ticket.
+const NEXT_TICKET: usize = 0;
+
+/// The word with the ticket that is served.
+const SERVED_TICKET: usize = 1;
+
+/// Tickets lie below this number.
+const TICKET_LIMIT: u64 = 1 << 63;
+
+/// What a turn gives.
+#[derive(Debug, Drop)]
+pub struct Turn<T> {
+    /// The call's place in the history: the lock's first place, and one more for each turn before this one.
+    pub place: u64,
+    pub reply: T,
+}
+
+/// All tickets of the lock are drawn, so it makes no more turns. The value is untouched.
+#[derive(Clone, Copy, Debug, PartialEq, Eq, Error)]
+#[error("all tickets of the lock are drawn")]
+pub struct Worn;
+
+/// A value behind a lock. Contracts see which lock it is.
+#[derive(Drop)]
+pub struct Turns<H: Held> {
+    table: Table<Option<H>, View<H::Call>, u64, Ticketed<H>, Global>,
+}
+
+impl<H: Held> Model for Turns<H> {
+    ghost use Rattle.std.specs.Prelude.{◌≡◌};
+    ghost use Rattle.atomic_table.specs.Seated.{TableId, table_id_coded};
+
+    ghost Value = { TableId };
+
+    ghost coded = { table_id_coded };
+
+    ghost view = { λ t. t.table.shared.table_id };
+
+    ghost invariant = { λ t. (t.table.shared.table_id.words ≡ 2) × (t.table.shared.table_id.slots ≡ 1) };
+}
+
+/// What one thread makes turns with, one at a time. Contracts see its lock, its number, the beginning of the history that it has seen,
+/// its own entries, the greatest number that it found at a draw, and of the first seat how many seats were made and which were joined.
+#[derive(Drop)]
+pub struct Seat<H: Held> {
+    inner: atomic_table::Seat<Option<H>, View<H::Call>>,
+    number: u32,
+    count: u32,
+}
+
+impl<H: Held> Model for Seat<H> {
+    ghost use Rattle.std.specs.Prelude.{◌≡◌};
+    ghost use Rattle.turn_lock.specs.Known.{Known};
+    ghost use Rattle.turn_lock.specs.Views.{known, Sound};
+    ghost use Rattle.turn_lock.specs.Rule.{Rests};
+
+    ghost Value = { Known H.Call };
+
+    ghost view = { λ s. known s.inner.table_id s.inner.me.0 };
+
+    ghost invariant = { λ s. Rests s.inner × (s.number ≡ s.inner.me.0.number) × (s.count ≡ s.inner.me.0.count) × Sound s.inner.me.0 };
+}
+
+impl<H: Held> Turns<H> {
+    /// Puts a value that has served nothing behind a new lock, and gives the lock with its first seat, which has number 0. The first
+    /// turn has the place `first`, at most 2^63. At `NoMemory` the value is dropped.
+    pub fn new(alloc: Global, value: H, first: u64) -> Result<(Turns<H>, Seat<H>), NoMemory>
+        requires first { first ≤ 2 ^ 63 }
+        requires empty { H.stands value [] }
+        ensures opened { IfOk result (λ t. t.1 ≡ opened t.0 first) }
+        ensures fits { IfOk result (λ t. Fits t.1) }
+    {
+        let mut slots = Vec::new(alloc);
+        let Ok(()) = slots.push(Some(value)) else {
+            return Err(NoMemory);
+        };
+        let Ok((table, inner)) = Table::new(alloc, &[first, first], slots, &first) else {
+            return Err(NoMemory);
+        };
+        let seat = Seat {
+            inner,
+            number: 0,
+            count: 1,
+        };
+        Ok((Turns { table }, seat))
+    }
+
+    /// Makes a seat for one more thread, by the first seat, which may count 1,024 seats with itself. The new seat has the next number
+    /// and has seen what the first one has.
+    pub fn split(&self, seat: &mut Seat<H>) -> Seat<H>
+        requires lock { seat.old.lock ≡ self.now }
+        requires first { seat.old.number ≡ 0 }
+        requires room { seat.old.count < 1024 }
+        ensures old { seat.new ≡ counted seat.old }
+        ensures new { result ≡ another seat.old }
+        ensures fits { Fits seat.new × Fits result }
+    {
+        let inner = self.table.shared.split_seat::<Next>(&mut seat.inner);
+        let number = seat.count;
+        seat.count += 1;
+        Seat {
+            inner,
+            number,
+            count: 0,
+        }
+    }
+
+    /// Joins a seat that is done into the first one, which keeps its entries and has seen from then on what both had seen.
+    pub fn join(&self, into: &mut Seat<H>, from: Seat<H>)
+        requires lock { (into.old.lock ≡ self.now) × (from.lock ≡ self.now) }
+        requires first { into.old.number ≡ 0 }
+        requires other { 0 < from.number }
+        ensures joined { into.new ≡ together into.old from }
+        ensures seen { IsPrefix into.old.seen into.new.seen × IsPrefix from.seen into.new.seen }
+        ensures fits { Fits into.new }
+    {
+        let Seat {
+            inner,
+            number: _,
+            count: _,
+        } = from;
+        self.table.shared.join_seat::<Both>(&mut into.inner, inner);
+        self.table
+            .shared
+            .load::<Tell>(&mut into.inner, SERVED_TICKET);
+    }
+
+    /// Serves a call on the value, once each turn whose ticket was drawn before is over; it waits until then. `Worn` comes only where
+    /// all tickets are drawn, and the value is untouched then.
+    pub fn turn<W: Wait + Sync>(
+        &self,
+        rt: &W,
+        seat: &mut Seat<H>,
+        call: &H::Call,
+        scratch: &mut H::Scratch,
+    ) -> Result<Turn<H::Reply>, Worn>
+        requires { seat.old.lock ≡ self.now }
+        ensures ok { IfOk result (λ t. MakesTurn seat.old seat.new (entry seat.old.number call.now (H.starves t.reply)) t.place (λ h. H.gives h seat.old.number call.now t.reply scratch.new)) }
+        ensures worn { IfErr result (λ _. FindsWorn seat.old seat.new × (scratch.new ≡ scratch.old)) }
+        ensures fits { Fits seat.new }
+    {
+        let Some(ticket) = self.draw(rt, &mut seat.inner) else {
+            return Err(Worn);
+        };
+        self.wait(rt, &mut seat.inner, ticket);
+        let number = seat.number;
+        let (place, reply) = self.serve(&mut seat.inner, ticket, number, call, scratch);
+        Ok(Turn { place, reply })
+    }
+
+    /// Ends the lock and gives its value, once each other seat was joined into the first one. The value stands for all that this seat
+    /// has seen.
+    pub fn close(self, seat: Seat<H>) -> H
+        requires lock { seat.lock ≡ self }
+        requires first { seat.number ≡ 0 }
+        requires came { AllJoinedIn seat }
+        ensures stands { H.stands result seat.seen }
+        ensures found { seat.found ≤ seat.first + length seat.seen }
+    {
+        let Turns { table } = self;
+        let Seat {
+            inner,
+            number: _,
+            count: _,
+        } = seat;
+        let mut closed = table.close_with(inner);
+        let Some(value) = closed.take(0) else {
+            unreachable!()
+        };
+        closed.free();
+        value
+    }
+
+    /// Draws the next ticket, or `None` where all are drawn.
+    fn draw<W: Wait>(
+        &self,
+        rt: &W,
+        inner: &mut atomic_table::Seat<Option<H>, View<H::Call>>,
+    ) -> Option<u64>
+        requires lock { inner.old.table_id ≡ self.now }
+        requires rests { Rests inner.old }
+        ensures some { IfSome result (λ t. Waits inner.old t inner.new) }
+        ensures none { IfNone result (IsWorn inner.old inner.new) }
+    {
+        let mut ticket = self.table.shared.peek(NEXT_TICKET).min(TICKET_LIMIT - 1);
+        for _ in rt.forever() {
+            let found = self
+                .table
+                .shared
+                .compare_exchange::<Draw>(inner, NEXT_TICKET, ticket, ticket + 1);
+            if found == ticket {
+                return Some(ticket);
+            }
+            if found >= TICKET_LIMIT {
+                return None;
+            }
+            ticket = found;
+        }
+        unreachable!()
+    }
+
+    /// Waits until the ticket is served, and takes the value: spins and yields for a short time, then sleeps until the served ticket
+    /// changes.
+    fn wait<W: Wait>(
+        &self,
+        rt: &W,
+        inner: &mut atomic_table::Seat<Option<H>, View<H::Call>>,
+        ticket: u64,
+    )
+        requires lock { inner.old.table_id ≡ self.now }
+        requires waits { (inner.old.me.0.stage ≡ Waiting ticket) × (inner.old.me.1 ≡ []) }
+        ensures same { IsSame inner.old inner.new }
+        ensures seen { (h : List (Entry H.Call)) × IsPrefix inner.old.me.0.seen h × (inner.new.me.0 ≡ seeing inner.old.me.0 h (Holding ticket)) }
+        ensures has { Has H.stands ticket inner.new }
+        ensures sound { Sound inner.new.me.0 }
+    {
+        let backoff = Backoff::new();
+        for _ in rt.forever() {
+            let serving = self.table.shared.load::<Look<H>>(inner, SERVED_TICKET);
+            if serving == ticket {
+                return;
+            }
+            if backoff.is_completed() {
+                self.table
+                    .shared
+                    .park(rt, SERVED_TICKET, (serving % (1 << 32)) as u32);
+            } else {
+                backoff.snooze();
+            }
+        }
+        unreachable!()
+    }
+
+    /// Gives the value back and serves the next ticket: the step that adds the entry to the history. Answers its place.
+    fn give_back<J: Naming<H::Call>>(
+        &self,
+        inner: &mut atomic_table::Seat<Option<H>, View<H::Call>>,
+        call: &H::Call,
+        reply: &H::Reply,
+    ) -> u64
+        requires lock { inner.old.table_id ≡ self.now }
+        requires ready { (t : ℕ) × (y : H) × (inner.old.me.0.stage ≡ Holding t) × (inner.old.me.1 ≡ (0, Some y) ∷ []) × H.stands y (inner.old.me.0.seen ++ entry inner.old.me.0.number call.now (H.starves reply.now) ∷ []) }
+        requires adds { J.adds ≡ entry inner.old.me.0.number call.now (H.starves reply.now) ∷ [] }
+        ensures same { IsSame inner.old inner.new }
+        ensures place { result ≡ inner.old.me.0.base + length inner.old.me.0.seen }
+        ensures after { inner.new.me ≡ (serving inner.old.me.0 (entry inner.old.me.0.number call.now (H.starves reply.now) ∷ []), []) }
+    {
+        self.table
+            .shared
+            .fetch_add::<Serve<J>>(inner, SERVED_TICKET, 1)
+    }
+
+    /// Serves the call on the value that the seat has, gives the value back, and wakes those who sleep.
+    fn serve(
+        &self,
+        inner: &mut atomic_table::Seat<Option<H>, View<H::Call>>,
+        ticket: u64,
+        number: u32,
+        call: &H::Call,
+        scratch: &mut H::Scratch,
+    ) -> (u64, H::Reply)
+        requires lock { inner.old.table_id ≡ self.now }
+        requires has { Has H.stands ticket inner.old }
+        requires number { number ≡ inner.old.me.0.number }
+        ensures same { IsSame inner.old inner.new }
+        ensures place { result.0 ≡ inner.old.me.0.base + length inner.old.me.0.seen }
+        ensures after { inner.new.me ≡ (serving inner.old.me.0 (entry number call.now (H.starves result.1) ∷ []), []) }
+        ensures gives { H.gives inner.old.me.0.seen number call.now result.1 scratch.new }
+    {
+        let Some(mut value) = self.table.shared.exchange(inner, 0, None) else {
+            unreachable!()
+        };
+        let reply = value.serve(number, call, scratch);
+        let _none = self.table.shared.exchange(inner, 0, Some(value));
+        let place = self.give_back::<Brand>(inner, call, &reply);
+        // Where no other ticket is drawn nobody sleeps, and who draws one from now on finds this ticket over. The next in turn may be
+        // any of those who sleep, so all are woken.
+        if self.table.shared.peek(NEXT_TICKET).wrapping_sub(place) != 1 {
+            self.table.shared.wake_all(SERVED_TICKET);
+        }
+        (place, reply)
+    }
+}
