@@ -1,0 +1,3 @@
+pub mod PacketsLeft
+pub mod TurnsLeft
+pub mod Steps

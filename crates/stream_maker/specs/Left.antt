@@ -1,0 +1,98 @@
+-- What a maker's state stands for: the events that it is still to give. These definitions follow the state, and stand in no public clause; that
+-- a new maker is to give the events of the stream is proved of them.
+use Rattle.std.specs.Prelude.{◌≡◌, ◌≤◌, ◌<◌, ℕ, ◌+◌, ◌-◌, ◌*◌, ◌&&◌, Bool, true, false, if◌then◌else◌, List, [], ◌∷◌, ◌++◌, map, drop, Option, Some, None, is_some, is_none}
+use Rattle.std.specs.Option.{option_to_list}
+use Rattle.rand_pcg.specs.Lcg.{Lcg}
+use Rattle.sfu_base.specs.Bytes.{bit}
+use Rattle.stream_maker.specs.declared.place.Place.{Place}
+use Rattle.stream_maker.specs.declared.due.Due.{Due}
+use Rattle.stream_maker.specs.declared.state.State.{State}
+use Rattle.stream_maker.specs.declared.counts.Counts.{Counts}
+use Rattle.stream_maker.specs.declared.fate.Fate.{Fate}
+use Rattle.stream_maker.specs.declared.fate.Fate.TheVariants.{Lost, Twice, Held, Once}
+use Rattle.stream_maker.specs.Packets.{packet_count, parts_from, placed}
+use Rattle.stream_maker.specs.Bytes.{starts_frame, ends_frame}
+use Rattle.stream_maker.specs.Fates.{fate_of, word_of, after_word, is_lost, is_twice, is_to_be_held}
+use Rattle.stream_maker.specs.Stream.{last_moment}
+use Rattle.stream_maker.specs.Giving.{Making}
+use Rattle.stream_maker.specs.Turn.{Given, sent_event, tick_event, turn}
+
+-- the packet that is held back behind a turn
+unfoldable pub held_after : Fate → Option Place → Place → Option Place
+held_after Lost held p = held
+held_after Twice held p = None
+held_after Once held p = None
+held_after Held None p = Some p
+held_after Held (Some q) p = None
+
+-- a packet of this fate is sent at its own turn
+abbrev pub is_sent : Fate → Option Place → Bool
+is_sent Lost held = false
+is_sent Twice held = true
+is_sent Once held = true
+is_sent Held held = is_some held
+
+-- the packet behind this one
+abbrev pub place_after : Place → Place
+place_after p =
+    if ends_frame p then record { frame = p.frame + 1; part = 0; sequence = p.sequence + 1 }
+    else record { frame = p.frame; part = p.part + 1; sequence = p.sequence + 1 }
+
+unfoldable pub counts_after : Fate → Option Place → Place → Counts → Counts
+counts_after fate held p counts = record {
+  frames = counts.frames + bit (starts_frame p);
+  packets = counts.packets + 1;
+  lost = counts.lost + bit (is_lost fate);
+  repeated = counts.repeated + bit (is_twice fate);
+  swapped = counts.swapped + bit (is_to_be_held fate && is_none held);
+}
+
+abbrev pub due_places : Due → List Place
+due_places due =
+    option_to_list due.first ++ option_to_list due.again ++ option_to_list due.behind ++ option_to_list due.left_over
+
+-- nothing is due
+abbrev pub is_idle : Due → Bool
+is_idle due = is_none due.first && is_none due.again && is_none due.behind && is_none due.left_over && is_none due.tick
+
+unfoldable pub due_events : Counts → Due → List Given
+due_events counts due = map (sent_event counts) (due_places due) ++ map (tick_event counts) (option_to_list due.tick)
+
+-- the packets from this one on, of a stream of so many frames
+unfoldable pub packets_from : ℕ → Place → List Place
+packets_from frames p = placed p.sequence (drop p.part (parts_from p.frame (frames - p.frame)))
+
+-- the turns of packets that are to be made, and the last tick
+unfoldable pub turns_left : ℕ → ℕ → Lcg → Option Place → Counts → List Place → List Given
+turns_left frames loss generator held counts [] = tick_event counts (last_moment frames) ∷ []
+turns_left frames loss generator held counts (p ∷ left) =
+    let fate = fate_of loss (word_of generator) in
+    turn frames fate held (held_after fate held p) (counts_after fate held p counts) p
+    ++ turns_left frames loss (after_word generator) (held_after fate held p) (counts_after fate held p counts) left
+
+unfoldable pub left_of : State → List Given
+left_of s =
+    due_events s.counts s.due
+    ++ (if s.ended then [] else turns_left s.frames s.loss s.generator s.held s.counts (packets_from s.frames s.next))
+
+abbrev pub making_of : State → Making
+making_of s = record { left = left_of s; counts = s.counts }
+
+-- at most so many packets are still to be made
+abbrev pub packets_bound : State → ℕ
+packets_bound s = 3 * (s.frames - s.next.frame) - s.next.part
+
+-- what always holds of a state, so that its numbers fit and its next packet is one
+pub record IsSound (s : State) : Type 0 where
+  pub some_frames : 0 < s.frames
+  pub few_frames : s.frames ≤ 1000000
+  pub next_frame : s.next.frame ≤ s.frames
+  pub next_part : s.next.part < packet_count s.next.frame
+  pub first_part : s.next.frame ≡ s.frames → s.next.part ≡ 0
+  pub next_sequence : s.next.sequence ≤ 3 * s.next.frame + s.next.part
+  pub ended : s.ended ≡ true → s.next.frame ≡ s.frames
+  pub packets : s.counts.packets ≡ s.next.sequence
+  pub counted_frames : s.counts.frames ≤ s.counts.packets
+  pub lost : s.counts.lost ≤ s.counts.packets
+  pub repeated : s.counts.repeated ≤ s.counts.packets
+  pub swapped : s.counts.swapped ≤ s.counts.packets

@@ -1,0 +1,39 @@
+-- What is given at a packet's turn, by its fate and by the packet that waits to be sent (own rule).
+use Rattle.std.specs.Prelude.{ℕ, if◌then◌else◌, List, [], ◌∷◌, ◌++◌, map, Option, Some, None}
+use Rattle.std.specs.Option.{option_to_list}
+use Rattle.stream_maker.specs.declared.place.Place.{Place}
+use Rattle.stream_maker.specs.declared.counts.Counts.{Counts}
+use Rattle.stream_maker.specs.declared.event.Event.{Event}
+use Rattle.stream_maker.specs.declared.event.Event.TheVariants.{Packet, Tick}
+use Rattle.stream_maker.specs.declared.fate.Fate.{Fate}
+use Rattle.stream_maker.specs.declared.fate.Fate.TheVariants.{Lost, Twice, Held, Once}
+use Rattle.stream_maker.specs.Packets.{moment_of}
+use Rattle.stream_maker.specs.Order.{ends_stream, tick_due}
+
+-- an event, the packet that it sends, and what was made by then
+pub record Given : Type 0 where
+  pub event : Event
+  pub place : Option Place
+  pub counts : Counts
+
+-- A packet that is sent goes out once or twice, and directly behind it the one that waits. A lost packet sends nothing, and neither does one
+-- that is held back, which happens only where none waits.
+abbrev pub sent : Fate → Option Place → Place → List Place
+sent Lost waiting p = []
+sent Twice waiting p = p ∷ p ∷ option_to_list waiting
+sent Once waiting p = p ∷ option_to_list waiting
+sent Held None p = []
+sent Held (Some q) p = p ∷ q ∷ []
+
+-- a packet keeps the moment of its own unit
+abbrev pub sent_event : Counts → Place → Given
+sent_event counts p = record { event = Packet (moment_of p.frame); place = Some p; counts = counts }
+
+abbrev pub tick_event : Counts → ℕ → Given
+tick_event counts moment = record { event = Tick moment; place = None; counts = counts }
+
+-- what p's turn sends; at the end of the stream the packet that still waits then; the tick of a unit that ends
+unfoldable pub turn : ℕ → Fate → Option Place → Option Place → Counts → Place → List Given
+turn frames fate waiting waits_then counts p =
+    map (sent_event counts) (sent fate waiting p ++ (if ends_stream frames p then option_to_list waits_then else []))
+    ++ map (tick_event counts) (option_to_list (tick_due frames p))

@@ -1,0 +1,54 @@
+// What the network does to a packet.
+
+ghost use Rattle.std.specs.Prelude.{◌≡◌};
+ghost use Rattle.stream_maker.specs.Fates.{fate_of, is_twice, word_of, after_word};
+
+use rand_core::utils::NextWord;
+use rand_pcg::Lcg64Xsh32;
+
+/// What a packet's draw says.
+#[derive(Clone, Copy, Debug, PartialEq, Eq)]
+pub(crate) enum Fate {
+    Lost,
+    Twice,
+    /// It is held back, unless one is held back already.
+    Held,
+    Once,
+}
+
+impl Fate {
+    pub(crate) fn is_twice(self) -> bool
+        ensures { result ≡ is_twice self }
+    {
+        match self {
+            Fate::Twice => true,
+            Fate::Lost | Fate::Held | Fate::Once => false,
+        }
+    }
+}
+
+// The next word of the generator.
+#[tactic(auto, unfolding(crate::specs::Fates::word_of, crate::specs::Fates::after_word))]
+pub(crate) fn draw(generator: &mut Lcg64Xsh32) -> u32
+    ensures word { result ≡ word_of generator.old }
+    ensures after { generator.new ≡ after_word generator.old }
+{
+    generator.next_word()
+}
+
+// Each of the lower pairs of decimal digits of the word is a draw below 100.
+#[tactic(auto, unfolding(crate::specs::Fates::fate_of))]
+pub(crate) fn fate_of(loss: u8, word: u32) -> Fate
+    ensures { result ≡ fate_of loss word }
+{
+    let loss = u32::from(loss);
+    if word % 100 < loss {
+        Fate::Lost
+    } else if word / 100 % 100 < loss {
+        Fate::Twice
+    } else if word / 10_000 % 100 < loss {
+        Fate::Held
+    } else {
+        Fate::Once
+    }
+}

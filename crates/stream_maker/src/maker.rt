@@ -1,0 +1,76 @@
+// A stream that is made call by call.
+
+ghost use Rattle.std.specs.Prelude.{◌≡◌, ◌≤◌};
+ghost use Rattle.stream_maker.specs.Giving.{Gives};
+ghost use Rattle.stream_maker.specs.Stream.{events};
+
+use crate::counts::Counts;
+use crate::due::Due;
+use crate::event::Event;
+use crate::place::Place;
+use crate::state::State;
+use rand_pcg::Lcg64Xsh32;
+use sfu_base::PacketBuf;
+use std::marker::Model;
+
+/// A layered stream that is made call by call, seen as the events that are still to come and the counts of what was made.
+#[derive(Debug, Drop)]
+pub struct Maker {
+    state: State,
+}
+
+impl Model for Maker {
+    ghost use Rattle.stream_maker.specs.Giving.{Making};
+
+    ghost Value = { Making };
+
+    ghost use Rattle.stream_maker.specs.Left.{left_of, IsSound};
+
+    ghost view = { λ m. record { left = left_of m.state; counts = m.state.counts } };
+
+    ghost invariant = { λ m. IsSound m.state };
+}
+
+impl Maker {
+    /// The stream of so many frames that the number `start` makes: of a hundred packets about `loss` are lost, as many are sent twice, and as
+    /// many are held back behind the next.
+    pub fn new(frames: u32, start: u64, loss: u8) -> Maker
+        requires some_frames { 1 ≤ frames }
+        requires few_frames { frames ≤ 1000000 }
+        requires loss { loss ≤ 50 }
+        ensures left { result.left ≡ events (record { frames = frames; start = start; loss = loss }) }
+        ensures counts { result.counts ≡ record { frames = 0; packets = 0; lost = 0; repeated = 0; swapped = 0 } }
+    {
+        Maker {
+            state: State {
+                frames,
+                loss,
+                generator: Lcg64Xsh32::new(start, 0),
+                next: Place {
+                    frame: 0,
+                    part: 0,
+                    sequence: 0,
+                },
+                held: None,
+                due: Due::NOTHING,
+                ended: false,
+                counts: Counts::NONE,
+            },
+        }
+    }
+
+    /// The next event. A packet fills the buffer; a tick and the end leave it as it is.
+    pub fn next_event(&mut self, out: &mut PacketBuf) -> Event
+        ensures { Gives self.old self.new result out.old out.new }
+    {
+        self.state.make_packets();
+        self.state.give(out)
+    }
+
+    /// What was made so far: the packets up to the one whose turn gave the last event.
+    pub fn counts(&self) -> Counts
+        ensures { result ≡ self.now.counts }
+    {
+        self.state.counts
+    }
+}

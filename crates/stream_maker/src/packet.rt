@@ -1,0 +1,137 @@
+// A packet's bytes.
+
+ghost use Rattle.std.specs.Prelude.{◌≡◌, ◌≤◌, ◌++◌, ◌&&◌, if◌then◌else◌, length};
+ghost use Rattle.sfu_base.specs.Bytes.{bit};
+ghost use Rattle.stream_maker.specs.Packets.{is_upper};
+ghost use Rattle.stream_maker.specs.Bytes.{header, extension, long_extension, short_extension, payload, packet_bytes};
+ghost use Rattle.stream_maker.specs.Bytes.{starts_key_frame, ends_frame, template_of};
+
+use crate::place::{Place, is_key_unit, is_upper};
+use sfu_base::PacketBuf;
+
+// Version 2, with a header extension.
+const FIRST_BYTE: u8 = 0x90;
+
+const PAYLOAD_TYPE: u8 = 96;
+
+const SSRC: [u8; 4] = [0x11; 4];
+
+// Behind the frame number: the flag of a structure, the structure, and a byte of padding.
+const STRUCTURE: [u8; 23] = [
+    0x80, 0x03, 0x18, 0x7F, 0xAF, 0xAC, 0x4A, 0x0A, 0x04, 0x04, 0xD1, 0x41, 0x09, 0xA1, 0x15, 0x80,
+    0x08, 0x64, 0x22, 0x22, 0x26, 0x40, 0x00,
+];
+
+// Fills the buffer with a packet's bytes.
+#[tactic(auto, unfolding(crate::specs::Bytes::packet_bytes))]
+pub(crate) fn write(place: Place, out: &mut PacketBuf)
+    ensures { out.new ≡ packet_bytes place }
+{
+    write_header(place, out);
+    write_extension(place, out);
+    write_payload(place, out);
+}
+
+fn starts_key_frame(place: Place) -> bool
+    ensures { result ≡ starts_key_frame place }
+{
+    place.part == 0 && is_key_unit(place.frame) && !is_upper(place.frame)
+}
+
+fn bit(set: bool) -> u8
+    ensures value { result ≡ bit set }
+    ensures bound { result ≤ 1 }
+{
+    u8::from(set)
+}
+
+fn is_marked(place: Place) -> bool
+    ensures { result ≡ (is_upper place.frame && ends_frame place) }
+{
+    is_upper(place.frame) && place.ends_frame()
+}
+
+// The RTP header (RFC 3550, section 5.1).
+fn write_header(place: Place, out: &mut PacketBuf)
+    ensures bytes { out.new ≡ header place }
+    ensures bound { length out.new ≤ 12 }
+{
+    let marker = bit(is_marked(place));
+    let sequence = (place.sequence % 0x1_0000) as u16;
+    let timestamp = (3000 * u64::from(place.frame / 2) % 0x1_0000_0000) as u32;
+    out.fill(&[FIRST_BYTE, 128 * marker + PAYLOAD_TYPE]);
+    out.append(&sequence.to_be_bytes());
+    out.append(&timestamp.to_be_bytes());
+    out.append(&SSRC);
+}
+
+// The template of a frame in the stream's structure.
+fn template_of(frame: u32) -> u8
+    ensures value { result ≡ template_of frame }
+    ensures bound { result ≤ 5 }
+{
+    let first_of_layer = if is_upper(frame) { 3 } else { 0 };
+    if is_key_unit(frame) {
+        first_of_layer
+    } else {
+        first_of_layer + 1 + (frame / 2 % 2) as u8
+    }
+}
+
+// The header extension (RFC 8285) with the dependency descriptor under id 4.
+fn write_extension(place: Place, out: &mut PacketBuf)
+    requires { length out.old ≤ 12 }
+    ensures bytes { out.new ≡ out.old ++ extension place }
+    ensures bound { length out.new ≤ 48 }
+{
+    if starts_key_frame(place) {
+        write_long_descriptor(place.frame, out);
+    } else {
+        write_short_descriptor(place, out);
+    }
+}
+
+fn write_long_descriptor(frame: u32, out: &mut PacketBuf)
+    requires { length out.old ≤ 12 }
+    ensures bytes { out.new ≡ out.old ++ long_extension frame }
+    ensures bound { length out.new ≤ 48 }
+{
+    let frame_number = (frame % 0x1_0000) as u16;
+    out.append(&[0x10, 0x00, 0, 7, 4, 25, 0x80]);
+    out.append(&frame_number.to_be_bytes());
+    out.append(&STRUCTURE);
+}
+
+fn write_short_descriptor(place: Place, out: &mut PacketBuf)
+    requires { length out.old ≤ 12 }
+    ensures bytes { out.new ≡ out.old ++ short_extension place }
+    ensures bound { length out.new ≤ 48 }
+{
+    let frame_number = (place.frame % 0x1_0000) as u16;
+    let starts = bit(place.part == 0);
+    let ends = bit(place.ends_frame());
+    let template = template_of(place.frame);
+    out.append(&[0xBE, 0xDE, 0, 1, 0x42, 128 * starts + 64 * ends + template]);
+    out.append(&frame_number.to_be_bytes());
+}
+
+// The first byte of an element: where it begins a frame, the header of an OBU.
+fn element_byte(starts: bool) -> u8
+    ensures { result ≡ (if starts then 0x30 else 0) }
+{
+    if starts { 0x30 } else { 0 }
+}
+
+// The AV1 payload: the aggregation header and one element.
+fn write_payload(place: Place, out: &mut PacketBuf)
+    requires { length out.old ≤ 48 }
+    ensures { out.new ≡ out.old ++ payload place }
+{
+    let starts = place.part == 0;
+    let continues = bit(!starts);
+    let goes_on = bit(!place.ends_frame());
+    let key = bit(starts_key_frame(place));
+    let element = element_byte(starts);
+    out.append(&[128 * continues + 64 * goes_on + 16 + 8 * key, element]);
+    out.append(&[0; 199]);
+}

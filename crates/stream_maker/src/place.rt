@@ -1,0 +1,104 @@
+// Where a packet stands in the stream.
+
+ghost use Rattle.std.specs.Prelude.{◌≡◌, ◌<◌, ◌^◌};
+ghost use Rattle.stream_maker.specs.Packets.{is_upper, is_key_unit, packet_count, moment_of};
+ghost use Rattle.stream_maker.specs.Bytes.{ends_frame};
+ghost use Rattle.stream_maker.specs.Order.{ends_stream, tick_due};
+ghost use Rattle.stream_maker.specs.Left.{place_after};
+
+/// Every so many units one is a key unit.
+const KEY_UNITS: u32 = 50;
+
+/// One packet of a frame.
+#[derive(Clone, Copy, Debug, PartialEq, Eq)]
+pub(crate) struct Place {
+    /// The number of its frame, from 0.
+    pub(crate) frame: u32,
+    /// Which packet of its frame it is, from 0.
+    pub(crate) part: u8,
+    /// Which packet of the stream it is, from 0.
+    pub(crate) sequence: u32,
+}
+
+pub(crate) fn is_upper(frame: u32) -> bool
+    ensures { result ≡ is_upper frame }
+{
+    frame % 2 == 1
+}
+
+pub(crate) fn is_key_unit(frame: u32) -> bool
+    ensures { result ≡ is_key_unit frame }
+{
+    frame / 2 % KEY_UNITS == 0
+}
+
+// How many packets a frame has.
+pub(crate) fn packet_count(frame: u32) -> u8
+    ensures { result ≡ packet_count frame }
+{
+    if is_upper(frame) {
+        2
+    } else if is_key_unit(frame) {
+        3
+    } else {
+        1
+    }
+}
+
+// When the packets of a frame's unit are sent, in milliseconds.
+pub(crate) fn moment_of(frame: u32) -> u64
+    ensures { result ≡ moment_of frame }
+{
+    33 * u64::from(frame / 2)
+}
+
+impl Place {
+    pub(crate) fn ends_frame(self) -> bool
+        ensures { result ≡ ends_frame self }
+    {
+        self.part == packet_count(self.frame) - 1
+    }
+
+    // The packet behind this one.
+    pub(crate) fn following(self) -> Place
+        requires frame { self.frame < 2 ^ 31 }
+        requires part { self.part < packet_count self.frame }
+        requires sequence { self.sequence < 2 ^ 31 }
+        ensures { result ≡ place_after self }
+    {
+        let sequence = self.sequence + 1;
+        if self.ends_frame() {
+            Place {
+                frame: self.frame + 1,
+                part: 0,
+                sequence,
+            }
+        } else {
+            Place {
+                frame: self.frame,
+                part: self.part + 1,
+                sequence,
+            }
+        }
+    }
+
+    // It is the last packet of a stream of so many frames.
+    pub(crate) fn ends_stream(self, frames: u32) -> bool
+        requires { 0 < frames }
+        ensures { result ≡ ends_stream frames self }
+    {
+        self.frame == frames - 1 && self.ends_frame()
+    }
+
+    // The moment of the tick behind it, where it is the last of its unit.
+    pub(crate) fn tick_due(self, frames: u32) -> Option<u64>
+        requires { 0 < frames }
+        ensures { result ≡ tick_due frames self }
+    {
+        if self.ends_stream(frames) || is_upper(self.frame) && self.ends_frame() {
+            Some(moment_of(self.frame))
+        } else {
+            None
+        }
+    }
+}

@@ -1,0 +1,116 @@
+// How far a stream is made.
+
+ghost use Rattle.std.specs.Prelude.{◌≡◌, ◌<◌, ℕ, List, [], None, true};
+ghost use Rattle.stream_maker.specs.Left.{left_of, making_of, IsSound, is_idle, due_places, packets_bound};
+ghost use Rattle.stream_maker.specs.Giving.{Gives};
+
+use crate::counts::Counts;
+use crate::due::{Due, held_after};
+use crate::event::Event;
+use crate::fate::{draw, fate_of};
+use crate::packet;
+use crate::place::{Place, moment_of};
+use rand_pcg::Lcg64Xsh32;
+use sfu_base::PacketBuf;
+
+// How long behind the last unit the last tick comes.
+const LAST_WAIT: u64 = 1000;
+
+/// The parts of a maker.
+#[derive(Debug, Drop)]
+pub(crate) struct State {
+    pub(crate) frames: u32,
+    pub(crate) loss: u8,
+    pub(crate) generator: Lcg64Xsh32,
+    /// The packet that is made next, with the frame behind the last where all are made.
+    pub(crate) next: Place,
+    /// The packet that is held back.
+    pub(crate) held: Option<Place>,
+    pub(crate) due: Due,
+    /// The last tick was given.
+    pub(crate) ended: bool,
+    pub(crate) counts: Counts,
+}
+
+impl State {
+    // The turn of the next packet comes.
+    fn make_packet(&mut self)
+        requires sound { IsSound self.old }
+        requires nothing_due { is_idle self.old.due ≡ true }
+        requires more { self.old.next.frame < self.old.frames }
+        ensures sound { IsSound self.new }
+        ensures left { left_of self.new ≡ left_of self.old }
+        ensures fewer { packets_bound self.new < packets_bound self.old }
+        ensures ended { self.new.ended ≡ self.old.ended }
+    {
+        let place = self.next;
+        let fate = fate_of(self.loss, draw(&mut self.generator));
+        self.counts.add(fate, self.held, place);
+        self.due = Due::of(self.frames, fate, self.held, place);
+        self.held = held_after(fate, self.held, place);
+        self.next = place.following();
+    }
+
+    // Packets are made until something is due, or all are made.
+    pub(crate) fn make_packets(&mut self)
+        requires sound { IsSound self.old }
+        ensures sound { IsSound self.new }
+        ensures left { left_of self.new ≡ left_of self.old }
+        ensures ready { due_places self.new.due ≡ [] → self.new.due.tick ≡ None → self.new.next.frame ≡ self.new.frames }
+        ensures ended { self.old.ended ≡ true → self.new ≡ self.old }
+    {
+        while self.due.is_empty() && self.next.frame < self.frames {
+            self.make_packet();
+        }
+    }
+
+    // What is due, or the last tick, or the end.
+    pub(crate) fn give(&mut self, out: &mut PacketBuf) -> Event
+        requires sound { IsSound self.old }
+        requires ready { due_places self.old.due ≡ [] → self.old.due.tick ≡ None → self.old.next.frame ≡ self.old.frames }
+        ensures sound { IsSound self.new }
+        ensures gives { Gives (making_of self.old) (making_of self.new) result out.old out.new }
+    {
+        match self.due.take_packet() {
+            Some(place) => {
+                packet::write(place, out);
+                Event::Packet {
+                    moment: moment_of(place.frame),
+                }
+            }
+            None => self.give_tick(),
+        }
+    }
+
+    // The tick that is due, or the last tick, or the end.
+    fn give_tick(&mut self) -> Event
+        requires sound { IsSound self.old }
+        requires no_packet { due_places self.old.due ≡ [] }
+        requires ready { self.old.due.tick ≡ None → self.old.next.frame ≡ self.old.frames }
+        ensures sound { IsSound self.new }
+        ensures gives { (out : List ℕ) → Gives (making_of self.old) (making_of self.new) result out out }
+    {
+        match self.due.tick.take() {
+            Some(moment) => Event::Tick { moment },
+            None => self.give_last(),
+        }
+    }
+
+    // The last tick, or the end.
+    fn give_last(&mut self) -> Event
+        requires sound { IsSound self.old }
+        requires no_packet { due_places self.old.due ≡ [] }
+        requires no_tick { self.old.due.tick ≡ None }
+        requires all_made { self.old.next.frame ≡ self.old.frames }
+        ensures sound { IsSound self.new }
+        ensures gives { (out : List ℕ) → Gives (making_of self.old) (making_of self.new) result out out }
+    {
+        if self.ended {
+            return Event::End;
+        }
+        self.ended = true;
+        Event::Tick {
+            moment: moment_of(self.frames - 1) + LAST_WAIT,
+        }
+    }
+}
