@@ -140,3 +140,10 @@ fn packets_of_512_wait_in_order_and_nothing_is_kept_before_a_take(
     assert_eq!(rt; out.bytes(), outgoing(511, 512, true).as_slice());
     Ok(())
 }
+
+#[test]
+fn a_ring_is_made_where_there_is_memory(rt: HostRuntime) -> Result<(), Fail> {
+    let ring = OutRing::new(rt.alloc(), 1, 0)?;
+    assert_eq!(rt; ring.queued(), 0);
+    Ok(())
+}
