@@ -107,10 +107,6 @@ pub enum RtpFault {
 /// Why a call was refused. Own rule. A refused call changes nothing.
 #[derive(Clone, Copy, Debug, PartialEq, Eq)]
 pub enum Refusal {
-    /// What was asked for isn't built yet.
-    NotBuilt,
-    /// The packet isn't the track's next one: its sequence number isn't `next`, the one that follows the track's last.
-    OutOfOrder { next: u16 },
     /// No live track has this number, or the subscriber's track ended.
     NoTrack,
     /// No live subscriber has this number.
@@ -135,11 +131,11 @@ pub enum Refusal {
     Repeat,
     /// Nothing is queued.
     Empty,
-    /// The packet isn't kept: `oldest` is the oldest kept number, `next` the number of the next take.
+    /// The packet isn't kept: `oldest` is the oldest kept number, or `next` where none is kept; `next` is the number of the next take.
     NotKept { oldest: u16, next: u16 },
     /// The number is above `newest`, the newest frame's, or there is no frame.
     Ahead { newest: Option<u64> },
-    /// The number is too far below the newest frame's: `oldest` is the oldest that is known.
+    /// The number is 4,096 or more below the newest frame's: `oldest` is the lowest that may be asked for.
     TooOld { oldest: u64 },
     /// The subscriber's track is plain.
     Plain,

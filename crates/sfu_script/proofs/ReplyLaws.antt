@@ -119,9 +119,7 @@ fault_in words = None
 abbrev refused_in : List (List ℕ) → Option Refusal
 refused_in [] = None
 refused_in (name ∷ others) =
-    if bytes_eq name (codes "notbuilt") then Some refusal.NotBuilt
-    else if bytes_eq name (codes "outoforder") then one_in 16 (λ n. refusal.OutOfOrder n) others
-    else if bytes_eq name (codes "notrack") then Some refusal.NoTrack
+    if bytes_eq name (codes "notrack") then Some refusal.NoTrack
     else if bytes_eq name (codes "nosubscriber") then Some refusal.NoSubscriber
     else if bytes_eq name (codes "numberused") then one_in 32 (λ n. refusal.NumberUsed n) others
     else if bytes_eq name (codes "toomany") then one_in 32 (λ n. refusal.TooMany n) others
@@ -210,8 +208,6 @@ verdict_said (Hole (Some below) above) h =
     rw (a, b) refl
 
 refusal_said : (why : Refusal) → AllWithin (refusal_places why) → answer_in (map word_of (refusal_places why)) ≡ Some (Refused why)
-refusal_said refusal.NotBuilt h = refl
-refusal_said (refusal.OutOfOrder n) h = let a = number_in 16 n (omega arith) h.1.1.0 in rw a refl
 refusal_said refusal.NoTrack h = refl
 refusal_said refusal.NoSubscriber h = refl
 refusal_said (refusal.NumberUsed n) h = let a = number_in 32 n (omega arith) h.1.1.0 in rw a refl

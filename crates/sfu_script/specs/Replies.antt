@@ -41,8 +41,6 @@ abbrev pub refused : List Place → List Place
 refused places = Word (codes "refused") ∷ places
 
 abbrev pub refusal_places : Refusal → List Place
-refusal_places refusal.NotBuilt = refused (Word (codes "notbuilt") ∷ [])
-refusal_places (refusal.OutOfOrder next) = refused (Word (codes "outoforder") ∷ Number 16 next ∷ [])
 refusal_places refusal.NoTrack = refused (Word (codes "notrack") ∷ [])
 refusal_places refusal.NoSubscriber = refused (Word (codes "nosubscriber") ∷ [])
 refusal_places (refusal.NumberUsed highest) = refused (Word (codes "numberused") ∷ Number 32 highest ∷ [])

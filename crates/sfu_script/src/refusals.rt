@@ -45,8 +45,6 @@ pub fn refusal_pieces(why: &Refusal) -> Pieces<'static>
     ensures short { pieces_size result ≤ most_short }
 {
     match why {
-        Refusal::NotBuilt => refused_as(b"notbuilt"),
-        Refusal::OutOfOrder { next } => refused_with(b"outoforder", Number(u64::from(*next))),
         Refusal::NoTrack => refused_as(b"notrack"),
         Refusal::NoSubscriber => refused_as(b"nosubscriber"),
         Refusal::NumberUsed { highest } => refused_with(b"numberused", Number(u64::from(*highest))),

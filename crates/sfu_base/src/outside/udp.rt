@@ -36,7 +36,7 @@ impl<'a, R: Net + time::Clock> UdpLink<'a, R> {
     /// Binds a socket to the local address, for a link to the peer with no faults yet. The error is the system's, as where the address
     /// is in use.
     pub fn bind(system: &'a R, local: Address, peer: Address) -> io::Result<Self>
-        ensures { IfOk result (λ link. link.faults ≡ 0) }
+        ensures { IfOk result (λ link. ⟦<UdpLink<'a, R> as Link>⟧.faults link ≡ 0) }
     {
         let socket = UdpSocket::bind(system, socket_address(local))?;
         socket.set_nonblocking(true)?;
@@ -107,7 +107,7 @@ fn socket_address(address: Address) -> SocketAddr {
     SocketAddr::V4(SocketAddrV4::new(Ipv4Addr::from_bits(address.ip), address.port))
 }
 
-impl<R: Net + time::Clock> Link for UdpLink<'_, R> {
+impl<'a, R: Net + time::Clock> Link for UdpLink<'a, R> {
     ghost told = { λ _. None };
 
     ghost faults = { λ s. s.faults };
@@ -116,9 +116,9 @@ impl<R: Net + time::Clock> Link for UdpLink<'_, R> {
     fn receive(&mut self, buf: &mut PacketBuf) -> Result<bool, Failed>
         ensures buffer { FillsOnlyWhere result buf.old buf.new }
         ensures told { None ≡ after_receive result buf.new None }
-        ensures cause { HasCause self.old.faults self.new.faults result }
+        ensures cause { HasCause (⟦<UdpLink<'a, R> as Link>⟧.faults self.old) (⟦<UdpLink<'a, R> as Link>⟧.faults self.new) result }
 
-        ensures counts { CountsFaults self.old.faults self.new.faults result }
+        ensures counts { CountsFaults (⟦<UdpLink<'a, R> as Link>⟧.faults self.old) (⟦<UdpLink<'a, R> as Link>⟧.faults self.new) result }
     {
         match self.wait() {
             Ok(Some(count)) => {
@@ -136,9 +136,9 @@ impl<R: Net + time::Clock> Link for UdpLink<'_, R> {
     /// A full buffer of the system is waited for, about 100 milliseconds at most.
     fn send(&mut self, packet: &PacketBuf) -> Result<(), Failed>
         ensures told { None ≡ after_send result packet.now None }
-        ensures cause { HasCause self.old.faults self.new.faults result }
+        ensures cause { HasCause (⟦<UdpLink<'a, R> as Link>⟧.faults self.old) (⟦<UdpLink<'a, R> as Link>⟧.faults self.new) result }
 
-        ensures counts { CountsFaults self.old.faults self.new.faults result }
+        ensures counts { CountsFaults (⟦<UdpLink<'a, R> as Link>⟧.faults self.old) (⟦<UdpLink<'a, R> as Link>⟧.faults self.new) result }
     {
         match self.post(packet.bytes()) {
             Ok(()) => Ok(()),
@@ -162,9 +162,9 @@ pub struct UdpPorts<'a, R> {
 impl<'a, R: Net + time::Clock + Sync> UdpPorts<'a, R> {
     /// No port is bound yet. The system opens the sockets, and its clock is what they wait by.
     pub fn new(system: &'a R) -> Self
-        ensures bound { result.bound ≡ 0 }
-        ensures back_count { result.back_count ≡ 0 }
-        ensures faults { result.faults ≡ 0 }
+        ensures bound { ⟦<UdpPorts<'a, R> as Ports>⟧.bound result ≡ 0 }
+        ensures back_count { ⟦<UdpPorts<'a, R> as Ports>⟧.back_count result ≡ 0 }
+        ensures faults { ⟦<UdpPorts<'a, R> as Ports>⟧.faults result ≡ 0 }
     {
         UdpPorts {
             system,
@@ -187,15 +187,15 @@ impl<'a, R: Net + time::Clock + Sync> Ports for UdpPorts<'a, R> {
     ghost faults = { λ s. s.faults };
 
     fn bind(&mut self, local: Address, peer: Address) -> Result<UdpLink<'a, R>, Failed>
-        requires { self.old.bound < 64 }
-        ensures bound { self.new.bound ≡ after_bind result self.old.bound }
-        ensures back_count { self.new.back_count ≡ self.old.back_count }
+        requires { ⟦<UdpPorts<'a, R> as Ports>⟧.bound self.old < 64 }
+        ensures bound { ⟦<UdpPorts<'a, R> as Ports>⟧.bound self.new ≡ after_bind result (⟦<UdpPorts<'a, R> as Ports>⟧.bound self.old) }
+        ensures back_count { ⟦<UdpPorts<'a, R> as Ports>⟧.back_count self.new ≡ ⟦<UdpPorts<'a, R> as Ports>⟧.back_count self.old }
         ensures returned { ⟦<UdpPorts<'a, R> as Ports>⟧.returned self.new ≡ ⟦<UdpPorts<'a, R> as Ports>⟧.returned self.old }
-        ensures quiet { IfOk result (λ port. port.faults ≡ 0) }
+        ensures quiet { IfOk result (λ port. ⟦<UdpLink<'a, R> as Link>⟧.faults port ≡ 0) }
         ensures silent { IfOk result (λ port. tells_nothing_yet (⟦<UdpLink<'a, R> as Link>⟧.told port)) }
-        ensures cause { HasCause self.old.faults self.new.faults result }
+        ensures cause { HasCause (⟦<UdpPorts<'a, R> as Ports>⟧.faults self.old) (⟦<UdpPorts<'a, R> as Ports>⟧.faults self.new) result }
 
-        ensures counts { CountsFaults self.old.faults self.new.faults result }
+        ensures counts { CountsFaults (⟦<UdpPorts<'a, R> as Ports>⟧.faults self.old) (⟦<UdpPorts<'a, R> as Ports>⟧.faults self.new) result }
     {
         match UdpLink::bind(self.system, local, peer) {
             Ok(link) => {
