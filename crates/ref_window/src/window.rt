@@ -77,3 +77,13 @@ impl RefWindow {
         self.greatest = None;
     }
 }
+
+impl Default for RefWindow {
+    ghost use Rattle.std.specs.Prelude.{◌≡◌, []};
+
+    ghost is_default = { λ window. window ≡ [] };
+
+    fn default() -> RefWindow {
+        RefWindow::new()
+    }
+}

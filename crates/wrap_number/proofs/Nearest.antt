@@ -1,10 +1,10 @@
 -- The computed number is the nearest one.
-use Rattle.std.proofs.Common.{◌≡◌, ◌<◌, ◌≤◌, ◌+◌, ◌-◌, ◌%◌, ◌⊎◌, inl, inr, ℕ, arith, true, ap, ◌∙◌, ◌&&◌}
+use Rattle.std.proofs.Common.{◌≡◌, ◌<◌, ◌≤◌, ◌+◌, ◌-◌, ◌%◌, ◌⊎◌, ◌↔◌, inl, inr, ℕ, arith, true, ap, ◌∙◌, ◌&&◌}
 use Rattle.std.specs.Prelude.{nat_lt, ℤ, pos, negsuc, ◌+ℤ◌, ◌-ℤ◌, ◌≤ℤ◌}
 use Rattle.std.proofs.lemmas.Int.{ints}
 use Rattle.std.specs.Int.{int_rem_euclid}
 use Rattle.std.proofs.lemmas.Bool.{cases_lt, and_parts, ltb-true, lt-ltb}
-use Rattle.wrap_number.specs.Number.{IsCongruent, distance, IsNearest, IsNearestAbove, IsLeastAbove, nearest_to, ahead_of, is_above, number_above, least_above}
+use Rattle.wrap_number.specs.Number.{IsCongruent, distance, IsNearest, IsNearestAbove, IsNearAbove, IsLeastAbove, nearest_to, ahead_of, is_above, number_above, least_above}
 
 -- ---- distances
 
@@ -135,3 +135,19 @@ found_above newest n m h =
           ∙ lt-ltb (ahead_of (pos newest) n) 32768 (omega arith),
       omega arith,
     )
+
+-- ---- less than half a turn above
+
+near_is_nearest : (newest n m : ℕ) → IsNearAbove newest n m → IsNearestAbove newest n m
+near_is_nearest newest n m h =
+    let low = h.above in
+    let high = h.near in
+    record { nearest = within (pos newest) (pos m) n (ap pos h.congruent) (grind (arith, ints)) (grind (arith, ints)); above = low }
+
+nearest_is_near : (newest n m : ℕ) → IsNearestAbove newest n m → IsNearAbove newest n m
+nearest_is_near newest n m h =
+    let whole = h.nearest.congruent in
+    record { congruent = cc; above = h.above; near = less_than_half newest n m h }
+
+pub near_above : (newest n m : ℕ) → IsNearAbove newest n m ↔ IsNearestAbove newest n m
+near_above newest n m = (near_is_nearest newest n m, nearest_is_near newest n m)

@@ -1,7 +1,7 @@
 -- Which number of unlimited range a number of 16 bits stands for: sequence numbers (RFC 3550, section 5.1) and frame numbers (AV1 RTP
 -- payload format, Appendix A, frame_number) wrap at 65,536. Which one is meant is an own rule, told by comparing all numbers that are the
 -- same modulo 65,536; the code adds a remainder.
-use Rattle.std.specs.Prelude.{◌≡◌, ◌+◌, ◌-◌, ◌%◌, ◌<◌, ◌≤◌, ℕ, ℤ, pos, ◌+ℤ◌, ◌-ℤ◌, ◌≤ℤ◌, Bool, true, ◌&&◌, if◌then◌else◌, nat_lt, unsigned_abs}
+use Rattle.std.specs.Prelude.{◌≡◌, ◌+◌, ◌-◌, ◌%◌, ◌<◌, ◌≤◌, ℕ, ℤ, pos, ◌+ℤ◌, ◌-ℤ◌, ◌≤ℤ◌, ◌↔◌, Bool, true, ◌&&◌, if◌then◌else◌, nat_lt, unsigned_abs}
 use Rattle.std.specs.Int.{int_rem_euclid}
 
 -- ---- which number is meant
@@ -25,6 +25,12 @@ pub record IsNearest (newest : ℤ) (n : ℕ) (m : ℤ) : Type 0 where
 pub record IsNearestAbove (newest n m : ℕ) : Type 0 where
   pub nearest : IsNearest (pos newest) n (pos m)
   pub above : newest < m
+
+-- m is n modulo 65,536, and lies above `newest` by less than half a turn
+pub record IsNearAbove (newest n m : ℕ) : Type 0 where
+  pub congruent : m % 65536 ≡ n % 65536
+  pub above : newest < m
+  pub near : m < newest + 32768
 
 -- m is n modulo 65,536, lies above `newest`, and no other such number is lower
 pub record IsLeastAbove (newest n m : ℕ) : Type 0 where
@@ -76,3 +82,7 @@ AboveIsNearest = (newest n : ℕ) → is_above newest n ≡ true → IsNearestAb
 -- and where the nearest number lies above, the test says so
 abbrev pub NearestAboveIsFound : Type 0
 NearestAboveIsFound = (newest n m : ℕ) → IsNearestAbove newest n m → (is_above newest n ≡ true) × (m ≡ number_above newest n)
+
+-- a number is the nearest and lies above exactly when it lies above by less than half a turn
+abbrev pub NearIsNearestAbove : Type 0
+NearIsNearestAbove = (newest n m : ℕ) → IsNearAbove newest n m ↔ IsNearestAbove newest n m

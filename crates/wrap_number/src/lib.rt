@@ -4,7 +4,7 @@
 
 ghost use Rattle.std.specs.Prelude.{◌≡◌, ◌≤ℤ◌, ◌<◌, ◌^◌, neg_ℤ, pos};
 ghost use Rattle.wrap_number.specs.Number.{IsNearest, IsLeastAbove, IsOne, ahead_of, nearest_to, least_above};
-ghost use Rattle.wrap_number.specs.Number.{NearestIsNearest, LeastIsLeast, AboveIsNearest, NearestAboveIsFound};
+ghost use Rattle.wrap_number.specs.Number.{NearestIsNearest, LeastIsLeast, AboveIsNearest, NearestAboveIsFound, NearIsNearestAbove};
 
 /// The number that is `n` modulo 65,536 and nearest to `newest` (own rule). A distance of 32,768 is read as behind.
 pub fn place(newest: i64, n: u16) -> i64
@@ -50,6 +50,12 @@ pub fn values_are_nearest_and_least()
     ensures least { LeastIsLeast }
     ensures above { AboveIsNearest }
     ensures found { NearestAboveIsFound }
+{}
+
+/// A law, for all numbers: one that is `n` modulo 65,536 and lies above `newest` is the nearest exactly when it lies above by less than
+/// half a turn.
+pub fn near_above_is_nearest()
+    ensures { NearIsNearestAbove }
 {}
 
 #[cfg(test)]
