@@ -3,6 +3,7 @@
 -- The code keeps a place in its input and an array or a list that it fills; here each part takes what the one before it left.
 use Rattle.std.specs.Prelude.{◌≡◌, ℕ, zero, suc, Bool, List, [], ◌∷◌, ◌++◌, Option, Some, None, Result, Ok, Err}
 use Rattle.dd_bits.specs.declared.reader.BitReader.{BitReader}
+use Rattle.dd_bits.specs.Numbers.{fixed, non_symmetric}
 use Rattle.dd_bits.specs.Reader.{bits_left}
 
 infixl 10 ◌>>=◌
@@ -14,6 +15,13 @@ abbrev pub ◌>>=◌ : {A B E : Type 0} → Result A E → (A → Result B E) �
 abbrev pub or_fault : {A E : Type 0} → E → Option A → Result A E
 or_fault e None = Err e
 or_fault e (Some x) = Ok x
+
+-- f(n) and ns(n), or this fault where there are too few bits
+abbrev pub fixed_or : {E : Type 0} → E → ℕ → List Bool → Result (ℕ × List Bool) E
+fixed_or short n bits = or_fault short (fixed n bits)
+
+abbrev pub non_symmetric_or : {E : Type 0} → E → ℕ → List Bool → Result (ℕ × List Bool) E
+non_symmetric_or short n bits = or_fault short (non_symmetric n bits)
 
 -- ---- so many items, one after another
 

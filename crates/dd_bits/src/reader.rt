@@ -22,6 +22,7 @@ impl<'a> BitReader<'a> {
     ghost use Rattle.dd_bits.specs.Bits.{bits_of_bytes, value};
     ghost use Rattle.dd_bits.specs.Numbers.{fixed, non_symmetric};
     ghost use Rattle.dd_bits.specs.Reader.{bits_left};
+    ghost use Rattle.dd_bits.specs.Sequences.{Gives, fixed_or, non_symmetric_or};
 
     /// A reader of all bits of the bytes.
     pub fn new(bytes: &'a [u8]) -> BitReader<'a>
@@ -88,6 +89,26 @@ impl<'a> BitReader<'a> {
                 Err(short)
             }
         }
+    }
+
+    /// The same as [`BitReader::bits`], with a fault of the caller's for `Short`.
+    pub fn bits_or<E: Copy>(&mut self, n: u8, short: E) -> Result<u32, E>
+        requires { n ≤ 32 }
+        ensures read { Gives (λ v. v) result self.new (fixed_or short n (bits_left self.old)) }
+        ensures unchanged { OnErr result (self.new ≡ self.old) }
+        ensures small { IfOk result (λ v. v < 2 ^ n) }
+    {
+        self.bits(n).map_err(|_| short)
+    }
+
+    /// The same as [`BitReader::ns`], with a fault of the caller's for `Short`.
+    pub fn ns_or<E: Copy>(&mut self, n: u32, short: E) -> Result<u32, E>
+        requires { 1 ≤ n }
+        ensures read { Gives (λ v. v) result self.new (non_symmetric_or short n (bits_left self.old)) }
+        ensures unchanged { OnErr result (self.new ≡ self.old) }
+        ensures small { IfOk result (λ v. v < n) }
+    {
+        self.ns(n).map_err(|_| short)
     }
 
     /// Takes n bits, as many of one byte at a time as it has.

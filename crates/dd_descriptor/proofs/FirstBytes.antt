@@ -1,5 +1,5 @@
 -- The first three bytes of a descriptor.
-use Rattle.std.proofs.Common.{◌≡◌, ℕ, ◌+◌, ◌*◌, ◌≤◌, ◌<◌, Bool, List, ◌++◌, length, drop, take, Option, Result, Ok, Err, sym, ap, ◌∙◌, refl, eqb, inl, inr, arith}
+use Rattle.std.proofs.Common.{◌≡◌, ℕ, ◌+◌, ◌≤◌, ◌<◌, Bool, List, ◌++◌, length, drop, take, Option, Result, Ok, Err, sym, ap, ◌∙◌, refl, eqb, inl, inr, arith}
 use Rattle.std.proofs.lemmas.List.{length-append, length-drop}
 use Rattle.std.proofs.lemmas.Bool.{cases_lt}
 use Rattle.dd_bits.specs.Bits.{bits_of, bits_of_bytes, value}
@@ -13,7 +13,7 @@ use Rattle.dd_descriptor.specs.declared.descriptor.Edges.{Edges}
 use Rattle.dd_descriptor.specs.declared.fault.DdFault.{DdFault}
 use Rattle.dd_descriptor.specs.declared.fault.DdFault.TheVariants as faults
 use Rattle.dd_descriptor.specs.declared.parts.Head.{Head}
-use Rattle.dd_descriptor.specs.Content.{FrameContent, Content}
+use Rattle.dd_descriptor.specs.Content.{Content}
 use Rattle.dd_descriptor.specs.Edges.{edges_of, BeginsWith}
 use Rattle.dd_descriptor.specs.Reading.{number_at, flag_at, head_at, flags_in, carried_at, held_body_at, descriptor_at}
 use Rattle.dd_descriptor.specs.Spelling.{flag_bits}

@@ -3,8 +3,7 @@ use Rattle.std.proofs.Common.{◌≡◌, ℕ, zero, suc, ◌+◌, ◌-◌, ◌*�
 use Rattle.std.specs.Prelude.{is_some, IfSome}
 use Rattle.std.specs.List.{flat_map}
 use Rattle.std.proofs.lemmas.List.{length-append}
-use Rattle.std.proofs.lemmas.Bool.{cases_lt, cases_Bool, eqb-true, ltb-true, ltb-false, cond-true, cond-false}
-use Rattle.std.proofs.Math.Nat.{pow-le-pow_right}
+use Rattle.std.proofs.lemmas.Bool.{cases_lt, cases_Bool, eqb-true, ltb-false, cond-true, cond-false}
 use Rattle.sfu_base.specs.declared.frame.Dti.{Dti}
 use Rattle.sfu_base.specs.Frame.{dti_of}
 use Rattle.dd_bits.specs.Bits.{bits_of, bits_of_bytes}
@@ -13,7 +12,7 @@ use Rattle.dd_bits.specs.Sequences.{◌>>=◌, until_at, repeat_at, going_on}
 use Rattle.dd_bits.proofs.Bytes.{length-bits_of_bytes}
 use Rattle.dd_bits.proofs.Values.{length-bits_of}
 use Rattle.dd_bits.proofs.ReadBack.{fixed_found}
-use Rattle.dd_bits.proofs.SequenceLaws.{bind_ok, bind_then, chosen, done, ok_is, some_is, or_fault_ok, Takes, repeat_found}
+use Rattle.dd_bits.proofs.SequenceLaws.{bind_ok, bind_then, chosen, done, ok_is, or_fault_ok, Takes, repeat_found}
 use Rattle.dd_structure.specs.TemplateStructure.{TemplateStructure, template_at}
 use Rattle.dd_structure.specs.Reading.{structure_at}
 use Rattle.dd_structure.specs.Spelling.{indication_bits, IsWellFormed}
@@ -24,9 +23,10 @@ use Rattle.dd_descriptor.specs.declared.fault.DdFault.TheVariants as faults
 use Rattle.dd_descriptor.specs.declared.parts.Head.{Head}
 use Rattle.dd_descriptor.specs.declared.parts.Flags.{Flags}
 use Rattle.dd_descriptor.specs.Content.{FrameContent, Content, holding}
+use Rattle.dd_structure.specs.Reading.{indication_or}
 use Rattle.dd_descriptor.specs.Reading.{number_at, flag_at, head_at, flags_at, flags_in, no_flags, inside, carried_at, held, mask_at, index_at, indication_at, next_distance_at, distances_at, custom_or, frame_at, body_at, held_body_at, custom_of, descriptor_at}
-use Rattle.dd_descriptor.specs.Spelling.{flag_bits, head_bits, carried_bits, where_custom, settled_mask, IsWritable, IsWritableBy}
-use Rattle.dd_descriptor.specs.Laid.{Layout, laid_flags, laid_mask, laid_distance, laid_distances, laid_frame, laid_more, laid_bits, IsMask, HoldsDistance, AreSizes, IsShort, IsLaid, IsDescriptor}
+use Rattle.dd_descriptor.specs.Spelling.{flag_bits, head_bits, carried_bits, where_custom, IsWritable, IsWritableBy}
+use Rattle.dd_descriptor.specs.Laid.{Layout, laid_flags, laid_mask, laid_distance, laid_distances, laid_frame, laid_more, laid_bits, IsMask, HoldsDistance, AreSizes, IsLaid, IsDescriptor}
 use Rattle.dd_descriptor.proofs.Found.{inside_ok, carried_found, descriptor_found}
 
 -- ---- numbers and flags
@@ -113,7 +113,7 @@ mask_laid false (Some t) targets bits x same e =
 -- ---- the frame's definition
 
 indication_laid : (bits : List Bool) (x : Dti × List Bool) → indication_at bits ≡ Ok x → Takes (λ d. Unit {0}) indication_bits bits x
-unfolding indication_at
+unfolding indication_or
 indication_laid bits x e =
     let a = bind_ok (number_at 2 bits) (λ code. Ok (dti_of code.0, code.1)) x e in
     let number = number_laid 2 bits a.0 a.1 in

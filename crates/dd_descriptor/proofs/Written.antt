@@ -1,5 +1,5 @@
 -- What is written is laid out as a descriptor, with the least sizes and zeros behind it.
-use Rattle.std.proofs.Common.{◌≡◌, ℕ, ◌+◌, ◌-◌, ◌*◌, ◌≤◌, ◌<◌, ◌^◌, Bool, true, false, cond, List, [], ◌∷◌, ◌++◌, length, map, replicate, Option, Some, None, Ok, refl, sym, ap, subst, ◌∙◌, append_assoc, inl, inr, arith}
+use Rattle.std.proofs.Common.{◌≡◌, ℕ, ◌-◌, ◌<◌, ◌^◌, Bool, false, cond, List, [], ◌∷◌, ◌++◌, length, map, replicate, Option, Some, None, Ok, refl, sym, ap, subst, ◌∙◌, append_assoc, inl, inr, arith}
 use Rattle.std.specs.Prelude.{is_some, IfSome, ◌||◌}
 use Rattle.std.specs.List.{flat_map, AllByRecursion}
 use Rattle.std.proofs.lemmas.List.{length-append}
@@ -12,8 +12,8 @@ use Rattle.dd_structure.specs.TemplateStructure.{TemplateStructure}
 use Rattle.dd_descriptor.specs.declared.descriptor.Custom.{Custom}
 use Rattle.dd_descriptor.specs.Content.{FrameContent, Content, holding}
 use Rattle.dd_descriptor.specs.Reading.{descriptor_at}
-use Rattle.dd_descriptor.specs.Laid.{Layout, laid_flags, laid_mask, laid_distances, laid_frame, laid_more, laid_bits, IsMask, HoldsDistance, AreSizes, IsShort, IsLaid}
-use Rattle.dd_descriptor.specs.Spelling.{flag_bits, all_active, written_mask, head_bits, has_more, flags_bits, carried_bits, mask_bits, size_of, distance_bits, distances_bits, where_custom, frame_bits, more_bits, descriptor_bits, IsReference, IsWritable, settled_mask, settled}
+use Rattle.dd_descriptor.specs.Laid.{Layout, laid_flags, laid_mask, laid_distances, laid_frame, laid_more, laid_bits, IsMask, HoldsDistance, AreSizes, IsLaid}
+use Rattle.dd_descriptor.specs.Spelling.{all_active, written_mask, head_bits, has_more, flags_bits, carried_bits, mask_bits, size_of, distance_bits, distances_bits, where_custom, frame_bits, more_bits, descriptor_bits, IsReference, IsWritable, settled_mask, settled}
 use Rattle.dd_descriptor.proofs.Again.{length-head_bits, laid_again}
 use Rattle.dd_descriptor.proofs.Padding.{length-padded}
 

@@ -9,7 +9,6 @@ use Rattle.dd_descriptor.specs.declared.fault.DdFault.{DdFault}
 use Rattle.dd_descriptor.specs.declared.parts.Flags.{Flags}
 use Rattle.dd_descriptor.specs.declared.remasking.Part.{Part}
 use Rattle.dd_descriptor.specs.declared.remasking.Parts.{Parts}
-use Rattle.dd_descriptor.specs.Content.{Content}
 use Rattle.dd_descriptor.specs.Reading.{head_at, flags_in, carried_at, held, mask_at, index_at, frame_at}
 use Rattle.dd_descriptor.specs.Spelling.{flag_bits}
 

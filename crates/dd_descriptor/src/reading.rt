@@ -1,6 +1,6 @@
 //! Reads a descriptor, field by field in the order of the bits.
 
-mod custom;
+mod distances;
 pub mod fields;
 pub mod frame;
 mod template;

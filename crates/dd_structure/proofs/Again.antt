@@ -13,7 +13,7 @@ use Rattle.dd_structure.specs.declared.layer.Layer.{Layer}
 use Rattle.dd_structure.specs.declared.fault.StructureFault.{StructureFault}
 use Rattle.dd_structure.specs.declared.fault.StructureFault.TheVariants as faults
 use Rattle.dd_structure.specs.TemplateStructure.{Template, TemplateStructure, layers_of, indications_of, distances_of, links_of}
-use Rattle.dd_structure.specs.Reading.{number_at, below_at, next_layer_at, layers_at, indication_at, next_distance_at, distances_at, guard_count, guards_at, resolution_at, resolutions_at, structure_at, greatest_spatial}
+use Rattle.dd_structure.specs.Reading.{number_at, below_at, next_layer_at, layers_at, indication_at, indication_or, next_distance_at, distances_at, guard_count, guards_at, resolution_at, resolutions_at, structure_at, greatest_spatial}
 use Rattle.dd_structure.specs.Spelling.{layer_bits, layers_bits, indication_bits, distance_bits, distances_bits, resolution_bits, resolutions_bits, structure_bits, Follows, AreLayers, IsDistance, IsResolution, AreResolutions, IsWellFormed}
 use Rattle.dd_structure.proofs.Found.{code_is, laid, structure_bits-laid}
 use Rattle.dd_structure.proofs.TemplateLemmas.{templates_of-fields, all_indications, all_distances, all_links}
@@ -47,7 +47,7 @@ layers_again (first ∷ others) rest are =
 -- ---- the other parts
 
 indication_again : (d : Dti) (rest : List Bool) → Unit {0} → indication_at (indication_bits d ++ rest) ≡ Ok (d, rest)
-unfolding indication_at
+unfolding indication_or
 indication_again NotPresent rest u = rw (number_again 2 0 rest (omega arith)) refl
 indication_again Discardable rest u = rw (number_again 2 1 rest (omega arith)) refl
 indication_again Switch rest u = rw (number_again 2 2 rest (omega arith)) refl

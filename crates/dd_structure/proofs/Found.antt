@@ -13,7 +13,7 @@ use Rattle.dd_structure.specs.declared.layer.Layer.{Layer}
 use Rattle.dd_structure.specs.declared.fault.StructureFault.{StructureFault}
 use Rattle.dd_structure.specs.declared.fault.StructureFault.TheVariants as faults
 use Rattle.dd_structure.specs.TemplateStructure.{TemplateStructure, first_layer, templates_of, layers_of, indications_of, distances_of, links_of}
-use Rattle.dd_structure.specs.Reading.{number_at, below_at, layer_after, next_layer_at, layers_at, indication_at, next_distance_at, distances_at, guard_count, guards_at, resolution_count, resolution_at, resolutions_at, structure_at, greatest_spatial}
+use Rattle.dd_structure.specs.Reading.{number_at, below_at, layer_after, next_layer_at, layers_at, indication_at, indication_or, next_distance_at, distances_at, guard_count, guards_at, resolution_count, resolution_at, resolutions_at, structure_at, greatest_spatial}
 use Rattle.dd_structure.specs.Spelling.{layer_code, layer_bits, layers_bits, indication_bits, distance_bits, distances_bits, resolution_bits, resolutions_bits, head_bits, template_bits, chain_bits, structure_bits, Follows, AreLayers, IsDistance, IsResolution, AreResolutions, IsWellFormed}
 use Rattle.dd_structure.proofs.TemplateLemmas.{AreAligned, layers_of-templates_of, indications_of-templates_of, distances_of-templates_of, links_of-templates_of, templates_are}
 
@@ -130,7 +130,7 @@ dti_code-of (suc (suc zero)) small = refl
 dti_code-of (suc (suc (suc n))) small = omega arith
 
 pub indication_found : (bits : List Bool) (x : Dti × List Bool) → indication_at bits ≡ Ok x → Takes (λ d. Unit {0}) indication_bits bits x
-unfolding indication_at
+unfolding indication_or
 indication_found bits x e =
     let a = bind_ok (number_at 2 bits) (λ code. Ok (dti_of code.0, code.1)) x e in
     let number = number_found 2 bits a.0 a.1 in

@@ -6,7 +6,7 @@ use Rattle.std.specs.Prelude.{ℕ, zero, suc, ◌+◌, ◌==◌, nat_lt, max, Bo
 use Rattle.sfu_base.specs.declared.frame.Dti.{Dti}
 use Rattle.sfu_base.specs.Frame.{dti_of}
 use Rattle.dd_bits.specs.Numbers.{fixed, non_symmetric}
-use Rattle.dd_bits.specs.Sequences.{◌>>=◌, or_fault, repeat_at, until_at}
+use Rattle.dd_bits.specs.Sequences.{◌>>=◌, or_fault, fixed_or, repeat_at, until_at}
 use Rattle.dd_structure.specs.declared.layer.Layer.{Layer}
 use Rattle.dd_structure.specs.declared.fault.StructureFault.{StructureFault}
 use Rattle.dd_structure.specs.declared.fault.StructureFault.TheVariants as faults
@@ -43,10 +43,14 @@ layers_at bits = do
 
 -- ---- template_dtis
 
-unfoldable pub indication_at : List Bool → Result (Dti × List Bool) StructureFault
-indication_at bits = do
-  code ← number_at 2 bits
+-- an indication, or this fault where there are too few bits
+unfoldable pub indication_or : {E : Type 0} → E → List Bool → Result (Dti × List Bool) E
+indication_or short bits = do
+  code ← fixed_or short 2 bits
   Ok (dti_of code.0, code.1)
+
+abbrev pub indication_at : List Bool → Result (Dti × List Bool) StructureFault
+indication_at bits = indication_or faults.Short bits
 
 -- ---- template_fdiffs
 

@@ -20,7 +20,10 @@ mod writing;
 pub use fault::StructureFault;
 pub use laws::{structure_reads_back, structures_are_well_formed};
 pub use layer::Layer;
+pub use reading::chains::read_links;
+pub use reading::indications::read_indications;
 pub use structure::Structure;
+pub use writing::chains::put_links;
 pub use writing::indications::put_indications;
 
 #[cfg(test)]

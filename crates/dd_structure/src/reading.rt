@@ -3,7 +3,7 @@
 pub mod chains;
 mod distances;
 mod fields;
-mod indications;
+pub mod indications;
 mod layers;
 mod resolutions;
 

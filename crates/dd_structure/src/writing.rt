@@ -1,6 +1,6 @@
 //! Writes a structure, field by field in the order of the bits.
 
-mod chains;
+pub mod chains;
 mod distances;
 pub mod indications;
 mod layers;

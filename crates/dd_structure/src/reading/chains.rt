@@ -1,11 +1,14 @@
 ghost use Rattle.std.specs.Prelude.{◌≡◌, ◌≤◌, take, map};
 ghost use Rattle.dd_bits.specs.Reader.{bits_left};
-ghost use Rattle.dd_bits.specs.Sequences.{Gives, repeat_at};
+ghost use Rattle.dd_bits.specs.Sequences.{Gives, fixed_or, repeat_at};
 ghost use Rattle.dd_structure.specs.Reading.{number_at, below_at, guard_count, guards_at};
 
 use crate::fault::StructureFault;
-use crate::reading::fields::{below, number};
+use crate::reading::fields::below;
 use dd_bits::BitReader;
+
+/// The bits of a template's link.
+pub const LINK_WIDTH: u8 = 4;
 
 /// How many decode targets are protected by a chain.
 pub fn guarded_targets(chains: u8, targets: u8) -> u8
@@ -39,14 +42,20 @@ pub fn guards(bits: &mut BitReader<'_>, chains: u8, targets: u8) -> Result<[u8; 
     guard_list(bits, chains, guarded_targets(chains, targets))
 }
 
-/// A template's links, chain by chain.
-fn links(bits: &mut BitReader<'_>, chains: u8) -> Result<[u8; 32], StructureFault>
-    requires { chains ≤ 32 }
-    ensures { Gives (λ a. take chains a) result bits.new (repeat_at (number_at 4) chains (bits_left bits.old)) }
+/// A link of so many bits for each chain, or `short` where there are too few bits; the reader may then have moved on.
+pub fn read_links<E: Copy>(
+    bits: &mut BitReader<'_>,
+    width: u8,
+    chains: u8,
+    short: E,
+) -> Result<[u8; 32], E>
+    requires width { width ≤ 8 }
+    requires chains { chains ≤ 32 }
+    ensures { Gives (λ a. take chains a) result bits.new (repeat_at (fixed_or short width) chains (bits_left bits.old)) }
 {
     let mut out = [0; 32];
     for i in 0..chains {
-        out[i as usize] = number(bits, 4)? as u8;
+        out[i as usize] = bits.bits_or(width, short)? as u8;
     }
     Ok(out)
 }
@@ -63,7 +72,7 @@ pub fn link_table(
 {
     let mut out = [[0; 32]; 64];
     for i in 0..templates {
-        out[i as usize] = links(bits, chains)?;
+        out[i as usize] = read_links(bits, LINK_WIDTH, chains, StructureFault::Short)?;
     }
     Ok(out)
 }

@@ -12,10 +12,7 @@ pub fn number(bits: &mut BitReader<'_>, n: u8) -> Result<u32, StructureFault>
     ensures read { Gives (λ v. v) result bits.new (number_at n (bits_left bits.old)) }
     ensures small { IfOk result (λ v. v < 2 ^ n) }
 {
-    match bits.bits(n) {
-        Ok(v) => Ok(v),
-        Err(_) => Err(StructureFault::Short),
-    }
+    bits.bits_or(n, StructureFault::Short)
 }
 
 /// ns(n)
@@ -24,8 +21,5 @@ pub fn below(bits: &mut BitReader<'_>, n: u32) -> Result<u32, StructureFault>
     ensures read { Gives (λ v. v) result bits.new (below_at n (bits_left bits.old)) }
     ensures small { IfOk result (λ v. v < n) }
 {
-    match bits.ns(n) {
-        Ok(v) => Ok(v),
-        Err(_) => Err(StructureFault::Short),
-    }
+    bits.ns_or(n, StructureFault::Short)
 }

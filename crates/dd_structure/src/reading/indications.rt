@@ -1,29 +1,32 @@
 ghost use Rattle.std.specs.Prelude.{◌≤◌, take, map};
 ghost use Rattle.dd_bits.specs.Reader.{bits_left};
 ghost use Rattle.dd_bits.specs.Sequences.{Gives, repeat_at};
-ghost use Rattle.dd_structure.specs.Reading.{indication_at};
+ghost use Rattle.dd_structure.specs.Reading.{indication_at, indication_or};
 
 use crate::fault::StructureFault;
-use crate::reading::fields::number;
 use dd_bits::BitReader;
 use sfu_base::Dti;
 
-#[tactic(auto, unfolding(crate::specs::Reading::indication_at))]
-fn indication(bits: &mut BitReader<'_>) -> Result<Dti, StructureFault>
-    ensures { Gives (λ v. v) result bits.new (indication_at (bits_left bits.old)) }
+#[tactic(auto, unfolding(crate::specs::Reading::indication_or))]
+fn indication<E: Copy>(bits: &mut BitReader<'_>, short: E) -> Result<Dti, E>
+    ensures { Gives (λ v. v) result bits.new (indication_or short (bits_left bits.old)) }
 {
-    let code = number(bits, 2)?;
+    let code = bits.bits_or(2, short)?;
     Ok(Dti::from_code(code))
 }
 
-/// A template's indications, decode target by decode target.
-fn indications(bits: &mut BitReader<'_>, targets: u8) -> Result<[Dti; 32], StructureFault>
+/// An indication for each decode target, or `short` where there are too few bits; the reader may then have moved on.
+pub fn read_indications<E: Copy>(
+    bits: &mut BitReader<'_>,
+    targets: u8,
+    short: E,
+) -> Result<[Dti; 32], E>
     requires { targets ≤ 32 }
-    ensures { Gives (λ a. take targets a) result bits.new (repeat_at indication_at targets (bits_left bits.old)) }
+    ensures { Gives (λ a. take targets a) result bits.new (repeat_at (indication_or short) targets (bits_left bits.old)) }
 {
     let mut out = [Dti::NotPresent; 32];
     for i in 0..targets {
-        out[i as usize] = indication(bits)?;
+        out[i as usize] = indication(bits, short)?;
     }
     Ok(out)
 }
@@ -40,7 +43,7 @@ pub fn indication_table(
 {
     let mut out = [[Dti::NotPresent; 32]; 64];
     for i in 0..templates {
-        out[i as usize] = indications(bits, targets)?;
+        out[i as usize] = read_indications(bits, targets, StructureFault::Short)?;
     }
     Ok(out)
 }

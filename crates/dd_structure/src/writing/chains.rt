@@ -4,6 +4,7 @@ ghost use Rattle.dd_bits.specs.Bits.{bits_of};
 ghost use Rattle.dd_bits.specs.Numbers.{non_symmetric_bits};
 ghost use Rattle.dd_bits.specs.Writer.{Puts};
 
+use crate::reading::chains::LINK_WIDTH;
 use dd_bits::{BitWriter, NoRoom};
 
 /// The chain that protects each decode target.
@@ -17,12 +18,14 @@ pub fn put_guards(out: &mut BitWriter, chains: u8, guards: &[u8]) -> Result<(), 
     Ok(())
 }
 
-fn put_links(out: &mut BitWriter, row: &[u8]) -> Result<(), NoRoom>
-    requires { All (λ l. l < 2 ^ 4) row.now }
-    ensures { Puts result out.old out.new (flat_map (bits_of 4) row.now) }
+/// A link of so many bits for each chain. Where they don't fit, a part of them may stand.
+pub fn put_links(out: &mut BitWriter, width: u8, row: &[u8]) -> Result<(), NoRoom>
+    requires width { width ≤ 32 }
+    requires small { All (λ l. l < 2 ^ width) row.now }
+    ensures { Puts result out.old out.new (flat_map (bits_of width) row.now) }
 {
     for link in row {
-        out.put(4, *link as u32)?;
+        out.put(width, *link as u32)?;
     }
     Ok(())
 }
@@ -34,7 +37,7 @@ pub fn put_link_table(out: &mut BitWriter, chains: usize, rows: &[[u8; 32]]) -> 
     ensures { Puts result out.old out.new (flat_map (λ row. flat_map (bits_of 4) (take chains row)) rows.now) }
 {
     for row in rows {
-        put_links(out, &row[..chains])?;
+        put_links(out, LINK_WIDTH, &row[..chains])?;
     }
     Ok(())
 }

@@ -1,4 +1,4 @@
-use Rattle.std.proofs.Common.{◌≡◌, Result, Ok, refl, ap, sym, arith}
+use Rattle.std.proofs.Common.{Result, Ok, refl, ap, arith}
 use Rattle.dd_bits.specs.declared.reader.Short.{Short}
 use Rattle.dd_bits.specs.Reader.{bits_left}
 use Rattle.dd_descriptor.specs.declared.descriptor.Edges.{Edges}

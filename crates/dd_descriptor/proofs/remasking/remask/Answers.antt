@@ -1,7 +1,6 @@
-use Rattle.std.proofs.Common.{List, Bool, refl, subst, arith}
+use Rattle.std.proofs.Common.{refl, arith}
 use Rattle.std.specs.Option.{option_copied}
-use Rattle.dd_bits.specs.Writer.{written, IsPadded}
-use Rattle.dd_descriptor.specs.Remasking.{remasked}
+use Rattle.dd_bits.specs.Writer.{written}
 use Rattle.dd_descriptor.proofs.Padding.{too_long, not_too_long}
 use Rattle.dd_descriptor.proofs.Remasked.{found_remasked, no_fault, mask_fits, remasked_reads}
 use Rattle.dd_descriptor.proofs.remasking.remask.Goals as goal
