@@ -26,7 +26,7 @@ pub fn a_payload_has_one_reading()
         → IsPayload bytes more_flags more → (flags ≡ more_flags) × (elements ≡ more) }
 {}
 
-/// Bytes have a fault exactly where they are put together as it says.
+/// Bytes have a fault exactly when they are put together as it says.
 pub fn faults_are_what_they_say()
     ensures { (fault : PayloadFault) (bytes : List ℕ) → AreBytes bytes → (first_fault bytes ≡ Some fault) ↔ HasFault fault bytes }
 {}

@@ -11,7 +11,7 @@ pub fn carried_structures_have_layouts()
     ensures { (s : TemplateStructure) → IsWellFormed s → IsLayout (layout_of s) }
 {}
 
-/// A law: two structures are the same, field by field, exactly where they are equal.
+/// A law: two structures are the same, field by field, exactly when they are equal.
 pub fn same_structures_are_equal()
     ensures { (a b : TemplateStructure) → (is_same_structure a b ≡ true) ↔ (a ≡ b) }
 {}

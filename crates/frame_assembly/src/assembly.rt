@@ -57,7 +57,7 @@ impl Assembly {
 
     /// The next packet, at most 1,500 bytes, which are copied where it is a part of the frame under assembly. It is answered
     /// - `Whole` where it ends a whole frame: parts in a row, padding left aside, of one frame number; the first and no other starts, the
-    ///   last and no other ends; the first continues no element, each next one exactly where the one before carries one on, and the last
+    ///   last and no other ends; the first continues no element, each next one exactly when the one before carries one on, and the last
     ///   carries none on. There are at most 512 of them (own rule);
     /// - `Partial` where such a frame hasn't ended; an element may be open then;
     /// - `Pad` at padding;

@@ -7,7 +7,7 @@ pub record Flags : Type 0 where
   pub continues : Bool
   pub carries : Bool
 
--- nothing stands open before the first packet, and each packet continues an element exactly where the one before carries one on
+-- nothing stands open before the first packet, and each packet continues an element exactly when the one before carries one on
 pub record AreJoined (packets : List Flags) : Type 0 where
   pub first : (p : Flags) (more : List Flags) → packets ≡ p ∷ more → p.continues ≡ false
   pub next : (front more : List Flags) (p q : Flags) → packets ≡ front ++ p ∷ q ∷ more → q.continues ≡ p.carries

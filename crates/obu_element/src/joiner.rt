@@ -40,7 +40,7 @@ impl Joiner {
         Joiner { carries: false }
     }
 
-    /// The next packet, with its Z and Y. It is refused exactly where its Z differs from the former Y, and nothing changes then.
+    /// The next packet, with its Z and Y. It is refused exactly when its Z differs from the former Y, and nothing changes then.
     pub fn feed(&mut self, continues: bool, carries: bool) -> Result<(), JoinFault>
         ensures ok { OnOk result ((continues ≡ self.old) × (self.new ≡ carries)) }
         ensures fault { IfErr result (λ e. (continues ≢ self.old) × (e ≡ record { carried = self.old; continues = continues })) }

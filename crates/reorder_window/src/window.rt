@@ -17,6 +17,9 @@ use wrap_number::place;
 /// The numbers that can be accepted lie below this one.
 pub const NUMBER_END: u64 = 1 << 46;
 
+// How many sequence numbers there are.
+const SEQUENCE_NUMBERS: u64 = 65_536;
+
 /// The order of one track. Clauses see it as its hold, the order, and the pieces that are still to be fetched.
 #[derive(Debug, Drop)]
 pub struct Window {
@@ -133,7 +136,7 @@ impl Window {
         out.clear();
         for n in self.next..self.end {
             if !self.ring.holds(n) {
-                out.push((n % 65536) as u16);
+                out.push((n % SEQUENCE_NUMBERS) as u16);
             }
         }
     }

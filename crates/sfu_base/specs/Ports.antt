@@ -18,7 +18,7 @@ abbrev pub tells_nothing_yet : Option Traffic → Type 0
 tells_nothing_yet None = Unit {0}
 tells_nothing_yet (Some told) = told ≡ no_traffic
 
--- The count never falls, and rises exactly where the port that came back has faults of its own.
+-- The count never falls, and rises exactly when the port that came back has faults of its own.
 pub record CountsBack (own before now : ℕ) : Type 0 where
   pub never_falls : before ≤ now
   pub rises : 0 < own → Rose before now

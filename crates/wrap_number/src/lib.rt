@@ -6,6 +6,9 @@ ghost use Rattle.std.specs.Prelude.{◌≡◌, ◌≤ℤ◌, ◌<◌, ◌^◌, n
 ghost use Rattle.wrap_number.specs.Number.{IsNearest, IsLeastAbove, IsOne, ahead_of, nearest_to, least_above};
 ghost use Rattle.wrap_number.specs.Number.{NearestIsNearest, LeastIsLeast, AboveIsNearest, NearestAboveIsFound, NearIsNearestAbove};
 
+// How many numbers there are of 16 bits.
+const TURN: u32 = 65_536;
+
 /// The number that is `n` modulo 65,536 and nearest to `newest` (own rule). A distance of 32,768 is read as behind.
 pub fn place(newest: i64, n: u16) -> i64
     requires low { neg_ℤ (pos (2 ^ 62)) ≤ℤ newest }
@@ -17,7 +20,7 @@ pub fn place(newest: i64, n: u16) -> i64
     if ahead < 32768 {
         newest + i64::from(ahead)
     } else {
-        newest + i64::from(ahead) - 65536
+        newest + i64::from(ahead) - i64::from(TURN)
     }
 }
 
@@ -26,7 +29,7 @@ fn ahead(newest: i64, n: u16) -> u32
     ensures value { result ≡ ahead_of newest n }
     ensures below { result < 65536 }
 {
-    (u32::from(n) + 65536 - newest.rem_euclid(65536) as u32) % 65536
+    (u32::from(n) + TURN - newest.rem_euclid(i64::from(TURN)) as u32) % TURN
 }
 
 /// The least number above `newest` that is `n` modulo 65,536 (own rule).
@@ -35,7 +38,8 @@ pub fn above(newest: u64, n: u16) -> u64
     ensures least { IsLeastAbove newest n result }
     ensures value { result ≡ least_above newest n }
 {
-    newest + (u64::from(n) + 65535 - newest % 65536) % 65536 + 1
+    let turn = u64::from(TURN);
+    newest + (u64::from(n) + turn - 1 - newest % turn) % turn + 1
 }
 
 /// A law: at most one number is the nearest, and at most one is the least above.

@@ -96,7 +96,7 @@ impl Link for MemLink {
 
     ghost faults = { λ s. s.faults };
 
-    /// Fails exactly where the call's place stands in the list; else it brings the next datagram, and `Ok(false)` exactly where none is
+    /// Fails exactly when the call's place stands in the list; else it brings the next datagram, and `Ok(false)` exactly when none is
     /// left.
     fn receive(&mut self, buf: &mut PacketBuf) -> Result<bool, Failed>
         ensures buffer { FillsOnlyWhere result buf.old buf.new }

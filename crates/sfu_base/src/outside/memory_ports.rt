@@ -86,7 +86,7 @@ impl Ports for MemPorts {
 
     ghost faults = { λ s. s.faults };
 
-    /// Fails exactly where the call's place stands in the list; else it gives the next link.
+    /// Fails exactly when the call's place stands in the list; else it gives the next link.
     fn bind(&mut self, _local: Address, _peer: Address) -> Result<MemLink, Failed>
         requires { self.old.bound < 64 }
         ensures bound { self.new.bound ≡ after_bind result self.old.bound }

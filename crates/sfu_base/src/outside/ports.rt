@@ -36,7 +36,7 @@ pub trait Ports {
         ensures silent { IfOk result (λ port. tells_nothing_yet (Self.Port.told port)) }
         ensures cause { HasCause (faults self.old) (faults self.new) result };
 
-    /// Takes a port back. The count of faults rises exactly where the port's own count is above 0.
+    /// Takes a port back. The count of faults rises exactly when the port's own count is above 0.
     fn back(&mut self, port: Self::Port)
         requires { back_count self.old < bound self.old }
         ensures bound { bound self.new ≡ bound self.old }
