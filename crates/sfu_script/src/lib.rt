@@ -35,6 +35,7 @@ pub use actor_line::read_actor_line;
 pub use complaints::write_complaint;
 pub use ends::write_end;
 pub use entries::write_entry;
+pub use fields::{Field, read_fields};
 pub use journal::{Actors, Calls, Entry, Journal};
 pub use laws::{
     lines_read_back, lines_say_one_call, reads_exactly_the_actors_lines, reads_exactly_the_lines,
@@ -50,4 +51,5 @@ pub use record_fault::write_record_fault;
 pub use replies::write_reply;
 pub use short::write_short;
 pub use skipped::is_skipped;
+pub use words::split;
 pub use written_lines::write_call;

@@ -21,7 +21,7 @@ pub fn split_at(text: &[u8], mark: u8) -> Result<(&[u8], &[u8]), NoLine>
     Err(NoLine)
 }
 
-/// What stands before the first space and behind it.
+/// What stands before the first space and behind it; `NoLine` where there is none. Takes no memory.
 pub fn split(text: &[u8]) -> Result<(&[u8], &[u8]), NoLine>
     ensures { MatchResult result (λ parts. cut text.now ≡ Some (parts.0.now, parts.1.now)) (λ _. cut text.now ≡ None) }
 {
