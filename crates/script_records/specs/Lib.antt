@@ -1,0 +1,4 @@
+pub mod Kinds
+pub mod ReadRecords
+pub mod Records
+pub mod Values

@@ -1,0 +1,84 @@
+// The kinds of records, with their numbers and lengths.
+ghost use Rattle.std.specs.Prelude.{◌≡◌};
+ghost use Rattle.script_records.specs.Kinds.{code_of, has_length, kind_named, may_have};
+
+/// What a record says, by the number that its body begins with.
+#[derive(Clone, Copy, Debug, PartialEq, Eq)]
+pub enum RecordKind {
+    PublishPlain = 1,
+    PublishLayered = 2,
+    Unpublish = 3,
+    Packet = 4,
+    Tick = 5,
+    Join = 6,
+    Leave = 7,
+    Aim = 8,
+    Take = 9,
+    Resend = 10,
+    Missing = 11,
+    KeyWanted = 12,
+    Plead = 13,
+    Why = 14,
+}
+
+impl RecordKind {
+    /// The kind with this number.
+    pub fn named(code: u8) -> Option<RecordKind>
+        ensures { result ≡ kind_named code }
+    {
+        match code {
+            1 => Some(RecordKind::PublishPlain),
+            2 => Some(RecordKind::PublishLayered),
+            3 => Some(RecordKind::Unpublish),
+            4 => Some(RecordKind::Packet),
+            5 => Some(RecordKind::Tick),
+            6 => Some(RecordKind::Join),
+            7 => Some(RecordKind::Leave),
+            8 => Some(RecordKind::Aim),
+            9 => Some(RecordKind::Take),
+            10 => Some(RecordKind::Resend),
+            11 => Some(RecordKind::Missing),
+            12 => Some(RecordKind::KeyWanted),
+            13 => Some(RecordKind::Plead),
+            14 => Some(RecordKind::Why),
+            _ => None,
+        }
+    }
+
+    /// The number of the kind.
+    pub fn code(self) -> u8
+        ensures { result ≡ code_of self }
+    {
+        self as u8
+    }
+
+    /// Whether a body of this kind may have so many bytes, the kind's own counted.
+    pub fn has_length(self, length: usize) -> bool
+        ensures { result ≡ has_length self length }
+    {
+        match self {
+            RecordKind::Unpublish
+            | RecordKind::Leave
+            | RecordKind::Take
+            | RecordKind::Missing
+            | RecordKind::KeyWanted
+            | RecordKind::Plead => length == 5,
+            RecordKind::Aim | RecordKind::Resend => length == 7,
+            RecordKind::PublishPlain | RecordKind::Tick | RecordKind::Why => length == 13,
+            RecordKind::PublishLayered => length == 14,
+            RecordKind::Join => length == 17,
+            RecordKind::Packet => length >= 14 && length <= 2061,
+        }
+    }
+}
+
+/// Whether the body of a record may begin with this number and have so many bytes, the number's own counted: it is then in the table of
+/// records, whatever the other bytes are. Takes no memory.
+pub fn may_have_length(code: u8, length: usize) -> bool
+    ensures { result ≡ may_have code length }
+{
+    match RecordKind::named(code) {
+        Some(kind) => kind.has_length(length),
+        None => false,
+    }
+}

@@ -1,0 +1,19 @@
+//! The second form of scripts: records of bytes, each of which says a call of the room.
+#![tactic(auto)]
+
+mod fields;
+mod kind;
+mod laws;
+mod reader;
+#[cfg(test)]
+mod tests;
+mod values;
+mod writer;
+
+pub use kind::may_have_length;
+pub use laws::{
+    converted_lines_say_the_same, lengths_read_back, reads_exactly_the_records,
+    records_are_in_the_table, records_read_back, records_say_one_call,
+};
+pub use reader::{NoRecord, read_record};
+pub use writer::write_record;
