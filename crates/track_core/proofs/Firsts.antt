@@ -1,11 +1,10 @@
 -- A descriptor that was read and seen, by what is in force before it and after it.
-use Rattle.std.proofs.Common.{◌≡◌, ◌⊎◌, inl, inr, ◌≤◌, ℕ, Bool, true, false, cond, not, ◌&&◌, ◌||◌, List, Option, Some, None, Result, Ok, Err, refl, sym, ap, subst, ◌∙◌}
-use Rattle.std.specs.Prelude.{IfSome, OnOk, is_some}
+use Rattle.std.proofs.Common.{◌≡◌, ◌⊎◌, inl, inr, ◌≤◌, ℕ, Bool, true, false, cond, ◌&&◌, ◌||◌, List, Option, Some, None, Result, Ok, Err, refl, sym, ap, subst, ◌∙◌}
+use Rattle.std.specs.Prelude.{OnOk, is_some}
 use Rattle.std.specs.Result.{is_err}
-use Rattle.std.proofs.lemmas.Bool.{and_parts}
 use Rattle.forwarding_model.specs.forwarding.Timeline.{Packet}
 use Rattle.forwarding_model.specs.frames.Reading.{Descriptor as Said, Joins, has_structure, is_key_start, keeps_structure}
-use Rattle.forwarding_model.specs.frames.Reading.Payload.{Empty, Broken, Elements}
+use Rattle.forwarding_model.specs.frames.Reading.Payload.{Broken}
 use Rattle.forwarding_model.specs.frames.Frames.{Force, after_descriptor, is_padding, part_of, seen_as}
 use Rattle.dd_structure.specs.TemplateStructure.{TemplateStructure}
 use Rattle.dd_descriptor.specs.declared.fault.DdFault.{DdFault}
@@ -20,7 +19,7 @@ use Rattle.dd_descriptor.proofs.Found.{descriptor_found}
 use Rattle.dd_layout.proofs.Layouts.{same_structure}
 use Rattle.dd_descriptor.proofs.OwnStructure.{own_structure}
 use Rattle.frame_table.specs.declared.table.Reading.TheVariants as reading
-use Rattle.frame_table.specs.Seen.{IsFirst, IsReadBy, answer, answered, obeys, said_of, seen_by}
+use Rattle.frame_table.specs.Seen.{IsFirst, answer, answered, obeys, said_of, seen_by}
 use Rattle.packet_format.specs.declared.look.PayloadFlags.{PayloadFlags}
 use Rattle.packet_format.specs.declared.look.PayloadFlags.TheVariants as flags
 use Rattle.packet_format.specs.Shown.{payload_said}

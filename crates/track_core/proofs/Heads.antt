@@ -1,7 +1,7 @@
 -- What is kept of the first descriptor is that of the run that goes on.
 use Rattle.std.proofs.Common.{◌≡◌, ℕ, Bool, true, false, cond, List, [], ◌∷◌, ◌++◌, Option, Some, None, refl, sym, ap, subst, ◌∙◌}
 use Rattle.std.specs.Prelude.{IfSome, is_some}
-use Rattle.forwarding_model.specs.frames.Cuts.{Part, Mark, Run, begun, continued, extended, is_next, run_of}
+use Rattle.forwarding_model.specs.frames.Cuts.{Part, Mark, Run, begun, continued, extended, is_next}
 use Rattle.forwarding_model.specs.frames.Cuts.Mark.{Gone, Padding, Unreadable, Read}
 use Rattle.forwarding_model.specs.frames.Frames.{Force, ReadPacket}
 use Rattle.dd_structure.specs.TemplateStructure.{TemplateStructure}
@@ -9,9 +9,8 @@ use Rattle.dd_descriptor.specs.declared.descriptor.Descriptor.{Descriptor}
 use Rattle.frame_assembly.specs.declared.mark.Mark.{Mark as CodeMark}
 use Rattle.frame_assembly.specs.declared.mark.Mark.TheVariants as code
 use Rattle.frame_assembly.specs.Assembled.{marked}
-use Rattle.frame_table.specs.declared.table.FrameHead.{FrameHead}
 use Rattle.frame_table.specs.Heads.{HasReferences, head_of}
-use Rattle.frame_table.specs.Seen.{IsFirst, said_of}
+use Rattle.frame_table.specs.Seen.{IsFirst}
 use Rattle.track_core.specs.declared.layers.Layers.{Layers}
 use Rattle.track_core.specs.Layers.{HasFirst, HasHead, IsHeadOf, StartsAs, sent_of, starts}
 use Rattle.track_core.specs.Mapped.{mark_with}

@@ -8,4 +8,6 @@ pub mod TakenPieces
 pub mod Packets
 pub mod Orders
 pub mod Bounds
+pub mod Brought
 pub mod TakenPackets
+pub mod OfFrames

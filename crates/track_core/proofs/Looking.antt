@@ -1,16 +1,14 @@
 -- What a packet is looked at as, case by case.
-use Rattle.std.proofs.Common.{◌≡◌, ◌⊎◌, inl, inr, ◌≤◌, ℕ, Bool, true, false, cond, List, length, Option, Some, None, Result, Ok, Err, refl, sym, ap, ap₂, subst, ◌∙◌}
-use Rattle.std.specs.Prelude.{IfSome, is_some}
-use Rattle.std.specs.Option.{option_copied}
+use Rattle.std.proofs.Common.{◌≡◌, ℕ, Bool, true, false, cond, List, Option, Some, None, Result, Ok, Err, refl, sym, ap, ap₂, subst, ◌∙◌}
+use Rattle.std.specs.Prelude.{is_some}
 use Rattle.std.proofs.lemmas.Bool.{cond-true, cond-false}
-use Rattle.forwarding_model.specs.forwarding.Timeline.{Packet}
-use Rattle.forwarding_model.specs.frames.Reading.{Descriptor as Said, DescriptorReading, Joins, Payload, Showing, has_structure, is_key_start, keeps_structure, obeys_structure, shown, shown_by}
-use Rattle.forwarding_model.specs.frames.Reading.DescriptorReading.{Faulty, NeedsStructure, Reads}
+use Rattle.forwarding_model.specs.frames.Reading.{Joins, Payload, Showing, shown, shown_by}
+use Rattle.forwarding_model.specs.frames.Reading.DescriptorReading.{Faulty}
 use Rattle.forwarding_model.specs.frames.Reading.Payload.{Empty, Broken, Elements}
 use Rattle.forwarding_model.specs.frames.Reading.Showing.{LacksStructure, Unread, Shows}
-use Rattle.forwarding_model.specs.frames.Cuts.{Mark, Part}
-use Rattle.forwarding_model.specs.frames.Cuts.Mark.{Gone, Padding, Unreadable, Read}
-use Rattle.forwarding_model.specs.frames.Frames.{Force, ReadPacket, after_descriptor, after_showing, is_padding, part_of, seen_as, showing_mark}
+use Rattle.forwarding_model.specs.frames.Cuts.{Part}
+use Rattle.forwarding_model.specs.frames.Cuts.Mark.{Padding, Unreadable, Read}
+use Rattle.forwarding_model.specs.frames.Frames.{Force, ReadPacket, after_descriptor, after_showing, is_padding, part_of, showing_mark}
 use Rattle.forwarding_model.specs.frames.Frames.Item.{Arrived}
 use Rattle.rtp_packet.specs.declared.packet.Rtp.{Rtp}
 use Rattle.rtp_packet.proofs.Faultless.{header_there}
@@ -18,27 +16,20 @@ use Rattle.dd_structure.specs.TemplateStructure.{TemplateStructure}
 use Rattle.dd_descriptor.specs.declared.fault.DdFault.{DdFault}
 use Rattle.dd_descriptor.specs.declared.fault.DdFault.TheVariants as faults
 use Rattle.dd_descriptor.specs.declared.descriptor.Descriptor.{Descriptor}
-use Rattle.dd_descriptor.specs.Content.{Content, holding}
+use Rattle.dd_descriptor.specs.Content.{Content}
 use Rattle.dd_layout.specs.Layouts.{structures_alone}
-use Rattle.packet_format.specs.Formats.{said}
 use Rattle.dd_descriptor.specs.Reading.{descriptor_at}
 use Rattle.dd_descriptor.specs.Seen.{content_of}
-use Rattle.dd_descriptor.specs.Spelling.{IsWritableBy}
-use Rattle.dd_descriptor.proofs.Found.{descriptor_found}
-use Rattle.dd_layout.proofs.Layouts.{same_structure}
-use Rattle.dd_descriptor.proofs.OwnStructure.{own_structure}
 use Rattle.frame_assembly.specs.declared.mark.Mark.{Mark as CodeMark}
 use Rattle.frame_assembly.specs.declared.mark.Mark.TheVariants as code
 use Rattle.frame_assembly.specs.Assembled.{marked}
-use Rattle.frame_table.specs.declared.table.Reading.{Reading}
-use Rattle.frame_table.specs.declared.table.Reading.TheVariants as reading
-use Rattle.frame_table.specs.Seen.{IsFirst, IsReadBy, answer, answered, obeys, said_of, seen_by}
-use Rattle.packet_format.specs.Formats.{descriptor_in, element_in, element_of, format_of, payload_in, reading_of}
-use Rattle.packet_format.specs.Packets.{bytes_of, packet_of}
+use Rattle.frame_table.specs.Seen.{obeys, said_of}
+use Rattle.packet_format.specs.Formats.{descriptor_in, element_in, format_of, payload_in, reading_of}
+use Rattle.packet_format.specs.Packets.{packet_of}
 use Rattle.packet_format.specs.Shown.{IsOf}
 use Rattle.packet_format.proofs.Packets.{packets_sent}
 use Rattle.packet_format.proofs.Shows.{element_same, payload_same}
-use Rattle.track_core.specs.Layers.{HasFirst, Looked, StartsAs, force_of, mark_of, sent_of}
+use Rattle.track_core.specs.Layers.{HasFirst, Looked, StartsAs, mark_of, sent_of}
 use Rattle.track_core.specs.Mapped.{mark_with}
 
 -- ---- from what is shown

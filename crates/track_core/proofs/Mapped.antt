@@ -1,12 +1,12 @@
 -- Runs and outcomes are the same whatever the parts bring.
-use Rattle.std.proofs.Common.{◌≡◌, ℕ, ◌+◌, Bool, true, false, cond, not, ◌&&◌, ◌==◌, List, [], ◌∷◌, ◌++◌, map, length, Option, Some, None, refl, sym, ap, ◌∙◌}
+use Rattle.std.proofs.Common.{◌≡◌, ℕ, ◌+◌, Bool, true, false, cond, not, ◌&&◌, ◌==◌, List, [], ◌∷◌, ◌++◌, map, Option, Some, None, refl, sym, ap, ◌∙◌}
 use Rattle.std.specs.Prelude.{nat_lt}
 use Rattle.std.specs.Bool.{beq}
 use Rattle.std.specs.Option.{option_map}
 use Rattle.std.proofs.lemmas.List.{length-map, map-append}
-use Rattle.forwarding_model.specs.frames.Cuts.{Part, Mark, Run, Outcome, begun, continued, extended, is_next, run_of, cut_by, whole, outcome, run_outcome, cut_of}
+use Rattle.forwarding_model.specs.frames.Cuts.{Part, Mark, Run, begun, continued, extended, is_next, run_of, cut_by, whole, outcome, run_outcome, cut_of}
 use Rattle.forwarding_model.specs.frames.Cuts.Mark.{Gone, Padding, Unreadable, Read}
-use Rattle.forwarding_model.specs.frames.Cuts.Outcome.{IsWhole, IsTorn, IsPadding, IsPartial}
+use Rattle.forwarding_model.specs.frames.Cuts.Outcome.{IsWhole, IsTorn, IsPartial}
 use Rattle.track_core.specs.Mapped.{part_with, mark_with, run_with}
 
 module _ {X Y : Type 0} (f : X → Y) where

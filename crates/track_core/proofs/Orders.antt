@@ -1,15 +1,14 @@
 -- What a track stands for after an event, and after a step.
-use Rattle.std.proofs.Common.{◌≡◌, ℕ, zero, suc, ◌+◌, ◌-◌, ◌*◌, ◌≤◌, ◌<◌, ◌^◌, Bool, true, false, cond, ◌==◌, nat_lt, List, [], ◌∷◌, ◌++◌, length, drop, Option, Some, None, Result, Ok, Err, refl, sym, ap, subst, ◌∙◌, arith, append_assoc, append-nil, length-append}
+use Rattle.std.proofs.Common.{◌≡◌, ℕ, ◌+◌, ◌-◌, ◌*◌, ◌≤◌, ◌^◌, Bool, true, false, cond, ◌==◌, nat_lt, List, [], ◌∷◌, ◌++◌, length, drop, Option, Some, None, Result, Ok, Err, refl, sym, ap, subst, ◌∙◌, arith, append_assoc, append-nil, length-append}
 use Rattle.std.specs.Prelude.{IfSome, is_some, slice_get}
 use Rattle.std.specs.List.{AllByRecursion}
 use Rattle.std.specs.Option.{option_map}
 use Rattle.sfu_base.specs.declared.call.RtpFault.{RtpFault}
 use Rattle.forwarding_model.specs.forwarding.Timeline.{Frame, meaning_of}
 use Rattle.forwarding_model.specs.frames.Frames.{Force, Item, made_by_item, state_after}
-use Rattle.forwarding_model.specs.frames.Frames.Item.{Missing, Arrived}
 use Rattle.reorder_window.specs.declared.arrival.Arrival.{Arrival}
 use Rattle.reorder_window.specs.declared.arrival.Item.{Item as OrderItem}
-use Rattle.reorder_window.specs.Events.{Event, Arrives, Ticks, Held, Piece, Got, Gone}
+use Rattle.reorder_window.specs.Events.{Event, Piece, Got, Gone}
 use Rattle.reorder_window.specs.Order.{Order, added, before_all, items_of as order_items, judged_sequence, order_of}
 use Rattle.reorder_window.specs.Window.{Seen as Window, IsAfter as WindowAfter, filled, item_of as told_of, refusal as order_refusal_of}
 use Rattle.dd_structure.specs.TemplateStructure.{TemplateStructure}
@@ -17,15 +16,13 @@ use Rattle.packet_format.specs.Formats.{format_of}
 use Rattle.rtp_packet.specs.Fields.{sequence_of, ssrc_of}
 use Rattle.rtp_packet.specs.Faults.{first_fault}
 use Rattle.track_core.specs.declared.layers.Layers.{Layers}
-use Rattle.sfu_base.specs.declared.call.Refusal.{Refusal}
-use Rattle.track_core.specs.declared.track.Made.{Made}
 use Rattle.track_core.specs.declared.track.Made.TheVariants as made
 use Rattle.sfu_base.specs.declared.call.Refusal.TheVariants as refusal
 use Rattle.track_core.specs.Layers.{HasStood, IsAfter, IsAfterAs, meaning_made}
 use Rattle.track_core.specs.Pieces.{IsTaken, IsTakenIn, IsTakenPiece, item_by, item_of, items_of}
 use Rattle.track_core.specs.Kept.{packets_in}
 use Rattle.track_core.proofs.Packets.{packets_there}
-use Rattle.track_core.specs.Track.{Seen, StandsFor, and_piece, first_refusal, frame_by, frame_packets, gives, id_of, packets_of, plain_packets, is_got, made_by, made_frame, made_meaning, made_of, made_plain, order_refusal, read_refusal, refused, source_refusal, structure_after, structure_in}
+use Rattle.track_core.specs.Track.{Seen, StandsFor, and_piece, first_refusal, frame_by, frame_packets, gives, id_of, packets_of, plain_packets, is_got, made_by, made_frame, made_meaning, made_of, made_plain, order_refusal, read_refusal, refused, structure_after, structure_in}
 use Rattle.track_core.proofs.Bounds.{next_bounded}
 use Rattle.track_core.proofs.TakenPieces.{all_behind, few_pieces, items_taken}
 

@@ -1,18 +1,18 @@
 -- The packets that an assembly has of a whole frame are those of the frame.
-use Rattle.std.proofs.Common.{◌≡◌, ℕ, Bool, true, false, List, [], ◌∷◌, map, Option, Some, None, refl, sym, ap, ap₂, ◌∙◌}
+use Rattle.std.proofs.Common.{◌≡◌, ℕ, List, [], ◌∷◌, map, Option, Some, None, refl, sym, ap, ◌∙◌}
 use Rattle.std.specs.Option.{option_map}
-use Rattle.forwarding_model.specs.forwarding.Timeline.{Packet, Frame}
-use Rattle.forwarding_model.specs.frames.Cuts.{Mark, Part, Run, cut_by, cut_of, parts_of, run_of}
+use Rattle.forwarding_model.specs.forwarding.Timeline.{Frame}
+use Rattle.forwarding_model.specs.frames.Cuts.{Part, cut_by, parts_of, run_of}
 use Rattle.forwarding_model.specs.frames.Frames.{Item, Force, Made, ReadPacket, frame_of as model_frame, framed, made_by_item, number_of, packet_of as packet_in, state_after}
 use Rattle.dd_structure.specs.TemplateStructure.{TemplateStructure}
 use Rattle.frame_assembly.specs.Assembled.{frame_of as assembled_frame, packets_of as assembled_packets}
 use Rattle.packet_format.specs.Formats.{format_of}
 use Rattle.packet_format.specs.Packets.{bytes_of}
 use Rattle.track_core.specs.declared.layers.Layers.{Layers}
-use Rattle.track_core.specs.Layers.{IsAfterAs, force_of, mark_of, marks_of, sent_marks, sent_of}
-use Rattle.track_core.specs.Mapped.{mark_with, part_with, run_with}
+use Rattle.track_core.specs.Layers.{IsAfterAs, force_of, mark_of, marks_of, sent_of}
+use Rattle.track_core.specs.Mapped.{part_with, run_with}
 use Rattle.track_core.specs.Track.{frame_packets}
-use Rattle.track_core.proofs.Heads.{TheMark, TheRun}
+use Rattle.track_core.proofs.Heads.{TheRun}
 use Rattle.track_core.proofs.Mapped.{cut_of_with}
 use Rattle.track_core.proofs.Standing.{made_of, run_is}
 

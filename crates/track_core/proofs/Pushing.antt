@@ -1,14 +1,14 @@
 -- What a mark that is pushed makes.
-use Rattle.std.proofs.Common.{◌≡◌, ℕ, Bool, true, false, List, [], ◌∷◌, map, Option, Some, None, Result, Ok, Err, refl, sym, ap, subst, ◌∙◌}
+use Rattle.std.proofs.Common.{◌≡◌, ℕ, true, false, List, ◌∷◌, Option, Some, None, Result, Ok, Err, refl, sym, ap, subst, ◌∙◌}
 use Rattle.std.specs.Prelude.{IfOk, IfSome, is_some}
 use Rattle.std.specs.Option.{option_map}
 use Rattle.std.specs.Result.{result_ok}
 use Rattle.sfu_base.specs.declared.frame.FrameMeaning.{FrameMeaning}
 use Rattle.sfu_base.specs.Frame.{IsValid}
-use Rattle.forwarding_model.specs.forwarding.Timeline.{Frame, meaning_of}
-use Rattle.forwarding_model.specs.frames.Cuts.{Mark, Run, Outcome as CutOutcome, cut_by, extended, outcome, run_of}
+use Rattle.forwarding_model.specs.forwarding.Timeline.{meaning_of}
+use Rattle.forwarding_model.specs.frames.Cuts.{Mark, Outcome as CutOutcome, cut_by, extended, outcome, run_of}
 use Rattle.forwarding_model.specs.frames.Cuts.Outcome.{IsPadding, IsWhole, IsPartial, IsTorn}
-use Rattle.forwarding_model.specs.frames.Frames.{Force, ReadPacket, frame_of, framed, newest_with, number_of, with_frame}
+use Rattle.forwarding_model.specs.frames.Frames.{Force, frame_of, framed, newest_with, number_of, with_frame}
 use Rattle.dd_structure.specs.TemplateStructure.{TemplateStructure}
 use Rattle.dd_layout.specs.Layouts.{structures_alone}
 use Rattle.frame_assembly.specs.declared.mark.Mark.{Mark as CodeMark}
@@ -17,7 +17,7 @@ use Rattle.frame_assembly.specs.declared.mark.Outcome.TheVariants as made
 use Rattle.frame_assembly.specs.Assembled.{answer, marked, IsAfter as AssembledAfter}
 use Rattle.frame_table.specs.declared.table.FrameHead.{FrameHead}
 use Rattle.frame_table.specs.declared.table.Stale.{Stale}
-use Rattle.frame_table.specs.Heads.{HasReferences, head_of, meant_at, meant_with_head, number_at, numbered_at}
+use Rattle.frame_table.specs.Heads.{head_of, meant_at, meant_with_head, numbered_at}
 use Rattle.frame_table.specs.Seen.{newest_after}
 use Rattle.track_core.specs.declared.layers.Layers.{Layers}
 use Rattle.track_core.specs.Layers.{HasHead, IsHeadOf, IsRunning, Pushed, StartsAs, framed_by, sent_marks, sent_of, starts}

@@ -1,25 +1,23 @@
 -- What a layered track stands for after one packet more.
-use Rattle.std.proofs.Common.{◌≡◌, ℕ, ◌+◌, ◌≤◌, Bool, true, false, cond, List, [], ◌∷◌, map, Option, Some, None, refl, sym, ap, ap₂, subst, ◌∙◌, arith}
+use Rattle.std.proofs.Common.{◌≡◌, ℕ, Bool, true, false, cond, List, [], ◌∷◌, Option, Some, None, refl, sym, ap, ap₂, subst, ◌∙◌}
 use Rattle.std.specs.Prelude.{IfSome, is_some}
 use Rattle.std.specs.Option.{option_map}
 use Rattle.sfu_base.specs.declared.frame.FrameMeaning.{FrameMeaning}
-use Rattle.forwarding_model.specs.forwarding.Timeline.{Packet, Frame, meaning_of}
+use Rattle.forwarding_model.specs.forwarding.Timeline.{Frame, meaning_of}
 use Rattle.forwarding_model.specs.frames.Reading.{shown}
-use Rattle.forwarding_model.specs.frames.Cuts.{Mark, Run, cut_by, extended, run_of}
+use Rattle.forwarding_model.specs.frames.Cuts.{cut_by, extended, run_of}
 use Rattle.forwarding_model.specs.frames.Cuts.Mark.{Padding}
-use Rattle.forwarding_model.specs.frames.Frames.{Item, Force, Made, ReadPacket, TrackState, after_showing, frame_of, is_padding, made_by, made_by_item, made_by_packet, showing_mark, state_after, with_frame}
+use Rattle.forwarding_model.specs.frames.Frames.{Item, Force, Made, TrackState, after_showing, frame_of, is_padding, made_by, made_by_item, made_by_packet, showing_mark, state_after, with_frame}
 use Rattle.forwarding_model.specs.frames.Frames.Item.{Missing, Arrived}
 use Rattle.dd_structure.specs.TemplateStructure.{TemplateStructure}
 use Rattle.dd_layout.specs.Layouts.{structures_alone}
 use Rattle.frame_assembly.specs.declared.mark.Mark.{Mark as CodeMark}
-use Rattle.frame_assembly.specs.Assembled.{marked, Seen as Assembled, IsAfter as AssembledAfter}
-use Rattle.frame_table.specs.declared.table.FrameHead.{FrameHead}
+use Rattle.frame_assembly.specs.Assembled.{Seen as Assembled, IsAfter as AssembledAfter}
 use Rattle.frame_table.specs.Heads.{HasReferences}
 use Rattle.packet_format.specs.Formats.{format_of}
 use Rattle.packet_format.specs.Packets.{packet_of}
 use Rattle.track_core.specs.declared.layers.Layers.{Layers}
-use Rattle.track_core.specs.Layers.{HasHead, IsAfterAs, IsPushable, IsRunning, Looked, Pushed, StartsAs, force_of, framed_by, mark_of, marks_of, meaning_made, sent_marks, sent_of}
-use Rattle.track_core.specs.Mapped.{mark_with}
+use Rattle.track_core.specs.Layers.{HasHead, IsAfterAs, IsPushable, IsRunning, Looked, Pushed, force_of, framed_by, mark_of, marks_of, meaning_made, sent_marks}
 use Rattle.track_core.proofs.Heads.{TheMark, TheRun}
 
 -- what an item makes, by its mark and what is in force then

@@ -1,13 +1,13 @@
 -- What came is what a track takes in, and so are the pieces of its order; and there are no more pieces than numbers.
-use Rattle.std.proofs.Common.{◌≡◌, ℕ, zero, suc, ◌+◌, ◌-◌, ◌≤◌, ◌<◌, max, Bool, true, false, cond, nat_lt, nat_le, List, [], ◌∷◌, ◌++◌, length, refl, sym, ap, subst, ◌∙◌, arith, length-append}
-use Rattle.std.specs.Prelude.{ℤ, Option, None, Some, Result, Ok, Err, filter}
+use Rattle.std.proofs.Common.{◌≡◌, ℕ, zero, suc, ◌+◌, ◌-◌, ◌≤◌, Bool, true, false, cond, nat_lt, nat_le, List, [], ◌∷◌, ◌++◌, length, refl, ap, arith, length-append}
+use Rattle.std.specs.Prelude.{Option, None, Some, Result, Ok, Err, filter}
 use Rattle.std.specs.List.{AllByRecursion}
 use Rattle.std.proofs.lemmas.Bool.{ltb-true}
 use Rattle.reorder_window.specs.declared.arrival.Arrival.{Arrival}
-use Rattle.reorder_window.specs.Events.{Event, Arrives, Ticks, Held, Piece, Got, Gone}
-use Rattle.reorder_window.specs.Items.{below, counted, from_on, gap, named, numbers, pieces}
+use Rattle.reorder_window.specs.Events.{Event, Arrives, Ticks, Held, Got, Gone}
+use Rattle.reorder_window.specs.Items.{below, counted, gap, named, numbers, pieces}
 use Rattle.reorder_window.specs.Laws.{first_number, numbers_from}
-use Rattle.reorder_window.specs.Order.{Order, added, advanced, after, arrived, arrived_pieces, before_all, holding, insert, items_of as order_items, judged_sequence, next_holding, next_ticked, order_of, packet_of as held_of, passed_over, ticked}
+use Rattle.reorder_window.specs.Order.{Order, added, after, arrived, arrived_pieces, holding, insert, items_of as order_items, judged_sequence, next_holding, next_ticked, order_of, packet_of as held_of, ticked}
 use Rattle.reorder_window.proofs.Once.{each_once}
 use Rattle.reorder_window.proofs.Pieces.{named-append}
 use Rattle.track_core.specs.Pieces.{IsTaken, IsTakenIn, IsTakenPiece}
@@ -21,6 +21,10 @@ all_append P (x ∷ xs) ys a b = (a.0, all_append P xs ys a.1 b)
 pub all_behind : {A : Type 0} (P : A → Type 0) (xs ys : List A) → AllByRecursion P (xs ++ ys) → AllByRecursion P ys
 all_behind P [] ys a = a
 all_behind P (x ∷ xs) ys a = all_behind P xs ys a.1
+
+pub all_front : {A : Type 0} (P : A → Type 0) (xs ys : List A) → AllByRecursion P (xs ++ ys) → AllByRecursion P xs
+all_front P [] ys all = tt
+all_front P (x ∷ xs) ys all = (all.0, all_front P xs ys all.1)
 
 pub all_filter : {A : Type 0} (P : A → Type 0) (test : A → Bool) (xs : List A) → AllByRecursion P xs → AllByRecursion P (filter test xs)
 all_filter P test [] a = tt

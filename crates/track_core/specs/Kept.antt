@@ -1,5 +1,5 @@
 -- What the fields of a track stand for, and what they keep.
-use Rattle.std.specs.Prelude.{◌≡◌, ℕ, Bool, true, if◌then◌else◌, List, [], ◌∷◌, Option, None, Some}
+use Rattle.std.specs.Prelude.{◌≡◌, ℕ, true, if◌then◌else◌, List, [], ◌∷◌, Option, None, Some}
 use Rattle.reorder_window.specs.Events.{Event, Piece}
 use Rattle.track_core.specs.declared.track.Track.TheInside.{Inside}
 use Rattle.track_core.specs.declared.layers.Layers.{Layers}

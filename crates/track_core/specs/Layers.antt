@@ -1,12 +1,12 @@
 -- What a layered track stands for between two items. Lists of items and marks have the newest first.
-use Rattle.std.specs.Prelude.{◌≡◌, ◌≤◌, ℕ, Bool, true, false, if◌then◌else◌, List, [], ◌∷◌, map, Option, None, Some, IfSome, is_some, length}
+use Rattle.std.specs.Prelude.{◌≡◌, ℕ, Bool, true, false, if◌then◌else◌, List, [], ◌∷◌, map, Option, IfSome, is_some}
 use Rattle.std.specs.Option.{option_map}
 use Rattle.sfu_base.specs.declared.frame.FrameMeaning.{FrameMeaning}
-use Rattle.forwarding_model.specs.forwarding.Timeline.{Packet, Frame, meaning_of}
+use Rattle.forwarding_model.specs.forwarding.Timeline.{Frame, meaning_of}
 use Rattle.forwarding_model.specs.frames.Reading.{shown}
 use Rattle.forwarding_model.specs.frames.Cuts.{Mark, Part, Run, run_of, cut_by}
 use Rattle.forwarding_model.specs.frames.Cuts.Mark.{Gone, Padding, Read}
-use Rattle.forwarding_model.specs.frames.Frames.{Item, Force, ReadPacket, TrackState, after_showing, frame_of, is_padding, made_by_item, showing_mark, state_after, with_frame}
+use Rattle.forwarding_model.specs.frames.Frames.{Item, Force, ReadPacket, after_showing, frame_of, is_padding, made_by_item, showing_mark, state_after, with_frame}
 use Rattle.forwarding_model.specs.frames.Frames.Item.{Missing, Arrived}
 use Rattle.dd_structure.specs.TemplateStructure.{TemplateStructure}
 use Rattle.dd_descriptor.specs.declared.descriptor.Descriptor.{Descriptor}

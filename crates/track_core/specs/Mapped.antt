@@ -1,5 +1,5 @@
 -- Marks, runs and parts with other things brought with them. Nothing that is said of cuts looks at what a part brings.
-use Rattle.std.specs.Prelude.{List, map}
+use Rattle.std.specs.Prelude.{map}
 use Rattle.forwarding_model.specs.frames.Cuts.{Part, Mark, Run}
 use Rattle.forwarding_model.specs.frames.Cuts.Mark.{Gone, Padding, Unreadable, Read}
 

@@ -3,7 +3,7 @@ use Rattle.std.specs.Prelude.{◌≡◌, ◌≤◌, ℕ, Bool, if◌then◌else�
 use Rattle.sfu_base.specs.Bytes.{AreBytes}
 use Rattle.forwarding_model.specs.frames.Frames.{Item}
 use Rattle.forwarding_model.specs.frames.Frames.Item.{Missing, Arrived}
-use Rattle.reorder_window.specs.Events.{Event, Arrives, Ticks, Held, Piece, Got, Gone}
+use Rattle.reorder_window.specs.Events.{Event, Arrives, Ticks, Piece, Got, Gone}
 use Rattle.rtp_packet.specs.Faults.{first_fault}
 use Rattle.packet_format.specs.Packets.{packet_of}
 

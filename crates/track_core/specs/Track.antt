@@ -1,19 +1,19 @@
 -- What contracts see of a track, what it stands for, and what its steps make.
-use Rattle.std.specs.Prelude.{◌≡◌, ◌*◌, ◌≤◌, ℕ, Bool, true, false, if◌then◌else◌, ◌==◌, nat_lt, List, [], ◌∷◌, ◌++◌, Option, None, Some, Result, Ok, Err, IfSome, length, map, slice_get}
+use Rattle.std.specs.Prelude.{◌≡◌, ◌*◌, ◌≤◌, ℕ, Bool, true, false, if◌then◌else◌, ◌==◌, nat_lt, List, [], ◌∷◌, ◌++◌, Option, None, Some, Result, Ok, Err, IfSome, length, map}
 use Rattle.std.specs.List.{AllByRecursion}
 use Rattle.sfu_base.specs.declared.call.RtpFault.{RtpFault}
-use Rattle.forwarding_model.specs.forwarding.Timeline.{Frame}
+use Rattle.forwarding_model.specs.forwarding.Timeline.{Frame, Packet}
 use Rattle.forwarding_model.specs.frames.Frames.{Item, made_by_item, state_after}
 use Rattle.reorder_window.specs.declared.arrival.Arrival.{Arrival}
 use Rattle.reorder_window.specs.declared.arrival.Arrival.TheVariants as arrival
-use Rattle.reorder_window.specs.Events.{Event, Arrives, Ticks, Held, Piece, Got, Gone}
-use Rattle.reorder_window.specs.Order.{Order, items_of as order_items, judged_sequence}
+use Rattle.reorder_window.specs.Events.{Event, Piece, Got, Gone}
+use Rattle.reorder_window.specs.Order.{items_of as order_items, judged_sequence}
 use Rattle.reorder_window.specs.Window.{Seen as Window, IsAfter as WindowAfter}
 use Rattle.rtp_packet.specs.Fields.{sequence_of, ssrc_of}
 use Rattle.rtp_packet.specs.Faults.{first_fault}
 use Rattle.dd_structure.specs.TemplateStructure.{TemplateStructure}
 use Rattle.packet_format.specs.Formats.{format_of}
-use Rattle.packet_format.specs.Packets.{bytes_of}
+use Rattle.packet_format.specs.Packets.{bytes_of, packet_of}
 use Rattle.sfu_base.specs.declared.call.Refusal.{Refusal}
 use Rattle.sfu_base.specs.declared.call.Refusal.TheVariants as refusal
 use Rattle.track_core.specs.declared.track.Made.{Made}
@@ -112,6 +112,22 @@ IsMadeValid made.Nothing = Unit {0}
 IsMadeValid made.Packet = Unit {0}
 IsMadeValid (made.Frame meaning) = IsValid meaning
 
+-- ---- the same packets as forwarding's
+
+abbrev pub framed_packets : Option (Frame TemplateStructure) → List Packet
+framed_packets None = []
+framed_packets (Some frame) = frame.packets
+
+abbrev pub plain_packet : Piece → List Packet
+plain_packet (Got h) = packet_of h.bytes ∷ []
+plain_packet (Gone from to) = []
+
+-- the packets of the frame that the piece makes which waits first, or that packet itself on a plain track
+abbrev pub frames_packets : Option Layers → List Piece → Option Piece → List Packet
+frames_packets layers worked None = []
+frames_packets None worked (Some piece) = plain_packet piece
+frames_packets (Some l) worked (Some piece) = framed_packets (frame_by l.id worked piece)
+
 -- the structure in force once these pieces were worked off
 abbrev pub structure_after : Option Layers → List Piece → Option TemplateStructure
 structure_after None worked = None
@@ -128,6 +144,13 @@ id_of l = l.id
 abbrev pub HasKind : Option Layers → Kind → Type 0
 HasKind layers kind.Plain = layers ≡ None
 HasKind layers (kind.Layered id) = option_map id_of layers ≡ Some id
+
+-- ---- what no call changes
+
+pub record Stays (old new : Seen) : Type 0 where
+  pub ssrc : new.ssrc ≡ old.ssrc
+  pub hold : new.window.hold ≡ old.window.hold
+  pub id : option_map id_of new.layers ≡ option_map id_of old.layers
 
 -- ---- steps of the code
 

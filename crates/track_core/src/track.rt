@@ -1,11 +1,12 @@
 // One publisher's pipeline.
 
-ghost use Rattle.std.specs.Prelude.{◌≡◌, ◌≤◌, ◌<◌, ◌-◌, ◌^◌, ◌+◌, ◌∷◌, ◌↔◌, [], ℕ, true, IfOk, IfSome, IsOk, List, None, Some, OnErr, drop, length, option_copied, slice_get};
+ghost use Rattle.std.specs.Prelude.{◌≡◌, ◌≤◌, ◌<◌, ◌-◌, ◌^◌, ◌+◌, ◌∷◌, ◌↔◌, [], ℕ, true, IfOk, IfSome, IsOk, List, None, Some, OnErr, drop, length, map, option_copied, slice_get};
 ghost use Rattle.reorder_window.specs.Events.{Arrives, Event, Piece, Ticks};
 ghost use Rattle.reorder_window.specs.Missing.{missing_sequences};
 ghost use Rattle.rtp_packet.specs.Faults.{first_fault};
 ghost use Rattle.rtp_packet.specs.Fields.{sequence_of};
-ghost use Rattle.track_core.specs.Track.{HasKind, IsMadeValid, StandsFor, and_piece, first_refusal, gives, id_of, is_got, made_by, made_of, packets_of, refusal_of, refused, structure_after, structure_in};
+ghost use Rattle.packet_format.specs.Packets.{packet_of};
+ghost use Rattle.track_core.specs.Track.{HasKind, IsMadeValid, StandsFor, Stays, and_piece, first_refusal, frames_packets, gives, id_of, is_got, made_by, made_of, packets_of, refusal_of, refused, structure_after, structure_in};
 ghost use Rattle.track_core.specs.Layers.{HasStood, IsAfter};
 ghost use Rattle.track_core.specs.Pieces.{IsTaken, item_by};
 ghost use Rattle.forwarding_model.specs.frames.Frames.{Item};
@@ -87,6 +88,7 @@ impl Track {
         ensures unchanged { OnErr result (self.new ≡ self.old) }
         ensures stands { (events : List Event) (worked : List Piece) → StandsFor self.old events worked → IsOk result
             → StandsFor self.new (Arrives (sequence_of bytes.now) moment bytes.now ∷ events) worked }
+        ensures stays { Stays self.old self.new }
     {
         if bytes.len() > MOST_BYTES {
             return Err(Refusal::TooBig {
@@ -111,8 +113,9 @@ impl Track {
 
     /// Time has come to this moment, in milliseconds. All that waited was worked off.
     pub fn tick(&mut self, moment: u64)
-        requires { self.old.window.waiting ≡ [] }
-        ensures { (events : List Event) (worked : List Piece) → StandsFor self.old events worked → StandsFor self.new (Ticks moment ∷ events) worked }
+        requires idle { self.old.window.waiting ≡ [] }
+        ensures stands { (events : List Event) (worked : List Piece) → StandsFor self.old events worked → StandsFor self.new (Ticks moment ∷ events) worked }
+        ensures stays { Stays self.old self.new }
     {
         self.window.tick(moment);
     }
@@ -143,7 +146,10 @@ impl Track {
             → result ≡ made_of self.old.layers worked (slice_get self.old.window.waiting 0) }
         ensures packets { (events : List Event) (worked : List Piece) → StandsFor self.old events worked
             → self.new.packets ≡ packets_of self.old.layers worked (slice_get self.old.window.waiting 0) }
+        ensures of_frame { (events : List Event) (worked : List Piece) → StandsFor self.old events worked
+            → map packet_of self.new.packets ≡ frames_packets self.old.layers worked (slice_get self.old.window.waiting 0) }
         ensures valid { IsMadeValid result }
+        ensures stays { Stays self.old self.new }
     {
         self.given = false;
         let Some(item) = self.window.next_item(&mut self.buffer) else {

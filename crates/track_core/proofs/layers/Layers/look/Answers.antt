@@ -1,6 +1,5 @@
-use Rattle.std.proofs.Common.{◌≡◌, ◌∙◌, sym, ap, refl, subst, Bool, false}
+use Rattle.std.proofs.Common.{◌∙◌, sym, ap, subst}
 use Rattle.forwarding_model.specs.frames.Frames.{Force, is_padding}
-use Rattle.forwarding_model.specs.frames.Reading.{Payload}
 use Rattle.dd_structure.specs.TemplateStructure.{TemplateStructure}
 use Rattle.frame_assembly.specs.declared.mark.Mark.TheVariants as code
 use Rattle.frame_table.specs.Seen.{said_of}

@@ -1,6 +1,4 @@
-use Rattle.std.proofs.Common.{◌∙◌, sym, ap, refl, arith}
-use Rattle.std.specs.Result.{result_ok}
-use Rattle.frame_assembly.specs.declared.mark.Outcome.TheVariants as made
+use Rattle.std.proofs.Common.{◌∙◌, refl, arith}
 use Rattle.track_core.proofs.Pushing.{pushed_other, pushed_whole, valid_where_ok, whole_head}
 use Rattle.track_core.proofs.layers.Layers.push.Goals as goal
 

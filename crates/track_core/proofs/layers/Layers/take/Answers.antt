@@ -1,4 +1,4 @@
-use Rattle.std.proofs.Common.{◌≡◌, ◌∙◌, sym, ap, subst, ℕ, ◌∷◌, arith}
+use Rattle.std.proofs.Common.{◌∙◌, sym, subst, ℕ, ◌∷◌}
 use Rattle.forwarding_model.specs.frames.Frames.Item.{Arrived}
 use Rattle.packet_format.specs.Packets.{packet_of}
 use Rattle.track_core.specs.Layers.{IsAfterAs, marks_of, mark_of}

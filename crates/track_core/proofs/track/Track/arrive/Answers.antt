@@ -1,14 +1,12 @@
-use Rattle.std.proofs.Common.{◌≡◌, ◌∙◌, ◌∷◌, ℕ, List, subst, sym, ap, refl, arith, Some, None, Err}
+use Rattle.std.proofs.Common.{◌∙◌, ◌∷◌, sym, ap, refl, arith, Some, None, Err}
 use Rattle.std.proofs.lemmas.Bool.{eq-eqb, le-ltb}
-use Rattle.std.specs.Option.{option_map}
-use Rattle.reorder_window.specs.Events.{Event, Arrives}
+use Rattle.reorder_window.specs.Events.{Arrives}
 use Rattle.reorder_window.specs.Order.{judged_sequence}
 use Rattle.reorder_window.specs.Window.{refusal as order_refusal_of}
 use Rattle.sfu_base.specs.declared.call.Refusal.{Refusal}
-use Rattle.rtp_packet.specs.Fields.{sequence_of, ssrc_of}
 use Rattle.rtp_packet.specs.Packet.{Packet as RtpPacket}
 use Rattle.track_core.specs.Pieces.{IsTaken}
-use Rattle.track_core.specs.Track.{Seen, refusal_of, refused, first_refusal}
+use Rattle.track_core.specs.Track.{Seen, refusal_of}
 use Rattle.track_core.specs.Kept.{seen}
 use Rattle.track_core.proofs.Orders.{accepted_refusal, event_stands}
 use Rattle.track_core.proofs.track.Track.arrive.Goals as goal

@@ -1,5 +1,4 @@
 use Rattle.std.proofs.Common.{[]}
-use Rattle.track_core.specs.Kept.{seen}
 use Rattle.track_core.proofs.Orders.{fresh}
 use Rattle.track_core.proofs.track.Track.new.Goals as goal
 

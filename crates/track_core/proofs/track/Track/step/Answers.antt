@@ -1,14 +1,13 @@
-use Rattle.std.proofs.Common.{◌≡◌, ◌∙◌, ◌∷◌, ◌++◌, ℕ, List, subst, sym, ap, ap₂, Bool, refl, Some, IfSome, drop, []}
-use Rattle.std.specs.Prelude.{slice_get}
-use Rattle.std.specs.Option.{option_map}
-use Rattle.reorder_window.specs.Events.{Event, Piece}
-use Rattle.reorder_window.specs.Window.{Seen as Window}
-use Rattle.track_core.specs.declared.layers.Layers.{Layers}
+use Rattle.std.proofs.Common.{◌∙◌, ◌∷◌, ◌++◌, ℕ, List, subst, sym, ap, ap₂, Bool, IfSome, []}
+use Rattle.std.specs.Prelude.{map, slice_get}
+use Rattle.packet_format.specs.Packets.{packet_of}
+use Rattle.reorder_window.specs.Events.{Piece}
 use Rattle.forwarding_model.specs.frames.Frames.{Item}
 use Rattle.track_core.specs.Layers.{IsAfter}
 use Rattle.track_core.specs.Pieces.{IsTaken, item_by, items_of}
 use Rattle.track_core.specs.Track.{Seen, StandsFor, gives, made_by, made_of, packets_of, and_piece}
 use Rattle.track_core.specs.Kept.{seen}
+use Rattle.track_core.proofs.OfFrames.{of_frame}
 use Rattle.track_core.proofs.Orders.{bound_step, fetched, item_here, made_with, packets_given, made_step, some_stood, step_stands, taken_step, worked_step}
 use Rattle.track_core.proofs.track.Track.step.Goals as goal
 
@@ -78,3 +77,7 @@ returns-clause-packets c events worked stands =
     (c.is_given-self-inside.ensures ∙ ap gives made)
     ∙ ap (λ (xs : List Piece). packets_of c.self.inside.layers worked (slice_get xs 0)) (sym f.is)
     ∙ ap (λ (t : Seen). packets_of t.layers worked (slice_get t.window.waiting 0)) c.self.view_is
+
+pub returns-clause-of_frame : goal.returns-clause-of_frame
+returns-clause-of_frame c events worked stands =
+    ap (map packet_of) (returns-clause-packets c events worked stands) ∙ of_frame _ events worked stands
