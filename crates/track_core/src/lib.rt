@@ -7,3 +7,6 @@ mod track;
 
 pub use layers::Layers;
 pub use track::{Made, Track};
+
+#[cfg(test)]
+mod tests;

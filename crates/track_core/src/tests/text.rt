@@ -1,0 +1,104 @@
+//! Tables as text: words are read, and what a track made is written.
+
+ghost use Rattle.std.specs.Prelude.{◌<◌};
+
+use sfu_base::{Dti, FrameMeaning, PacketBuf};
+use std::alloc::{AllocError, Global};
+use std::process::Abort;
+
+/// Takes what stands before the next such byte, and that byte.
+pub fn cut<'a>(text: &mut &'a [u8], at: u8) -> &'a [u8] {
+    let all = *text;
+    for (i, byte) in all.iter().enumerate() {
+        if *byte == at {
+            *text = &all[i + 1..];
+            return &all[..i];
+        }
+    }
+    *text = &[];
+    all
+}
+
+/// The number that the next word says.
+pub fn number(text: &mut &[u8]) -> u32 {
+    let mut n = 0u32;
+    for digit in cut(text, b' ') {
+        n = n
+            .saturating_mul(10)
+            .saturating_add(digit.saturating_sub(b'0') as u32);
+    }
+    n
+}
+
+fn hex_digit(digit: u8) -> u8
+    ensures { result < 16 }
+{
+    match digit {
+        b'0'..=b'9' => digit - b'0',
+        b'a'..=b'f' => digit - b'a' + 10,
+        _ => 0,
+    }
+}
+
+/// The bytes that the next word says.
+pub fn hex(text: &mut &[u8]) -> PacketBuf {
+    let mut out = PacketBuf::new();
+    let digits = cut(text, b' ');
+    for i in 0..digits.len() / 2 {
+        let byte = 16 * hex_digit(digits[2 * i]) + hex_digit(digits[2 * i + 1]);
+        put(&mut out, &[byte]);
+    }
+    out
+}
+
+/// Puts bytes last, if there is room.
+pub fn put(out: &mut PacketBuf, bytes: &[u8]) {
+    if out.bytes().len() + bytes.len() <= 1500 {
+        out.append(bytes);
+    }
+}
+
+// The numbers of indications (Appendix A).
+fn codes(dtis: &[Dti; 32]) -> [u32; 32] {
+    let mut out = [0; 32];
+    for i in 0..32 {
+        out[i] = dtis[i].code();
+    }
+    out
+}
+
+/// What a frame means. The mask has target 0 last.
+pub fn frame_words(
+    rt: &impl Abort,
+    alloc: Global,
+    meaning: &FrameMeaning,
+) -> Result<String, AllocError> {
+    let (targets, chains, refs) = (
+        meaning.target_count as usize,
+        meaning.chain_count as usize,
+        meaning.ref_count as usize,
+    );
+    assert!(rt; targets <= 32 && chains <= 32 && refs <= 16);
+    let key = if meaning.key { " key" } else { "" };
+    let codes = codes(&meaning.dtis);
+    format!(in alloc;
+        "frame {} start {} epoch {}{key} mask {:b} layer {} {} dtis {:?} refs {:?} links {:?}",
+        meaning.number,
+        meaning.start,
+        meaning.epoch,
+        meaning.mask,
+        meaning.spatial,
+        meaning.temporal,
+        &codes[..targets],
+        &meaning.refs[..refs],
+        &meaning.links[..chains]
+    )
+}
+
+/// Puts a word last.
+pub fn say(said: &mut String, word: &str) -> Result<(), AllocError> {
+    if !said.is_empty() {
+        said.push_str(" ")?;
+    }
+    said.push_str(word)
+}
