@@ -1,5 +1,5 @@
 -- The packets that a step made are those of the model's frame.
-use Rattle.std.proofs.Common.{◌≡◌, List, [], ◌∷◌, ◌++◌, map, Option, Some, None, refl, sym, ap, ap₂, subst}
+use Rattle.std.proofs.Common.{◌≡◌, ℕ, List, [], ◌∷◌, ◌++◌, length, map, Option, Some, None, refl, sym, ap, ap₂, subst}
 use Rattle.std.specs.Prelude.{IfSome, slice_get}
 use Rattle.std.specs.List.{AllByRecursion}
 use Rattle.forwarding_model.specs.forwarding.Timeline.{Packet, Frame}
@@ -9,8 +9,9 @@ use Rattle.rtp_packet.proofs.Faultless.{header_there}
 use Rattle.packet_format.specs.Packets.{bytes_of, packet_of}
 use Rattle.packet_format.proofs.Packets.{packets_sent}
 use Rattle.track_core.specs.declared.layers.Layers.{Layers}
+use Rattle.track_core.specs.declared.track.Made.TheVariants as made
 use Rattle.track_core.specs.Pieces.{IsTakenPiece, item_of, items_of}
-use Rattle.track_core.specs.Track.{Seen, StandsFor, frame_by, frame_packets, framed_packets, frames_packets, packets_of}
+use Rattle.track_core.specs.Track.{Seen, StandsFor, frame_by, frame_packets, framed_packets, frames_packets, made_frame, made_of, packets_of}
 use Rattle.track_core.proofs.Brought.{ItemHas, frame_has, items_have}
 use Rattle.track_core.proofs.TakenPieces.{all_behind, all_front, items_taken}
 
@@ -46,3 +47,15 @@ of_frame t events worked stands =
         told_frame (frame_by l.id worked piece)
         (frame_has IsTold l.id (items_of worked) (item_of piece)
         (told_item piece (all_behind IsTakenPiece worked (piece ∷ rest) all).0, items_have IsTold told_item worked (all_front IsTakenPiece worked (piece ∷ rest) all)))
+
+-- a plain packet is made alone
+no_packet : (o : Option (Frame TemplateStructure)) → made_frame o ≡ made.Packet → ⊥
+no_packet None e = cc
+no_packet (Some frame) e = cc
+
+pub made_alone : (o : Option Layers) (worked : List Piece) (p : Option Piece) (packets : List (List ℕ)) → made_of o worked p ≡ made.Packet → packets ≡ packets_of o worked p
+    → length packets ≡ 1
+made_alone o worked None packets e is = absurd (let none : made.Idle ≡ made.Packet = e in cc)
+made_alone None worked (Some (Got h)) packets e is = ap length is
+made_alone None worked (Some (Gone from to)) packets e is = absurd (let none : made.Nothing ≡ made.Packet = e in cc)
+made_alone (Some l) worked (Some piece) packets e is = absurd (no_packet (frame_by l.id worked piece) e)

@@ -66,16 +66,16 @@ order_refused : (r : Result ℕ Arrival) (o : Option Arrival) → o ≡ order_re
 order_refused (Ok n) o e = ap (option_map refused) e
 order_refused (Err why) o e = ap (option_map refused) e
 
-pub too_big : (t : Seen) (bytes : List ℕ) (b : Bool) → nat_lt 1500 (length bytes) ≡ b → first_refusal t bytes ≡ cond b (Some (refusal.TooBig (length bytes))) (read_refusal t (first_fault bytes) bytes)
-too_big t bytes b e = ap (λ (x : Bool). cond x (Some (refusal.TooBig (length bytes))) (read_refusal t (first_fault bytes) bytes)) e
+pub too_big : (t : Seen) (bytes : List ℕ) (b : Bool) → nat_lt 1500 (length bytes) ≡ b → first_refusal t.ssrc t.window.order bytes ≡ cond b (Some (refusal.TooBig (length bytes))) (read_refusal t.ssrc t.window.order (first_fault bytes) bytes)
+too_big t bytes b e = ap (λ (x : Bool). cond x (Some (refusal.TooBig (length bytes))) (read_refusal t.ssrc t.window.order (first_fault bytes) bytes)) e
 
 pub accepted_refusal : (t : Seen) (bytes : List ℕ) (seq : ℕ) (o : Option Arrival) → nat_lt 1500 (length bytes) ≡ false → first_fault bytes ≡ None → (ssrc_of bytes == t.ssrc) ≡ true
-    → seq ≡ sequence_of bytes → o ≡ order_refusal_of (judged_sequence t.window.order seq) → option_map refused o ≡ first_refusal t bytes
+    → seq ≡ sequence_of bytes → o ≡ order_refusal_of (judged_sequence t.window.order seq) → option_map refused o ≡ first_refusal t.ssrc t.window.order bytes
 accepted_refusal t bytes seq o small reads source same e =
     order_refused (judged_sequence t.window.order seq) o e
     ∙ ap (λ (n : ℕ). order_refusal (judged_sequence t.window.order n)) same
     ∙ sym (ap (λ (b : Bool). cond b (order_refusal (judged_sequence t.window.order (sequence_of bytes))) (Some (refusal.WrongSsrc (ssrc_of bytes) t.ssrc))) source)
-    ∙ sym (ap (λ (f : Option RtpFault). read_refusal t f bytes) reads)
+    ∙ sym (ap (λ (f : Option RtpFault). read_refusal t.ssrc t.window.order f bytes) reads)
     ∙ sym (too_big t bytes false small)
 
 -- ---- one step

@@ -7,7 +7,7 @@ use Rattle.forwarding_model.specs.frames.Frames.{Item, made_by_item, state_after
 use Rattle.reorder_window.specs.declared.arrival.Arrival.{Arrival}
 use Rattle.reorder_window.specs.declared.arrival.Arrival.TheVariants as arrival
 use Rattle.reorder_window.specs.Events.{Event, Piece, Got, Gone}
-use Rattle.reorder_window.specs.Order.{items_of as order_items, judged_sequence}
+use Rattle.reorder_window.specs.Order.{Order, items_of as order_items, judged_sequence}
 use Rattle.reorder_window.specs.Window.{Seen as Window, IsAfter as WindowAfter}
 use Rattle.rtp_packet.specs.Fields.{sequence_of, ssrc_of}
 use Rattle.rtp_packet.specs.Faults.{first_fault}
@@ -55,18 +55,19 @@ abbrev pub order_refusal : Result ℕ Arrival → Option Refusal
 order_refusal (Ok n) = None
 order_refusal (Err why) = Some (refused why)
 
-abbrev pub source_refusal : Seen → List ℕ → Option Refusal
-source_refusal track bytes =
-    if ssrc_of bytes == track.ssrc then order_refusal (judged_sequence track.window.order (sequence_of bytes))
-    else Some (refusal.WrongSsrc (ssrc_of bytes) track.ssrc)
+-- of a packet at a track that takes packets of this SSRC and stands in this order
+abbrev pub source_refusal : ℕ → Order → List ℕ → Option Refusal
+source_refusal ssrc order bytes =
+    if ssrc_of bytes == ssrc then order_refusal (judged_sequence order (sequence_of bytes)) else Some (refusal.WrongSsrc (ssrc_of bytes) ssrc)
 
-abbrev pub read_refusal : Seen → Option RtpFault → List ℕ → Option Refusal
-read_refusal track None bytes = source_refusal track bytes
-read_refusal track (Some fault) bytes = Some (refusal.Unreadable fault)
+abbrev pub read_refusal : ℕ → Order → Option RtpFault → List ℕ → Option Refusal
+read_refusal ssrc order None bytes = source_refusal ssrc order bytes
+read_refusal ssrc order (Some fault) bytes = Some (refusal.Unreadable fault)
 
 -- the first refusal that stands, or none
-abbrev pub first_refusal : Seen → List ℕ → Option Refusal
-first_refusal track bytes = if nat_lt 1500 (length bytes) then Some (refusal.TooBig (length bytes)) else read_refusal track (first_fault bytes) bytes
+abbrev pub first_refusal : ℕ → Order → List ℕ → Option Refusal
+first_refusal ssrc order bytes =
+    if nat_lt 1500 (length bytes) then Some (refusal.TooBig (length bytes)) else read_refusal ssrc order (first_fault bytes) bytes
 
 abbrev pub refusal_of : {T : Type 0} → Result T Refusal → Option Refusal
 refusal_of (Ok x) = None

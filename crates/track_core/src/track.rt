@@ -84,7 +84,7 @@ impl Track {
     pub fn arrive(&mut self, moment: u64, bytes: &[u8]) -> Result<(), Refusal>
         requires idle { self.old.window.waiting ≡ [] }
         requires length { length bytes.now ≤ 4294967295 }
-        ensures refusal { refusal_of result ≡ first_refusal self.old bytes.now }
+        ensures refusal { refusal_of result ≡ first_refusal self.old.ssrc self.old.window.order bytes.now }
         ensures unchanged { OnErr result (self.new ≡ self.old) }
         ensures stands { (events : List Event) (worked : List Piece) → StandsFor self.old events worked → IsOk result
             → StandsFor self.new (Arrives (sequence_of bytes.now) moment bytes.now ∷ events) worked }
@@ -148,6 +148,7 @@ impl Track {
             → self.new.packets ≡ packets_of self.old.layers worked (slice_get self.old.window.waiting 0) }
         ensures of_frame { (events : List Event) (worked : List Piece) → StandsFor self.old events worked
             → map packet_of self.new.packets ≡ frames_packets self.old.layers worked (slice_get self.old.window.waiting 0) }
+        ensures one { result ≡ Made.Packet → length self.new.packets ≡ 1 }
         ensures valid { IsMadeValid result }
         ensures stays { Stays self.old self.new }
     {

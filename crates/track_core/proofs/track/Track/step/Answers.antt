@@ -7,7 +7,7 @@ use Rattle.track_core.specs.Layers.{IsAfter}
 use Rattle.track_core.specs.Pieces.{IsTaken, item_by, items_of}
 use Rattle.track_core.specs.Track.{Seen, StandsFor, gives, made_by, made_of, packets_of, and_piece}
 use Rattle.track_core.specs.Kept.{seen}
-use Rattle.track_core.proofs.OfFrames.{of_frame}
+use Rattle.track_core.proofs.OfFrames.{made_alone, of_frame}
 use Rattle.track_core.proofs.Orders.{bound_step, fetched, item_here, made_with, packets_given, made_step, some_stood, step_stands, taken_step, worked_step}
 use Rattle.track_core.proofs.track.Track.step.Goals as goal
 
@@ -81,3 +81,10 @@ returns-clause-packets c events worked stands =
 pub returns-clause-of_frame : goal.returns-clause-of_frame
 returns-clause-of_frame c events worked stands =
     ap (map packet_of) (returns-clause-packets c events worked stands) ∙ of_frame _ events worked stands
+
+pub returns-clause-one : goal.returns-clause-one
+returns-clause-one c packet =
+    let h = c.self.invariant.stood in
+    let stands : StandsFor c.args.self.now h.events h.worked = subst (λ (t : Seen). StandsFor t h.events h.worked) c.self.view_is h.stands in
+    made_alone c.args.self.now.layers h.worked (slice_get c.args.self.now.window.waiting 0) _ (sym (returns-clause-made c h.events h.worked stands) ∙ packet)
+    (returns-clause-packets c h.events h.worked stands)
