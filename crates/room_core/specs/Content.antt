@@ -1,54 +1,117 @@
--- Which accepted calls the content of a room stands for.
-use Rattle.std.specs.Prelude.{◌≡◌, ℕ, ◌+◌, ◌%◌, ◌≤◌, List, [], length, drop, Option, None, Some}
-use Rattle.std.specs.Option.{option_map}
+-- Which accepted calls the tables of a room stand for. Lists of calls have the newest first.
+use Rattle.std.specs.Prelude.{◌≡◌, ◌≤◌, ◌<◌, ℕ, Bool, true, List, [], ◌∷◌, Option, None, Some, is_some, nat_eq}
+use Rattle.indexmap.specs.IndexMap.{get, index_map_len, spare}
 use Rattle.sfu_base.specs.Answer.{answer_of}
 use Rattle.sfu_base.specs.declared.call.Call.{Call}
+use Rattle.sfu_base.specs.declared.call.Call.TheVariants as call
+use Rattle.sfu_base.specs.declared.call.Kind.{Kind}
+use Rattle.sfu_base.specs.declared.call.Refusal.{Refusal}
+use Rattle.sfu_base.specs.declared.frame.Wish.{Wish}
 use Rattle.sfu_base.specs.declared.call.Reply.{Reply}
+use Rattle.reorder_window.specs.Events.{Event}
+use Rattle.forwarding_model.specs.frames.Frames.{Item}
+use Rattle.forwarding_model.specs.History.{Entry, items_of, subscriber_of}
 use Rattle.room_core.specs.declared.content.Content.{Content}
-use Rattle.room_core.specs.declared.track.Track.{Track}
-use Rattle.room_core.specs.declared.subscriber.Subscriber.{Subscriber}
-use Rattle.room_core.specs.Live.{Published, Joined, published, joined, newest}
-use Rattle.room_core.specs.Outgoing.{taken, outgoing_list}
-use Rattle.room_core.specs.Replies.{answer}
-use Rattle.room_core.specs.History.{after}
+use Rattle.room_core.specs.declared.feed.Feed.{Feed}
+use Rattle.room_core.specs.declared.live.LiveTrack.{LiveTrack}
+use Rattle.room_core.specs.declared.live.Ready.{Ready}
+use Rattle.room_core.specs.declared.live.Ready.TheVariants.{Nothing, Pipeline, Sent}
+use Rattle.room_core.specs.declared.live.LiveSubscriber.{LiveSubscriber}
+use Rattle.room_core.specs.Live.{Joined, Published, highest_subscriber, highest_track, hold_of, joined, kind_of, live_subscribers, live_tracks, published}
+use Rattle.room_core.specs.TrackHistory.{entries_of, events_of}
+use Rattle.room_core.specs.Views.{plea, subscriber_by, timeline_as}
+use Rattle.room_core.specs.Replies.{answer, join_refusal, publish_refusal}
+use Rattle.room_core.specs.History.{after, is_accepted}
+use Rattle.room_core.specs.Follows.{Follows, IsFresh}
+use Rattle.room_core.specs.Passing.{Both}
+use Rattle.room_core.specs.Stepping.{IsAt, IsBegun, kind_by}
 
--- what the history tells of a track
-abbrev pub published_by : Track → Published
-published_by track = record { number = track.number; ssrc = track.ssrc }
+-- ---- what the tables stand for
 
--- what the history tells of a subscriber
-abbrev pub joined_by : Subscriber → Joined
-joined_by subscriber = record { number = subscriber.number; ssrc = subscriber.ssrc; first = subscriber.first }
+-- a live track that was published so, of this kind and hold, which had these events, with these items, and a plea or none
+pub record IsTrackOf (track : LiveTrack) (p : Published) (kind : Kind) (hold : ℕ) (events : List Event) (items : List Item) (pleaded : Bool) : Type 0 where
+  pub kind_is : track.kind ≡ p.kind
+  pub published_kind : p.kind ≡ kind
+  pub pipeline_kind : kind_by track.pipeline.value.layers ≡ kind
+  pub ssrc_is : track.pipeline.value.ssrc ≡ p.ssrc
+  pub hold_is : track.pipeline.value.window.hold ≡ hold
+  pub at : IsAt events track.pipeline.value items
+  pub pleaded_is : track.pleaded ≡ pleaded
 
--- the sequence number of the track's last packet
-abbrev pub last_of : Option Track → Option ℕ
-last_of None = None
-last_of (Some track) = track.last
+-- a live subscriber with this number that joined so, on a track of this kind with this history
+pub record IsSubscriberOf (subscriber : LiveSubscriber) (number : ℕ) (j : Joined) (kind : Kind) (entries : List Entry) (highest : ℕ) : Type 0 where
+  pub track_is : subscriber.track ≡ j.track
+  pub known : j.track ≤ highest
+  pub joined_is : subscriber_of number entries ≡ Some (subscriber_by j)
+  pub follows : Follows kind subscriber.feed.value (subscriber_by j) (timeline_as kind number entries)
 
--- The queue is what goes out less what was taken, and the next number follows all that went out.
-pub record IsRest (first taken : ℕ) (outgoing queue : List (List ℕ)) (next : ℕ) : Type 0 where
-  pub queue_is : queue ≡ drop taken outgoing
-  pub fewer : taken ≤ length outgoing
-  pub next_is : next ≡ (first + length outgoing) % 65536
+abbrev pub IsTrackAfter : List Call → ℕ → LiveTrack → Published → Type 0
+IsTrackAfter past n track p = IsTrackOf track p (kind_of n past) (hold_of n past) (events_of n past) (items_of (entries_of n past)) (plea n past)
 
--- with no subscriber nothing goes out
-pub record IsIdle (past : List Call) : Type 0 where
-  pub outgoing : outgoing_list past ≡ []
-  pub taken : taken past ≡ 0
+abbrev pub IsSubscriberAfter : List Call → ℕ → LiveSubscriber → Joined → Type 0
+IsSubscriberAfter past n subscriber j = IsSubscriberOf subscriber n j (kind_of j.track past) (entries_of j.track past) (highest_track past)
 
--- what waits for the subscriber, where there is one
-abbrev pub QueuesFor : List Call → Option Subscriber → Type 0
-QueuesFor past None = IsIdle past
-QueuesFor past (Some s) = IsRest s.first (taken past) (outgoing_list past) s.queue s.next
-
--- the track and the subscriber are where these accepted calls leave them
+-- the content is where these accepted calls leave it
 pub record IsAfter (content : Content) (past : List Call) : Type 0 where
-  pub track : option_map published_by content.track ≡ published past
-  pub newest : last_of content.track ≡ newest past
-  pub subscriber : option_map joined_by content.subscriber ≡ joined past
-  pub queue : QueuesFor past content.subscriber
+  pub tracks : (n : ℕ) → Both (IsTrackAfter past n) (get nat_eq content.tracks n) (published n past)
+  pub subscribers : (n : ℕ) → Both (IsSubscriberAfter past n) (get nat_eq content.subscribers n) (joined n past)
+  pub track_count : index_map_len content.tracks ≡ live_tracks past
+  pub subscriber_count : index_map_len content.subscribers ≡ live_subscribers past
+  pub highest_track_is : content.highest_track ≡ highest_track past
+  pub highest_subscriber_is : content.highest_subscriber ≡ highest_subscriber past
+
+-- ---- what a call does
 
 -- Whatever calls were accepted before, the reply is the answer after them, and the content is where it leaves them.
 pub record Does (old new : Content) (call : Call) (reply : Reply) (bytes numbers : List ℕ) : Type 0 where
   pub answered : (past : List Call) → IsAfter old past → answer_of reply bytes numbers ≡ answer past call
   pub done : (past : List Call) → IsAfter old past → IsAfter new (after (answer past call) call past)
+
+-- the same of a call that leaves nothing in the scratch, whatever stands there
+abbrev pub DoesSilently : Content → Content → Call → Reply → Type 0
+DoesSilently old new call reply = (bytes numbers : List ℕ) → Does old new call reply bytes numbers
+
+-- ---- what is ready before a call changes anything
+
+abbrev pub IsPipelineReady : Option Refusal → Content → Kind → ℕ → ℕ → Ready → Type 0
+IsPipelineReady (Some why) content kind ssrc hold ready = ready ≡ Nothing
+IsPipelineReady None content kind ssrc hold (Pipeline pipeline) = IsBegun pipeline.value kind ssrc hold × (0 < spare content.tracks)
+IsPipelineReady None content kind ssrc hold Nothing = ⊥
+IsPipelineReady None content kind ssrc hold (Sent feed) = ⊥
+
+-- a feed of a subscriber of this track
+abbrev pub IsFreshOn : Option LiveTrack → Feed → ℕ → ℕ → Wish → Type 0
+IsFreshOn None feed ssrc first wish = ⊥
+IsFreshOn (Some track) feed ssrc first wish = IsFresh feed track.kind ssrc first wish
+
+abbrev pub IsFeedReady : Option Refusal → Content → ℕ → ℕ → ℕ → Wish → Ready → Type 0
+IsFeedReady (Some why) content track ssrc first wish ready = ready ≡ Nothing
+IsFeedReady None content track ssrc first wish (Sent feed) =
+    IsFreshOn (get nat_eq content.tracks track) feed.value ssrc first wish × (first < 65536) × (0 < spare content.subscribers)
+IsFeedReady None content track ssrc first wish Nothing = ⊥
+IsFeedReady None content track ssrc first wish (Pipeline pipeline) = ⊥
+
+abbrev pub refusal_to_publish : Content → ℕ → Kind → Option Refusal
+refusal_to_publish content track kind = publish_refusal content.highest_track (index_map_len content.tracks) track kind
+
+abbrev pub refusal_to_join : Content → ℕ → ℕ → Option Refusal
+refusal_to_join content subscriber track =
+    join_refusal (is_some (get nat_eq content.tracks track)) content.highest_subscriber (index_map_len content.subscribers) subscriber
+
+abbrev pub IsReady : Content → Call → Ready → Type 0
+IsReady content (call.Publish track kind ssrc hold) ready = IsPipelineReady (refusal_to_publish content track kind) content kind ssrc hold ready
+IsReady content (call.Join subscriber track ssrc first wish) ready =
+    IsFeedReady (refusal_to_join content subscriber track) content track ssrc first wish ready
+IsReady content other ready = Unit {0}
+
+-- ---- memory
+
+-- whether a call takes memory on a room that keeps nothing
+abbrev pub TakesMemory : Call → Type 0
+TakesMemory (call.Publish track kind ssrc hold) = Unit {0}
+TakesMemory (call.Join subscriber track ssrc first wish) = Unit {0}
+TakesMemory other = ⊥
+
+-- whatever calls were accepted before, this one is too
+abbrev pub IsAcceptedAfter : Content → Call → Type 0
+IsAcceptedAfter content call = (past : List Call) → IsAfter content past → is_accepted (answer past call) ≡ true

@@ -1,7 +1,7 @@
--- The history of a room, and what it answers after it. Own rule. The code keeps no history.
-use Rattle.std.specs.Prelude.{ℕ, Bool, true, false, if◌then◌else◌, List, [], ◌∷◌, fold}
+-- The history of a room, and what it answers after it. Own rule. The code keeps no history, unless its recorder does.
+use Rattle.std.specs.Prelude.{ℕ, Bool, true, false, if◌then◌else◌, List, [], ◌∷◌, ◌++◌, fold}
 use Rattle.std.specs.List.{flat_map}
-use Rattle.sfu_base.specs.Answer.{Answer, Refused}
+use Rattle.sfu_base.specs.Answer.{Answer, Done, Sent, Named, KeyIs, Told, Refused}
 use Rattle.sfu_base.specs.declared.call.Call.{Call}
 use Rattle.room_core.specs.Noted.{Noted}
 use Rattle.room_core.specs.Replies.{answer}
@@ -15,12 +15,11 @@ pub record Entry : Type 0 where
 -- whether an answer is other than a refusal
 abbrev pub is_accepted : Answer → Bool
 is_accepted (Refused why) = false
-is_accepted answer = true
+is_accepted answered = true
 
 -- the accepted calls after one more was answered so: a refused one isn't among them
 abbrev pub after : Answer → Call → List Call → List Call
-after (Refused why) call past = past
-after answer call past = call ∷ past
+after answered call past = if is_accepted answered then call ∷ past else past
 
 -- the accepted calls after one more entry
 abbrev pub after_entry : List Call → Entry → List Call
@@ -41,3 +40,8 @@ noted_of entry = if entry.starved then [] else record { seat = entry.seat; call 
 -- the seats and calls that a recorder has kept of a history: those that weren't starved
 abbrev pub kept : List Entry → List Noted
 kept history = flat_map noted_of history
+
+-- the answers to calls one after another, none of which finds no memory
+abbrev pub answers_after : List Call → List Call → List Answer
+answers_after past [] = []
+answers_after past (call ∷ calls) = answer past call ∷ answers_after (after (answer past call) call past) calls

@@ -97,13 +97,12 @@ fn scripts_get_their_replies_and_statuses(rt: HostRuntime) -> Result<(), Fail> {
         // A line outside the grammar, behind the replies.
         ("packet 1 0 80605", 5, "line 5\n"),
         ("packet 1 0 80605\ntake 1\n", 5, "line 5\n"),
-        // A packet out of sequence.
+        // A gap is waited for.
         (
-            "packet 1 0 806000030000000011111111cc\n",
+            "packet 1 0 806000030000000011111111cc\nmissing 1\npacket 1 0 806000020000000011111111cc\nmissing 1\n",
             0,
-            "refused outoforder 2\n",
+            "ok\nmissing 2\nok\nmissing\n",
         ),
-        ("packet 1 0 806000020000000011111111cc\n", 0, "ok\n"),
         // Upper case is read, lower case is written.
         (
             "packet 1 0 80E000020000000011111111FF\ntake 1\ntake 1\n",
@@ -121,26 +120,49 @@ fn scripts_get_their_replies_and_statuses(rt: HostRuntime) -> Result<(), Fail> {
 }
 
 #[test]
-fn what_the_room_lacks_is_refused(rt: HostRuntime) -> Result<(), Fail> {
+fn calls_are_refused_for_their_reasons(rt: HostRuntime) -> Result<(), Fail> {
     let alloc = rt.alloc();
-    let wanted = format!(in alloc; "{FIRST_REPLIES}refused notbuilt\n")?;
-    for script in [
-        // A second track, another track, a second subscriber, another subscriber.
-        "publish 2 plain 11111111 0\n",
-        "join 2 2 33333333 0 0 0\n",
-        "join 2 1 33333333 0 0 0\n",
-        "take 2\n",
-        // Of packets: another track, 11 bytes, another first byte, another SSRC.
-        "packet 2 0 806000020000000011111111\n",
-        "packet 1 0 8060000200000000111111\n",
-        "packet 1 0 906000020000000011111111\n",
-        "packet 1 0 806000020000000011111112\n",
+    for (script, replies) in [
+        ("publish 1 plain 11111111 100\n", "refused numberused 1\n"),
+        (
+            "publish 2 layered 11111111 100 15\n",
+            "refused badextensionid\n",
+        ),
+        ("join 2 9 22222222 0 0 0\n", "refused notrack\n"),
+        ("leave 9\n", "refused nosubscriber\n"),
+        ("packet 1 0 8060\n", "refused unreadable short\n"),
+        (
+            "packet 1 0 406000010000000011111111\n",
+            "refused unreadable version\n",
+        ),
+        (
+            "packet 1 0 806000020000000033333333\n",
+            "refused wrongssrc 33333333 11111111\n",
+        ),
+        ("unpublish 1\npacket 1 40 8060\n", "ok\nrefused notrack\n"),
     ] {
         let text = format!(in alloc; "{FIRST}{script}")?;
+        let wanted = format!(in alloc; "{FIRST_REPLIES}{replies}")?;
         let (got, written) = run(alloc, text.as_str())?;
         assert_eq!(rt; got, 0, "{script}");
         assert_eq!(rt; written.as_slice(), wanted.as_bytes(), "{script}");
     }
+    Ok(())
+}
+
+#[test]
+fn two_frames_of_a_layered_track_go_out_and_are_resent(rt: HostRuntime) -> Result<(), Fail> {
+    let script = "publish 1 layered 11111111 100 4\njoin 1 1 22222222 65535 0 0\n\
+        packet 1 0 90e003e80000000011111111bede000348c0000180003a4101000000183000\n\
+        packet 1 33 90e003e90000000011111111bede000142c10002103000\n\
+        take 1\ntake 1\ntake 1\nresend 1 65535\nkey 1\nwhy 1 2\n";
+    let wanted = "ok\nok\nok\nok\n\
+        packet 90e0ffff0000000022222222bede000348c0000180003a4101000000183000\n\
+        packet 90e000000000000022222222bede000142c10002103000\nempty\n\
+        packet 90e0ffff0000000022222222bede000348c0000180003a4101000000183000\nkey no\npassed\n";
+    let (got, written) = run(rt.alloc(), script)?;
+    assert_eq!(rt; got, 0);
+    assert_eq!(rt; written.as_slice(), wanted.as_bytes());
     Ok(())
 }
 
@@ -151,10 +173,14 @@ fn lines_are_skipped_and_end_as_they_should(rt: HostRuntime) -> Result<(), Fail>
         // Nothing is read, and nothing is written.
         ("", 0, ""),
         // The last line may lack its LF.
-        ("take 1", 0, "refused notbuilt\n"),
+        ("take 1", 0, "refused nosubscriber\n"),
         // Skipped lines are counted and have no reply; a CR directly before an LF is dropped.
-        ("# a\n\ntake 1\r\n", 0, "refused notbuilt\n"),
-        ("# a\n\ntake 1\ntake 01", 5, "refused notbuilt\nline 4\n"),
+        ("# a\n\ntake 1\r\n", 0, "refused nosubscriber\n"),
+        (
+            "# a\n\ntake 1\ntake 01",
+            5,
+            "refused nosubscriber\nline 4\n",
+        ),
         ("\r\n#\r\n# \u{e9}\ntake 01\n", 5, "line 4\n"),
         // A CR at the end of input stays, and so does one of two before an LF.
         ("take 1\r", 5, "line 1\n"),

@@ -1,13 +1,38 @@
-use Rattle.std.proofs.Common.{◌≡◌, true, sym, ap, ◌∙◌, Option}
-use Rattle.std.specs.Option.{option_map}
-use Rattle.room_core.specs.declared.track.Track.{Track}
-use Rattle.room_core.specs.Live.{is_track}
-use Rattle.room_core.specs.Content.{published_by}
-use Rattle.room_core.proofs.Passing.{packet_passes}
+use Rattle.std.proofs.Common.{◌≡◌, ◌∷◌, ◌∙◌, refl, sym, subst, ap, nat_eq, ℕ, List, None, Some}
+use Rattle.indexmap.specs.IndexMap.{get}
+use Rattle.reorder_window.specs.Events.{Arrives}
+use Rattle.rtp_packet.specs.Fields.{sequence_of}
+use Rattle.sfu_base.specs.declared.call.Call.TheVariants as call
+use Rattle.track_core.specs.Track.{Seen, StandsFor, first_refusal}
+use Rattle.room_core.specs.Passing.{WorkedOff}
+use Rattle.room_core.proofs.Releasing.{packet_answers, packet_refused, packet_release, release_does}
+use Rattle.room_core.proofs.Stepping.{brought_by}
 use Rattle.room_core.proofs.content.Content.packet.Goals as goal
 
-pub returns-in-Some-subscriber-clause-does : goal.returns-in-Some-subscriber-clause-does
-returns-in-Some-subscriber-clause-does c =
-    let number : is_track c.args.track (option_map published_by c.args.self.now.track) ≡ true = sym c.has_track.ensures ∙ c.if-not-has_track.false in
-    packet_passes c.args.self.now c.in-Some.known c.arrive.new.self c.in-Some-subscriber.subscriber c.pass.new.self c.args.track c.args.bytes.now c.in-Some.is
-    (ap (λ (o : Option Track). is_track c.args.track (option_map published_by o)) (sym c.in-Some.is) ∙ number) c.in-Ok.marker c.in-Ok.ensures c.in-Some-subscriber.is c.pass.ensures
+pub returns-in-Ok-clause-does : goal.returns-in-Ok-clause-does
+returns-in-Ok-clause-does c =
+    let bytes : List ℕ = c.args.bytes.now in
+    let event = Arrives (sequence_of bytes) c.args.moment bytes in
+    let known = c.in-Some.known.now in
+    release_does c.args.self.now _ (call.Packet c.args.track c.args.moment bytes) c.args.track event known _ c.arrive.new.self
+    (packet_release c.args.track c.args.moment bytes) c.in-Some.ensures.value (c.get_mut.follows.holds _) refl
+    (brought_by event c.deref_mut.result.now known.pipeline.value c.arrive.new.self c.deref_mut.ensures.value
+    (λ events worked s. subst (λ (bs : List ℕ). StandsFor c.arrive.new.self (Arrives (sequence_of bs) c.args.moment bs ∷ events) worked) c.bytes.ensures.bytes
+    (c.in-Ok.ensures.stands events worked s refl)) c.in-Ok.ensures.stays)
+    known.idle
+    (subst (λ (p : Seen). WorkedOff p c.work_off.new.pipeline c.args.track (get nat_eq c.args.self.now.subscribers) (get nat_eq c.work_off.new.subscribers) known.pleaded c.work_off.new.pleaded)
+    c.deref_mut-in-Ok.ensures.value c.work_off.ensures.worked)
+    c.work_off.ensures.count refl refl
+    (packet_answers c.args.track c.args.moment bytes known None
+    (c.in-Ok.ensures.refusal ∙ ap (λ (t : Seen). first_refusal t.ssrc t.window.order c.bytes.result.now) c.deref_mut.ensures.value
+    ∙ ap (first_refusal known.pipeline.value.ssrc known.pipeline.value.window.order) c.bytes.ensures.bytes))
+
+pub returns-in-Err-clause-does : goal.returns-in-Err-clause-does
+returns-in-Err-clause-does c =
+    let bytes : List ℕ = c.args.bytes.now in
+    let known = c.in-Some.known.now in
+    packet_refused c.args.self.now _ c.args.track c.args.moment bytes known _ c.in-Err.why c.in-Some.ensures.value (c.get_mut.follows.holds _) refl refl
+    (c.in-Err.ensures.unchanged ∙ c.deref_mut.ensures.value)
+    (c.in-Err.ensures.refusal ∙ ap (λ (t : Seen). first_refusal t.ssrc t.window.order c.bytes.result.now) c.deref_mut.ensures.value
+    ∙ ap (first_refusal known.pipeline.value.ssrc known.pipeline.value.window.order) c.bytes.ensures.bytes)
+    refl refl refl

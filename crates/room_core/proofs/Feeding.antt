@@ -1,0 +1,173 @@
+-- What each packet and frame makes of a subscriber's part of the room, and what is told of it.
+use Rattle.std.proofs.Common.{◌≡◌, ◌≤◌, ◌<◌, ℕ, Bool, true, false, List, [], ◌∷◌, length, map, refl, sym, ap, subst, ◌∙◌, arith}
+use Rattle.std.proofs.lemmas.List.{length-map}
+use Rattle.sfu_base.specs.declared.call.Kind.{Kind}
+use Rattle.sfu_base.specs.declared.frame.FrameMeaning.{FrameMeaning}
+use Rattle.sfu_base.specs.declared.frame.Step.{Step}
+use Rattle.sfu_base.specs.declared.frame.Verdict.{Verdict}
+use Rattle.sfu_base.specs.declared.frame.Verdict.TheVariants.{Passed}
+use Rattle.sfu_base.specs.declared.frame.Wish.{Wish}
+use Rattle.rtp_packet.specs.Fields.{marker_of}
+use Rattle.forwarding_model.specs.Lists.{IsMember}
+use Rattle.forwarding_model.specs.forwarding.Timeline.{Packet, Frame, meanings_of, takes_of}
+use Rattle.forwarding_model.specs.forwarding.Timeline.Event.{WholeFrame, PlainPacket}
+use Rattle.forwarding_model.specs.frames.TrackFrames.{IsOneTrack, Precedes}
+use Rattle.forwarding_model.specs.forwarding.Standing.{Standing, after_frame, candidate_at, has_passed, key_passed, passes_at, standing, target_at, verdict_at}
+use Rattle.forwarding_model.specs.forwarding.Outgoing.{Subscriber, is_top_layer, outgoing, queue}
+use Rattle.forwarding_model.specs.forwarding.Causes.{verdicts}
+use Rattle.forwarding_laws.proofs.Members.{each_member, each_weaker}
+use Rattle.forwarding_laws.proofs.Outgoings.{queued_is}
+use Rattle.forwarding_laws.proofs.OutgoingWords.{nothing_else_goes_out, passing_frames_go_out}
+use Rattle.forwarding_laws.proofs.Plains.{full_takes_none, plain_goes_out}
+use Rattle.forwarding_laws.proofs.Sound.{sound}
+use Rattle.forwarding_laws.proofs.StandingSteps.{plain_packets_are_queued}
+use Rattle.forwarding_laws.proofs.Takings.{takes_fit}
+use Rattle.forwarding_laws.proofs.Verdicts.{passes_from_verdict, verdict_from_passes}
+use Rattle.dd_structure.specs.TemplateStructure.{TemplateStructure}
+use Rattle.packet_format.specs.Packets.{bytes_of, packet_of}
+use Rattle.out_ring.specs.Ring.{Ring, pushed}
+use Rattle.cause_book.specs.Book.{AreFalling, IsAboveAll as IsAboveSteps, IsAfter}
+use Rattle.cause_book.proofs.Modelled.{keeps_causes}
+use Rattle.target_selector.specs.Seen.{Seen}
+use Rattle.target_selector.specs.Stands.{IsAboveAll, StandsFor}
+use Rattle.room_core.specs.Sent.{sent}
+use Rattle.room_core.specs.declared.feed.Feed.{Feed}
+use Rattle.room_core.specs.Follows.{Follows, FollowsFrame, FollowsPacket, Happened, IsRingOf, PushesFrame, frame_by, pushed_all}
+use Rattle.room_core.proofs.Rings.{pushed_is, ring_grows}
+use Rattle.room_core.proofs.SentMarked.{sends_frame, sent_keeps_count}
+
+-- the selector doesn't know what is queued
+pub stands_queued : (x : Seen) (s : Standing) (queued : ℕ) → StandsFor x s → StandsFor x (record s { queued = queued })
+stands_queued x s queued h = record { wish = h.wish; epoch = h.epoch; target = h.target; key_passed = h.key_passed; numbers = h.numbers }
+
+-- as many packets are queued as the standing has
+pub queued_same : (kind : Kind) (feed : Feed) (to : Subscriber) (events : List Happened) → Follows kind feed to events
+    → (standing to.wish events).queued ≡ length feed.ring.queued
+queued_same kind feed to events h =
+    queued_is (sent kind) to events (sent_keeps_count kind) h.finds ∙ sym (ap length h.ring.queued ∙ length-map (queue (sent kind) to events) bytes_of)
+
+-- ---- packets of plain tracks
+
+pub packet_passes : (feed : Feed) (ring : Ring) (bytes : List ℕ) → 12 ≤ length bytes → length feed.ring.queued < 512 → ring ≡ pushed bytes (marker_of bytes) feed.ring
+    → FollowsPacket feed (record feed { ring = ring }) bytes
+packet_passes feed ring bytes long room now kind to events h =
+    let few : (standing to.wish events).queued < 512 = let e = queued_same kind feed to events h in omega (arith, e, room) in
+    let out : List Packet = outgoing (sent kind) to events in
+    record {
+      kind_is = h.kind_is;
+      selector = subst (λ (s : Standing). StandsFor feed.selector s) (sym ((plain_packets_are_queued to.wish (packet_of bytes) events).0 few))
+          (stands_queued feed.selector (standing to.wish events) _ h.selector);
+      ring = subst (λ (r : Ring). IsRingOf r to (takes_of events) (outgoing (sent kind) to (PlainPacket (packet_of bytes) ∷ events)))
+          (sym (now ∙ pushed_is bytes (marker_of bytes) feed.ring long))
+          (subst (λ (l : List Packet). IsRingOf (pushed_all (packet_of bytes ∷ []) feed.ring) to (takes_of events) l)
+          (sym (plain_goes_out (sent kind) to (packet_of bytes) events few))
+          (ring_grows feed.ring to (takes_of events) out (packet_of bytes ∷ []) (takes_fit (sent kind) to events h.finds) h.ring));
+      causes = h.causes;
+      finds = h.finds;
+    }
+
+pub packet_is_left_out : (feed : Feed) (bytes : List ℕ) → 512 ≤ length feed.ring.queued → FollowsPacket feed feed bytes
+packet_is_left_out feed bytes full kind to events h =
+    let many : 512 ≤ (standing to.wish events).queued = let e = queued_same kind feed to events h in omega (arith, e, full) in
+    record {
+      kind_is = h.kind_is;
+      selector = subst (λ (s : Standing). StandsFor feed.selector s) (sym ((plain_packets_are_queued to.wish (packet_of bytes) events).1 many)) h.selector;
+      ring = subst (λ (l : List Packet). IsRingOf feed.ring to (takes_of events) l) (sym (full_takes_none (sent kind) to (packet_of bytes) events many)) h.ring;
+      causes = h.causes;
+      finds = h.finds;
+    }
+
+-- ---- frames
+
+-- the passed frames of the epoch lie below the next frame of the track
+pub lies_above : (meaning : FrameMeaning) (wish : Wish) (events : List Happened) → IsOneTrack (meaning ∷ meanings_of events) → IsAboveAll meaning (standing wish events)
+lies_above meaning wish events track =
+    each_weaker (λ g. IsMember g (meanings_of events)) (λ g. g.number < meaning.number) (standing wish events).epoch_passed
+    (λ g member. (each_member (Precedes meaning) (meanings_of events) g track.1 member).rises) (sound wish events track.2).known
+
+-- what the calls say of a frame of these packets
+pub record Judges (old new : Feed) (meaning : FrameMeaning) (packets : List (List ℕ)) (count queued : ℕ) (verdict : Verdict) : Type 0 where
+  pub kind_is : new.kind ≡ old.kind
+  pub count_is : count ≡ length packets
+  pub queued_is : queued ≡ length old.ring.queued
+  pub verdict_is : (s : Standing) → StandsFor old.selector s → IsAboveAll meaning s → s.queued ≡ queued → verdict ≡ verdict_at s meaning count
+  pub stands : (s : Standing) → StandsFor old.selector s → IsAboveAll meaning s → s.queued ≡ queued → StandsFor new.selector (after_frame s meaning count)
+  pub written : (steps : List Step) → IsAfter old.causes steps → IsAboveSteps meaning.number steps
+      → IsAfter new.causes (record { number = meaning.number; verdict = verdict } ∷ steps)
+
+-- what they say of it at a standing, over the verdicts before
+record JudgesAt (new : Feed) (s : Standing) (steps : List Step) (meaning : FrameMeaning) (packets : ℕ) (verdict : Verdict) : Type 0 where
+  verdict_is : verdict ≡ verdict_at s meaning packets
+  stands : StandsFor new.selector (after_frame s meaning packets)
+  written : IsAfter new.causes (record { number = meaning.number; verdict = verdict_at s meaning packets } ∷ steps)
+
+judges_at : (kind : Kind) (old new : Feed) (meaning : FrameMeaning) (structure : TemplateStructure) (packets : List (List ℕ)) (count queued : ℕ) (verdict : Verdict)
+    (to : Subscriber) (events : List Happened)
+    → Judges old new meaning packets count queued verdict → IsOneTrack (meaning ∷ meanings_of events) → Follows kind old to events
+    → JudgesAt new (standing to.wish events) (verdicts to.wish events) meaning (length (map packet_of packets)) verdict
+judges_at kind old new meaning structure packets count queued verdict to events j track h =
+    let s : Standing = standing to.wish events in
+    let steps : List Step = verdicts to.wish events in
+    let above : IsAboveAll meaning s = lies_above meaning to.wish events track in
+    let waits : s.queued ≡ queued = queued_same kind old to events h ∙ sym j.queued_is in
+    let size : count ≡ length (map packet_of packets) = j.count_is ∙ sym (length-map packets packet_of) in
+    let is : verdict ≡ verdict_at s meaning (length (map packet_of packets)) =
+    j.verdict_is s h.selector above waits ∙ ap (λ (k : ℕ). verdict_at s meaning k) size in
+    let falling : AreFalling (verdicts to.wish (WholeFrame (frame_by meaning structure packets) ∷ events)) =
+    (keeps_causes to.wish (WholeFrame (frame_by meaning structure packets) ∷ events) track).0 in
+    record {
+      verdict_is = is;
+      stands = subst (λ (k : ℕ). StandsFor new.selector (after_frame s meaning k)) size (j.stands s h.selector above waits);
+      written = subst (λ (v : Verdict). IsAfter new.causes (record { number = meaning.number; verdict = v } ∷ steps)) is (j.written steps h.causes falling.0);
+    }
+
+judges_follow : (kind : Kind) (old new : Feed) (meaning : FrameMeaning) (structure : TemplateStructure) (packets : List (List ℕ)) (verdict : Verdict)
+    (to : Subscriber) (events : List Happened)
+    → new.kind ≡ old.kind → JudgesAt new (standing to.wish events) (verdicts to.wish events) meaning (length (map packet_of packets)) verdict
+    → Follows kind old to events
+    → IsRingOf new.ring to (takes_of events) (outgoing (sent kind) to (WholeFrame (frame_by meaning structure packets) ∷ events))
+    → Follows kind new to (WholeFrame (frame_by meaning structure packets) ∷ events)
+judges_follow kind old new meaning structure packets verdict to events same at h ring =
+    record { kind_is = same ∙ h.kind_is; selector = at.stands; ring = ring; causes = at.written; finds = h.finds }
+
+passes_where : (s : Standing) (f : FrameMeaning) (packets : ℕ) → verdict_at s f packets ≡ Passed → passes_at s f packets ≡ true
+passes_where s f packets h = passes_from_verdict (has_passed s f) (key_passed s f) s.wish f (target_at s f) s.queued packets h
+
+passed_where : (s : Standing) (f : FrameMeaning) (packets : ℕ) → passes_at s f packets ≡ true → verdict_at s f packets ≡ Passed
+passed_where s f packets h = verdict_from_passes (has_passed s f) (key_passed s f) s.wish f (target_at s f) s.queued packets h
+
+pub frame_passes : (old new : Feed) (meaning : FrameMeaning) (packets : List (List ℕ)) (count queued : ℕ) (verdict : Verdict) (is_top : Bool)
+    → Judges old new meaning packets count queued verdict → verdict ≡ Passed → PushesFrame old.ring new.ring packets is_top
+    → ((s : Standing) → StandsFor old.selector s → IsAboveAll meaning s → s.queued ≡ queued → is_top ≡ is_top_layer meaning (candidate_at s meaning))
+    → FollowsFrame old new meaning packets
+frame_passes old new meaning packets count queued verdict is_top j passed pushes tops kind to structure events track h =
+    let s : Standing = standing to.wish events in
+    let frame : Frame TemplateStructure = frame_by meaning structure packets in
+    let n : ℕ = length (map packet_of packets) in
+    let at = judges_at kind old new meaning structure packets count queued verdict to events j track h in
+    let passes : passes_at s meaning n ≡ true = passes_where s meaning n (sym at.verdict_is ∙ passed) in
+    let sends : List Packet = sent kind frame (candidate_at s meaning) in
+    let top : is_top ≡ is_top_layer meaning (candidate_at s meaning) =
+    tops s h.selector (lies_above meaning to.wish events track) (queued_same kind old to events h ∙ sym j.queued_is) in
+    let now : new.ring ≡ pushed_all sends old.ring = sends_frame kind old.ring new.ring meaning structure packets is_top (candidate_at s meaning) top pushes in
+    judges_follow kind old new meaning structure packets verdict to events j.kind_is at h
+    (subst (λ (r : Ring). IsRingOf r to (takes_of events) (outgoing (sent kind) to (WholeFrame frame ∷ events))) (sym now)
+    (subst (λ (l : List Packet). IsRingOf (pushed_all sends old.ring) to (takes_of events) l) (sym (passing_frames_go_out (sent kind) to frame events passes))
+    (ring_grows old.ring to (takes_of events) (outgoing (sent kind) to events) sends (takes_fit (sent kind) to events h.finds) h.ring)))
+
+not_passed : (b : Bool) (v : Verdict) → (b ≡ true → v ≡ Passed) → (v ≡ Passed → ⊥) → b ≡ false
+not_passed true v h none = absurd (none (h refl))
+not_passed false v h none = refl
+
+pub frame_is_withheld : (old new : Feed) (meaning : FrameMeaning) (packets : List (List ℕ)) (count queued : ℕ) (verdict : Verdict)
+    → Judges old new meaning packets count queued verdict → (verdict ≡ Passed → ⊥) → new.ring ≡ old.ring → FollowsFrame old new meaning packets
+frame_is_withheld old new meaning packets count queued verdict j withheld now kind to structure events track h =
+    let s : Standing = standing to.wish events in
+    let frame : Frame TemplateStructure = frame_by meaning structure packets in
+    let n : ℕ = length (map packet_of packets) in
+    let at = judges_at kind old new meaning structure packets count queued verdict to events j track h in
+    let fails : passes_at s meaning n ≡ false =
+    not_passed (passes_at s meaning n) (verdict_at s meaning n) (passed_where s meaning n) (λ e. withheld (at.verdict_is ∙ e)) in
+    judges_follow kind old new meaning structure packets verdict to events j.kind_is at h
+    (subst (λ (r : Ring). IsRingOf r to (takes_of events) (outgoing (sent kind) to (WholeFrame frame ∷ events))) (sym now)
+    (subst (λ (l : List Packet). IsRingOf old.ring to (takes_of events) l) (sym ((nothing_else_goes_out (sent kind) to frame to.wish events).0 fails)) h.ring))

@@ -1,0 +1,71 @@
+-- A call that the recorder noted and that the content did is served.
+use Rattle.std.proofs.Common.{◌≡◌, ℕ, Bool, true, false, cond, List, [], ◌∷◌, ◌++◌, Option, Some, None, sym, ap, ◌∙◌, subst, refl, true≢false}
+use Rattle.std.proofs.lemmas.List.{append-nil}
+use Rattle.sfu_base.specs.declared.call.Refusal.TheVariants.{NoMemory}
+use Rattle.std.specs.Prelude.{IfSome}
+use Rattle.std.proofs.lemmas.Grind.{flat_map-append, fold-append}
+use Rattle.sfu_base.specs.Answer.{is_starved}
+use Rattle.sfu_base.specs.declared.call.Call.{Call}
+use Rattle.sfu_base.specs.declared.call.Reply.{Reply}
+use Rattle.sfu_base.specs.declared.call.Reply.TheVariants as reply
+use Rattle.room_core.specs.declared.room.Room.{Room}
+use Rattle.room_core.specs.Noted.{Noted, Notes}
+use Rattle.room_core.specs.Replies.{answer}
+use Rattle.room_core.specs.History.{Entry, accepted, after, after_entry, kept, noted_of}
+use Rattle.room_core.specs.Content.{Does, IsAfter}
+use Rattle.room_core.specs.Serves.{Serves, Stands, StandsHeadline}
+use Rattle.room_core.proofs.Promising.{headline}
+
+-- a recorder that noted the call tells what the longer history keeps
+keeps_more : (told told' : Option (List Noted)) (history : List Entry) (seat : ℕ) (call : Call) (starved : Bool) → starved ≡ false → Notes told told' seat call
+    → IfSome told (λ notes. notes ≡ kept history) → IfSome told' (λ notes. notes ≡ kept (history ++ record { seat = seat; call = call; starved = starved } ∷ []))
+keeps_more None None history seat call starved fed notes h = tt
+keeps_more None (Some new) history seat call starved fed notes h = absurd notes
+keeps_more (Some old) None history seat call starved fed notes h = absurd notes
+keeps_more (Some old) (Some new) history seat call starved fed notes h =
+    notes ∙ ap (λ (xs : List Noted). xs ++ record { seat = seat; call = call } ∷ []) h
+    ∙ sym (flat_map-append noted_of history (record { seat = seat; call = call; starved = starved } ∷ [])
+    ∙ ap (λ (t : Bool). kept history ++ (cond t [] (record { seat = seat; call = call } ∷ []) ++ [])) fed)
+
+pub served : {R : Type 0} (noted : R → Option (List Noted)) (old mid new : Room R) (seat : ℕ) (call : Call) (given : Reply) (bytes numbers : List ℕ)
+    → ((past : List Call) → IsAfter old.content past → IsAfter mid.content past)
+    → Does mid.content new.content call given bytes numbers → is_starved given ≡ false → Notes (noted old.recorder) (noted new.recorder) seat call
+    → Serves noted old new seat call given bytes numbers
+served noted old mid new seat call given bytes numbers same does fed notes = record {
+  answered = λ history stands _. does.answered (accepted history) (same (accepted history) stands.content_is);
+  stands = λ history stands.
+      let entry : Entry = record { seat = seat; call = call; starved = is_starved given } in
+      let past : List Call = accepted history in
+      let more : accepted (history ++ entry ∷ []) ≡ after (answer past call) call past =
+      fold-append after_entry [] history (entry ∷ [])
+      ∙ ap (λ (starved : Bool). cond starved past (after (answer past call) call past)) fed in
+      record {
+        content_is = subst (IsAfter new.content) (sym more) (does.done past (same past stands.content_is));
+        keeps = keeps_more (noted old.recorder) (noted new.recorder) history seat call (is_starved given) fed notes stands.keeps;
+      };
+}
+
+-- a starved call changes nothing
+pub starves : {R : Type 0} (noted : R → Option (List Noted)) (old new : Room R) (seat : ℕ) (call : Call) (bytes numbers : List ℕ)
+    → ((past : List Call) → IsAfter old.content past → IsAfter new.content past) → noted new.recorder ≡ noted old.recorder
+    → Serves noted old new seat call (reply.Refused NoMemory) bytes numbers
+starves noted old new seat call bytes numbers same notes = record {
+  answered = λ history stands fed. absurd (true≢false fed);
+  stands = λ history stands.
+      let entry : Entry = record { seat = seat; call = call; starved = true } in
+      let more : accepted (history ++ entry ∷ []) ≡ accepted history = fold-append after_entry [] history (entry ∷ []) in
+      record {
+        content_is = subst (IsAfter new.content) (sym more) (same (accepted history) stands.content_is);
+        keeps = subst (λ (o : Option (List Noted)). IfSome o (λ ns. ns ≡ kept (history ++ entry ∷ []))) (sym notes)
+            (keeps_as (noted old.recorder) history entry refl stands.keeps);
+      };
+}
+  where
+    keeps_as : (told : Option (List Noted)) (history : List Entry) (entry : Entry) → entry.starved ≡ true → IfSome told (λ notes. notes ≡ kept history)
+        → IfSome told (λ notes. notes ≡ kept (history ++ entry ∷ []))
+    keeps_as None history entry e h = tt
+    keeps_as (Some ns) history entry e h =
+        h ∙ sym (flat_map-append noted_of history (entry ∷ []) ∙ ap (λ (t : Bool). kept history ++ (cond t [] (record { seat = entry.seat; call = entry.call } ∷ []) ++ [])) e ∙ append-nil (kept history))
+
+pub stands_headline : {R : Type 0} (noted : R → Option (List Noted)) (room : Room R) → StandsHeadline noted room
+stands_headline noted room history stands = headline (accepted history)

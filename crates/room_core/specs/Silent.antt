@@ -1,0 +1,9 @@
+-- Which calls leave nothing in a scratch, whatever they are answered.
+use Rattle.sfu_base.specs.declared.call.Call.{Call}
+use Rattle.sfu_base.specs.declared.call.Call.TheVariants.{Take, Resend, Missing}
+
+abbrev pub IsSilent : Call → Type 0
+IsSilent (Take subscriber) = ⊥
+IsSilent (Resend subscriber sequence) = ⊥
+IsSilent (Missing track) = ⊥
+IsSilent other = Unit {0}

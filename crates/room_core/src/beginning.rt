@@ -1,0 +1,167 @@
+// Tracks and subscribers begin. What needs memory is done before anything changes.
+ghost use Rattle.std.specs.Prelude.{◌≡◌, [], IfOk, List, OnErr, false, ℕ};
+ghost use Rattle.sfu_base.specs.Answer.{is_starved};
+ghost use Rattle.sfu_base.specs.declared.call.Call.{Call};
+ghost use Rattle.sfu_base.specs.declared.call.Call.TheVariants as call;
+ghost use Rattle.sfu_base.specs.declared.frame.Wish.{Wish};
+ghost use Rattle.room_core.specs.Content.{DoesSilently, IsAcceptedAfter, IsAfter, IsReady, TakesMemory};
+
+use crate::content::Content;
+use crate::feed::Feed;
+use crate::live::{LiveSubscriber, LiveTrack, Ready};
+use indexmap::IndexMap;
+use sfu_base::{Call, Kind, NoMemory, Refusal, Reply, Wish};
+use std::alloc::Global;
+use track_core::Track;
+
+impl Content {
+    /// Nothing is live. It takes no memory.
+    pub fn new(alloc: Global) -> Content
+        ensures { IsAfter result [] }
+    {
+        Content {
+            tracks: IndexMap::new(alloc),
+            highest_track: 0,
+            subscribers: IndexMap::new(alloc),
+            highest_subscriber: 0,
+        }
+    }
+
+    /// Finds the memory that a call needs: the pipeline of an accepted publish, or what an accepted join is sent, and room in the tables.
+    pub fn prepare(&mut self, alloc: Global, call: &Call) -> Result<Ready, NoMemory>
+        ensures same { (past : List Call) → IsAfter self.old past → IsAfter self.new past }
+        ensures ready { IfOk result (IsReady self.new call.now) }
+        ensures memory { OnErr result (TakesMemory call.now) }
+        ensures last { OnErr result (IsAcceptedAfter self.old call.now) }
+    {
+        match call {
+            Call::Publish {
+                track,
+                kind,
+                ssrc,
+                hold,
+            } => self.prepare_track(alloc, *track, *kind, *ssrc, *hold),
+            Call::Join {
+                subscriber,
+                track,
+                ssrc,
+                first,
+                wish,
+            } => self.prepare_feed(alloc, *subscriber, *track, *ssrc, *first, *wish),
+            _ => Ok(Ready::Nothing),
+        }
+    }
+
+    fn prepare_track(
+        &mut self,
+        alloc: Global,
+        track: u32,
+        kind: Kind,
+        ssrc: u32,
+        hold: u32,
+    ) -> Result<Ready, NoMemory>
+        ensures same { (past : List Call) → IsAfter self.old past → IsAfter self.new past }
+        ensures ready { IfOk result (IsReady self.new (call.Publish track kind ssrc hold)) }
+        ensures last { OnErr result (IsAcceptedAfter self.old (call.Publish track kind ssrc hold)) }
+    {
+        if self.publish_refusal(track, kind).is_some() {
+            return Ok(Ready::Nothing);
+        }
+        let pipeline = Track::new(alloc, kind, ssrc, hold)?;
+        let Ok(pipeline) = Box::new(alloc, pipeline) else {
+            return Err(NoMemory);
+        };
+        match self.tracks.reserve(1) {
+            Ok(()) => Ok(Ready::Pipeline(pipeline)),
+            Err(_) => Err(NoMemory),
+        }
+    }
+
+    fn prepare_feed(
+        &mut self,
+        alloc: Global,
+        subscriber: u32,
+        track: u32,
+        ssrc: u32,
+        first: u16,
+        wish: Wish,
+    ) -> Result<Ready, NoMemory>
+        ensures same { (past : List Call) → IsAfter self.old past → IsAfter self.new past }
+        ensures ready { IfOk result (IsReady self.new (call.Join subscriber track ssrc first wish)) }
+        ensures last { OnErr result (IsAcceptedAfter self.old (call.Join subscriber track ssrc first wish)) }
+    {
+        if self.join_refusal(subscriber, track).is_some() {
+            return Ok(Ready::Nothing);
+        }
+        let Some(known) = self.tracks.get(&track) else {
+            // A join of no track was refused.
+            return Ok(Ready::Nothing);
+        };
+        let feed = Feed::new(alloc, known.kind, ssrc, first, wish)?;
+        let Ok(feed) = Box::new(alloc, feed) else {
+            return Err(NoMemory);
+        };
+        match self.subscribers.reserve(1) {
+            Ok(()) => Ok(Ready::Sent(feed)),
+            Err(_) => Err(NoMemory),
+        }
+    }
+
+    /// A track begins, where its pipeline was made ready.
+    pub fn publish(&mut self, track: u32, kind: Kind, ready: Ready) -> Reply
+        requires { (ssrc : ℕ) × (hold : ℕ) × IsReady self.old (call.Publish track kind ssrc hold) ready }
+        ensures does { (ssrc hold : ℕ) → IsReady self.old (call.Publish track kind ssrc hold) ready
+            → DoesSilently self.old self.new (call.Publish track kind ssrc hold) result }
+        ensures fed { is_starved result ≡ false }
+    {
+        match ready {
+            Ready::Pipeline(pipeline) => {
+                let live = LiveTrack {
+                    kind,
+                    pleaded: false,
+                    pipeline,
+                };
+                match self.tracks.insert(track, live) {
+                    Ok(_) => {
+                        self.highest_track = track;
+                        Reply::Done
+                    }
+                    // There was room in the table.
+                    Err(_) => Reply::Refused(Refusal::NoMemory),
+                }
+            }
+            _ => match self.publish_refusal(track, kind) {
+                Some(why) => Reply::Refused(why),
+                // An accepted publish had its pipeline made ready.
+                None => Reply::Refused(Refusal::NoMemory),
+            },
+        }
+    }
+
+    /// A subscriber begins, where what it is sent was made ready.
+    pub fn join(&mut self, subscriber: u32, track: u32, ready: Ready) -> Reply
+        requires { (ssrc : ℕ) × (first : ℕ) × (wish : Wish) × IsReady self.old (call.Join subscriber track ssrc first wish) ready }
+        ensures does { (ssrc first : ℕ) (wish : Wish) → IsReady self.old (call.Join subscriber track ssrc first wish) ready
+            → DoesSilently self.old self.new (call.Join subscriber track ssrc first wish) result }
+        ensures fed { is_starved result ≡ false }
+    {
+        match ready {
+            Ready::Sent(feed) => match self
+                .subscribers
+                .insert(subscriber, LiveSubscriber { track, feed })
+            {
+                Ok(_) => {
+                    self.highest_subscriber = subscriber;
+                    Reply::Done
+                }
+                // There was room in the table.
+                Err(_) => Reply::Refused(Refusal::NoMemory),
+            },
+            _ => match self.join_refusal(subscriber, track) {
+                Some(why) => Reply::Refused(why),
+                // An accepted join had its feed made ready.
+                None => Reply::Refused(Refusal::NoMemory),
+            },
+        }
+    }
+}

@@ -1,0 +1,140 @@
+// What one subscriber is sent.
+ghost use Rattle.std.specs.Prelude.{◌≡◌, ◌≤◌, ◌+◌, ◌<◌, ◌&&◌, ◌||◌, false, IfOk, OnErr, length};
+ghost use Rattle.rtp_packet.specs.Faults.{first_fault};
+ghost use Rattle.rtp_packet.specs.Fields.{marker_of};
+ghost use Rattle.sfu_base.specs.Frame.{IsValid};
+ghost use Rattle.room_core.specs.Follows.{FollowsAim, FollowsFrame, FollowsPacket, FollowsTake, HasNoTarget, IsFed, IsFresh, PushesFrame, Resends, Tells};
+
+use cause_book::CauseBook;
+use out_ring::OutRing;
+use sfu_base::{FrameMeaning, Kind, NoMemory, PacketBuf, Refusal, Verdict, Wish};
+use std::alloc::Global;
+use target_selector::Selector;
+use track_core::Track;
+
+/// How many packets are queued at most (own rule).
+const MOST_QUEUED: u16 = 512;
+
+/// The kind of the subscriber's track, the selection of frames, the packets that wait or are kept, and the verdicts on frames. All its
+/// memory is taken when it is made.
+#[derive(Drop)]
+pub struct Feed {
+    pub kind: Kind,
+    pub selector: Selector,
+    pub ring: OutRing,
+    pub causes: CauseBook,
+}
+
+impl Feed {
+    /// Of a subscriber to which nothing happened yet, of a track of this kind. Its packets go out with this SSRC, numbered from `first` on.
+    pub fn new(
+        alloc: Global,
+        kind: Kind,
+        ssrc: u32,
+        first: u16,
+        wish: Wish,
+    ) -> Result<Feed, NoMemory>
+        ensures fresh { IfOk result (λ feed. IsFresh feed kind ssrc first wish) }
+    {
+        Ok(Feed {
+            kind,
+            selector: Selector::new(wish),
+            ring: OutRing::new(alloc, ssrc, first)?,
+            causes: CauseBook::new(alloc)?,
+        })
+    }
+
+    /// The wish is changed.
+    pub fn aim(&mut self, wish: Wish)
+        ensures follows { FollowsAim self.old self.new wish }
+    {
+        self.selector.aim(wish);
+    }
+
+    /// A packet of its plain track came in order: it passes where fewer than 512 are queued.
+    pub fn pass_packet(&mut self, packet: &[u8])
+        requires reads { first_fault packet.now ≡ None }
+        requires fits { length packet.now ≤ 1500 }
+        ensures follows { FollowsPacket self.old self.new packet.now }
+    {
+        if self.ring.queued() < MOST_QUEUED {
+            self.ring.push(packet, own_marker(packet));
+        }
+    }
+
+    /// A frame of its layered track got whole, the one that the track made last.
+    pub fn pass_frame(&mut self, track: &Track, frame: &FrameMeaning)
+        requires { IsValid frame.now }
+        ensures follows { FollowsFrame self.old self.new frame.now track.now.packets }
+    {
+        let verdict = self
+            .selector
+            .admit(frame, track.count(), self.ring.queued());
+        self.causes.write(frame.number, verdict);
+        if let Verdict::Passed = verdict {
+            push_frame(&mut self.ring, track, self.selector.marks_last());
+        }
+    }
+
+    /// Hands out the oldest queued packet, if one is queued.
+    pub fn take(&mut self, out: &mut PacketBuf) -> bool
+        ensures follows { FollowsTake self.old self.new result out.old out.new }
+        ensures unchanged { result ≡ false → self.new ≡ self.old }
+        ensures untouched { result ≡ false → out.new ≡ out.old }
+    {
+        self.ring.take(out).is_ok()
+    }
+
+    /// Whether there is no current target.
+    pub fn has_no_target(&self) -> bool
+        ensures target { HasNoTarget self.now result }
+    {
+        self.selector.target().is_none()
+    }
+
+    /// Why a frame was or wasn't passed.
+    pub fn why(&self, number: u64) -> Result<Verdict, Refusal>
+        ensures tells { Tells self.now number result }
+        ensures fed { IsFed result }
+    {
+        self.causes.verdict(number)
+    }
+
+    /// Hands out a kept packet again.
+    pub fn resend(&self, seq: u16, out: &mut PacketBuf) -> Result<(), Refusal>
+        ensures resends { Resends self.now seq result out.old out.new }
+        ensures fed { IsFed result }
+        ensures untouched { OnErr result (out.new ≡ out.old) }
+    {
+        self.ring.resend(seq, out)
+    }
+}
+
+// Queues the packets of the frame that the track made last. The last one's marker is set where the frame ends the target's layer.
+fn push_frame(ring: &mut OutRing, track: &Track, is_top: bool)
+    requires room { length ring.old.queued + length track.now.packets ≤ 512 }
+    ensures pushed { PushesFrame ring.old ring.new track.now.packets is_top }
+{
+    let count = track.count();
+    for place in 0..count {
+        let packet = track.packet(place);
+        let marker = sent_marker(packet, is_top, place + 1 == count);
+        ring.push(packet, marker);
+    }
+}
+
+// The marker with which a packet of a frame is sent: that of the frame's last packet is set where the frame ends the target's layer.
+fn sent_marker(packet: &[u8], is_top: bool, is_last: bool) -> bool
+    requires { first_fault packet.now ≡ None }
+    ensures { result ≡ (is_top && is_last || marker_of packet.now) }
+{
+    (is_top && is_last) || own_marker(packet)
+}
+
+// The marker of a packet that RTP reads (RFC 3550, section 5.1): the first bit of its second byte.
+fn own_marker(packet: &[u8]) -> bool
+    requires { first_fault packet.now ≡ None }
+    ensures { result ≡ marker_of packet.now }
+{
+    packet[1] >= 0x80
+}

@@ -1,0 +1,83 @@
+// A recorder that keeps all calls.
+ghost use Rattle.std.specs.Prelude.{◌≡◌, ◌==◌, ◌<◌, Some, [], length, slice_get};
+ghost use Rattle.std.specs.Option.{option_map};
+ghost use Rattle.room_core.specs.Kept.{call_by, seat_by};
+
+use crate::note::Note;
+use crate::recorder::Recorder;
+use sfu_base::{Call, NoMemory};
+use std::alloc::Global;
+use std::marker::Model;
+
+/// Keeps the seats and calls of a room, the oldest first, but for those that were answered want of memory. Clauses see it as that list.
+#[derive(Drop)]
+pub struct KeepAll {
+    notes: Vec<Note>,
+}
+
+impl Model for KeepAll {
+    ghost use Rattle.std.specs.Prelude.{List, map};
+    ghost use Rattle.room_core.specs.Noted.{Noted};
+    ghost use Rattle.room_core.specs.Kept.{noted_by};
+
+    ghost Value = { List Noted };
+
+    ghost view = { λ k. map noted_by k.notes.items };
+}
+
+impl KeepAll {
+    /// Nothing is kept yet. It takes no memory.
+    pub fn new(alloc: Global) -> KeepAll
+        ensures empty { result ≡ [] }
+        ensures noted { ⟦<KeepAll as Recorder>⟧.noted result ≡ Some [] }
+    {
+        KeepAll {
+            notes: Vec::new(alloc),
+        }
+    }
+
+    /// How many calls are kept.
+    pub fn len(&self) -> usize
+        ensures { result ≡ length self.now }
+    {
+        self.notes.len()
+    }
+
+    /// Whether no call is kept.
+    pub fn is_empty(&self) -> bool
+        ensures { result ≡ (length self.now == 0) }
+    {
+        self.notes.is_empty()
+    }
+
+    /// The seat of the call at this place, from 0.
+    pub fn seat(&self, place: usize) -> u32
+        requires { place < length self.now }
+        ensures { Some result ≡ option_map seat_by (slice_get self.now place) }
+    {
+        self.notes[place].seat
+    }
+
+    /// The call at this place, from 0.
+    pub fn call(&self, place: usize) -> &Call
+        requires { place < length self.now }
+        ensures { Some result.now ≡ option_map call_by (slice_get self.now place) }
+    {
+        &self.notes[place].call
+    }
+}
+
+impl Recorder for KeepAll {
+    ghost use Rattle.std.specs.Prelude.{true, Some};
+
+    ghost may_refuse = { λ _. true };
+
+    ghost noted = { λ k. Some k };
+
+    fn note(&mut self, seat: u32, call: &Call) -> Result<(), NoMemory> {
+        match self.notes.push(Note::of(seat, call)) {
+            Ok(()) => Ok(()),
+            Err(_) => Err(NoMemory),
+        }
+    }
+}

@@ -1,0 +1,142 @@
+// What a track makes goes to each of its subscribers.
+ghost use Rattle.std.specs.Prelude.{◌≡◌, ◌≤◌, ◌&&◌, None, nat_eq, not, length};
+ghost use Rattle.indexmap.specs.IndexMap.{get, index_map_len};
+ghost use Rattle.rtp_packet.specs.Faults.{first_fault};
+ghost use Rattle.sfu_base.specs.Frame.{IsValid};
+ghost use Rattle.room_core.specs.Follows.{FollowsFrame, FollowsPacket};
+ghost use Rattle.room_core.specs.Passing.{IsPassed, PassedTo, WaitsIn, WaitsOne, WorkedIf, WorkedOff};
+ghost use Rattle.room_core.specs.Stepping.{IsMadeValid, Steps};
+
+use crate::live::LiveSubscriber;
+use indexmap::IndexMap;
+use sfu_base::FrameMeaning;
+use track_core::{Made, Track};
+
+/// Works off all items of a track that wait: what they make goes to each of its subscribers, and a key frame ends a plea.
+pub fn work_off(
+    pipeline: &mut Track,
+    pleaded: &mut bool,
+    number: u32,
+    subscribers: &mut IndexMap<u32, LiveSubscriber>,
+)
+    ensures worked { WorkedOff pipeline.old pipeline.new number (get nat_eq subscribers.old) (get nat_eq subscribers.new) pleaded.old pleaded.new }
+    ensures count { index_map_len subscribers.new ≡ index_map_len subscribers.old }
+{
+    while work_off_one(pipeline, pleaded, number, subscribers) {}
+}
+
+// Works off one item, if one waits.
+fn work_off_one(
+    pipeline: &mut Track,
+    pleaded: &mut bool,
+    number: u32,
+    subscribers: &mut IndexMap<u32, LiveSubscriber>,
+) -> bool
+    ensures worked { WorkedIf result pipeline.old pipeline.new number (get nat_eq subscribers.old) (get nat_eq subscribers.new) pleaded.old pleaded.new }
+    ensures count { index_map_len subscribers.new ≡ index_map_len subscribers.old }
+{
+    match step(pipeline) {
+        Made::Idle => false,
+        Made::Nothing => true,
+        Made::Packet => {
+            pass_packet_to_all(subscribers, number, pipeline.packet(0));
+            true
+        }
+        Made::Frame(frame) => {
+            *pleaded = still_pleaded(*pleaded, frame.key);
+            pass_frame_to_all(subscribers, number, pipeline, &frame);
+            true
+        }
+    }
+}
+
+// One step of a track, told by its items.
+fn step(pipeline: &mut Track) -> Made
+    ensures steps { Steps pipeline.old pipeline.new result }
+    ensures valid { IsMadeValid result pipeline.new.packets }
+{
+    pipeline.step()
+}
+
+// A key frame ends a plea.
+fn still_pleaded(pleaded: bool, key: bool) -> bool
+    ensures { result ≡ (pleaded && not key) }
+{
+    pleaded && !key
+}
+
+// The packet that a plain track made last goes to each of its subscribers.
+fn pass_packet_to_all(subscribers: &mut IndexMap<u32, LiveSubscriber>, number: u32, packet: &[u8])
+    requires reads { first_fault packet.now ≡ None }
+    requires fits { length packet.now ≤ 1500 }
+    ensures passed { PassedTo (λ old new. FollowsPacket old new packet.now) number (get nat_eq subscribers.old) (get nat_eq subscribers.new) }
+    ensures count { index_map_len subscribers.new ≡ index_map_len subscribers.old }
+{
+    let count = subscribers.len();
+    for place in 0..count {
+        if let Some(subscriber) = subscribers.get_index_mut(place) {
+            pass_packet(subscriber, number, packet);
+        }
+    }
+}
+
+// One subscriber gets it, where it is the track's.
+fn pass_packet(subscriber: &mut LiveSubscriber, number: u32, packet: &[u8])
+    requires reads { first_fault packet.now ≡ None }
+    requires fits { length packet.now ≤ 1500 }
+    ensures { IsPassed (λ old new. FollowsPacket old new packet.now) number subscriber.old subscriber.new }
+{
+    if subscriber.track == number {
+        subscriber.feed.pass_packet(packet);
+    }
+}
+
+// The frame that a layered track made last goes to each of its subscribers.
+fn pass_frame_to_all(
+    subscribers: &mut IndexMap<u32, LiveSubscriber>,
+    number: u32,
+    track: &Track,
+    frame: &FrameMeaning,
+)
+    requires { IsValid frame.now }
+    ensures passed { PassedTo (λ old new. FollowsFrame old new frame.now track.now.packets) number (get nat_eq subscribers.old) (get nat_eq subscribers.new) }
+    ensures count { index_map_len subscribers.new ≡ index_map_len subscribers.old }
+{
+    let count = subscribers.len();
+    for place in 0..count {
+        if let Some(subscriber) = subscribers.get_index_mut(place) {
+            pass_frame(subscriber, number, track, frame);
+        }
+    }
+}
+
+// One subscriber gets it, where it is the track's.
+fn pass_frame(subscriber: &mut LiveSubscriber, number: u32, track: &Track, frame: &FrameMeaning)
+    requires { IsValid frame.now }
+    ensures { IsPassed (λ old new. FollowsFrame old new frame.now track.now.packets) number subscriber.old subscriber.new }
+{
+    if subscriber.track == number {
+        subscriber.feed.pass_frame(track, frame);
+    }
+}
+
+/// Whether one of the subscribers of a track has no current target.
+pub fn waits(subscribers: &IndexMap<u32, LiveSubscriber>, number: u32) -> bool
+    ensures { WaitsIn result number (get nat_eq subscribers.now) }
+{
+    let count = subscribers.len();
+    for place in 0..count {
+        if let Some((_, subscriber)) = subscribers.get_index(place) {
+            if waits_one(subscriber, number) {
+                return true;
+            }
+        }
+    }
+    false
+}
+
+fn waits_one(subscriber: &LiveSubscriber, number: u32) -> bool
+    ensures { WaitsOne result number subscriber.now }
+{
+    subscriber.track == number && subscriber.feed.has_no_target()
+}

@@ -1,0 +1,73 @@
+// Why a track can't be published, and why a subscriber can't join.
+ghost use Rattle.std.specs.Prelude.{◌≡◌, IfSome, false, is_some, nat_eq};
+ghost use Rattle.indexmap.specs.IndexMap.{get, index_map_len};
+ghost use Rattle.sfu_base.specs.Answer.{is_memory};
+ghost use Rattle.room_core.specs.Content.{refusal_to_join, refusal_to_publish};
+ghost use Rattle.room_core.specs.Replies.{is_bad_id};
+
+use crate::content::Content;
+use sfu_base::{Kind, Refusal};
+
+/// How many tracks are live at most (own rule).
+const MOST_TRACKS: usize = 64;
+
+/// How many subscribers are live at most (own rule).
+const MOST_SUBSCRIBERS: usize = 256;
+
+/// The id of a header extension element that is padding (RFC 8285, sections 4.2 and 4.3).
+const PADDING_ID: u8 = 0;
+
+/// The id that ends processing (RFC 8285, section 4.2).
+const LAST_ID: u8 = 15;
+
+impl Content {
+    /// Why a track can't be published, the first that stands.
+    pub fn publish_refusal(&self, track: u32, kind: Kind) -> Option<Refusal>
+        ensures fed { IfSome result (λ why. is_memory why ≡ false) }
+        ensures refusal { result ≡ refusal_to_publish self.now track kind }
+    {
+        if track <= self.highest_track {
+            return Some(Refusal::NumberUsed {
+                highest: self.highest_track,
+            });
+        }
+        let live = self.tracks.len();
+        if live >= MOST_TRACKS {
+            return Some(Refusal::TooMany { live: live as u32 });
+        }
+        if has_bad_id(kind) {
+            return Some(Refusal::BadExtensionId);
+        }
+        None
+    }
+
+    /// Why a subscriber can't join, the first that stands.
+    pub fn join_refusal(&self, subscriber: u32, track: u32) -> Option<Refusal>
+        ensures fed { IfSome result (λ why. is_memory why ≡ false) }
+        ensures refusal { result ≡ refusal_to_join self.now subscriber track }
+    {
+        if !self.tracks.contains_key(&track) {
+            return Some(Refusal::NoTrack);
+        }
+        if subscriber <= self.highest_subscriber {
+            return Some(Refusal::NumberUsed {
+                highest: self.highest_subscriber,
+            });
+        }
+        let live = self.subscribers.len();
+        if live >= MOST_SUBSCRIBERS {
+            return Some(Refusal::TooMany { live: live as u32 });
+        }
+        None
+    }
+}
+
+// Whether a layered track's element can't be found by its id.
+fn has_bad_id(kind: Kind) -> bool
+    ensures { result ≡ is_bad_id kind }
+{
+    match kind {
+        Kind::Plain => false,
+        Kind::Layered { id } => id == PADDING_ID || id == LAST_ID,
+    }
+}

@@ -1,0 +1,260 @@
+// The room.
+use crate::content::Content;
+use crate::recorder::Recorder;
+use sfu_base::{Call, Kind, PacketBuf, Refusal, Reply, Scratch, Wish};
+use std::alloc::Global;
+
+/// A room: tracks, each with one publisher's packets, and subscribers, each of one track. `publish` begins a track, `packet` brings its
+/// packets, `tick` tells its time; `join` begins a subscriber, `take` hands out what waits for it, `resend` what it took before. Moments
+/// and holds are milliseconds.
+///
+/// A layered track's packets become frames (RTP Payload Format For AV1, Appendix A), and each subscriber gets those of the best decode
+/// target that its wish allows. A plain track's packets pass in order as they come.
+///
+/// A call is refused by the first refusal of its own that stands, and then changes nothing but what the recorder keeps. Over a recorder
+/// that refuses nothing only `publish` and `join` may want memory. All of it is an own rule.
+#[derive(Drop)]
+pub struct Room<R: Recorder> {
+    alloc: Global,
+    recorder: R,
+    content: Content,
+}
+
+impl<R: Recorder> Room<R> {
+    ghost use Rattle.std.specs.Prelude.{◌≡◌, ◌≢◌, [], List, ℕ, IfSome};
+    ghost use Rattle.sfu_base.specs.declared.call.Call.TheVariants as call;
+    ghost use Rattle.sfu_base.specs.declared.call.Reply.TheVariants as reply;
+    ghost use Rattle.room_core.specs.Noted.{Noted};
+    ghost use Rattle.room_core.specs.History.{Entry, kept};
+    ghost use Rattle.room_core.specs.Serves.{DoesAsServe, MemoryHasCause, MemoryIsLast, Serves, Stands, StandsHeadline, recorder_may_refuse};
+    ghost use Rattle.room_core.specs.Silent.{IsSilent};
+    ghost use Rattle.room_core.specs.Kinds.{IsKindOf};
+
+    /// A room on which no call was made. The recorder has kept nothing yet. It takes no memory.
+    pub fn new(alloc: Global, recorder: R) -> Room<R>
+        requires { IfSome (R.noted recorder) (λ notes. notes ≡ []) }
+        ensures stands { Stands R.noted result [] }
+        ensures recorder { recorder_may_refuse R.may_refuse result ≡ R.may_refuse recorder }
+    {
+        Room {
+            alloc,
+            recorder,
+            content: Content::new(alloc),
+        }
+    }
+
+    /// Serves one call of a seat, the one entry to the room. A `Packet` leaves its bytes in `scratch.packet`, `Names` leave their numbers in
+    /// `scratch.names`; no other reply changes the scratch.
+    pub fn serve(&mut self, seat: u32, call: &Call, scratch: &mut Scratch) -> Reply
+        ensures serves { Serves R.noted self.old self.new seat call.now result scratch.new.packet scratch.new.names }
+        ensures headline { StandsHeadline R.noted self.new }
+        ensures memory { MemoryHasCause R.may_refuse self.old call.now result }
+        ensures last { MemoryIsLast R.noted R.may_refuse self.old call.now result }
+        ensures recorder { recorder_may_refuse R.may_refuse self.new ≡ recorder_may_refuse R.may_refuse self.old }
+        ensures packet { result ≢ reply.Packet → scratch.new.packet ≡ scratch.old.packet }
+        ensures names { result ≢ reply.Names → scratch.new.names ≡ scratch.old.names }
+    {
+        match self.content.prepare(self.alloc, call) {
+            Ok(ready) => match self.recorder.note(seat, call) {
+                Ok(()) => self.content.serve(call, ready, scratch),
+                Err(_) => Reply::Refused(Refusal::NoMemory),
+            },
+            Err(_) => Reply::Refused(Refusal::NoMemory),
+        }
+    }
+
+    // The same of a call whose reply leaves nothing in a scratch.
+    fn serve_silently(&mut self, seat: u32, call: &Call) -> Reply
+        requires { IsSilent call.now }
+        ensures serves { (bytes numbers : List ℕ) → Serves R.noted self.old self.new seat call.now result bytes numbers }
+        ensures headline { StandsHeadline R.noted self.new }
+        ensures memory { MemoryHasCause R.may_refuse self.old call.now result }
+        ensures last { MemoryIsLast R.noted R.may_refuse self.old call.now result }
+        ensures recorder { recorder_may_refuse R.may_refuse self.new ≡ recorder_may_refuse R.may_refuse self.old }
+    {
+        match self.content.prepare(self.alloc, call) {
+            Ok(ready) => match self.recorder.note(seat, call) {
+                Ok(()) => self.content.serve_silently(call, ready),
+                Err(_) => Reply::Refused(Refusal::NoMemory),
+            },
+            Err(_) => Reply::Refused(Refusal::NoMemory),
+        }
+    }
+
+    /// Begins a track, as [`Call::Publish`] does. `NumberUsed`: the number is at most the highest that a track ever had, which is 0 before
+    /// the first. `TooMany`: 64 tracks are live. `BadExtensionId`: the id of a layered track's header extension element is 0 or 15.
+    pub fn publish(&mut self, seat: u32, track: u32, kind: Kind, ssrc: u32, hold: u32) -> Reply
+        ensures { DoesAsServe R.noted R.may_refuse self.old self.new seat (call.Publish track kind ssrc hold) result }
+    {
+        self.serve_silently(
+            seat,
+            &Call::Publish {
+                track,
+                kind,
+                ssrc,
+                hold,
+            },
+        )
+    }
+
+    /// Ends a track, as [`Call::Unpublish`] does. Its subscribers stay, and may take, have resent, aim and ask why. `NoTrack`: no live
+    /// track has the number.
+    pub fn unpublish(&mut self, seat: u32, track: u32) -> Reply
+        ensures { DoesAsServe R.noted R.may_refuse self.old self.new seat (call.Unpublish track) result }
+    {
+        self.serve_silently(seat, &Call::Unpublish { track })
+    }
+
+    /// Brings a packet, as [`Call::Packet`] does. The recorder is shown a copy. `NoTrack`; then `TooBig`: more than 1,500 bytes;
+    /// `Unreadable`: they aren't RTP; `WrongSsrc`; `Spent`, `Late` and `Repeat`, by the packet's number in the track's order.
+    pub fn packet(&mut self, seat: u32, track: u32, moment: u64, bytes: &PacketBuf) -> Reply
+        ensures { DoesAsServe R.noted R.may_refuse self.old self.new seat (call.Packet track moment bytes.now) result }
+    {
+        let mut copy = PacketBuf::new();
+        copy.fill(bytes.bytes());
+        self.serve_silently(
+            seat,
+            &Call::Packet {
+                track,
+                moment,
+                bytes: copy,
+            },
+        )
+    }
+
+    /// Tells a track that it is this moment, as [`Call::Tick`] does: gaps that were waited for long enough are given up. `NoTrack`.
+    pub fn tick(&mut self, seat: u32, track: u32, moment: u64) -> Reply
+        ensures { DoesAsServe R.noted R.may_refuse self.old self.new seat (call.Tick track moment) result }
+    {
+        self.serve_silently(seat, &Call::Tick { track, moment })
+    }
+
+    /// Begins a subscriber, as [`Call::Join`] does. `NoTrack`; `NumberUsed`: the number is at most the highest that a subscriber ever had;
+    /// `TooMany`: 256 subscribers are live; `NoMemory`: none was found for what it will be sent.
+    pub fn join(
+        &mut self,
+        seat: u32,
+        subscriber: u32,
+        track: u32,
+        ssrc: u32,
+        first: u16,
+        wish: Wish,
+    ) -> Reply
+        ensures { DoesAsServe R.noted R.may_refuse self.old self.new seat (call.Join subscriber track ssrc first wish) result }
+    {
+        self.serve_silently(
+            seat,
+            &Call::Join {
+                subscriber,
+                track,
+                ssrc,
+                first,
+                wish,
+            },
+        )
+    }
+
+    /// Ends a subscriber, as [`Call::Leave`] does. `NoSubscriber`: no live subscriber has the number.
+    pub fn leave(&mut self, seat: u32, subscriber: u32) -> Reply
+        ensures { DoesAsServe R.noted R.may_refuse self.old self.new seat (call.Leave subscriber) result }
+    {
+        self.serve_silently(seat, &Call::Leave { subscriber })
+    }
+
+    /// Changes a subscriber's wish, as [`Call::Aim`] does. `NoSubscriber`.
+    pub fn aim(&mut self, seat: u32, subscriber: u32, wish: Wish) -> Reply
+        ensures { DoesAsServe R.noted R.may_refuse self.old self.new seat (call.Aim subscriber wish) result }
+    {
+        self.serve_silently(seat, &Call::Aim { subscriber, wish })
+    }
+
+    /// Hands out the oldest packet that waits, as [`Call::Take`] does: `Packet`, with its bytes in `scratch.packet`. `NoSubscriber`;
+    /// `Empty`: none waits.
+    pub fn take(&mut self, seat: u32, subscriber: u32, scratch: &mut Scratch) -> Reply
+        ensures serves { Serves R.noted self.old self.new seat (call.Take subscriber) result scratch.new.packet scratch.new.names }
+        ensures headline { StandsHeadline R.noted self.new }
+        ensures memory { MemoryHasCause R.may_refuse self.old (call.Take subscriber) result }
+        ensures last { MemoryIsLast R.noted R.may_refuse self.old (call.Take subscriber) result }
+        ensures recorder { recorder_may_refuse R.may_refuse self.new ≡ recorder_may_refuse R.may_refuse self.old }
+        ensures packet { result ≢ reply.Packet → scratch.new.packet ≡ scratch.old.packet }
+        ensures names { result ≢ reply.Names → scratch.new.names ≡ scratch.old.names }
+    {
+        self.serve(seat, &Call::Take { subscriber }, scratch)
+    }
+
+    /// Hands out a packet again that was taken under this sequence number, as [`Call::Resend`] does: `Packet`, with its bytes in
+    /// `scratch.packet` (RFC 4585, section 6.2.1). `NoSubscriber`; `NotKept`: none of the last 1,024 that were taken has the number.
+    pub fn resend(&mut self, seat: u32, subscriber: u32, seq: u16, scratch: &mut Scratch) -> Reply
+        ensures serves { Serves R.noted self.old self.new seat (call.Resend subscriber seq) result scratch.new.packet scratch.new.names }
+        ensures headline { StandsHeadline R.noted self.new }
+        ensures memory { MemoryHasCause R.may_refuse self.old (call.Resend subscriber seq) result }
+        ensures last { MemoryIsLast R.noted R.may_refuse self.old (call.Resend subscriber seq) result }
+        ensures recorder { recorder_may_refuse R.may_refuse self.new ≡ recorder_may_refuse R.may_refuse self.old }
+        ensures packet { result ≢ reply.Packet → scratch.new.packet ≡ scratch.old.packet }
+        ensures names { result ≢ reply.Names → scratch.new.names ≡ scratch.old.names }
+    {
+        self.serve(seat, &Call::Resend { subscriber, seq }, scratch)
+    }
+
+    /// Hands out the sequence numbers that a track waits for, ascending in their unwrapped order, as [`Call::Missing`] does: `Names`, with
+    /// the numbers in `scratch.names`. `NoTrack`.
+    pub fn missing(&mut self, seat: u32, track: u32, scratch: &mut Scratch) -> Reply
+        ensures serves { Serves R.noted self.old self.new seat (call.Missing track) result scratch.new.packet scratch.new.names }
+        ensures headline { StandsHeadline R.noted self.new }
+        ensures memory { MemoryHasCause R.may_refuse self.old (call.Missing track) result }
+        ensures last { MemoryIsLast R.noted R.may_refuse self.old (call.Missing track) result }
+        ensures recorder { recorder_may_refuse R.may_refuse self.new ≡ recorder_may_refuse R.may_refuse self.old }
+        ensures packet { result ≢ reply.Packet → scratch.new.packet ≡ scratch.old.packet }
+        ensures names { result ≢ reply.Names → scratch.new.names ≡ scratch.old.names }
+    {
+        self.serve(seat, &Call::Missing { track }, scratch)
+    }
+
+    /// Tells whether a track's publisher is to be asked for a key frame, as [`Call::KeyWanted`] does: where the track is layered, and a
+    /// plea stands or a live subscriber of it has no target. `NoTrack`.
+    pub fn key_wanted(&mut self, seat: u32, track: u32) -> Reply
+        ensures { DoesAsServe R.noted R.may_refuse self.old self.new seat (call.KeyWanted track) result }
+    {
+        self.serve_silently(seat, &Call::KeyWanted { track })
+    }
+
+    /// Asks for a key frame, as [`Call::Plead`] does (RFC 4585, section 6.3.1): the plea stands until the track's next whole key frame.
+    /// `NoSubscriber`; `NoTrack`: its track ended; `Plain`: its track is plain.
+    pub fn plead(&mut self, seat: u32, subscriber: u32) -> Reply
+        ensures { DoesAsServe R.noted R.may_refuse self.old self.new seat (call.Plead subscriber) result }
+    {
+        self.serve_silently(seat, &Call::Plead { subscriber })
+    }
+
+    /// Tells why a frame was or wasn't passed to a subscriber, as [`Call::Why`] does. `NoSubscriber`; `Ahead`: the number is above the
+    /// newest frame's, or there is none; `TooOld`: it is 4,096 or more below.
+    pub fn why(&mut self, seat: u32, subscriber: u32, number: u64) -> Reply
+        ensures { DoesAsServe R.noted R.may_refuse self.old self.new seat (call.Why subscriber number) result }
+    {
+        self.serve_silently(seat, &Call::Why { subscriber, number })
+    }
+
+    /// The kind that the subscriber's track had at its join, also where the track ended since. It is no call of the history, and takes no
+    /// memory. `NoSubscriber`: no live subscriber has the number.
+    pub fn kind_of(&self, subscriber: u32) -> Result<Kind, Refusal>
+        ensures kind { (history : List Entry) → Stands R.noted self.now history → IsKindOf history subscriber result }
+    {
+        match self.content.kind_of(subscriber) {
+            Some(kind) => Ok(kind),
+            None => Err(Refusal::NoSubscriber),
+        }
+    }
+
+    /// The recorder, with what it kept.
+    pub fn into_recorder(self) -> R
+        ensures kept { (history : List Entry) → Stands R.noted self history → IfSome (R.noted result) (λ notes. notes ≡ kept history) }
+        ensures recorder { R.may_refuse result ≡ recorder_may_refuse R.may_refuse self }
+    {
+        let Room {
+            alloc: _,
+            recorder,
+            content: _,
+        } = self;
+        recorder
+    }
+}

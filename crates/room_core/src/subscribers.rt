@@ -1,0 +1,116 @@
+// Calls on a live subscriber.
+ghost use Rattle.std.specs.Prelude.{◌≡◌, ◌≢◌, List, false, ℕ};
+ghost use Rattle.sfu_base.specs.Answer.{is_starved};
+ghost use Rattle.sfu_base.specs.declared.call.Call.TheVariants as call;
+ghost use Rattle.sfu_base.specs.declared.call.Reply.TheVariants as reply;
+ghost use Rattle.sfu_base.specs.declared.call.Call.{Call};
+ghost use Rattle.room_core.specs.Content.{Does, DoesSilently, IsAfter};
+ghost use Rattle.room_core.specs.Kinds.{kind_joined};
+ghost use Rattle.room_core.specs.Live.{joined};
+
+use crate::content::Content;
+use sfu_base::{Kind, PacketBuf, Refusal, Reply, Wish};
+
+impl Content {
+    /// The subscriber ends.
+    pub fn leave(&mut self, subscriber: u32) -> Reply
+        ensures does { DoesSilently self.old self.new (call.Leave subscriber) result }
+        ensures fed { is_starved result ≡ false }
+    {
+        match self.subscribers.swap_remove(&subscriber) {
+            Some(_) => Reply::Done,
+            None => Reply::Refused(Refusal::NoSubscriber),
+        }
+    }
+
+    /// The wish of the subscriber is changed.
+    pub fn aim(&mut self, subscriber: u32, wish: Wish) -> Reply
+        ensures does { DoesSilently self.old self.new (call.Aim subscriber wish) result }
+        ensures fed { is_starved result ≡ false }
+    {
+        match self.subscribers.get_mut(&subscriber) {
+            Some(known) => {
+                known.feed.aim(wish);
+                Reply::Done
+            }
+            None => Reply::Refused(Refusal::NoSubscriber),
+        }
+    }
+
+    /// Hands out the oldest packet that waits for the subscriber.
+    pub fn take(&mut self, subscriber: u32, out: &mut PacketBuf) -> Reply
+        ensures does { (numbers : List ℕ) → Does self.old self.new (call.Take subscriber) result out.new numbers }
+        ensures fed { is_starved result ≡ false }
+        ensures untouched { result ≢ reply.Packet → out.new ≡ out.old }
+    {
+        match self.subscribers.get_mut(&subscriber) {
+            Some(known) => {
+                if known.feed.take(out) {
+                    Reply::Packet
+                } else {
+                    Reply::Refused(Refusal::Empty)
+                }
+            }
+            None => Reply::Refused(Refusal::NoSubscriber),
+        }
+    }
+
+    /// Hands out a kept packet of the subscriber again.
+    pub fn resend(&self, subscriber: u32, seq: u16, out: &mut PacketBuf) -> Reply
+        ensures does { (numbers : List ℕ) → Does self.now self.now (call.Resend subscriber seq) result out.new numbers }
+        ensures fed { is_starved result ≡ false }
+        ensures untouched { result ≢ reply.Packet → out.new ≡ out.old }
+    {
+        match self.subscribers.get(&subscriber) {
+            Some(known) => match known.feed.resend(seq, out) {
+                Ok(()) => Reply::Packet,
+                Err(why) => Reply::Refused(why),
+            },
+            None => Reply::Refused(Refusal::NoSubscriber),
+        }
+    }
+
+    /// The subscriber asks for a key frame.
+    pub fn plead(&mut self, subscriber: u32) -> Reply
+        ensures does { DoesSilently self.old self.new (call.Plead subscriber) result }
+        ensures fed { is_starved result ≡ false }
+    {
+        let track = match self.subscribers.get(&subscriber) {
+            Some(known) => known.track,
+            None => return Reply::Refused(Refusal::NoSubscriber),
+        };
+        match self.tracks.get_mut(&track) {
+            Some(known) => match known.kind {
+                Kind::Plain => Reply::Refused(Refusal::Plain),
+                Kind::Layered { .. } => {
+                    known.pleaded = true;
+                    Reply::Done
+                }
+            },
+            None => Reply::Refused(Refusal::NoTrack),
+        }
+    }
+
+    /// Why a frame was or wasn't passed to the subscriber.
+    pub fn why(&self, subscriber: u32, number: u64) -> Reply
+        ensures does { DoesSilently self.now self.now (call.Why subscriber number) result }
+        ensures fed { is_starved result ≡ false }
+    {
+        match self.subscribers.get(&subscriber) {
+            Some(known) => match known.feed.why(number) {
+                Ok(verdict) => Reply::Cause(verdict),
+                Err(why) => Reply::Refused(why),
+            },
+            None => Reply::Refused(Refusal::NoSubscriber),
+        }
+    }
+
+    /// The kind that the subscriber's track had at its join.
+    pub fn kind_of(&self, subscriber: u32) -> Option<Kind>
+        ensures { (past : List Call) → IsAfter self.now past → result ≡ kind_joined (joined subscriber past) past }
+    {
+        self.subscribers
+            .get(&subscriber)
+            .map(|known| known.feed.kind)
+    }
+}

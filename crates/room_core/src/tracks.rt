@@ -1,0 +1,105 @@
+// Calls on a live track.
+ghost use Rattle.std.specs.Prelude.{◌≡◌, ◌≢◌, List, false, ℕ};
+ghost use Rattle.sfu_base.specs.Answer.{is_starved};
+ghost use Rattle.sfu_base.specs.declared.call.Call.{Call};
+ghost use Rattle.sfu_base.specs.declared.call.Call.TheVariants as call;
+ghost use Rattle.sfu_base.specs.declared.call.Reply.TheVariants as reply;
+ghost use Rattle.room_core.specs.Content.{Does, DoesSilently, IsAfter};
+ghost use Rattle.room_core.specs.Views.{has_waiting};
+
+use crate::content::Content;
+use crate::passing::{waits, work_off};
+use sfu_base::{Kind, PacketBuf, Refusal, Reply, SeqList};
+
+impl Content {
+    /// The track ends. Its subscribers stay.
+    pub fn unpublish(&mut self, track: u32) -> Reply
+        ensures does { DoesSilently self.old self.new (call.Unpublish track) result }
+        ensures fed { is_starved result ≡ false }
+    {
+        match self.tracks.swap_remove(&track) {
+            Some(_) => Reply::Done,
+            None => Reply::Refused(Refusal::NoTrack),
+        }
+    }
+
+    /// A packet of the track came: what its pipeline makes goes to the track's subscribers.
+    pub fn packet(&mut self, track: u32, moment: u64, bytes: &PacketBuf) -> Reply
+        ensures does { DoesSilently self.old self.new (call.Packet track moment bytes.now) result }
+        ensures fed { is_starved result ≡ false }
+    {
+        match self.tracks.get_mut(&track) {
+            Some(known) => match known.pipeline.arrive(moment, bytes.bytes()) {
+                Ok(()) => {
+                    work_off(
+                        &mut *known.pipeline,
+                        &mut known.pleaded,
+                        track,
+                        &mut self.subscribers,
+                    );
+                    Reply::Done
+                }
+                Err(why) => Reply::Refused(why),
+            },
+            None => Reply::Refused(Refusal::NoTrack),
+        }
+    }
+
+    /// Time has come to a moment: what the pipeline gives up and makes goes to the track's subscribers.
+    pub fn tick(&mut self, track: u32, moment: u64) -> Reply
+        ensures does { DoesSilently self.old self.new (call.Tick track moment) result }
+        ensures fed { is_starved result ≡ false }
+    {
+        match self.tracks.get_mut(&track) {
+            Some(known) => {
+                known.pipeline.tick(moment);
+                work_off(
+                    &mut *known.pipeline,
+                    &mut known.pleaded,
+                    track,
+                    &mut self.subscribers,
+                );
+                Reply::Done
+            }
+            None => Reply::Refused(Refusal::NoTrack),
+        }
+    }
+
+    /// Hands out the missing sequence numbers of the track.
+    pub fn missing(&self, track: u32, out: &mut SeqList) -> Reply
+        ensures does { (bytes : List ℕ) → Does self.now self.now (call.Missing track) result bytes out.new }
+        ensures fed { is_starved result ≡ false }
+        ensures untouched { result ≢ reply.Names → out.new ≡ out.old }
+    {
+        match self.tracks.get(&track) {
+            Some(known) => {
+                known.pipeline.missing(out);
+                Reply::Names
+            }
+            None => Reply::Refused(Refusal::NoTrack),
+        }
+    }
+
+    /// Whether a key frame of the track is wanted.
+    pub fn key_wanted(&self, track: u32) -> Reply
+        ensures does { DoesSilently self.now self.now (call.KeyWanted track) result }
+        ensures fed { is_starved result ≡ false }
+    {
+        match self.tracks.get(&track) {
+            Some(known) => match known.kind {
+                Kind::Plain => Reply::Key { wanted: false },
+                Kind::Layered { .. } => Reply::Key {
+                    wanted: known.pleaded || self.has_waiting(track),
+                },
+            },
+            None => Reply::Refused(Refusal::NoTrack),
+        }
+    }
+
+    // Whether a live subscriber of the track has no current target.
+    fn has_waiting(&self, track: u32) -> bool
+        ensures { (past : List Call) → IsAfter self.now past → result ≡ has_waiting track past }
+    {
+        waits(&self.subscribers, track)
+    }
+}
