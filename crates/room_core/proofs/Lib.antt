@@ -10,7 +10,10 @@ pub mod TableSteps
 pub mod Releasing
 pub mod Owning
 pub mod Beginnings
+pub mod CameIn
 pub mod Senders
+pub mod SentBytes
+pub mod WellFormed
 pub mod Promising
 pub mod Served
 pub mod Waiting

@@ -14,6 +14,8 @@ use Rattle.room_core.specs.Replies.{answer}
 use Rattle.room_core.specs.History.{Entry, accepted, after, after_entry, kept, noted_of}
 use Rattle.room_core.specs.Content.{Does, IsAfter}
 use Rattle.room_core.specs.Serves.{Serves, Stands, StandsHeadline}
+use Rattle.room_core.specs.WellFormed.{AreWellFormed, IsValue}
+use Rattle.room_core.proofs.WellFormed.{well_formed_after}
 use Rattle.room_core.proofs.Promising.{headline}
 
 -- a recorder that noted the call tells what the longer history keeps
@@ -29,9 +31,9 @@ keeps_more (Some old) (Some new) history seat call starved fed notes h =
 
 pub served : {R : Type 0} (noted : R → Option (List Noted)) (old mid new : Room R) (seat : ℕ) (call : Call) (given : Reply) (bytes numbers : List ℕ)
     → ((past : List Call) → IsAfter old.content past → IsAfter mid.content past)
-    → Does mid.content new.content call given bytes numbers → is_starved given ≡ false → Notes (noted old.recorder) (noted new.recorder) seat call
+    → Does mid.content new.content call given bytes numbers → is_starved given ≡ false → IsValue call → Notes (noted old.recorder) (noted new.recorder) seat call
     → Serves noted old new seat call given bytes numbers
-served noted old mid new seat call given bytes numbers same does fed notes = record {
+served noted old mid new seat call given bytes numbers same does fed value notes = record {
   answered = λ history stands _. does.answered (accepted history) (same (accepted history) stands.content_is);
   stands = λ history stands.
       let entry : Entry = record { seat = seat; call = call; starved = is_starved given } in
@@ -41,6 +43,7 @@ served noted old mid new seat call given bytes numbers same does fed notes = rec
       ∙ ap (λ (starved : Bool). cond starved past (after (answer past call) call past)) fed in
       record {
         content_is = subst (IsAfter new.content) (sym more) (does.done past (same past stands.content_is));
+        well_formed = subst AreWellFormed (sym more) (well_formed_after past call value stands.well_formed);
         keeps = keeps_more (noted old.recorder) (noted new.recorder) history seat call (is_starved given) fed notes stands.keeps;
       };
 }
@@ -56,6 +59,7 @@ starves noted old new seat call bytes numbers same notes = record {
       let more : accepted (history ++ entry ∷ []) ≡ accepted history = fold-append after_entry [] history (entry ∷ []) in
       record {
         content_is = subst (IsAfter new.content) (sym more) (same (accepted history) stands.content_is);
+        well_formed = subst AreWellFormed (sym more) stands.well_formed;
         keeps = subst (λ (o : Option (List Noted)). IfSome o (λ ns. ns ≡ kept (history ++ entry ∷ []))) (sym notes)
             (keeps_as (noted old.recorder) history entry refl stands.keeps);
       };
@@ -68,4 +72,4 @@ starves noted old new seat call bytes numbers same notes = record {
         h ∙ sym (flat_map-append noted_of history (entry ∷ []) ∙ ap (λ (t : Bool). kept history ++ (cond t [] (record { seat = entry.seat; call = entry.call } ∷ []) ++ [])) e ∙ append-nil (kept history))
 
 pub stands_headline : {R : Type 0} (noted : R → Option (List Noted)) (room : Room R) → StandsHeadline noted room
-stands_headline noted room history stands = headline (accepted history)
+stands_headline noted room history stands = headline (accepted history) stands.well_formed

@@ -1,33 +1,37 @@
 -- What is promised to each live subscriber, of every history: own statements, over the definitions of forwarding.
 use Rattle.std.specs.Prelude.{◌≡◌, ◌≤◌, ◌<◌, ◌+◌, ℕ, List, ◌∷◌, ◌++◌, true, map, length, Option, None, Some, Ok}
 use Rattle.std.specs.List.{AllByRecursion}
+use Rattle.sfu_base.specs.Answer.{Sent}
 use Rattle.sfu_base.specs.declared.call.Call.{Call}
 use Rattle.sfu_base.specs.declared.call.Kind.{Kind}
 use Rattle.sfu_base.specs.declared.call.Kind.TheVariants.{Layered}
 use Rattle.sfu_base.specs.declared.frame.Wish.{Wish}
-use Rattle.forwarding_model.specs.forwarding.Timeline.{Packet, Frame, takes_of}
+use Rattle.forwarding_model.specs.forwarding.Timeline.{Frame, takes_of}
 use Rattle.forwarding_model.specs.forwarding.Timeline.Event.{WholeFrame, Take}
 use Rattle.forwarding_model.specs.forwarding.Standing.{passes_at, standing}
 use Rattle.forwarding_model.specs.forwarding.Decodable.{IsDecodable, of_epoch}
 use Rattle.forwarding_model.specs.forwarding.Causes.{IsPath, IsWithheld, TellsCauses, cause, newest_number, path, verdicts}
-use Rattle.forwarding_model.specs.forwarding.Outgoing.{AreConsecutive, Subscriber, next_packet, outgoing, resent, taken}
+use Rattle.forwarding_model.specs.forwarding.Outgoing.{Subscriber, next_number}
 use Rattle.forwarding_model.specs.Receiver.{complaint}
 use Rattle.forwarding_laws.specs.forwarding.Restart.{BreaksAt, IsRestart}
 use Rattle.dd_structure.specs.TemplateStructure.{TemplateStructure}
 use Rattle.cause_book.specs.Book.{judged}
+use Rattle.packet_format.specs.Packets.{read_packet}
 use Rattle.room_core.specs.Formats.{format_of}
 use Rattle.room_core.specs.Live.{Joined, joined, kind_of}
 use Rattle.room_core.specs.Sent.{sent}
 use Rattle.room_core.specs.Follows.{Happened}
+use Rattle.room_core.specs.Replies.{resend_answer, take_answer}
+use Rattle.room_core.specs.SentBytes.{AreInOrder, outgoing_bytes, taken_bytes}
 use Rattle.room_core.specs.Views.{events_for, subscriber_by}
 
 -- ---- of a subscriber of a layered track, to which this happened
 
--- a strict receiver has no complaint of what was taken, nor of what goes out, nor of any front of it
+-- A strict receiver of the bytes alone has no complaint of what was taken, nor of what goes out, nor of any front of it.
 pub record PleasesReceivers (id : ℕ) (to : Subscriber) (events : List Happened) : Type 0 where
-  pub taken : complaint (format_of id) (map Some (taken (sent (Layered id)) to events)) ≡ None
-  pub fronts : (sends queued : List Packet) → sends ++ queued ≡ outgoing (sent (Layered id)) to events
-      → complaint (format_of id) (map Some sends) ≡ None
+  pub taken : complaint (format_of id) (map read_packet (taken_bytes (Layered id) to events)) ≡ None
+  pub fronts : (sends queued : List (List ℕ)) → sends ++ queued ≡ outgoing_bytes (Layered id) to events
+      → complaint (format_of id) (map read_packet sends) ≡ None
 
 -- each frame that passed is decodable in the passed frames of its epoch
 abbrev pub AllDecodable : Wish → List Happened → Type 0
@@ -61,12 +65,11 @@ pub record IsForwarded (id : ℕ) (to : Subscriber) (events : List Happened) : T
 
 -- ---- of every subscriber
 
--- sequence numbers are consecutive, and a packet that a take gave is what a resend of its number gives, as long as it is among the last
--- 1,024 taken
+-- Sequence numbers are consecutive. What a take gave is what a resend of its number gives, as long as it is among the last 1,024 taken.
 pub record IsNumbered (kind : Kind) (to : Subscriber) (events : List Happened) : Type 0 where
-  pub consecutive : AreConsecutive (outgoing (sent kind) to events)
-  pub first : (since past : List Happened) (packet : Packet) → events ≡ since ++ Take ∷ past → next_packet (sent kind) to past ≡ Some packet
-      → takes_of events ≤ takes_of past + 1024 → resent (sent kind) to events packet.sequence_number ≡ Some packet
+  pub consecutive : AreInOrder (outgoing_bytes kind to events)
+  pub first : (since past : List Happened) (bytes : List ℕ) → events ≡ since ++ Take ∷ past → take_answer kind to past ≡ Sent bytes
+      → takes_of events ≤ takes_of past + 1024 → resend_answer kind to events (next_number (sent kind) to past) ≡ Sent bytes
 
 -- ---- of all live subscribers
 

@@ -9,6 +9,8 @@ pub mod Replies
 pub mod Noted
 pub mod History
 pub mod Kinds
+pub mod WellFormed
+pub mod SentBytes
 pub mod Headline
 pub mod Serves
 pub mod Silent

@@ -7,12 +7,14 @@ use Rattle.room_core.specs.declared.room.Room.{Room}
 use Rattle.room_core.specs.Noted.{Noted}
 use Rattle.room_core.specs.History.{Entry, accepted, is_accepted, kept, reply_of}
 use Rattle.room_core.specs.Content.{IsAfter, TakesMemory}
+use Rattle.room_core.specs.WellFormed.{AreWellFormed}
 use Rattle.room_core.specs.Headline.{Headline}
 
--- The room stands for this history: its content is where the accepted calls leave it, and its recorder, where it tells them, has the
--- seats and calls of the entries that weren't starved.
+-- The room stands for this history: its content is where the accepted calls leave it, these calls are well formed, and its recorder, where
+-- it tells them, has the seats and calls of the entries that weren't starved.
 pub record Stands {R : Type 0} (noted : R → Option (List Noted)) (room : Room R) (history : List Entry) : Type 0 where
   pub content_is : IsAfter room.content (accepted history)
+  pub well_formed : AreWellFormed (accepted history)
   pub keeps : IfSome (noted room.recorder) (λ notes. notes ≡ kept history)
 
 -- Whatever history the room stood for, the reply is that history's, unless it is want of memory, and the room then stands for the

@@ -5,6 +5,7 @@ ghost use Rattle.sfu_base.specs.declared.call.Call.{Call};
 ghost use Rattle.sfu_base.specs.declared.call.Call.TheVariants as call;
 ghost use Rattle.sfu_base.specs.declared.frame.Wish.{Wish};
 ghost use Rattle.room_core.specs.Content.{DoesSilently, IsAcceptedAfter, IsAfter, IsReady, TakesMemory};
+ghost use Rattle.room_core.specs.WellFormed.{IsValue};
 
 use crate::content::Content;
 use crate::feed::Feed;
@@ -33,6 +34,7 @@ impl Content {
         ensures ready { IfOk result (IsReady self.new call.now) }
         ensures memory { OnErr result (TakesMemory call.now) }
         ensures last { OnErr result (IsAcceptedAfter self.old call.now) }
+        ensures value { IsValue call.now }
     {
         match call {
             Call::Publish {
@@ -89,6 +91,7 @@ impl Content {
         ensures same { (past : List Call) → IsAfter self.old past → IsAfter self.new past }
         ensures ready { IfOk result (IsReady self.new (call.Join subscriber track ssrc first wish)) }
         ensures last { OnErr result (IsAcceptedAfter self.old (call.Join subscriber track ssrc first wish)) }
+        ensures value { IsValue (call.Join subscriber track ssrc first wish) }
     {
         if self.join_refusal(subscriber, track).is_some() {
             return Ok(Ready::Nothing);

@@ -13,4 +13,4 @@ returns-in-Err-clause-headline g c = stands_headline g.R.Recorder.noted _
 pub returns-in-Ok-note-clause-serves : goal.returns-in-Ok-note-clause-serves
 returns-in-Ok-note-clause-serves g c = λ bytes numbers.
     served g.R.Recorder.noted c.args.self.now (record { alloc = c.args.self.now.alloc; recorder = c.args.self.now.recorder; content = c.prepare.new.self }) _ c.args.seat c.args.call.now
-    c.serve_silently.result bytes numbers c.prepare.ensures.same (c.serve_silently.ensures.does bytes numbers) c.serve_silently.ensures.fed c.in-Ok-note.ensures.ok
+    c.serve_silently.result bytes numbers c.prepare.ensures.same (c.serve_silently.ensures.does bytes numbers) c.serve_silently.ensures.fed c.prepare.ensures.value c.in-Ok-note.ensures.ok

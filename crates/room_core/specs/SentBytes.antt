@@ -1,0 +1,22 @@
+-- What goes out to a subscriber, as bytes (RFC 3550, section 5.1).
+use Rattle.std.specs.Prelude.{◌≡◌, ◌+◌, ◌%◌, ℕ, List, [], ◌∷◌, map}
+use Rattle.sfu_base.specs.declared.call.Kind.{Kind}
+use Rattle.rtp_packet.specs.Fields.{sequence_of}
+use Rattle.forwarding_model.specs.forwarding.Outgoing.{Subscriber, outgoing, taken}
+use Rattle.packet_format.specs.Packets.{bytes_of}
+use Rattle.room_core.specs.Follows.{Happened}
+use Rattle.room_core.specs.Sent.{sent}
+
+-- all that goes out, whether it was taken or waits, the oldest first
+abbrev pub outgoing_bytes : Kind → Subscriber → List Happened → List (List ℕ)
+outgoing_bytes kind to events = map bytes_of (outgoing (sent kind) to events)
+
+-- what was taken is a front of it
+abbrev pub taken_bytes : Kind → Subscriber → List Happened → List (List ℕ)
+taken_bytes kind to events = map bytes_of (taken (sent kind) to events)
+
+-- each sequence number is one more than the one before it, modulo 65,536
+abbrev pub AreInOrder : List (List ℕ) → Type 0
+AreInOrder [] = Unit {0}
+AreInOrder (packet ∷ []) = Unit {0}
+AreInOrder (packet ∷ next ∷ rest) = (sequence_of next ≡ (sequence_of packet + 1) % 65536) × AreInOrder (next ∷ rest)
