@@ -48,6 +48,12 @@ answers_for_all number distance (m ∷ ms) above near =
     (any-filter_same (λ k. (k + distance) == number) (is_near m) true
     (λ k is. let same : k + distance ≡ number = eqb-true (k + distance) number is in le-leb m (k + 4096) (omega arith)) ms)
 
+pub holds_all_near : (number newest : ℕ) (before : List ℕ) → newest ≤ number + 4096 → is_among (held_of (newest ∷ before)) number ≡ is_among (newest ∷ before) number
+holds_all_near number newest before near =
+    ap (λ b. (newest == number) || b)
+    (any-filter_same (λ k. k == number) (is_near newest) true
+    (λ k is. let same : k ≡ number = eqb-true k number is in le-leb newest (k + 4096) (omega arith)) before)
+
 -- the test by a distance is one on a number
 pub has_below-is_among : (numbers : List ℕ) (number distance : ℕ) → distance ≤ number
     → has_below numbers number distance ≡ is_among numbers (number - distance)

@@ -1,6 +1,6 @@
 -- What a window forgets is never wanted again.
-use Rattle.std.specs.Prelude.{◌≡◌, ◌≤◌, ℕ, List, ◌∷◌}
-use Rattle.ref_window.specs.Numbers.{held_of, has_below, IsAboveAll}
+use Rattle.std.specs.Prelude.{◌≡◌, ◌+◌, ◌≤◌, ℕ, List, ◌∷◌}
+use Rattle.ref_window.specs.Numbers.{held_of, has_below, is_among, IsAboveAll}
 
 -- Inserting into what a window holds gives what it holds of all that were inserted.
 abbrev pub ForgetsForGood : Type 0
@@ -10,3 +10,8 @@ ForgetsForGood = (number : ℕ) (numbers : List ℕ) → IsAboveAll number numbe
 abbrev pub AnswersForAll : Type 0
 AnswersForAll = (number distance : ℕ) (numbers : List ℕ) → IsAboveAll number numbers → distance ≤ 4096
     → has_below (held_of numbers) number distance ≡ has_below numbers number distance
+
+-- A number at most 4,096 below the newest is held exactly where it was inserted.
+abbrev pub HoldsAllNear : Type 0
+HoldsAllNear = (number newest : ℕ) (before : List ℕ) → newest ≤ number + 4096
+    → is_among (held_of (newest ∷ before)) number ≡ is_among (newest ∷ before) number
