@@ -4,7 +4,8 @@ ghost use Rattle.sfu_base.specs.Frame.{IsValid};
 use super::*;
 use sfu_base::{Dti, FrameMeaning, Verdict, Wish};
 
-// A structure with two decode targets: target 0 has both spatial layers, target 1 the lower one. A chain protects each.
+// A structure with two decode targets: target 0 has both spatial layers and is protected by chain 1, target 1 has the lower layer and is
+// protected by chain 0.
 const HIGH: Wish = Wish {
     spatial: 1,
     temporal: 0,
@@ -32,14 +33,14 @@ struct Row {
     queued: u16,
 }
 
-// What a frame of the lower layer is, where the row doesn't say otherwise.
+// Its templates: of the key frame, of the lower layer, and of the upper layer, by the frame before and the one before that.
 const KEY: Row = Row {
     number: 1,
     start: 1,
     key: true,
     spatial: 0,
     mask: 3,
-    dtis: [Dti::Switch, Dti::Switch],
+    dtis: [Dti::Required, Dti::Switch],
     links: [0, 0],
     refs: 0,
     fdiff: 1,
@@ -50,8 +51,7 @@ const KEY: Row = Row {
 
 const LOWER: Row = Row {
     key: false,
-    dtis: [Dti::Required, Dti::Switch],
-    links: [1, 2],
+    links: [2, 1],
     refs: 1,
     fdiff: 2,
     ..KEY
@@ -60,7 +60,7 @@ const LOWER: Row = Row {
 const UPPER: Row = Row {
     key: false,
     spatial: 1,
-    dtis: [Dti::Required, Dti::NotPresent],
+    dtis: [Dti::Switch, Dti::NotPresent],
     links: [1, 1],
     refs: 2,
     other: 2,
@@ -82,7 +82,7 @@ fn frame(row: Row) -> FrameMeaning
     pairs[0] = Some(HIGH);
     pairs[1] = Some(LOW);
     let mut guards = [0; 32];
-    guards[1] = 1;
+    guards[0] = 1;
     let mut links = [0; 32];
     links[0] = row.links[0];
     links[1] = row.links[1];
@@ -343,20 +343,16 @@ fn a_wish_is_followed_where_a_frame_can_open_its_target(rt: HostRuntime) {
         Verdict::Passed
     );
     assert_eq!(rt; selector.target(), Some(1));
-    let switch = Row {
-        number: 6,
-        dtis: [Dti::Switch, Dti::NotPresent],
-        ..UPPER
-    };
+    let upper = Row { number: 6, ..UPPER };
     assert_eq!(rt;
-        admit(&mut selector, switch),
+        admit(&mut selector, upper),
         Verdict::NotOfTarget { target: Some(1) }
     );
     let next = Row {
         number: 7,
         refs: 1,
         fdiff: 2,
-        ..switch
+        ..upper
     };
     assert_eq!(rt; admit(&mut selector, next), Verdict::Passed);
     assert_eq!(rt; selector.target(), Some(0));

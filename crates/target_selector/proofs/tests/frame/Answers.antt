@@ -13,5 +13,5 @@ returns c = record {
   start = c.requires.start;
   distances = λ i lt.
       two_distances c.args.row.fdiff c.args.row.other c.args.row.refs i (replicate 14 1) c.requires.fdiff c.requires.other c.requires.refs lt;
-  guards = λ some t lt. ltb-true _ 2 (all_at (λ g. nat_lt g 2) (0 ∷ 1 ∷ replicate 30 0) t refl (omega arith));
+  guards = λ some t lt. ltb-true _ 2 (all_at (λ g. nat_lt g 2) (1 ∷ 0 ∷ replicate 30 0) t refl (omega arith));
 }
