@@ -18,9 +18,9 @@ ghost use Rattle.dd_descriptor.specs.Spelling.{IsWritableBy};
 use crate::descriptor::{Custom, Descriptor};
 use crate::fault::DdFault;
 use crate::mask::all_active;
-use crate::parts::{Flags, Frame, References};
+use crate::parts::{Flags, Frame, NO_FRAME};
 use crate::reading::fields::{flags, head, number};
-use crate::reading::frame::{frame, index};
+use crate::reading::frame::{fill_frame, index};
 use dd_bits::BitReader;
 use dd_structure::Structure;
 
@@ -80,7 +80,7 @@ pub fn mask(
     }
 }
 
-/// What follows the structure: the mask, and the frame's definition.
+/// What follows the structure: the mask, which is answered, and the frame's definition.
 #[tactic(auto, unfolding(crate::specs::Reading::body_at))]
 fn body(
     bits: &mut BitReader<'_>,
@@ -88,15 +88,16 @@ fn body(
     flags: Flags,
     carries: bool,
     structure: &Structure,
-) -> Result<(Option<u32>, Frame), DdFault>
+    out: &mut Frame,
+) -> Result<Option<u32>, DdFault>
     requires { template < 64 }
-    ensures { Gives (λ x. (x.0, frame_of structure.now.target_count structure.now.chain_count x.1)) result bits.new
+    ensures { Gives (λ m. (m, frame_of structure.now.target_count structure.now.chain_count out.new)) result bits.new
         (body_at template flags carries structure.now (bits_left bits.old)) }
 {
     let mask = mask(bits, flags.mask, carries, structure.target_count())?;
     let index = index(template, structure)?;
-    let frame = frame(bits, flags, structure, index)?;
-    Ok((mask, frame))
+    fill_frame(bits, flags, structure, index, out)?;
+    Ok(mask)
 }
 
 /// The same by the structure that is carried, or else the one in force.
@@ -107,15 +108,16 @@ fn held_body(
     flags: Flags,
     carried: &Option<Structure>,
     force: Option<&Structure>,
-) -> Result<(Option<u32>, Frame), DdFault>
+    out: &mut Frame,
+) -> Result<Option<u32>, DdFault>
     requires { template < 64 }
-    ensures { Gives (λ x. (x.0, frame_of (targets_in (holding carried.now (option_copied force.entry))) (chains_in (holding carried.now (option_copied force.entry))) x.1)) result bits.new
+    ensures { Gives (λ m. (m, frame_of (targets_in (holding carried.now (option_copied force.entry))) (chains_in (holding carried.now (option_copied force.entry))) out.new)) result bits.new
         (held_body_at template flags carried.now (option_copied force.entry) (bits_left bits.old)) }
 {
     match carried {
-        Some(structure) => body(bits, template, flags, true, structure),
+        Some(structure) => body(bits, template, flags, true, structure, out),
         None => match force {
-            Some(structure) => body(bits, template, flags, false, structure),
+            Some(structure) => body(bits, template, flags, false, structure, out),
             None => Err(DdFault::NoStructure),
         },
     }
@@ -140,30 +142,31 @@ fn fill(bytes: &[u8], force: Option<&Structure>, out: &mut Descriptor) -> Result
     let head = head(&mut bits)?;
     let flags = flags(&mut bits, bytes.len())?;
     put_carried(&mut bits, flags.structure, &mut out.structure)?;
-    let (mask, frame) = held_body(&mut bits, head.template, flags, &out.structure, force)?;
-    let Frame {
-        layer,
-        dtis,
-        refs,
-        links,
-    } = frame;
-    let References { count, items } = refs;
+    let mut frame = NO_FRAME;
+    let mask = held_body(
+        &mut bits,
+        head.template,
+        flags,
+        &out.structure,
+        force,
+        &mut frame,
+    )?;
     out.start = head.start;
     out.end = head.end;
     out.template = head.template;
     out.number = head.number;
     out.mask = mask;
-    out.spatial = layer.spatial;
-    out.temporal = layer.temporal;
+    out.spatial = frame.layer.spatial;
+    out.temporal = frame.layer.temporal;
     out.custom = Custom {
         dtis: flags.dtis,
         fdiffs: flags.fdiffs,
         chains: flags.chains,
     };
-    out.dtis = dtis;
-    out.ref_count = count;
-    out.refs = items;
-    out.links = links;
+    out.dtis = frame.dtis;
+    out.ref_count = frame.refs.count;
+    out.refs = frame.refs.items;
+    out.links = frame.links;
     Ok(())
 }
 

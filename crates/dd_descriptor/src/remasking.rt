@@ -13,9 +13,9 @@ ghost use Rattle.dd_descriptor.specs.Remasking.{remasked, with_new_mask, TakesMa
 
 use crate::descriptor::Custom;
 use crate::fault::DdFault;
-use crate::parts::Flags;
+use crate::parts::{Flags, NO_FRAME};
 use crate::reading::fields::{flags, head};
-use crate::reading::frame::{frame, index};
+use crate::reading::frame::{fill_frame, index};
 use crate::reading::{force_is_well_formed, mask, put_carried};
 use crate::writing::MOST;
 use crate::writing::fields::put_flags;
@@ -55,7 +55,8 @@ fn body_parts<'a>(
     mask(bits, flags.mask, carries, structure.target_count())?;
     let from = *bits;
     let index = index(template, structure)?;
-    frame(bits, flags, structure, index)?;
+    let mut frame = NO_FRAME;
+    fill_frame(bits, flags, structure, index, &mut frame)?;
     Ok((structure.target_count(), Part { from, to: *bits }))
 }
 
