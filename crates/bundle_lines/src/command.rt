@@ -1,0 +1,27 @@
+// The first words of lines that speak of a bundle.
+ghost use Rattle.std.specs.Prelude.{◌≡◌};
+ghost use Rattle.bundle_lines.specs.Commands.{command_of};
+
+/// What a line says of a bundle.
+#[derive(Clone, Copy, Debug, PartialEq, Eq)]
+pub enum BundleCommand {
+    Bundle,
+    Choose,
+    Pump,
+    Draw,
+    Redraw,
+}
+
+/// The command that a word names.
+pub fn bundle_command(word: &[u8]) -> Option<BundleCommand>
+    ensures { result ≡ command_of word.now }
+{
+    match word {
+        b"bundle" => Some(BundleCommand::Bundle),
+        b"choose" => Some(BundleCommand::Choose),
+        b"pump" => Some(BundleCommand::Pump),
+        b"draw" => Some(BundleCommand::Draw),
+        b"redraw" => Some(BundleCommand::Redraw),
+        _ => None,
+    }
+}

@@ -1,0 +1,22 @@
+// What is true of lines, for every line and all that it may say. The functions have no effect: their contracts are the laws.
+ghost use Rattle.std.specs.Prelude.{◌≡◌, ◌↔◌, List, Some, ℕ};
+ghost use Rattle.sfu_base.specs.declared.call.Call.{Call};
+ghost use Rattle.sfu_script.specs.Lines.{IsLine};
+ghost use Rattle.bundle_lines.specs.declared.line.BundleLine.{BundleLine};
+ghost use Rattle.bundle_lines.specs.Lines.{IsBundleLine};
+ghost use Rattle.bundle_lines.specs.ReadLines.{line_of};
+
+/// A line is read as what the grammar says that it says, and as nothing else.
+pub fn reads_exactly_the_bundle_lines()
+    ensures { (said : BundleLine) (line : List ℕ) → (line_of line ≡ Some said) ↔ IsBundleLine said line }
+{}
+
+/// A line says at most one thing.
+pub fn bundle_lines_say_one_thing()
+    ensures { (one other : BundleLine) (line : List ℕ) → IsBundleLine one line → IsBundleLine other line → one ≡ other }
+{}
+
+/// Every line of a call is read as that call.
+pub fn every_line_of_a_call_says_it()
+    ensures { (call : Call) (line : List ℕ) → IsLine call line → line_of line ≡ Some (BundleLine.Room call) }
+{}

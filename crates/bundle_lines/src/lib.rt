@@ -1,0 +1,15 @@
+//! The lines of scripts that also speak of bundles, each of which makes one stream out of what two or three subscribers are sent.
+#![tactic(auto)]
+
+mod command;
+mod laws;
+mod line;
+mod reader;
+#[cfg(test)]
+mod tests;
+
+pub use laws::{
+    bundle_lines_say_one_thing, every_line_of_a_call_says_it, reads_exactly_the_bundle_lines,
+};
+pub use line::BundleLine;
+pub use reader::read_bundle_line;
