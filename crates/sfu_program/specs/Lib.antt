@@ -1,4 +1,5 @@
 pub mod Script
 pub mod Run
+pub mod Promise
 pub mod Help
 pub mod Words

@@ -3,6 +3,7 @@ ghost use Rattle.std.specs.Prelude.{◌≡◌, [], List};
 ghost use Rattle.sfu_base.specs.Answer.{is_starved};
 ghost use Rattle.room_core.specs.History.{Entry};
 ghost use Rattle.room_core.specs.Serves.{Stands};
+ghost use Rattle.sfu_program.specs.Promise.{AreServed};
 ghost use Rattle.sfu_program.specs.Run.{IsRunStatus, Runs, served, untold};
 ghost use Rattle.sfu_program.specs.Script.{fault_line};
 
@@ -84,6 +85,7 @@ impl Judge for LineServer {
 pub fn run<S: Source, K: Sink>(alloc: Global, source: &mut S, sink: &mut K) -> u8
     ensures runs { Runs (S.left source.old) (S.left source.new) (K.written sink.old) (K.written sink.new) (S.faults source.old) (S.faults source.new)
         (K.faults sink.old) (K.faults sink.new) result }
+    ensures headline { AreServed (S.left source.old) }
     ensures only { IsRunStatus result }
 {
     let mut units = Units::new(Lines, LineServer::new(alloc), 1);

@@ -2,6 +2,7 @@
 ghost use Rattle.std.specs.Prelude.{◌≡◌, ◌↔◌, map};
 ghost use Rattle.std.specs.String.{string_bytes};
 ghost use Rattle.sfu_program.specs.Help.{Helps, IsHelp, Refuses};
+ghost use Rattle.sfu_program.specs.Promise.{AreServed};
 ghost use Rattle.sfu_program.specs.Run.{IsRun, Runs};
 ghost use Rattle.sfu_program.specs.Words.{IsForm, IsStatus};
 
@@ -21,6 +22,7 @@ pub fn sfu<S: Source, K: Sink>(alloc: Global, words: &[String], source: &mut S, 
     ensures run { IsRun (map string_bytes words.now)
         → Runs (S.left source.old) (S.left source.new) (K.written sink.old) (K.written sink.new) (S.faults source.old) (S.faults source.new)
         (K.faults sink.old) (K.faults sink.new) result }
+    ensures headline { IsRun (map string_bytes words.now) → AreServed (S.left source.old) }
     ensures help { IsHelp (map string_bytes words.now) → Helps source.old source.new (K.written sink.old) (K.written sink.new) (K.faults sink.old) (K.faults sink.new) result }
     ensures other { ¬ (IsForm (map string_bytes words.now))
         → Refuses source.old source.new (K.written sink.old) (K.written sink.new) (K.faults sink.old) (K.faults sink.new) result }
@@ -40,6 +42,7 @@ pub fn sfu_alone<S: Source, K: Sink>(
     ensures run { IsRun (map string_bytes words.now)
         → Runs (S.left source.old) (S.left source.new) (K.written sink.old) (K.written sink.new) (S.faults source.old) (S.faults source.new)
         (K.faults sink.old) (K.faults sink.new) result }
+    ensures headline { IsRun (map string_bytes words.now) → AreServed (S.left source.old) }
     ensures help { IsHelp (map string_bytes words.now) → Helps source.old source.new (K.written sink.old) (K.written sink.new) (K.faults sink.old) (K.faults sink.new) result }
     ensures other { ¬ (IsForm (map string_bytes words.now))
         → Refuses source.old source.new (K.written sink.old) (K.written sink.new) (K.faults sink.old) (K.faults sink.new) result }

@@ -6,6 +6,7 @@ use Rattle.sfu_driver.proofs.Cutting.{at}
 use Rattle.sfu_driver.proofs.Meanings.{statuses_same}
 use Rattle.sfu_program.specs.Run.{run_due, run_part}
 use Rattle.sfu_program.proofs.Replies.{run_is_due, run_is_part, run_only, run_rule}
+use Rattle.sfu_program.proofs.Histories.{are_served}
 use Rattle.sfu_program.proofs.run.run.Goals as goal
 
 pub returns-clause-runs : goal.returns-clause-runs
@@ -19,3 +20,6 @@ pub returns-clause-only : goal.returns-clause-only
 returns-clause-only g c =
     run_only (g.S.Source.left c.args.source.now) (g.S.Source.left c.answer.new.source) (g.K.Sink.written c.args.sink.now) (g.K.Sink.written c.answer.new.sink) (g.S.Source.faults c.args.source.now) (g.S.Source.faults c.answer.new.source)
     (g.K.Sink.faults c.args.sink.now) (g.K.Sink.faults c.answer.new.sink) c.answer.result (returns-clause-runs g c)
+
+pub returns-clause-headline : goal.returns-clause-headline
+returns-clause-headline g c = are_served (g.S.Source.left c.args.source.now)
