@@ -14,6 +14,8 @@ mod refusals;
 mod room;
 mod serving;
 mod subscribers;
+#[cfg(test)]
+mod tests;
 mod tracks;
 
 pub use keep_all::KeepAll;
