@@ -1,8 +1,7 @@
 -- What a publish and a join do to a room, whatever calls were accepted before.
-use Rattle.std.proofs.Common.{Box, Global, ◌≡◌, ◌≤◌, ◌<◌, ◌+◌, ◌-◌, ◌%◌, max, ℕ, suc, Bool, true, false, cond, List, [], ◌∷◌, length, refl, sym, ap, subst, ◌∙◌, arith, Option, Some, None, is_some, eqb, leb, nat_eq, true≢false}
-use Rattle.std.specs.Prelude.{not}
+use Rattle.std.proofs.Common.{Box, Global, ◌≡◌, ◌≤◌, ◌<◌, ◌+◌, ◌%◌, max, ℕ, Bool, true, false, cond, List, [], ◌∷◌, refl, sym, ap, subst, ◌∙◌, arith, Option, Some, None, is_some, eqb, leb, nat_eq, true≢false}
 use Rattle.std.proofs.lemmas.Bool.Decides.{nat_tests}
-use Rattle.std.proofs.lemmas.Bool.{eqb-true, eqb-false, eq-eqb, leb-false}
+use Rattle.std.proofs.lemmas.Bool.{eq-eqb, leb-false}
 use Rattle.indexmap.specs.IndexMap.{Updates, get, index_map_len, spare}
 use Rattle.sfu_base.specs.Answer.{Answer, Done, Refused}
 use Rattle.sfu_base.specs.declared.call.Call.{Call}
@@ -18,20 +17,18 @@ use Rattle.forwarding_model.specs.History.{Entry, items_of, subscriber_of}
 use Rattle.forwarding_model.specs.History.Entry.{Joined as HasJoined}
 use Rattle.forwarding_model.specs.forwarding.Outgoing.{Subscriber}
 use Rattle.room_core.specs.declared.feed.Feed.{Feed}
-use Rattle.room_core.specs.Formats.{format_of}
 use Rattle.track_core.specs.declared.track.Track.{Track}
-use Rattle.track_core.specs.Track.{Seen}
-use Rattle.room_core.specs.Stepping.{IsAt, IsBegun, kind_by}
-use Rattle.out_ring.specs.Ring.{Ring, begun as begun_ring}
+use Rattle.room_core.specs.Stepping.{IsAt, IsBegun}
+use Rattle.out_ring.specs.Ring.{Ring}
 use Rattle.room_core.specs.declared.content.Content.{Content}
 use Rattle.room_core.specs.declared.live.LiveTrack.{LiveTrack}
 use Rattle.room_core.specs.declared.live.LiveSubscriber.{LiveSubscriber}
-use Rattle.room_core.specs.Live.{Joined, Published, highest_subscriber, highest_track, hold_of, hold_or_none, is_on, joined, kind_of, kind_or_plain, live_subscribers, live_tracks, origin, published}
-use Rattle.room_core.specs.TrackHistory.{and_where, entries_of, events_of, order_at}
+use Rattle.room_core.specs.Live.{Joined, Published, highest_subscriber, highest_track, hold_or_none, joined, kind_of, kind_or_plain, live_subscribers, live_tracks, origin, published}
+use Rattle.room_core.specs.TrackHistory.{and_where, entries_of, events_of}
 use Rattle.room_core.specs.Views.{plea, subscriber_by, timeline_as}
 use Rattle.room_core.specs.Replies.{answer, done_or, is_bad_id, join_refusal, publish_refusal}
 use Rattle.room_core.specs.History.{after as afterwards}
-use Rattle.room_core.specs.Follows.{Follows, Happened, IsFresh, IsRingOf}
+use Rattle.room_core.specs.Follows.{Follows, Happened, IsFresh}
 use Rattle.room_core.specs.Passing.{Both}
 use Rattle.room_core.specs.Content.{Does, IsAfter, IsFeedReady, IsFreshOn, IsPipelineReady, IsSubscriberAfter, IsTrackAfter}
 use Rattle.room_core.specs.declared.live.Ready.{Ready}

@@ -1,7 +1,7 @@
 -- What holds of the bytes of each packet that came to a track holds of those that its order releases, and so of each packet that a subscriber
 -- sees.
-use Rattle.std.proofs.Common.{◌≡◌, ℕ, zero, suc, ◌+◌, ◌-◌, ◌*◌, Bool, true, false, cond, nat_lt, nat_le, eqb, List, [], ◌∷◌, ◌++◌, length, map, refl, sym, ap, subst, Option, Some, None, Result, Ok, Err}
-use Rattle.std.specs.Prelude.{IfSome, filter}
+use Rattle.std.proofs.Common.{◌≡◌, ℕ, ◌+◌, ◌-◌, Bool, true, false, cond, nat_lt, nat_le, eqb, List, [], ◌∷◌, ◌++◌, length, refl, sym, subst, Option, Some, None, Result, Ok, Err}
+use Rattle.std.specs.Prelude.{IfSome}
 use Rattle.std.specs.List.{AllByRecursion}
 use Rattle.sfu_base.specs.declared.call.Call.{Call}
 use Rattle.sfu_base.specs.declared.call.Call.TheVariants as call
@@ -34,7 +34,7 @@ use Rattle.room_core.specs.Sent.{sent}
 use Rattle.room_core.specs.Views.{timeline_as}
 use Rattle.room_core.specs.Follows.{Happened}
 use Rattle.room_core.specs.Passing.{released_as}
-use Rattle.room_core.specs.WellFormed.{AreWellFormed, IsWellFormed}
+use Rattle.room_core.specs.WellFormed.{AreWellFormed}
 use Rattle.room_core.proofs.Stepping.{format_is}
 
 -- ---- the order

@@ -1,5 +1,5 @@
 -- What a change of a wish and a take do to a room, whatever calls were accepted before: an event of one subscriber alone.
-use Rattle.std.proofs.Common.{◌≡◌, ◌≤◌, ◌<◌, ℕ, Bool, true, false, cond, List, [], ◌∷◌, ◌++◌, length, map, refl, sym, ap, subst, ◌∙◌, Option, Some, None, IsSome, Ok, Err, Result, eqb, nat_eq, true≢false}
+use Rattle.std.proofs.Common.{◌≡◌, ◌≤◌, ℕ, Bool, true, false, cond, List, [], ◌∷◌, ◌++◌, length, map, refl, sym, ap, subst, ◌∙◌, Option, Some, None, IsSome, Ok, Err, Result, eqb, nat_eq, true≢false}
 use Rattle.std.specs.Prelude.{nat_lt}
 use Rattle.std.proofs.lemmas.Bool.{eq-eqb, lt-ltb}
 use Rattle.indexmap.specs.IndexMap.{WritesThrough, get, index_map_len}
@@ -10,7 +10,6 @@ use Rattle.sfu_base.specs.declared.call.Call.{Call}
 use Rattle.sfu_base.specs.declared.call.Call.TheVariants as call
 use Rattle.sfu_base.specs.declared.call.Kind.{Kind}
 use Rattle.sfu_base.specs.declared.call.Kind.TheVariants.{Plain, Layered}
-use Rattle.sfu_base.specs.declared.call.Reply.{Reply}
 use Rattle.sfu_base.specs.declared.call.Reply.TheVariants as reply
 use Rattle.sfu_base.specs.declared.frame.Wish.{Wish}
 use Rattle.reorder_window.specs.Events.{Event as OrderEvent}
@@ -25,19 +24,18 @@ use Rattle.sfu_base.specs.declared.frame.Verdict.{Verdict}
 use Rattle.forwarding_model.specs.History.{Entry, asked, items_of, packets_released, subscriber_of}
 use Rattle.forwarding_model.specs.History.Entry.{Released, Aimed, Asked, Joined as HasJoined}
 use Rattle.forwarding_model.specs.forwarding.Outgoing.{Subscriber, next_number, next_packet, oldest_number, outgoing, resent}
-use Rattle.packet_format.specs.Packets.{bytes_of}
 use Rattle.room_core.specs.Formats.{format_of}
 use Rattle.room_core.specs.Stepping.{IsAt}
 use Rattle.room_core.specs.declared.content.Content.{Content}
 use Rattle.room_core.specs.declared.feed.Feed.{Feed}
 use Rattle.room_core.specs.declared.live.LiveTrack.{LiveTrack}
 use Rattle.room_core.specs.declared.live.LiveSubscriber.{LiveSubscriber}
-use Rattle.room_core.specs.Live.{Joined, Published, highest_subscriber, highest_track, hold_of, hold_or_none, is_on, joined, kind_of, kind_or_plain, live_subscribers, live_tracks, origin, published}
-use Rattle.room_core.specs.TrackHistory.{and_where, entries_of, events_of, order_at}
+use Rattle.room_core.specs.Live.{Joined, Published, highest_subscriber, highest_track, hold_or_none, is_on, joined, kind_of, kind_or_plain, live_subscribers, live_tracks, origin, published}
+use Rattle.room_core.specs.TrackHistory.{and_where, entries_of, events_of}
 use Rattle.room_core.specs.Sent.{sent}
 use Rattle.room_core.specs.Views.{events_for, plea, subscriber_by, timeline_as, verdicts_of}
 use Rattle.room_core.specs.Replies.{answer, of_subscriber, resend_answer, sent_or, take_answer, told}
-use Rattle.room_core.specs.History.{after as afterwards, is_accepted}
+use Rattle.room_core.specs.History.{after as afterwards}
 use Rattle.room_core.specs.Follows.{Follows, FollowsAim, FollowsTake, Happened, Resends, ResendsIt, TakesNext, Tells}
 use Rattle.room_core.specs.Passing.{Both}
 use Rattle.room_core.specs.Content.{Does, IsAfter, IsSubscriberAfter, IsTrackAfter}

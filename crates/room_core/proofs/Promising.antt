@@ -1,5 +1,5 @@
 -- The promises to subscribers, by the laws of forwarding.
-use Rattle.std.proofs.Common.{◌≡◌, ◌≤◌, ◌<◌, ◌+◌, ◌^◌, ℕ, Bool, true, false, cond, List, [], ◌∷◌, ◌++◌, map, take, drop, eqb, length, refl, sym, ap, subst, ◌∙◌, Option, Some, None, Result, Ok, Err, arith}
+use Rattle.std.proofs.Common.{◌≡◌, ◌≤◌, ◌<◌, ◌+◌, ◌^◌, ℕ, Bool, true, false, cond, List, [], ◌∷◌, ◌++◌, map, take, drop, eqb, length, refl, sym, ap, subst, ◌∙◌, Option, Some, None, Result, Ok, Err}
 use Rattle.std.specs.List.{AllByRecursion}
 use Rattle.std.proofs.lemmas.Bool.{le-ltb, lt-leb}
 use Rattle.std.proofs.lemmas.List.{map-append, take-append-drop}
@@ -13,9 +13,8 @@ use Rattle.sfu_base.specs.declared.call.Refusal.TheVariants.{Ahead, Empty, NotKe
 use Rattle.sfu_base.specs.declared.frame.Step.{Step}
 use Rattle.sfu_base.specs.declared.frame.Verdict.{Verdict}
 use Rattle.sfu_base.specs.declared.frame.Wish.{Wish}
-use Rattle.forwarding_model.specs.forwarding.Timeline.{Frame, Packet, takes_of}
-use Rattle.forwarding_model.specs.forwarding.Timeline.Event.{WholeFrame, Take}
-use Rattle.forwarding_model.specs.forwarding.Causes.{IsPath, IsWithheld, cause, cause_among, is_ahead, is_too_old, newest_number, number_or, oldest_asked, path, verdicts}
+use Rattle.forwarding_model.specs.forwarding.Timeline.{Packet, takes_of}
+use Rattle.forwarding_model.specs.forwarding.Causes.{cause, cause_among, is_ahead, is_too_old, newest_number, number_or, oldest_asked, verdicts}
 use Rattle.forwarding_model.specs.forwarding.Outgoing.{Subscriber, forwarded, next_number, next_packet, oldest_number, outgoing, resent}
 use Rattle.forwarding_model.specs.Receiver.{complaint}
 use Rattle.forwarding_model.specs.History.{Entry, items_of}

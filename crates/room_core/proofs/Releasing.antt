@@ -13,7 +13,6 @@ use Rattle.sfu_base.specs.declared.call.Kind.TheVariants.{Plain, Layered}
 use Rattle.rtp_packet.specs.Fields.{sequence_of}
 use Rattle.reorder_window.specs.Events.{Event, Piece, Arrives, Ticks}
 use Rattle.reorder_window.specs.Order.{Order, added, order_of}
-use Rattle.forwarding_model.specs.forwarding.Timeline.{meanings_of}
 use Rattle.forwarding_model.specs.frames.Frames.{Item}
 use Rattle.forwarding_model.specs.History.{Entry, items_of, subscriber_of}
 use Rattle.forwarding_model.specs.History.Entry.{Released}
@@ -23,18 +22,17 @@ use Rattle.room_core.specs.Items.{and_pieces}
 use Rattle.track_core.specs.Track.{Seen, first_refusal}
 use Rattle.room_core.specs.Stepping.{IsAt, IsBrought, kind_by}
 use Rattle.room_core.specs.declared.content.Content.{Content}
-use Rattle.room_core.specs.declared.feed.Feed.{Feed}
 use Rattle.room_core.specs.declared.live.LiveTrack.{LiveTrack}
 use Rattle.room_core.specs.declared.live.LiveSubscriber.{LiveSubscriber}
-use Rattle.room_core.specs.Live.{Joined, Published, highest_subscriber, highest_track, hold_of, hold_or_none, joined, kind_of, kind_or_plain, live_subscribers, live_tracks, origin, published}
+use Rattle.room_core.specs.Live.{Joined, Published, highest_subscriber, highest_track, hold_or_none, joined, kind_of, kind_or_plain, live_subscribers, live_tracks, origin, published}
 use Rattle.room_core.specs.TrackHistory.{and_where, entries_of, events_of, order_at, released}
 use Rattle.room_core.specs.Sent.{sent}
 use Rattle.room_core.specs.Replies.{answer, done_or, of_track}
 use Rattle.room_core.specs.History.{after as afterwards}
 use Rattle.room_core.specs.Views.{makes_key, plea, subscriber_by, timeline_as}
 use Rattle.room_core.specs.Follows.{Follows, Happened}
-use Rattle.room_core.specs.Passing.{Both, FollowsOn, IsPassed, PassedTo, StayOneTrack, WorkedOff, WorksOffFrom, released_as}
-use Rattle.room_core.specs.Content.{Does, IsAfter, IsSubscriberAfter, IsSubscriberOf, IsTrackAfter, IsTrackOf}
+use Rattle.room_core.specs.Passing.{Both, FollowsOn, IsPassed, StayOneTrack, WorkedOff, WorksOffFrom, released_as}
+use Rattle.room_core.specs.Content.{Does, IsAfter, IsSubscriberAfter, IsTrackAfter}
 use Rattle.room_core.proofs.TableSteps.{table_after, table_mapped}
 use Rattle.room_core.proofs.Stepping.{brought_at, brought_waits, formats_read, kind_stays, order_at as order_is}
 

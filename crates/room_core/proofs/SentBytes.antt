@@ -1,5 +1,5 @@
 -- What goes out reads, as bytes, as the packets of the model: sequence number, SSRC and marker are written over a packet that RTP reads.
-use Rattle.std.proofs.Common.{◌≡◌, ◌≤◌, ◌<◌, ◌+◌, ◌%◌, ◌^◌, ℕ, suc, Bool, true, false, cond, List, [], ◌∷◌, ◌++◌, length, map, take, drop, refl, sym, ap, ap₂, subst, ◌∙◌, Option, Some, None, arith}
+use Rattle.std.proofs.Common.{◌≡◌, ◌≤◌, ◌<◌, ◌+◌, ◌%◌, ◌^◌, ℕ, Bool, true, false, cond, List, [], ◌∷◌, ◌++◌, length, map, drop, refl, sym, ap, ap₂, subst, ◌∙◌, Option, Some, arith}
 use Rattle.std.specs.List.{AllByRecursion}
 use Rattle.sfu_base.specs.declared.call.Kind.{Kind}
 use Rattle.sfu_base.specs.declared.frame.Wish.{Wish}
@@ -8,12 +8,11 @@ use Rattle.rtp_packet.specs.Faults.{first_fault}
 use Rattle.rtp_packet.specs.Rewritten.{rewritten}
 use Rattle.rtp_packet.proofs.Faultless.{header_there}
 use Rattle.rtp_packet.proofs.Rewriting.{same_fault}
-use Rattle.forwarding_model.specs.forwarding.Timeline.{Frame, Packet, takes_of}
+use Rattle.forwarding_model.specs.forwarding.Timeline.{Packet}
 use Rattle.forwarding_model.specs.forwarding.Timeline.Event.{WholeFrame, PlainPacket, WishChange, Take}
 use Rattle.forwarding_model.specs.forwarding.Standing.{candidate_at, passes_at, plain_passes, standing}
 use Rattle.forwarding_model.specs.forwarding.Outgoing.{AreConsecutive, Subscriber, forwarded, numbered, outgoing}
-use Rattle.dd_structure.specs.TemplateStructure.{TemplateStructure}
-use Rattle.packet_format.specs.Packets.{bytes_of, packet_of, read_packet, readdressed, without_fault}
+use Rattle.packet_format.specs.Packets.{bytes_of, packet_of, read_packet, without_fault}
 use Rattle.packet_format.proofs.Packets.{packets_sent}
 use Rattle.track_core.proofs.TakenPieces.{all_append, all_front}
 use Rattle.room_core.specs.Sent.{sent}

@@ -13,7 +13,7 @@ use Rattle.room_core.specs.Noted.{Noted, Notes}
 use Rattle.room_core.specs.Replies.{answer}
 use Rattle.room_core.specs.History.{Entry, accepted, after, after_entry, kept, noted_of}
 use Rattle.room_core.specs.Content.{Does, IsAfter}
-use Rattle.room_core.specs.Serves.{Serves, Stands, StandsHeadline}
+use Rattle.room_core.specs.Serves.{Serves, StandsHeadline}
 use Rattle.room_core.specs.WellFormed.{AreWellFormed, IsValue}
 use Rattle.room_core.proofs.WellFormed.{well_formed_after}
 use Rattle.room_core.proofs.Promising.{headline}

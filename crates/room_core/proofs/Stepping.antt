@@ -1,11 +1,11 @@
 -- A track's pipeline in the words of the room: its events, its items, and one step.
-use Rattle.std.proofs.Common.{◌≡◌, ◌≢◌, ◌↔◌, ℕ, List, [], ◌∷◌, ◌++◌, length, map, drop, refl, sym, ap, subst, ◌∙◌, Option, Some, None, slice_get, option_map}
-use Rattle.std.proofs.lemmas.List.{append-nil, append_assoc}
+use Rattle.std.proofs.Common.{◌≡◌, ◌↔◌, ℕ, List, [], ◌∷◌, ◌++◌, length, map, drop, refl, sym, ap, subst, ◌∙◌, Option, Some, None, slice_get, option_map}
+use Rattle.std.proofs.lemmas.List.{append-nil}
 use Rattle.sfu_base.specs.declared.call.Kind.{Kind}
 use Rattle.sfu_base.specs.declared.call.Kind.TheVariants.{Plain, Layered}
 use Rattle.reorder_window.specs.Events.{Event, Piece, Got, Gone}
 use Rattle.reorder_window.specs.Order.{Order, added, order_of, items_of as order_items}
-use Rattle.forwarding_model.specs.forwarding.Timeline.{Frame, Packet}
+use Rattle.forwarding_model.specs.forwarding.Timeline.{Frame}
 use Rattle.forwarding_model.specs.frames.Frames.{Item, made_by_item, state_after}
 use Rattle.forwarding_model.specs.frames.Reading.{Format, IsFormat}
 use Rattle.dd_structure.specs.TemplateStructure.{TemplateStructure}
@@ -18,8 +18,7 @@ use Rattle.track_core.specs.declared.track.Made.TheVariants as made
 use Rattle.track_core.specs.Pieces.{item_of, items_of}
 use Rattle.track_core.specs.Track.{HasKind, IsMadeValid as IsValidMade, Seen, StandsFor, Stays, and_piece, frame_by, framed_packets, frames_packets, id_of, made_frame, made_of, packets_of}
 use Rattle.room_core.specs.Formats.{format_of}
-use Rattle.room_core.specs.Items.{and_pieces}
-use Rattle.room_core.specs.Stepping.{IsAt, IsBegun, IsBrought, IsFrameMade, IsMade, IsMadeValid, Steps, StepsOn, WorksOff, kind_by}
+use Rattle.room_core.specs.Stepping.{IsAt, IsBegun, IsBrought, IsFrameMade, IsMade, IsMadeValid, Steps, StepsOn, kind_by}
 
 -- ---- the format
 

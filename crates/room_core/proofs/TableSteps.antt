@@ -1,6 +1,6 @@
 -- What a change of one entry, or of the subscribers of one track, leaves of the relation between a table and the history.
-use Rattle.std.proofs.Common.{◌≡◌, ℕ, Bool, true, false, cond, refl, sym, ap, subst, ◌∙◌, Option, Some, None, eqb, nat_eq}
-use Rattle.std.proofs.lemmas.Bool.{eqb-true, eqb-false, eq-eqb}
+use Rattle.std.proofs.Common.{◌≡◌, ℕ, Bool, true, false, cond, refl, sym, ap, subst, ◌∙◌, Option, Some, None, nat_eq}
+use Rattle.std.proofs.lemmas.Bool.{eqb-true}
 use Rattle.room_core.specs.Passing.{Both}
 
 -- One lemma for all calls that change the entry with one number: of all others what stood before is enough.

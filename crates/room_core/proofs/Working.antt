@@ -1,30 +1,28 @@
 -- What a track makes of its items, one after another, to each of its subscribers.
-use Rattle.std.proofs.Common.{◌≡◌, ◌≢◌, ℕ, zero, suc, Bool, true, false, cond, ◌&&◌, ◌||◌, List, [], ◌∷◌, ◌++◌, length, refl, sym, ap, subst, ◌∙◌, arith, Option, Some, None, map, slice_get}
+use Rattle.std.proofs.Common.{◌≡◌, ℕ, Bool, true, false, ◌&&◌, ◌||◌, List, [], ◌∷◌, ◌++◌, refl, sym, ap, subst, ◌∙◌, Option, Some, None, slice_get}
 use Rattle.std.specs.Prelude.{not}
 use Rattle.std.specs.List.{list_any}
 use Rattle.sfu_base.specs.declared.call.Kind.{Kind}
 use Rattle.sfu_base.specs.declared.call.Kind.TheVariants.{Plain, Layered}
 use Rattle.sfu_base.specs.declared.frame.FrameMeaning.{FrameMeaning}
-use Rattle.reorder_window.specs.Events.{Event, Piece, Got, Gone}
+use Rattle.reorder_window.specs.Events.{Piece, Got, Gone}
 use Rattle.forwarding_model.specs.forwarding.Timeline.{Frame, meanings_of}
 use Rattle.forwarding_model.specs.forwarding.Timeline.Event.{WholeFrame, PlainPacket}
 use Rattle.forwarding_model.specs.frames.TrackFrames.{IsOneTrack}
 use Rattle.forwarding_model.specs.frames.Frames.{Item, frames_since, in_front, made_by_item, state_after}
 use Rattle.forwarding_model.specs.History.{frame_events}
-use Rattle.forwarding_model.specs.forwarding.Outgoing.{Subscriber}
 use Rattle.dd_structure.specs.TemplateStructure.{TemplateStructure}
 use Rattle.packet_format.specs.Packets.{packet_of}
 use Rattle.room_core.specs.Formats.{format_of}
 use Rattle.room_core.specs.Items.{and_pieces}
-use Rattle.track_core.specs.Track.{Seen, Stays}
+use Rattle.track_core.specs.Track.{Seen}
 use Rattle.track_core.specs.Pieces.{item_of}
-use Rattle.room_core.specs.Stepping.{IsAt, IsFrameMade, IsMade, Steps, StepsOn, WorksOff, kind_by}
-use Rattle.track_core.specs.declared.track.Made.{Made}
+use Rattle.room_core.specs.Stepping.{IsFrameMade, IsMade, Steps, StepsOn, WorksOff, kind_by}
 use Rattle.track_core.specs.declared.track.Made.TheVariants as made
 use Rattle.room_core.specs.declared.feed.Feed.{Feed}
 use Rattle.room_core.specs.declared.live.LiveSubscriber.{LiveSubscriber}
 use Rattle.room_core.specs.Follows.{Follows, FollowsFrame, FollowsPacket, Happened, frame_by}
-use Rattle.room_core.specs.Passing.{Both, FollowsOn, IsPassed, PassedTo, PleaGoesOn, StayOneTrack, WorkedIf, WorkedOff, WorkedOne, WorksOffFrom, released_as}
+use Rattle.room_core.specs.Passing.{Both, FollowsOn, IsPassed, PassedTo, StayOneTrack, WorkedOff, WorkedOne, WorksOffFrom, released_as}
 use Rattle.room_core.specs.Views.{makes_key}
 use Rattle.room_core.proofs.Stepping.{kind_stays}
 

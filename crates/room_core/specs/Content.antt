@@ -1,5 +1,5 @@
 -- Which accepted calls the tables of a room stand for. Lists of calls have the newest first.
-use Rattle.std.specs.Prelude.{◌≡◌, ◌≤◌, ◌<◌, ℕ, Bool, true, List, [], ◌∷◌, Option, None, Some, is_some, nat_eq}
+use Rattle.std.specs.Prelude.{◌≡◌, ◌≤◌, ◌<◌, ℕ, Bool, true, List, Option, None, Some, is_some, nat_eq}
 use Rattle.indexmap.specs.IndexMap.{get, index_map_len, spare}
 use Rattle.sfu_base.specs.Answer.{answer_of}
 use Rattle.sfu_base.specs.declared.call.Call.{Call}

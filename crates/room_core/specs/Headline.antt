@@ -1,5 +1,5 @@
 -- What is promised to each live subscriber, of every history: own statements, over the definitions of forwarding.
-use Rattle.std.specs.Prelude.{◌≡◌, ◌≤◌, ◌<◌, ◌+◌, ℕ, List, ◌∷◌, ◌++◌, true, map, length, Option, None, Some, Ok}
+use Rattle.std.specs.Prelude.{◌≡◌, ◌≤◌, ◌<◌, ◌+◌, ℕ, List, ◌∷◌, ◌++◌, true, map, length, None, Some, Ok}
 use Rattle.std.specs.List.{AllByRecursion}
 use Rattle.sfu_base.specs.Answer.{Sent}
 use Rattle.sfu_base.specs.declared.call.Call.{Call}

@@ -1,7 +1,7 @@
 -- The history of a room, and what it answers after it. Own rule. The code keeps no history, unless its recorder does.
-use Rattle.std.specs.Prelude.{ℕ, Bool, true, false, if◌then◌else◌, List, [], ◌∷◌, ◌++◌, fold}
+use Rattle.std.specs.Prelude.{ℕ, Bool, true, false, if◌then◌else◌, List, [], ◌∷◌, fold}
 use Rattle.std.specs.List.{flat_map}
-use Rattle.sfu_base.specs.Answer.{Answer, Done, Sent, Named, KeyIs, Told, Refused}
+use Rattle.sfu_base.specs.Answer.{Answer, Refused}
 use Rattle.sfu_base.specs.declared.call.Call.{Call}
 use Rattle.room_core.specs.Noted.{Noted}
 use Rattle.room_core.specs.Replies.{answer}

@@ -1,6 +1,6 @@
 -- What one subscriber of a room sees, by the calls that the room accepted, the newest first. Own rule. All of it is told by the definitions of
 -- forwarding over the history of the subscriber's track; the code keeps no history.
-use Rattle.std.specs.Prelude.{ℕ, ◌==◌, ◌&&◌, ◌||◌, not, Bool, true, false, if◌then◌else◌, List, [], ◌∷◌, Option, None, Some}
+use Rattle.std.specs.Prelude.{ℕ, ◌==◌, ◌&&◌, ◌||◌, not, Bool, false, if◌then◌else◌, List, [], ◌∷◌, Option, None, Some}
 use Rattle.std.specs.List.{list_any}
 use Rattle.sfu_base.specs.declared.call.Call.{Call}
 use Rattle.sfu_base.specs.declared.call.Call.TheVariants as call
@@ -9,7 +9,7 @@ use Rattle.sfu_base.specs.declared.call.Kind.TheVariants.{Plain, Layered}
 use Rattle.sfu_base.specs.declared.frame.Step.{Step}
 use Rattle.rtp_packet.specs.Fields.{sequence_of}
 use Rattle.reorder_window.specs.Events.{Arrives, Ticks}
-use Rattle.forwarding_model.specs.forwarding.Timeline.{Frame, Event}
+use Rattle.forwarding_model.specs.forwarding.Timeline.{Event}
 use Rattle.dd_structure.specs.TemplateStructure.{TemplateStructure}
 use Rattle.forwarding_model.specs.frames.Frames.{Item, frames_since}
 use Rattle.forwarding_model.specs.History.{Entry, items_of, plain_timeline, timeline}

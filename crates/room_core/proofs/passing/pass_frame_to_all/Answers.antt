@@ -1,4 +1,4 @@
-use Rattle.std.proofs.Common.{◌≡◌, ◌<◌, ◌+◌, ◌∙◌, sym, ap, subst, arith, refl, length, true≢false}
+use Rattle.std.proofs.Common.{◌≡◌, ◌<◌, ◌+◌, sym, subst, arith, length, true≢false}
 use Rattle.indexmap.specs.IndexMap.{index_map_len}
 use Rattle.room_core.specs.Follows.{FollowsFrame}
 use Rattle.room_core.specs.Passing.{IsPassed}

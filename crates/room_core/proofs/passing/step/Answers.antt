@@ -1,7 +1,3 @@
-use Rattle.std.proofs.Common.{◌≡◌, ap, refl, sym, ◌∙◌}
-use Rattle.track_core.specs.declared.track.Made.{Made}
-use Rattle.track_core.specs.declared.track.Made.TheVariants as made
-use Rattle.room_core.specs.Stepping.{IsMadeValid}
 use Rattle.room_core.proofs.Stepping.{steps, valid_made}
 use Rattle.room_core.proofs.passing.step.Goals as goal
 

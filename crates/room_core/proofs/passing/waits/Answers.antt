@@ -1,4 +1,4 @@
-use Rattle.std.proofs.Common.{◌≡◌, ◌<◌, ◌∙◌, sym, subst, Bool, arith, false, true≢false}
+use Rattle.std.proofs.Common.{◌<◌, sym, arith, false, true≢false}
 use Rattle.indexmap.specs.IndexMap.{index_map_len}
 use Rattle.room_core.specs.Passing.{WaitsOne}
 use Rattle.room_core.proofs.Waiting.{all_found, all_next}

@@ -1,4 +1,4 @@
-use Rattle.std.proofs.Common.{Bool, subst}
+use Rattle.std.proofs.Common.{subst}
 use Rattle.room_core.specs.Follows.{HasNoTarget}
 use Rattle.room_core.specs.declared.feed.Feed.{Feed}
 use Rattle.room_core.proofs.Waiting.{waits_by}

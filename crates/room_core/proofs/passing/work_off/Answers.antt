@@ -1,4 +1,4 @@
-use Rattle.std.proofs.Common.{◌≡◌, ◌∙◌, nat_eq}
+use Rattle.std.proofs.Common.{◌∙◌, nat_eq}
 use Rattle.indexmap.specs.IndexMap.{get}
 use Rattle.room_core.proofs.Working.{one_and_rest}
 use Rattle.room_core.proofs.passing.work_off.Goals as goal

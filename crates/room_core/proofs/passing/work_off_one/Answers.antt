@@ -1,4 +1,4 @@
-use Rattle.std.proofs.Common.{◌≡◌, sym, nat_eq}
+use Rattle.std.proofs.Common.{nat_eq}
 use Rattle.indexmap.specs.IndexMap.{get}
 use Rattle.room_core.proofs.Working.{one_frame, one_nothing, one_packet}
 use Rattle.room_core.proofs.passing.work_off_one.Goals as goal

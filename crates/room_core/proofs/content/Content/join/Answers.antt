@@ -1,4 +1,4 @@
-use Rattle.std.proofs.Common.{◌≡◌, refl, sym, ap, None, Some}
+use Rattle.std.proofs.Common.{refl}
 use Rattle.room_core.specs.Content.{refusal_to_join}
 use Rattle.room_core.proofs.Beginnings.{join_does, join_is_refused, ready_feed}
 use Rattle.room_core.proofs.content.Content.join.Goals as goal

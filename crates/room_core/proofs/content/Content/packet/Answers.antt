@@ -1,4 +1,4 @@
-use Rattle.std.proofs.Common.{◌≡◌, ◌∷◌, ◌∙◌, refl, sym, subst, ap, nat_eq, ℕ, List, None, Some}
+use Rattle.std.proofs.Common.{◌∷◌, ◌∙◌, refl, subst, ap, nat_eq, ℕ, List, None}
 use Rattle.indexmap.specs.IndexMap.{get}
 use Rattle.reorder_window.specs.Events.{Arrives}
 use Rattle.rtp_packet.specs.Fields.{sequence_of}

@@ -1,7 +1,4 @@
-use Rattle.std.proofs.Common.{◌≡◌, ◌+◌, refl, sym, ap, None, Some, ℕ}
-use Rattle.sfu_base.specs.declared.call.Refusal.{Refusal}
-use Rattle.std.specs.Prelude.{Option}
-use Rattle.room_core.specs.declared.content.Content.{Content}
+use Rattle.std.proofs.Common.{refl}
 use Rattle.room_core.specs.Content.{refusal_to_publish}
 use Rattle.room_core.proofs.Beginnings.{publish_does, ready_pipeline}
 use Rattle.room_core.proofs.content.Content.publish.Goals as goal

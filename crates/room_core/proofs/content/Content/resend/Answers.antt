@@ -1,4 +1,4 @@
-use Rattle.std.proofs.Common.{◌≡◌, refl, sym, subst, Err, Ok}
+use Rattle.std.proofs.Common.{subst, Err, Ok}
 use Rattle.room_core.specs.declared.feed.Feed.{Feed}
 use Rattle.room_core.specs.Follows.{Resends}
 use Rattle.room_core.proofs.Owning.{resend_does, resend_refuses}

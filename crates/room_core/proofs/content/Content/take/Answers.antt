@@ -1,4 +1,4 @@
-use Rattle.std.proofs.Common.{◌≡◌, refl, subst, Bool}
+use Rattle.std.proofs.Common.{refl, subst, Bool}
 use Rattle.room_core.specs.Follows.{FollowsTake}
 use Rattle.room_core.specs.declared.feed.Feed.{Feed}
 use Rattle.room_core.proofs.Owning.{take_does, take_finds_none}

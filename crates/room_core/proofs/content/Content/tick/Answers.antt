@@ -1,4 +1,4 @@
-use Rattle.std.proofs.Common.{◌≡◌, ◌∙◌, refl, sym, subst, ap, nat_eq}
+use Rattle.std.proofs.Common.{refl, subst, nat_eq}
 use Rattle.indexmap.specs.IndexMap.{get}
 use Rattle.reorder_window.specs.Events.{Ticks}
 use Rattle.sfu_base.specs.declared.call.Call.TheVariants as call
