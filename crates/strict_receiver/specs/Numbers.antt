@@ -1,0 +1,28 @@
+-- What is kept of the numbers that count as received. Own rule. Of a number only how far it lies below the newest counts, and a frame refers
+-- at most 4,096 back (AV1 RTP payload format, Appendix A, frame_fdiff). So what is kept may stand lower than the definition's numbers, by a
+-- multiple of 65,536, and lacks those too far below.
+use Rattle.std.specs.Prelude.{◌≡◌, ◌%◌, ◌≤◌, ◌<◌, ℕ, Option, None, Some}
+use Rattle.std.specs.List.{AllByRecursion}
+use Rattle.forwarding_model.specs.Receiver.{Judged, Received, is_received}
+use Rattle.forwarding_model.specs.Receiver.Judged.{Complete, Lacks}
+
+-- after a frame was accepted
+pub record AreKeptOf (kept received : Received) : Type 0 where
+  pub newest : kept.newest % 65536 ≡ received.newest % 65536
+  pub below : AllByRecursion (λ m. m ≤ kept.newest) kept.numbers
+  pub before : AllByRecursion (λ m. m ≤ received.newest) received.numbers
+  pub distances : (d : ℕ) → d < 4096 → is_received kept.numbers kept.newest d ≡ is_received received.numbers received.newest d
+
+-- once the next frame has its number, and doesn't count as received yet
+pub record ArePlacedAs (kept placed : Received) : Type 0 where
+  pub newest : kept.newest % 65536 ≡ placed.newest % 65536
+  pub below : AllByRecursion (λ m. m < kept.newest) kept.numbers
+  pub before : AllByRecursion (λ m. m < placed.newest) placed.numbers
+  pub distances : (d : ℕ) → 1 ≤ d → d ≤ 4096 → is_received kept.numbers kept.newest d ≡ is_received placed.numbers placed.newest d
+
+-- no distance is lacking, and these numbers are kept then; or this distance is
+abbrev pub Judges : Received → Option ℕ → Judged → Type 0
+Judges now None (Complete received) = AreKeptOf now received
+Judges now None (Lacks fdiff) = ⊥
+Judges now (Some distance) (Complete received) = ⊥
+Judges now (Some distance) (Lacks fdiff) = distance ≡ fdiff

@@ -1,0 +1,84 @@
+// A strict receiver.
+
+ghost use Rattle.std.specs.Prelude.{◌≡◌, ◌++◌, ◌∷◌, ◌+◌, [], ℕ, List, IfOk, OnErr, if◌then◌else◌, is_ok, min};
+ghost use Rattle.forwarding_model.specs.declared.complaint.Complaint.{Complaint};
+ghost use Rattle.forwarding_model.specs.Receiver.{complaint_of};
+ghost use Rattle.strict_receiver.specs.Receivers.{StandsFor, complaint_in, complaint_over, greatest_count};
+
+use crate::state::State;
+use forwarding_model::Complaint;
+use sfu_base::NoMemory;
+use std::alloc::Global;
+use std::marker::Model;
+
+/// A strict receiver of the packets of one layered track (own rule): it sees them alone, and knows the id of the header extension that
+/// their dependency descriptors have. Clauses see the id, the receiver of `forwarding_model` with those received numbers that are kept, and
+/// both counts.
+#[derive(Drop)]
+pub struct Receiver {
+    // On the heap, since it has two template structures, and a receiver is moved about.
+    state: Box<State>,
+    packets: u64,
+    frames: u64,
+}
+
+impl Model for Receiver {
+    ghost use Rattle.strict_receiver.specs.Receivers.{Seen};
+
+    ghost Value = { Seen };
+
+    ghost use Rattle.strict_receiver.specs.Kept.{IsKept, seen};
+
+    ghost view = { seen };
+
+    ghost invariant = { IsKept };
+}
+
+impl Receiver {
+    /// A receiver that no packet came to yet, of descriptors with this header extension id. All its memory is taken here.
+    pub fn new(alloc: Global, id: u8) -> Result<Receiver, NoMemory>
+        ensures id { IfOk result (λ receiver. receiver.id ≡ id) }
+        ensures stands { IfOk result (λ receiver. StandsFor receiver []) }
+    {
+        Ok(Receiver {
+            state: Box::new(alloc, State::new(id)).map_err(|_| NoMemory)?,
+            packets: 0,
+            frames: 0,
+        })
+    }
+
+    /// The next packet's bytes. The complaint is the first thing that is wrong with them. From then on each call answers that complaint and
+    /// changes nothing.
+    pub fn feed(&mut self, packet: &[u8]) -> Result<(), Complaint>
+        ensures id { self.new.id ≡ self.old.id }
+        ensures stands { (history : List (List ℕ)) → StandsFor self.old history → StandsFor self.new (history ++ packet.now ∷ []) }
+        ensures answer { (history : List (List ℕ)) → StandsFor self.old history
+            → complaint_in result ≡ complaint_over self.old.id (history ++ packet.now ∷ []) }
+        ensures told { complaint_in result ≡ complaint_of self.new.receiver }
+        ensures again { (complaint : Complaint) → complaint_of self.old.receiver ≡ Some complaint → result ≡ Err complaint }
+        ensures unchanged { (complaint : Complaint) → complaint_of self.old.receiver ≡ Some complaint → self.new ≡ self.old }
+        ensures packets { self.new.packets ≡ (if is_ok result then min (self.old.packets + 1) greatest_count else self.old.packets) }
+        ensures frames { OnErr result (self.new.frames ≡ self.old.frames) }
+    {
+        self.state.next(packet)?;
+        self.packets = self.packets.saturating_add(1);
+        if self.state.has_ended_a_frame() {
+            self.frames = self.frames.saturating_add(1);
+        }
+        Ok(())
+    }
+
+    /// How many frames were accepted: all whose last packet was. At most 2^64 - 1.
+    pub fn frames(&self) -> u64
+        ensures { result ≡ self.now.frames }
+    {
+        self.frames
+    }
+
+    /// How many packets were accepted, those of an unfinished frame among them. At most 2^64 - 1.
+    pub fn packets(&self) -> u64
+        ensures { result ≡ self.now.packets }
+    {
+        self.packets
+    }
+}

@@ -1,0 +1,252 @@
+// What a receiver keeps between packets, and what the next one makes of it.
+
+ghost use Rattle.std.specs.Prelude.{◌≡◌, ◌∷◌, ℕ, List, Option, Some, if◌then◌else◌, is_some, true};
+ghost use Rattle.std.specs.Option.{option_map};
+ghost use Rattle.forwarding_model.specs.declared.complaint.Complaint.{Complaint};
+ghost use Rattle.forwarding_model.specs.Receiver.{OpenFrame as ModelFrame, Receiver, Reception, accepted, ends_frame, is_content, receive, with_frame};
+ghost use Rattle.forwarding_model.specs.Receiver.Receiver.{Waiting};
+ghost use Rattle.dd_structure.specs.TemplateStructure.{TemplateStructure};
+ghost use Rattle.packet_format.specs.Formats.{format_of};
+ghost use Rattle.packet_format.specs.Packets.{packet_of, read_packet};
+ghost use Rattle.packet_format.specs.Shown.{HasDistances, IsOf};
+ghost use Rattle.strict_receiver.specs.Frames.{frame_said, joined_as, said_by};
+ghost use Rattle.strict_receiver.specs.Numbers.{AreKeptOf};
+ghost use Rattle.strict_receiver.specs.States.{Answers, Expects, Fed, Finishes, IsExpected, IsStateOf, Joined, part_as, reception_for};
+
+use crate::frame::OpenFrame;
+use crate::joining::{begins, begun, goes_on};
+use crate::received::ReceivedFrames;
+use dd_descriptor::Descriptor;
+use dd_structure::Structure;
+use forwarding_model::Complaint;
+use packet_format::{PayloadFlags, Shown, begins_epoch, show};
+use rtp_packet::Rtp;
+
+/// How far a receiver has come.
+#[derive(Clone, Copy, Debug)]
+pub enum Stage {
+    /// No packet came.
+    Waiting,
+    /// All packets so far were accepted.
+    Receiving(Last),
+    /// It has a complaint, for good.
+    Complaining(Complaint),
+}
+
+/// The last packet's source and sequence number.
+#[derive(Clone, Copy, Debug)]
+pub struct Last {
+    pub ssrc: u32,
+    pub sequence: u16,
+}
+
+/// What a receiver keeps. The newest descriptor is only there to be read into.
+#[derive(Drop)]
+pub struct State {
+    pub id: u8,
+    pub stage: Stage,
+    /// The frame that has begun and not ended.
+    pub frame: Option<OpenFrame>,
+    /// The structure in force.
+    pub structure: Option<Structure>,
+    pub received: ReceivedFrames,
+    pub newest: Descriptor,
+}
+
+impl State {
+    /// No packet came yet.
+    pub fn new(id: u8) -> State
+        ensures id { result.id ≡ id }
+        ensures stands { IsStateOf result Waiting }
+    {
+        State {
+            id,
+            stage: Stage::Waiting,
+            frame: None,
+            structure: None,
+            received: ReceivedFrames::new(),
+            newest: Descriptor::new(),
+        }
+    }
+
+    /// The next packet.
+    pub fn next(&mut self, packet: &[u8]) -> Result<(), Complaint>
+        ensures id { self.new.id ≡ self.old.id }
+        ensures again { (complaint : Complaint) → self.old.stage ≡ Stage.Complaining complaint → result ≡ Err complaint }
+        ensures unchanged { (complaint : Complaint) → self.old.stage ≡ Stage.Complaining complaint → self.new ≡ self.old }
+        ensures fed { (m : Receiver TemplateStructure) → IsStateOf self.old m
+            → Fed self.new result (receive (format_of self.old.id) m (read_packet packet.now)) }
+    {
+        if let Stage::Complaining(complaint) = self.stage {
+            return Err(complaint);
+        }
+        match self.accept(packet) {
+            Ok(()) => Ok(()),
+            Err(complaint) => {
+                self.stage = Stage::Complaining(complaint);
+                Err(complaint)
+            }
+        }
+    }
+
+    /// Whether a packet was accepted and left no frame open.
+    pub fn has_ended_a_frame(&self) -> bool
+        ensures { (m : Receiver TemplateStructure) → IsStateOf self.now m → (if result then 1 else 0) ≡ ends_frame m }
+    {
+        match &self.stage {
+            Stage::Receiving(_) => self.frame.is_none(),
+            _ => false,
+        }
+    }
+
+    // The next packet of a receiver that has no complaint.
+    fn accept(&mut self, bytes: &[u8]) -> Result<(), Complaint>
+        ensures id { self.new.id ≡ self.old.id }
+        ensures accepted { (m : Receiver TemplateStructure) → IsStateOf self.old m → is_content m ≡ true
+            → Answers self.new result (receive (format_of self.old.id) m (read_packet bytes.now)) }
+    {
+        let Ok(rtp) = rtp_packet::read(bytes) else {
+            return Err(Complaint::Unread);
+        };
+        match self.expect(rtp.ssrc, rtp.seq) {
+            Ok(()) => self.take(&rtp),
+            Err(complaint) => Err(complaint),
+        }
+    }
+
+    // Whether a packet is of the source and has the next number.
+    fn expect(&self, ssrc: u32, sequence: u16) -> Result<(), Complaint>
+        ensures { (m : Receiver TemplateStructure) → IsStateOf self.now m → Expects self.now ssrc result (reception_for m ssrc sequence) }
+    {
+        match self.stage {
+            Stage::Waiting => Ok(()),
+            Stage::Receiving(last) => {
+                if ssrc != last.ssrc {
+                    return Err(Complaint::OtherSource {
+                        had: last.ssrc,
+                        got: ssrc,
+                    });
+                }
+                if sequence != last.sequence.wrapping_add(1) {
+                    return Err(Complaint::Sequence {
+                        had: last.sequence,
+                        got: sequence,
+                    });
+                }
+                Ok(())
+            }
+            Stage::Complaining(complaint) => Err(complaint),
+        }
+    }
+
+    // A packet of the source with the next number.
+    fn take(&mut self, rtp: &Rtp<'_>) -> Result<(), Complaint>
+        ensures id { self.new.id ≡ self.old.id }
+        ensures taken { (bytes : List ℕ) (r : Reception TemplateStructure) → IsOf bytes rtp.now → IsExpected self.old rtp.now.ssrc r
+            → Answers self.new result (accepted (format_of self.old.id) r (packet_of bytes)) }
+    {
+        match show(rtp, self.id, self.structure.as_ref(), &mut self.newest) {
+            Shown::LacksStructure => Err(Complaint::NoStructure),
+            Shown::Unread => Err(Complaint::Unread),
+            Shown::Shows(flags) => match flags {
+                PayloadFlags::Elements { continues, carries } => {
+                    let last = Last {
+                        ssrc: rtp.ssrc,
+                        sequence: rtp.seq,
+                    };
+                    self.part(last, continues, carries)
+                }
+                _ => Err(Complaint::Unread),
+            },
+        }
+    }
+
+    // A packet whose descriptor, the newest, and payload are read.
+    fn part(&mut self, last: Last, continues: bool, carries: bool) -> Result<(), Complaint>
+        requires { HasDistances self.old.newest }
+        ensures id { self.new.id ≡ self.old.id }
+        ensures joined { (r : Reception TemplateStructure) → IsExpected self.old last.ssrc r
+            → Answers self.new result (part_as r last.sequence (said_by self.old.structure self.old.newest) (record { continues = continues; carries = carries })) }
+    {
+        let key = begins_epoch(&self.newest);
+        self.keep_structure(key);
+        if !self.join(continues, carries) {
+            return Err(Complaint::NotWhole);
+        }
+        match self.finish() {
+            Ok(()) => {
+                self.stage = Stage::Receiving(last);
+                Ok(())
+            }
+            Err(complaint) => Err(complaint),
+        }
+    }
+
+    // A key start puts its structure in force.
+    fn keep_structure(&mut self, key: bool)
+        ensures structure { self.new.structure ≡ (if key then self.old.newest.structure else self.old.structure) }
+        ensures rest { self.new ≡ record self.old { structure = self.new.structure } }
+    {
+        if key {
+            self.structure = match &self.newest.structure {
+                Some(structure) => Some(structure.copied()),
+                None => None,
+            };
+        }
+    }
+
+    // The newest packet begins a frame, where none is open, or goes on with the open one; else the frame isn't whole.
+    fn join(&mut self, continues: bool, carries: bool) -> bool
+        requires { HasDistances self.old.newest }
+        ensures rest { self.new ≡ record self.old { frame = self.new.frame } }
+        ensures some { result ≡ true → is_some self.new.frame ≡ true }
+        ensures joined { (force : Option TemplateStructure)
+            → Joined self.new.frame result (joined_as (option_map frame_said self.old.frame) (said_by force self.old.newest) (record { continues = continues; carries = carries })) }
+    {
+        match &mut self.frame {
+            None => {
+                if !begins(&self.newest, continues) {
+                    return false;
+                }
+                self.frame = Some(begun(&self.newest, carries));
+                true
+            }
+            Some(frame) => {
+                if !goes_on(frame, &self.newest, continues) {
+                    return false;
+                }
+                frame.packets += 1;
+                frame.carries = carries;
+                true
+            }
+        }
+    }
+
+    // The open frame, with the newest packet's end bit: it goes on, or has ended, or isn't whole or lacks a reference.
+    fn finish(&mut self) -> Result<(), Complaint>
+        requires { is_some self.old.frame ≡ true }
+        ensures rest { self.new ≡ record self.old { frame = self.new.frame; received = self.new.received } }
+        ensures finished { (r : Reception TemplateStructure) (frame : ModelFrame) → AreKeptOf self.old.received r.received → option_map frame_said self.old.frame ≡ Some frame
+            → Finishes self.new result r (with_frame r frame self.old.newest.end) }
+    {
+        let Some(frame) = &self.frame else {
+            unreachable!()
+        };
+        if !self.newest.end {
+            return Ok(());
+        }
+        if frame.carries {
+            return Err(Complaint::NotWhole);
+        }
+        match self.received.judge(&frame.start) {
+            None => {
+                self.frame = None;
+                Ok(())
+            }
+            Some(fdiff) => Err(Complaint::MissingReference {
+                frame: frame.start.number,
+                fdiff,
+            }),
+        }
+    }
+}
