@@ -336,7 +336,7 @@ fn empty_lines_and_comments_are_skipped(rt: HostRuntime) {
 }
 
 // Replies that are neither packets nor numbers, with their texts.
-const REPLIES: [(Reply, &[u8]); 37] = [
+const REPLIES: [(Reply, &[u8]); 35] = [
     (Reply::Done, b"ok"),
     (Reply::Key { wanted: true }, b"key yes"),
     (Reply::Key { wanted: false }, b"key no"),
@@ -632,7 +632,7 @@ fn port_lines_say_addresses_and_roles(rt: HostRuntime) -> Result<(), Fail> {
         let port = read_port(line)?;
         assert_eq!(rt; port_numbers(&port), *said);
     }
-    let outside: [&[u8]; 20] = [
+    let outside: [&[u8]; 27] = [
         b"port",
         b"port 1.2.3.4:5 6.7.8.9:10",
         b"port 1.2.3.4:5 6.7.8.9:10 ",
