@@ -63,7 +63,7 @@ not_live (call.Plead subscriber ∷ past) n lt = not_live past n lt
 not_live (call.Why subscriber number ∷ past) n lt = not_live past n lt
 
 -- a live track's number is at most the highest
-live_below : (past : List Call) (n : ℕ) (p : Published) → published n past ≡ Some p → n ≤ highest_track past
+pub live_below : (past : List Call) (n : ℕ) (p : Published) → published n past ≡ Some p → n ≤ highest_track past
 live_below past n p e = go (leb n (highest_track past)) refl
   where
     go : (b : Bool) → leb n (highest_track past) ≡ b → n ≤ highest_track past
@@ -130,7 +130,7 @@ subscriber_stays track ssrc hold kind past new n a j h =
           (subst (λ (es : List Entry). Follows (kind_of j.track past) a.feed.value (subscriber_by j) (timeline_as (kind_of j.track past) n es)) (sym entries) h.follows);
     }
 
-accepted_track : (highest live track : ℕ) (kind : Kind) → publish_refusal highest live track kind ≡ None → (highest < track) × (live < 64)
+pub accepted_track : (highest live track : ℕ) (kind : Kind) → publish_refusal highest live track kind ≡ None → (highest < track) × (live < 64)
 accepted_track highest live track kind e = by_number (leb track highest) (leb 64 live) refl refl e
   where
     by_number : (a b : Bool) → leb track highest ≡ a → leb 64 live ≡ b → publish_refusal highest live track kind ≡ None → (highest < track) × (live < 64)
@@ -200,12 +200,12 @@ not_joined (call.KeyWanted track ∷ past) n lt = not_joined past n lt
 not_joined (call.Plead subscriber ∷ past) n lt = not_joined past n lt
 not_joined (call.Why subscriber number ∷ past) n lt = not_joined past n lt
 
-joins_where : (subscriber track t : ℕ) (to : Subscriber) (n : ℕ) (es : List Entry) (b : Bool) → eqb subscriber n ≡ false
+pub joins_where : (subscriber track t : ℕ) (to : Subscriber) (n : ℕ) (es : List Entry) (b : Bool) → eqb subscriber n ≡ false
     → subscriber_of n (and_where b (HasJoined subscriber to) es) ≡ subscriber_of n es
 joins_where subscriber track t to n es true e = ap (λ (b : Bool). cond b (Some to) (subscriber_of n es)) e
 joins_where subscriber track t to n es false e = refl
 
-timeline_where : (subscriber : ℕ) (to : Subscriber) (kind : Kind) (n : ℕ) (es : List Entry) (b : Bool) → eqb subscriber n ≡ false
+pub timeline_where : (subscriber : ℕ) (to : Subscriber) (kind : Kind) (n : ℕ) (es : List Entry) (b : Bool) → eqb subscriber n ≡ false
     → timeline_as kind n (and_where b (HasJoined subscriber to) es) ≡ timeline_as kind n es
 timeline_where subscriber to Plain n es true e = ap (λ (b : Bool). cond b [] (timeline_as Plain n es)) e
 timeline_where subscriber to (Layered id) n es true e = ap (λ (b : Bool). cond b [] (timeline_as (Layered id) n es)) e
@@ -215,7 +215,7 @@ items_where : (subscriber : ℕ) (to : Subscriber) (es : List Entry) (b : Bool) 
 items_where subscriber to es true = refl
 items_where subscriber to es false = refl
 
-begins : (subscriber : ℕ) (to : Subscriber) (kind : Kind) (es : List Entry) → timeline_as kind subscriber (HasJoined subscriber to ∷ es) ≡ []
+pub begins : (subscriber : ℕ) (to : Subscriber) (kind : Kind) (es : List Entry) → timeline_as kind subscriber (HasJoined subscriber to ∷ es) ≡ []
 begins subscriber to Plain es = ap (λ (b : Bool). cond b [] (timeline_as Plain subscriber es)) (eq-eqb subscriber subscriber refl)
 begins subscriber to (Layered id) es = ap (λ (b : Bool). cond b [] (timeline_as (Layered id) subscriber es)) (eq-eqb subscriber subscriber refl)
 
@@ -235,7 +235,7 @@ fresh_follows feed kind ssrc first wish small h = record {
   finds = tt;
 }
 
-accepted_subscriber : (found : Bool) (highest live subscriber : ℕ) → join_refusal found highest live subscriber ≡ None → (found ≡ true) × (highest < subscriber) × (live < 256)
+pub accepted_subscriber : (found : Bool) (highest live subscriber : ℕ) → join_refusal found highest live subscriber ≡ None → (found ≡ true) × (highest < subscriber) × (live < 256)
 accepted_subscriber false highest live subscriber e = absurd (let none : Some refusal.NoTrack ≡ None = e in cc)
 accepted_subscriber true highest live subscriber e = by_number (leb subscriber highest) (leb 256 live) refl refl
   where
@@ -254,7 +254,7 @@ some_found past track None (Some p) h = absurd h
 some_found past track (Some a) None h = absurd h
 some_found past track (Some a) (Some p) h = refl
 
-of_some : (o : Option Published) → is_some o ≡ true → (p : Published) × (o ≡ Some p)
+pub of_some : (o : Option Published) → is_some o ≡ true → (p : Published) × (o ≡ Some p)
 of_some None e = absurd (true≢false (sym e))
 of_some (Some p) e = (p, refl)
 

@@ -14,6 +14,8 @@ pub mod CameIn
 pub mod Senders
 pub mod SentBytes
 pub mod WellFormed
+pub mod Giving
+pub mod Resending
 pub mod Promising
 pub mod Served
 pub mod Waiting

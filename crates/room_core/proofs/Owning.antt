@@ -114,11 +114,11 @@ items_stay : (subscriber : ℕ) (entry : Entry) (b : Bool) (es : List Entry) →
 items_stay subscriber entry true es own = own.items es
 items_stay subscriber entry false es own = refl
 
-joins_stay : (subscriber : ℕ) (entry : Entry) (b : Bool) (n : ℕ) (es : List Entry) → IsOwnEntry subscriber entry → subscriber_of n (and_where b entry es) ≡ subscriber_of n es
+pub joins_stay : (subscriber : ℕ) (entry : Entry) (b : Bool) (n : ℕ) (es : List Entry) → IsOwnEntry subscriber entry → subscriber_of n (and_where b entry es) ≡ subscriber_of n es
 joins_stay subscriber entry true n es own = own.joins n es
 joins_stay subscriber entry false n es own = refl
 
-timelines_stay : (subscriber : ℕ) (entry : Entry) (b : Bool) (kind : Kind) (n : ℕ) (es : List Entry) → IsOwnEntry subscriber entry → eqb subscriber n ≡ false
+pub timelines_stay : (subscriber : ℕ) (entry : Entry) (b : Bool) (kind : Kind) (n : ℕ) (es : List Entry) → IsOwnEntry subscriber entry → eqb subscriber n ≡ false
     → timeline_as kind n (and_where b entry es) ≡ timeline_as kind n es
 timelines_stay subscriber entry true kind n es own e = own.others kind n es e
 timelines_stay subscriber entry false kind n es own e = refl
@@ -267,14 +267,14 @@ one_track (Layered id) n es = (timeline_track (format_of id) (sent (Layered id))
 
 -- ---- the calls
 
-aimed_itself : (subscriber : ℕ) (wish : Wish) (kind : Kind) (es : List Entry)
+pub aimed_itself : (subscriber : ℕ) (wish : Wish) (kind : Kind) (es : List Entry)
     → timeline_as kind subscriber (Aimed subscriber wish ∷ es) ≡ WishChange wish ∷ timeline_as kind subscriber es
 aimed_itself subscriber wish Plain es =
     ap (λ (b : Bool). cond b (WishChange wish ∷ timeline_as Plain subscriber es) (timeline_as Plain subscriber es)) (eq-eqb subscriber subscriber refl)
 aimed_itself subscriber wish (Layered id) es =
     ap (λ (b : Bool). cond b (WishChange wish ∷ timeline_as (Layered id) subscriber es) (timeline_as (Layered id) subscriber es)) (eq-eqb subscriber subscriber refl)
 
-asked_itself : (subscriber : ℕ) (kind : Kind) (es : List Entry)
+pub asked_itself : (subscriber : ℕ) (kind : Kind) (es : List Entry)
     → timeline_as kind subscriber (Asked subscriber ∷ es) ≡ asked (sent kind) (subscriber_of subscriber es) (timeline_as kind subscriber es)
 asked_itself subscriber Plain es =
     ap (λ (b : Bool). cond b (asked (sent Plain) (subscriber_of subscriber es) (timeline_as Plain subscriber es)) (timeline_as Plain subscriber es)) (eq-eqb subscriber subscriber refl)

@@ -1,29 +1,32 @@
 -- The promises to subscribers, by the laws of forwarding.
-use Rattle.std.proofs.Common.{◌≡◌, ◌≤◌, ◌<◌, ◌+◌, ◌^◌, ℕ, Bool, true, false, cond, List, [], ◌∷◌, ◌++◌, map, take, drop, eqb, length, refl, sym, ap, subst, ◌∙◌, Option, Some, None, Result, Ok, Err}
+use Rattle.std.proofs.Common.{◌≡◌, ◌≤◌, ◌<◌, ◌+◌, ◌^◌, ℕ, Bool, true, false, cond, List, [], ◌∷◌, ◌++◌, map, take, drop, eqb, length, sym, ap, subst, ◌∙◌, Option, Some, None, Result, Ok, Err}
 use Rattle.std.specs.List.{AllByRecursion}
 use Rattle.std.proofs.lemmas.Bool.{le-ltb, lt-leb}
 use Rattle.std.proofs.lemmas.List.{map-append, take-append-drop}
-use Rattle.sfu_base.specs.Answer.{Refused, Sent}
+use Rattle.std.specs.Prelude.{◌↔◌}
+use Rattle.sfu_base.specs.Answer.{Answer, Sent, Told}
 use Rattle.sfu_base.specs.declared.call.Call.{Call}
 use Rattle.sfu_base.specs.declared.call.Call.TheVariants as call
 use Rattle.sfu_base.specs.declared.call.Kind.{Kind}
 use Rattle.sfu_base.specs.declared.call.Kind.TheVariants.{Layered}
 use Rattle.sfu_base.specs.declared.call.Refusal.{Refusal}
-use Rattle.sfu_base.specs.declared.call.Refusal.TheVariants.{Ahead, Empty, NotKept, TooOld}
+use Rattle.sfu_base.specs.declared.call.Refusal.TheVariants.{Ahead, TooOld}
 use Rattle.sfu_base.specs.declared.frame.Step.{Step}
 use Rattle.sfu_base.specs.declared.frame.Verdict.{Verdict}
 use Rattle.sfu_base.specs.declared.frame.Wish.{Wish}
 use Rattle.forwarding_model.specs.forwarding.Timeline.{Packet, takes_of}
-use Rattle.forwarding_model.specs.forwarding.Causes.{cause, cause_among, is_ahead, is_too_old, newest_number, number_or, oldest_asked, verdicts}
-use Rattle.forwarding_model.specs.forwarding.Outgoing.{Subscriber, forwarded, next_number, next_packet, oldest_number, outgoing, resent}
+use Rattle.forwarding_model.specs.Lists.{IsMember, last_part}
+use Rattle.forwarding_model.specs.forwarding.Causes.{IsPath, IsWithheld, cause, cause_among, is_ahead, is_too_old, newest_number, number_or, oldest_asked, path, verdicts}
+use Rattle.forwarding_model.specs.forwarding.Outgoing.{Subscriber, forwarded, outgoing}
 use Rattle.forwarding_model.specs.Receiver.{complaint}
 use Rattle.forwarding_model.specs.History.{Entry, items_of}
 use Rattle.forwarding_laws.proofs.Decoding.{all_decodable}
-use Rattle.forwarding_laws.proofs.Outgoings.{numbered-consecutive, resent_first}
+use Rattle.forwarding_laws.proofs.Members.{each_weaker}
+use Rattle.forwarding_laws.proofs.Outgoings.{numbered-consecutive}
 use Rattle.forwarding_laws.proofs.Paths.{path_tells}
 use Rattle.forwarding_laws.proofs.Restarting.{restart_later, restart_there}
-use Rattle.forwarding_laws.proofs.Takings.{next_has_next_number}
 use Rattle.forwarding_laws.proofs.Timelines.{outgoing_never_complains, withheld_path_in_history}
+use Rattle.rtp_packet.specs.Fields.{sequence_of}
 use Rattle.cause_book.specs.Book.{judged}
 use Rattle.packet_format.specs.Packets.{bytes_of, read_packet}
 use Rattle.track_core.proofs.Brought.{ItemHas}
@@ -32,90 +35,21 @@ use Rattle.room_core.specs.Live.{Joined, joined, kind_of}
 use Rattle.room_core.specs.TrackHistory.{entries_of}
 use Rattle.room_core.specs.Sent.{sent}
 use Rattle.room_core.specs.Follows.{Happened}
-use Rattle.room_core.specs.Views.{events_for, subscriber_by, timeline_as}
-use Rattle.room_core.specs.Headline.{Headline, IsForwarded, IsNumbered, PleasesReceivers, RestartsAfterBreaks, ShowsCauses}
-use Rattle.room_core.specs.Replies.{sent_or}
-use Rattle.room_core.specs.SentBytes.{outgoing_bytes, taken_bytes}
+use Rattle.room_core.specs.Views.{events_for, subscriber_by, timeline_as, verdicts_of}
+use Rattle.room_core.specs.Given.{given_to}
+use Rattle.room_core.specs.Headline.{CanBeAsked, Headline, IsNumbered, PleasesReceivers, RestartsAfterBreaks, ShowsCauses}
+use Rattle.room_core.specs.History.{Entry as Served, accepted}
+use Rattle.room_core.specs.Replies.{answer, of_subscriber, resend_answer, told}
+use Rattle.room_core.specs.SentBytes.{going_out, outgoing_bytes, taken_bytes}
 use Rattle.room_core.specs.WellFormed.{AreWellFormed}
-use Rattle.room_core.proofs.CameIn.{CameIn, HasCome, entries_came, timeline_came}
+use Rattle.room_core.proofs.CameIn.{CameIn, entries_came, timeline_came}
+use Rattle.room_core.proofs.Giving.{AreAccepted, accepted_are, given_is}
+use Rattle.room_core.proofs.Resending.{resent_is}
 use Rattle.room_core.proofs.Senders.{sent_keeps_whole}
-use Rattle.room_core.proofs.SentBytes.{front_of, front_read, in_order, outgoing_read}
+use Rattle.room_core.proofs.SentBytes.{ReadsBack, front_of, front_read, in_order, outgoing_read}
 use Rattle.room_core.proofs.Stepping.{formats_read}
 
--- ---- of a layered track with this history
-
-receivers : (id n : ℕ) (to : Subscriber) (entries : List Entry) → to.ssrc < 2 ^ 32 → AllByRecursion (ItemHas CameIn) (items_of entries)
-    → PleasesReceivers id to (timeline_as (Layered id) n entries)
-receivers id n to entries fits came = record {
-  taken = pleased (taken_bytes (Layered id) to events) (map bytes_of (drop (takes_of events) out))
-      (sym (map-append bytes_of (take (takes_of events) out) (drop (takes_of events) out)) ∙ ap (map bytes_of) (take-append-drop (takes_of events) out));
-  fronts = pleased;
-}
-  where
-    events : List Happened
-    events = timeline_as (Layered id) n entries
-
-    out : List Packet
-    out = outgoing (sent (Layered id)) to events
-
-    pleased : (sends queued : List (List ℕ)) → sends ++ queued ≡ outgoing_bytes (Layered id) to events → complaint (format_of id) (map read_packet sends) ≡ None
-    pleased sends queued is =
-        let f = front_of out sends queued is in
-        ap (complaint (format_of id)) (front_read out sends f (outgoing_read (Layered id) to events fits (timeline_came (Layered id) n entries came)))
-        ∙ outgoing_never_complains (format_of id) (sent (Layered id)) n entries to f.front f.rest (formats_read id) (sent_keeps_whole id) f.whole
-
-restarts : (wish : Wish) (events : List Happened) → RestartsAfterBreaks wish events
-restarts wish events = record {
-  at_once = λ since past frame is breaks passes. restart_there wish past frame.meaning (length frame.packets) breaks passes;
-  later = λ after since past broken next is breaks same passes. restart_later wish past since broken next.meaning (length next.packets) breaks same passes;
-}
-
--- a cause that may be asked for is told
-told_by : (steps : List Step) (n newest : ℕ) → newest_number steps ≡ Some newest → n ≤ newest → newest < n + 4096 → judged steps n ≡ Ok (cause_among steps n)
-told_by steps n newest is below near =
-    ap (λ (o : Option ℕ). cond (is_ahead o n) (Err (Ahead (newest_number steps))) (rest o)) is
-    ∙ ap (λ (b : Bool). cond b (Err (Ahead (newest_number steps))) (rest (Some newest))) (le-ltb newest n below)
-    ∙ ap (λ (b : Bool). cond b (Err (TooOld (oldest_asked (number_or (newest_number steps) 0)))) (Ok (cause_among steps n))) (lt-leb (n + 4096) newest near)
-  where
-    rest : Option ℕ → Result Verdict Refusal
-    rest o = cond (is_too_old o n) (Err (TooOld (oldest_asked (number_or (newest_number steps) 0)))) (Ok (cause_among steps n))
-
-causes : (id n : ℕ) (wish : Wish) (entries : List Entry) → ShowsCauses wish (timeline_as (Layered id) n entries)
-causes id n wish entries = record {
-  roots = λ m withheld. withheld_path_in_history (format_of id) (sent (Layered id)) n entries wish m (formats_read id) withheld;
-  steps = λ m. path_tells (cause wish (timeline_as (Layered id) n entries)) m;
-  told = λ m newest is below near. told_by (verdicts wish (timeline_as (Layered id) n entries)) m newest is below near;
-}
-
-forwarded_by : (id n : ℕ) (to : Subscriber) (entries : List Entry) → to.ssrc < 2 ^ 32 → AllByRecursion (ItemHas CameIn) (items_of entries)
-    → IsForwarded id to (timeline_as (Layered id) n entries)
-forwarded_by id n to entries fits came = record {
-  receivers = receivers id n to entries fits came;
-  decodable = all_decodable to.wish (timeline_as (Layered id) n entries);
-  restarts = restarts to.wish (timeline_as (Layered id) n entries);
-  causes = causes id n to.wish entries;
-}
-
--- ---- of every track
-
-sent_by : (o : Option Packet) (bytes : List ℕ) → sent_or o (Refused Empty) ≡ Sent bytes → (p : Packet) × (o ≡ Some p) × (bytes_of p ≡ bytes)
-sent_by None bytes e = absurd (let none : Refused Empty ≡ Sent bytes = e in cc)
-sent_by (Some p) bytes e = (p, refl, (let same : bytes_of p ≡ bytes = cc in same))
-
-numbered_by : (kind : Kind) (to : Subscriber) (events : List Happened) → to.ssrc < 2 ^ 32 → AllByRecursion HasCome events → IsNumbered kind to events
-numbered_by kind to events fits came = record {
-  consecutive = in_order (outgoing (sent kind) to events) (outgoing_read kind to events fits came) (numbered-consecutive to.first to.ssrc (forwarded (sent kind) to.wish events));
-  first = λ since past bytes is gave few.
-      let (p, next, same) = sent_by (next_packet (sent kind) to past) bytes gave in
-      let again : resent (sent kind) to events p.sequence_number ≡ Some p =
-      subst (λ (es : List Happened). resent (sent kind) to es p.sequence_number ≡ Some p) (sym is)
-      (resent_first (sent kind) to past since p next (subst (λ (es : List Happened). takes_of es ≤ takes_of past + 1024) is few)) in
-      let found : resent (sent kind) to events (next_number (sent kind) to past) ≡ Some p =
-      ap (resent (sent kind) to events) (sym (next_has_next_number (sent kind) to past p next)) ∙ again in
-      ap (λ (o : Option Packet). sent_or o (Refused (NotKept (oldest_number (sent kind) to events) (next_number (sent kind) to events)))) found ∙ ap Sent same;
-}
-
--- ---- of all
+-- ---- SSRCs
 
 -- a subscriber that joined has an SSRC of 32 bits
 joined_fits : (past : List Call) (n : ℕ) (j : Joined) → AreWellFormed past → joined n past ≡ Some j → j.ssrc < 2 ^ 32
@@ -145,12 +79,125 @@ joined_fits (call.KeyWanted track ∷ past) n j all e = joined_fits past n j all
 joined_fits (call.Plead subscriber ∷ past) n j all e = joined_fits past n j all.1 e
 joined_fits (call.Why subscriber number ∷ past) n j all e = joined_fits past n j all.1 e
 
-pub headline : (past : List Call) → AreWellFormed past → Headline past
-headline past well = record {
-  layered = λ n id j is kind.
-      subst (λ (k : Kind). IsForwarded id (subscriber_by j) (timeline_as k n (entries_of j.track past))) (sym kind)
-      (forwarded_by id n (subscriber_by j) (entries_of j.track past) (joined_fits past n j well is) (entries_came past j.track well));
-  all = λ n j is.
-      numbered_by (kind_of j.track past) (subscriber_by j) (events_for n j past) (joined_fits past n j well is)
-      (timeline_came (kind_of j.track past) n (entries_of j.track past) (entries_came past j.track well));
+-- ---- of a layered track
+
+-- no complaint of what goes out on a track with this history, nor of any front of it
+pleased : (id n : ℕ) (to : Subscriber) (entries : List Entry) → to.ssrc < 2 ^ 32 → AllByRecursion (ItemHas CameIn) (items_of entries)
+    → (sends queued : List (List ℕ)) → sends ++ queued ≡ outgoing_bytes (Layered id) to (timeline_as (Layered id) n entries)
+    → complaint (format_of id) (map read_packet sends) ≡ None
+pleased id n to entries fits came sends queued is =
+    let events : List Happened = timeline_as (Layered id) n entries in
+    let out : List Packet = outgoing (sent (Layered id)) to events in
+    let f = front_of out sends queued is in
+    ap (complaint (format_of id)) (front_read out sends f (outgoing_read (Layered id) to events fits (timeline_came (Layered id) n entries came)))
+    ∙ outgoing_never_complains (format_of id) (sent (Layered id)) n entries to f.front f.rest (formats_read id) (sent_keeps_whole id) f.whole
+
+-- what was taken is a front of it
+taken_front : (kind : Kind) (to : Subscriber) (events : List Happened)
+    → taken_bytes kind to events ++ map bytes_of (drop (takes_of events) (outgoing (sent kind) to events)) ≡ outgoing_bytes kind to events
+taken_front kind to events =
+    let out : List Packet = outgoing (sent kind) to events in
+    sym (map-append bytes_of (take (takes_of events) out) (drop (takes_of events) out)) ∙ ap (map bytes_of) (take-append-drop (takes_of events) out)
+
+receivers : (past : List Call) → AreWellFormed past → AreAccepted past → (id n : ℕ) (j : Joined) → joined n past ≡ Some j → kind_of j.track past ≡ Layered id
+    → PleasesReceivers id n j past
+receivers past well all id n j is kind = record {
+  given = fronts (given_to n past) (map bytes_of (drop (takes_of events) (outgoing (sent (kind_of j.track past)) to events)))
+      (ap (λ (l : List (List ℕ)). l ++ map bytes_of (drop (takes_of events) (outgoing (sent (kind_of j.track past)) to events))) (given_is past all n j is)
+      ∙ taken_front (kind_of j.track past) to events);
+  fronts = fronts;
 }
+  where
+    to : Subscriber
+    to = subscriber_by j
+
+    events : List Happened
+    events = events_for n j past
+
+    fronts : (sends queued : List (List ℕ)) → sends ++ queued ≡ going_out n j past → complaint (format_of id) (map read_packet sends) ≡ None
+    fronts sends queued e =
+        pleased id n to (entries_of j.track past) (joined_fits past n j well is) (entries_came past j.track well) sends queued
+        (subst (λ (k : Kind). sends ++ queued ≡ outgoing_bytes k to (timeline_as k n (entries_of j.track past))) kind e)
+
+restarts : (wish : Wish) (events : List Happened) → RestartsAfterBreaks wish events
+restarts wish events = record {
+  at_once = λ since past frame is breaks passes. restart_there wish past frame.meaning (length frame.packets) breaks passes;
+  later = λ after since past broken next is breaks same passes. restart_later wish past since broken next.meaning (length next.packets) breaks same passes;
+}
+
+-- a cause that may be asked for is told
+told_by : (steps : List Step) (n newest : ℕ) → newest_number steps ≡ Some newest → n ≤ newest → newest < n + 4096 → judged steps n ≡ Ok (cause_among steps n)
+told_by steps n newest is below near =
+    ap (λ (o : Option ℕ). cond (is_ahead o n) (Err (Ahead (newest_number steps))) (rest o)) is
+    ∙ ap (λ (b : Bool). cond b (Err (Ahead (newest_number steps))) (rest (Some newest))) (le-ltb newest n below)
+    ∙ ap (λ (b : Bool). cond b (Err (TooOld (oldest_asked (number_or (newest_number steps) 0)))) (Ok (cause_among steps n))) (lt-leb (n + 4096) newest near)
+  where
+    rest : Option ℕ → Result Verdict Refusal
+    rest o = cond (is_too_old o n) (Err (TooOld (oldest_asked (number_or (newest_number steps) 0)))) (Ok (cause_among steps n))
+
+causes : (past : List Call) (id n : ℕ) (j : Joined) → joined n past ≡ Some j → kind_of j.track past ≡ Layered id → ShowsCauses n j.wish (events_for n j past) past
+causes past id n j is kind = record {
+  roots = subst (λ (k : Kind). (m : ℕ) → IsWithheld j.wish (timeline_as k n entries) m → IsPath (path (cause j.wish (timeline_as k n entries)) m)) (sym kind)
+      (λ m withheld. withheld_path_in_history (format_of id) (sent (Layered id)) n entries j.wish m (formats_read id) withheld);
+  steps = λ m.
+      each_weaker (λ step. step.verdict ≡ cause j.wish events step.number) (λ step. CanBeAsked j.wish events step.number → answer past (call.Why n step.number) ≡ Told step.verdict)
+      (path (cause j.wish events) m) (λ step same asked. tells step.number asked ∙ ap Told (sym same)) (path_tells (cause j.wish events) m);
+  told = tells;
+}
+  where
+    entries : List Entry
+    entries = entries_of j.track past
+
+    events : List Happened
+    events = events_for n j past
+
+    tells : (m : ℕ) → CanBeAsked j.wish events m → answer past (call.Why n m) ≡ Told (cause j.wish events m)
+    tells m asked =
+        ap (λ (o : Option Joined). of_subscriber o (λ i. told (judged (verdicts_of n i past) m))) is
+        ∙ ap told (told_by (verdicts j.wish events) m asked.newest asked.newest_is asked.has_come asked.is_recent)
+
+-- ---- of every track
+
+numbered_by : (past : List Call) → AreWellFormed past → AreAccepted past → (n : ℕ) (j : Joined) → joined n past ≡ Some j → IsNumbered n j past
+numbered_by past well all n j is = record {
+  given = gave;
+  consecutive = in_order (outgoing (sent kind) to events) reads (numbered-consecutive to.first to.ssrc (forwarded (sent kind) to.wish events));
+  resent = λ sequence bytes.
+      subst (λ (a : Answer). (a ≡ Sent bytes) ↔ (IsMember bytes (last_part 1024 (given_to n past)) × (sequence_of bytes ≡ sequence))) (sym (resends sequence))
+      (subst (λ (l : List (List ℕ)). (resend_answer kind to events sequence ≡ Sent bytes) ↔ (IsMember bytes (last_part 1024 l) × (sequence_of bytes ≡ sequence))) (sym gave)
+      (resent_is kind to events sequence bytes reads));
+}
+  where
+    kind : Kind
+    kind = kind_of j.track past
+
+    to : Subscriber
+    to = subscriber_by j
+
+    events : List Happened
+    events = events_for n j past
+
+    gave : given_to n past ≡ taken_bytes kind to events
+    gave = given_is past all n j is
+
+    reads : AllByRecursion ReadsBack (outgoing (sent kind) to events)
+    reads = outgoing_read kind to events (joined_fits past n j well is) (timeline_came kind n (entries_of j.track past) (entries_came past j.track well))
+
+    resends : (sequence : ℕ) → answer past (call.Resend n sequence) ≡ resend_answer kind to events sequence
+    resends sequence = ap (λ (o : Option Joined). of_subscriber o (λ i. resend_answer (kind_of i.track past) (subscriber_by i) (events_for n i past) sequence)) is
+
+-- ---- of all
+
+headline_of : (past : List Call) → AreWellFormed past → AreAccepted past → Headline past
+headline_of past well all = record {
+  layered = λ n id j is kind. record {
+    receivers = receivers past well all id n j is kind;
+    decodable = all_decodable j.wish (events_for n j past);
+    restarts = restarts j.wish (events_for n j past);
+    causes = causes past id n j is kind;
+  };
+  all = λ n j is. numbered_by past well all n j is;
+}
+
+pub headline : (history : List Served) → AreWellFormed (accepted history) → Headline (accepted history)
+headline history well = headline_of (accepted history) well (accepted_are history)

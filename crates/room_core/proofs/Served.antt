@@ -72,4 +72,4 @@ starves noted old new seat call bytes numbers same notes = record {
         h ∙ sym (flat_map-append noted_of history (entry ∷ []) ∙ ap (λ (t : Bool). kept history ++ (cond t [] (record { seat = entry.seat; call = entry.call } ∷ []) ++ [])) e ∙ append-nil (kept history))
 
 pub stands_headline : {R : Type 0} (noted : R → Option (List Noted)) (room : Room R) → StandsHeadline noted room
-stands_headline noted room history stands = headline (accepted history) stands.well_formed
+stands_headline noted room history stands = headline history stands.well_formed

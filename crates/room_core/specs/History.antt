@@ -40,8 +40,3 @@ noted_of entry = if entry.starved then [] else record { seat = entry.seat; call 
 -- the seats and calls that a recorder has kept of a history: those that weren't starved
 abbrev pub kept : List Entry → List Noted
 kept history = flat_map noted_of history
-
--- the answers to calls one after another, none of which finds no memory
-abbrev pub answers_after : List Call → List Call → List Answer
-answers_after past [] = []
-answers_after past (call ∷ calls) = answer past call ∷ answers_after (after (answer past call) call past) calls

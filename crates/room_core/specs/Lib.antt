@@ -11,6 +11,7 @@ pub mod History
 pub mod Kinds
 pub mod WellFormed
 pub mod SentBytes
+pub mod Given
 pub mod Headline
 pub mod Serves
 pub mod Silent

@@ -82,7 +82,8 @@ impl<R: Recorder> Room<R> {
     }
 
     /// Begins a track, as [`Call::Publish`] does. `NumberUsed`: the number is at most the highest that a track ever had, which is 0 before
-    /// the first. `TooMany`: 64 tracks are live. `BadExtensionId`: the id of a layered track's header extension element is 0 or 15.
+    /// the first. `TooMany`: 64 tracks are live. `BadExtensionId`: the id of a layered track's header extension element is 0 or 15. `NoMemory`
+    /// comes last.
     pub fn publish(&mut self, seat: u32, track: u32, kind: Kind, ssrc: u32, hold: u32) -> Reply
         ensures { DoesAsServe R.noted R.may_refuse self.old self.new seat (call.Publish track kind ssrc hold) result }
     {

@@ -57,8 +57,8 @@ served_well (c ∷ calls) past all well = served_well calls (after_entry past (e
 
 pub bytes_are_served : (bytes : List ℕ) → IsServed bytes
 bytes_are_served bytes = record {
-  whole = headline _ (served_well (script_of bytes).calls [] (values (lines_of bytes) 1) tt);
-  so_far = λ front rest same. headline _ (served_well (script_so_far front).calls [] (values (judged_lines (lines_of front)) 1) tt);
+  whole = headline (map entry_of (script_of bytes).calls) (served_well (script_of bytes).calls [] (values (lines_of bytes) 1) tt);
+  so_far = λ front rest same. headline (map entry_of (script_so_far front).calls) (served_well (script_so_far front).calls [] (values (judged_lines (lines_of front)) 1) tt);
 }
 
 pub are_served : (left : Option (List ℕ)) → AreServed left

@@ -1,0 +1,18 @@
+-- What a subscriber was given, read off the answers to its takes. Own rule. The code keeps the last 1,024 packets alone.
+use Rattle.std.specs.Prelude.{ℕ, ◌==◌, if◌then◌else◌, List, [], ◌∷◌, ◌++◌}
+use Rattle.sfu_base.specs.Answer.{Answer, Sent}
+use Rattle.sfu_base.specs.declared.call.Call.{Call}
+use Rattle.sfu_base.specs.declared.call.Call.TheVariants.{Join, Take}
+use Rattle.room_core.specs.Replies.{answer}
+
+-- the packets with that of one answer more, where it sends one
+abbrev pub and_sent : List (List ℕ) → Answer → List (List ℕ)
+and_sent packets (Sent bytes) = packets ++ bytes ∷ []
+and_sent packets other = packets
+
+-- the bytes that the takes of the subscriber with this number were answered since it joined, the oldest first
+abbrev pub given_to : ℕ → List Call → List (List ℕ)
+given_to n [] = []
+given_to n (Join subscriber track ssrc first wish ∷ past) = if subscriber == n then [] else given_to n past
+given_to n (Take subscriber ∷ past) = if subscriber == n then and_sent (given_to n past) (answer past (Take subscriber)) else given_to n past
+given_to n (call ∷ past) = given_to n past
