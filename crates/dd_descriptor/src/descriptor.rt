@@ -1,3 +1,5 @@
+ghost use Rattle.dd_descriptor.specs.Seen.{IsBlank};
+
 use dd_structure::Structure;
 use sfu_base::Dti;
 
@@ -46,7 +48,9 @@ pub struct Descriptor {
 
 impl Descriptor {
     /// A descriptor that says nothing, for others to be read into.
-    pub fn new() -> Descriptor {
+    pub fn new() -> Descriptor
+        ensures { IsBlank result }
+    {
         Descriptor {
             start: false,
             end: false,
@@ -70,7 +74,9 @@ impl Descriptor {
 }
 
 impl Default for Descriptor {
-    fn default() -> Descriptor {
+    fn default() -> Descriptor
+        ensures { IsBlank result }
+    {
         Descriptor::new()
     }
 }
