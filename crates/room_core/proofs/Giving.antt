@@ -270,8 +270,13 @@ finds : (kind : Kind) (n : ℕ) (es : List Entry) (to : Subscriber) → subscrib
 finds Plain n es to is = plain_timeline_finds (sent Plain) n es to is
 finds (Layered id) n es to is = timeline_finds (format_of id) (sent (Layered id)) n es to is
 
+-- of a live subscriber of a history: each of its takes found a packet
+pub finds_all : (past : List Call) → AreAccepted past → (n : ℕ) (j : Joined) → joined n past ≡ Some j
+    → FindPackets (sent (kind_of j.track past)) (subscriber_by j) (events_for n j past)
+finds_all past all n j is = finds (kind_of j.track past) n (entries_of j.track past) (subscriber_by j) (known_after past all n j is).is
+
 pub given_is : (past : List Call) → AreAccepted past → (n : ℕ) (j : Joined) → joined n past ≡ Some j
     → given_to n past ≡ map bytes_of (taken (sent (kind_of j.track past)) (subscriber_by j) (events_for n j past))
 given_is past all n j is =
     let k = known_after past all n j is in
-    k.gave ∙ ap (map bytes_of) (given_is_taken (sent (kind_of j.track past)) (subscriber_by j) (events_for n j past) (finds (kind_of j.track past) n (entries_of j.track past) (subscriber_by j) k.is))
+    k.gave ∙ ap (map bytes_of) (given_is_taken (sent (kind_of j.track past)) (subscriber_by j) (events_for n j past) (finds_all past all n j is))

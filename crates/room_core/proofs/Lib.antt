@@ -16,6 +16,7 @@ pub mod SentBytes
 pub mod WellFormed
 pub mod Giving
 pub mod Resending
+pub mod Asking
 pub mod Promising
 pub mod Served
 pub mod Waiting

@@ -1,31 +1,31 @@
 -- The promises to subscribers, by the laws of forwarding.
-use Rattle.std.proofs.Common.{◌≡◌, ◌≤◌, ◌<◌, ◌+◌, ◌^◌, ℕ, Bool, true, false, cond, List, [], ◌∷◌, ◌++◌, map, take, drop, eqb, length, sym, ap, subst, ◌∙◌, Option, Some, None, Result, Ok, Err}
+use Rattle.std.proofs.Common.{◌≡◌, ◌<◌, ◌^◌, ℕ, Bool, true, false, cond, List, [], ◌∷◌, ◌++◌, map, take, drop, eqb, length, sym, ap, subst, ◌∙◌, Option, Some, None}
 use Rattle.std.specs.List.{AllByRecursion}
-use Rattle.std.proofs.lemmas.Bool.{le-ltb, lt-leb}
 use Rattle.std.proofs.lemmas.List.{map-append, take-append-drop}
 use Rattle.std.specs.Prelude.{◌↔◌}
-use Rattle.sfu_base.specs.Answer.{Answer, Sent, Told}
+use Rattle.sfu_base.specs.Answer.{Answer, Refused, Sent, Told}
 use Rattle.sfu_base.specs.declared.call.Call.{Call}
 use Rattle.sfu_base.specs.declared.call.Call.TheVariants as call
 use Rattle.sfu_base.specs.declared.call.Kind.{Kind}
 use Rattle.sfu_base.specs.declared.call.Kind.TheVariants.{Layered}
-use Rattle.sfu_base.specs.declared.call.Refusal.{Refusal}
-use Rattle.sfu_base.specs.declared.call.Refusal.TheVariants.{Ahead, TooOld}
-use Rattle.sfu_base.specs.declared.frame.Step.{Step}
-use Rattle.sfu_base.specs.declared.frame.Verdict.{Verdict}
+use Rattle.sfu_base.specs.declared.call.Refusal.TheVariants.{Empty}
 use Rattle.sfu_base.specs.declared.frame.Wish.{Wish}
-use Rattle.forwarding_model.specs.forwarding.Timeline.{Packet, takes_of}
+use Rattle.forwarding_model.specs.forwarding.Timeline.{Packet, meanings_of, takes_of}
 use Rattle.forwarding_model.specs.Lists.{IsMember, last_part}
-use Rattle.forwarding_model.specs.forwarding.Causes.{IsPath, IsWithheld, cause, cause_among, is_ahead, is_too_old, newest_number, number_or, oldest_asked, path, verdicts}
+use Rattle.forwarding_model.specs.forwarding.Causes.{IsPath, IsWithheld, cause, path, verdicts}
 use Rattle.forwarding_model.specs.forwarding.Outgoing.{Subscriber, forwarded, outgoing}
 use Rattle.forwarding_model.specs.Receiver.{complaint}
 use Rattle.forwarding_model.specs.History.{Entry, items_of}
 use Rattle.forwarding_laws.proofs.Decoding.{all_decodable}
-use Rattle.forwarding_laws.proofs.Members.{each_weaker}
+use Rattle.forwarding_model.specs.forwarding.Standing.{standing}
+use Rattle.forwarding_model.specs.frames.TrackFrames.{IsOneTrack}
+use Rattle.forwarding_laws.proofs.CauseWords.{frames_have_their_verdicts}
+use Rattle.forwarding_laws.proofs.Claimed.{verdicts_say_what_is_so}
 use Rattle.forwarding_laws.proofs.Outgoings.{numbered-consecutive}
 use Rattle.forwarding_laws.proofs.Paths.{path_tells}
 use Rattle.forwarding_laws.proofs.Restarting.{restart_later, restart_there}
-use Rattle.forwarding_laws.proofs.Timelines.{outgoing_never_complains, withheld_path_in_history}
+use Rattle.forwarding_laws.proofs.Takings.{takes_fit}
+use Rattle.forwarding_laws.proofs.Timelines.{outgoing_never_complains, timeline_track, withheld_path_in_history}
 use Rattle.rtp_packet.specs.Fields.{sequence_of}
 use Rattle.cause_book.specs.Book.{judged}
 use Rattle.packet_format.specs.Packets.{bytes_of, read_packet}
@@ -37,13 +37,14 @@ use Rattle.room_core.specs.Sent.{sent}
 use Rattle.room_core.specs.Follows.{Happened}
 use Rattle.room_core.specs.Views.{events_for, subscriber_by, timeline_as, verdicts_of}
 use Rattle.room_core.specs.Given.{given_to}
-use Rattle.room_core.specs.Headline.{CanBeAsked, Headline, IsNumbered, PleasesReceivers, RestartsAfterBreaks, ShowsCauses}
+use Rattle.room_core.specs.Headline.{Headline, IsNumbered, PleasesReceivers, RestartsAfterBreaks, ShowsCauses}
 use Rattle.room_core.specs.History.{Entry as Served, accepted}
-use Rattle.room_core.specs.Replies.{answer, of_subscriber, resend_answer, told}
+use Rattle.room_core.specs.Replies.{answer, of_subscriber, resend_answer, sent_or, take_answer, told}
 use Rattle.room_core.specs.SentBytes.{going_out, outgoing_bytes, taken_bytes}
 use Rattle.room_core.specs.WellFormed.{AreWellFormed}
 use Rattle.room_core.proofs.CameIn.{CameIn, entries_came, timeline_came}
-use Rattle.room_core.proofs.Giving.{AreAccepted, accepted_are, given_is}
+use Rattle.room_core.proofs.Asking.{asked_by, next_of, none_of, told_by}
+use Rattle.room_core.proofs.Giving.{AreAccepted, accepted_are, finds_all, given_is}
 use Rattle.room_core.proofs.Resending.{resent_is}
 use Rattle.room_core.proofs.Senders.{sent_keeps_whole}
 use Rattle.room_core.proofs.SentBytes.{ReadsBack, front_of, front_read, in_order, outgoing_read}
@@ -125,24 +126,20 @@ restarts wish events = record {
   later = λ after since past broken next is breaks same passes. restart_later wish past since broken next.meaning (length next.packets) breaks same passes;
 }
 
--- a cause that may be asked for is told
-told_by : (steps : List Step) (n newest : ℕ) → newest_number steps ≡ Some newest → n ≤ newest → newest < n + 4096 → judged steps n ≡ Ok (cause_among steps n)
-told_by steps n newest is below near =
-    ap (λ (o : Option ℕ). cond (is_ahead o n) (Err (Ahead (newest_number steps))) (rest o)) is
-    ∙ ap (λ (b : Bool). cond b (Err (Ahead (newest_number steps))) (rest (Some newest))) (le-ltb newest n below)
-    ∙ ap (λ (b : Bool). cond b (Err (TooOld (oldest_asked (number_or (newest_number steps) 0)))) (Ok (cause_among steps n))) (lt-leb (n + 4096) newest near)
-  where
-    rest : Option ℕ → Result Verdict Refusal
-    rest o = cond (is_too_old o n) (Err (TooOld (oldest_asked (number_or (newest_number steps) 0)))) (Ok (cause_among steps n))
-
 causes : (past : List Call) (id n : ℕ) (j : Joined) → joined n past ≡ Some j → kind_of j.track past ≡ Layered id → ShowsCauses n j.wish (events_for n j past) past
 causes past id n j is kind = record {
+  says = λ since before frame e.
+      (verdicts_say_what_is_so (standing j.wish before) frame.meaning (length frame.packets) (cause j.wish events frame.meaning.number)).0
+      (sym (ap (λ (l : List Happened). cause j.wish l frame.meaning.number) e
+      ∙ frames_have_their_verdicts j.wish since before frame (subst (λ (l : List Happened). IsOneTrack (meanings_of l)) e track)));
   roots = subst (λ (k : Kind). (m : ℕ) → IsWithheld j.wish (timeline_as k n entries) m → IsPath (path (cause j.wish (timeline_as k n entries)) m)) (sym kind)
       (λ m withheld. withheld_path_in_history (format_of id) (sent (Layered id)) n entries j.wish m (formats_read id) withheld);
-  steps = λ m.
-      each_weaker (λ step. step.verdict ≡ cause j.wish events step.number) (λ step. CanBeAsked j.wish events step.number → answer past (call.Why n step.number) ≡ Told step.verdict)
-      (path (cause j.wish events) m) (λ step same asked. tells step.number asked ∙ ap Told (sym same)) (path_tells (cause j.wish events) m);
-  told = tells;
+  steps = λ m. path_tells (cause j.wish events) m;
+  told = λ m verdict. (
+    (λ e. let t = asked_by (verdicts j.wish events) m verdict (sym (answers m) ∙ e) in
+        (record { newest = t.newest; newest_is = t.newest_is; has_come = t.has_come; is_recent = t.is_recent }, t.is_cause)),
+    (λ h. answers m ∙ ap told (told_by (verdicts j.wish events) m h.0.newest h.0.newest_is h.0.has_come h.0.is_recent) ∙ ap Told (sym h.1)),
+  );
 }
   where
     entries : List Entry
@@ -151,10 +148,11 @@ causes past id n j is kind = record {
     events : List Happened
     events = events_for n j past
 
-    tells : (m : ℕ) → CanBeAsked j.wish events m → answer past (call.Why n m) ≡ Told (cause j.wish events m)
-    tells m asked =
-        ap (λ (o : Option Joined). of_subscriber o (λ i. told (judged (verdicts_of n i past) m))) is
-        ∙ ap told (told_by (verdicts j.wish events) m asked.newest asked.newest_is asked.has_come asked.is_recent)
+    track : IsOneTrack (meanings_of events)
+    track = subst (λ (k : Kind). IsOneTrack (meanings_of (timeline_as k n entries))) (sym kind) (timeline_track (format_of id) (sent (Layered id)) n entries (formats_read id)).numbers
+
+    answers : (m : ℕ) → answer past (call.Why n m) ≡ told (judged (verdicts j.wish events) m)
+    answers m = ap (λ (o : Option Joined). of_subscriber o (λ i. told (judged (verdicts_of n i past) m))) is
 
 -- ---- of every track
 
@@ -162,6 +160,10 @@ numbered_by : (past : List Call) → AreWellFormed past → AreAccepted past →
 numbered_by past well all n j is = record {
   given = gave;
   consecutive = in_order (outgoing (sent kind) to events) reads (numbered-consecutive to.first to.ssrc (forwarded (sent kind) to.wish events));
+  next = λ bytes rest e.
+      let p = next_of (takes_of events) (outgoing (sent kind) to events) bytes rest (takes_fit (sent kind) to events (finds_all past all n j is)) (ap (λ (l : List (List ℕ)). l ++ bytes ∷ rest) (sym gave) ∙ e) in
+      takes ∙ ap (λ (o : Option Packet). sent_or o (Refused Empty)) p.1 ∙ ap Sent p.2;
+  empty = λ e. takes ∙ ap (λ (o : Option Packet). sent_or o (Refused Empty)) (none_of (takes_of events) (outgoing (sent kind) to events) (sym gave ∙ e));
   resent = λ sequence bytes.
       subst (λ (a : Answer). (a ≡ Sent bytes) ↔ (IsMember bytes (last_part 1024 (given_to n past)) × (sequence_of bytes ≡ sequence))) (sym (resends sequence))
       (subst (λ (l : List (List ℕ)). (resend_answer kind to events sequence ≡ Sent bytes) ↔ (IsMember bytes (last_part 1024 l) × (sequence_of bytes ≡ sequence))) (sym gave)
@@ -182,6 +184,9 @@ numbered_by past well all n j is = record {
 
     reads : AllByRecursion ReadsBack (outgoing (sent kind) to events)
     reads = outgoing_read kind to events (joined_fits past n j well is) (timeline_came kind n (entries_of j.track past) (entries_came past j.track well))
+
+    takes : answer past (call.Take n) ≡ take_answer kind to events
+    takes = ap (λ (o : Option Joined). of_subscriber o (λ i. take_answer (kind_of i.track past) (subscriber_by i) (events_for n i past))) is
 
     resends : (sequence : ℕ) → answer past (call.Resend n sequence) ≡ resend_answer kind to events sequence
     resends sequence = ap (λ (o : Option Joined). of_subscriber o (λ i. resend_answer (kind_of i.track past) (subscriber_by i) (events_for n i past) sequence)) is

@@ -1,10 +1,12 @@
 -- What is promised to each live subscriber, of every history: own statements, over the definitions of forwarding.
 use Rattle.std.specs.Prelude.{◌≡◌, ◌↔◌, ◌≤◌, ◌<◌, ◌+◌, ℕ, List, ◌∷◌, ◌++◌, true, map, length, None, Some}
 use Rattle.std.specs.List.{AllByRecursion}
-use Rattle.sfu_base.specs.Answer.{Sent, Told}
+use Rattle.sfu_base.specs.Answer.{Refused, Sent, Told}
 use Rattle.sfu_base.specs.declared.call.Call.{Call}
-use Rattle.sfu_base.specs.declared.call.Call.TheVariants.{Resend, Why}
+use Rattle.sfu_base.specs.declared.call.Call.TheVariants.{Resend, Take, Why}
 use Rattle.sfu_base.specs.declared.call.Kind.TheVariants.{Layered}
+use Rattle.sfu_base.specs.declared.call.Refusal.TheVariants.{Empty}
+use Rattle.sfu_base.specs.declared.frame.Verdict.{Verdict}
 use Rattle.sfu_base.specs.declared.frame.Wish.{Wish}
 use Rattle.rtp_packet.specs.Fields.{sequence_of}
 use Rattle.forwarding_model.specs.Lists.{IsMember, last_part}
@@ -12,9 +14,10 @@ use Rattle.forwarding_model.specs.forwarding.Timeline.{Frame}
 use Rattle.forwarding_model.specs.forwarding.Timeline.Event.{WholeFrame}
 use Rattle.forwarding_model.specs.forwarding.Standing.{passes_at, standing}
 use Rattle.forwarding_model.specs.forwarding.Decodable.{IsDecodable, of_epoch}
-use Rattle.forwarding_model.specs.forwarding.Causes.{IsPath, IsWithheld, cause, newest_number, path, verdicts}
+use Rattle.forwarding_model.specs.forwarding.Causes.{IsPath, IsWithheld, TellsCauses, cause, newest_number, path, verdicts}
 use Rattle.forwarding_model.specs.Receiver.{complaint}
 use Rattle.forwarding_laws.specs.forwarding.Restart.{BreaksAt, IsRestart}
+use Rattle.forwarding_laws.specs.forwarding.VerdictWords.{Says}
 use Rattle.dd_structure.specs.TemplateStructure.{TemplateStructure}
 use Rattle.packet_format.specs.Packets.{read_packet}
 use Rattle.room_core.specs.Formats.{format_of}
@@ -25,7 +28,7 @@ use Rattle.room_core.specs.Replies.{answer}
 use Rattle.room_core.specs.SentBytes.{AreInOrder, going_out, taken_of}
 use Rattle.room_core.specs.Views.{events_for}
 
--- ---- of the subscriber with the number n, which joined so a layered track
+-- ---- of the subscriber with the number n, which so joined a layered track
 
 -- A strict receiver of the bytes alone has no complaint of what the takes gave, nor of what goes out, taken or queued, nor of any front of
 -- it.
@@ -57,13 +60,15 @@ pub record CanBeAsked (wish : Wish) (events : List Happened) (number : ℕ) : Ty
   pub has_come : number ≤ newest
   pub is_recent : newest < number + 4096
 
--- The path of each withheld frame ends at a root. The cause at each step of a path, and that of each number else, is what is answered to who
--- asks why.
+-- What the cause of each frame's number says of the frame was so when it came. The path of each withheld frame ends at a root, and each step
+-- of a path has the cause of its number. Who asks why is told the cause, if and only if it can be asked for.
 pub record ShowsCauses (n : ℕ) (wish : Wish) (events : List Happened) (past : List Call) : Type 0 where
+  pub says : (since before : List Happened) (frame : Frame TemplateStructure) → events ≡ since ++ WholeFrame frame ∷ before
+      → Says (standing wish before) frame.meaning (length frame.packets) (cause wish events frame.meaning.number)
   pub roots : (number : ℕ) → IsWithheld wish events number → IsPath (path (cause wish events) number)
-  pub steps : (number : ℕ) → AllByRecursion (λ step. CanBeAsked wish events step.number → answer past (Why n step.number) ≡ Told step.verdict)
-      (path (cause wish events) number)
-  pub told : (number : ℕ) → CanBeAsked wish events number → answer past (Why n number) ≡ Told (cause wish events number)
+  pub steps : (number : ℕ) → TellsCauses (cause wish events) (path (cause wish events) number)
+  pub told : (number : ℕ) (verdict : Verdict)
+      → (answer past (Why n number) ≡ Told verdict) ↔ (CanBeAsked wish events number × (verdict ≡ cause wish events number))
 
 pub record IsForwarded (id n : ℕ) (j : Joined) (past : List Call) : Type 0 where
   pub receivers : PleasesReceivers id n j past
@@ -73,11 +78,14 @@ pub record IsForwarded (id n : ℕ) (j : Joined) (past : List Call) : Type 0 whe
 
 -- ---- of every subscriber
 
--- What its takes gave is what was taken of all that goes out, in which sequence numbers are consecutive. A resend gives bytes if and only if
--- they are those that one of its last 1,024 takes gave, and it names their number.
+-- What its takes gave is a front of all that goes out, in which sequence numbers are consecutive. The next take gives the next packet of that,
+-- and is refused where there is none. A resend gives bytes if and only if they are those that one of the last 1,024 takes gave, and it names
+-- their number.
 pub record IsNumbered (n : ℕ) (j : Joined) (past : List Call) : Type 0 where
   pub given : given_to n past ≡ taken_of n j past
   pub consecutive : AreInOrder (going_out n j past)
+  pub next : (bytes : List ℕ) (rest : List (List ℕ)) → given_to n past ++ bytes ∷ rest ≡ going_out n j past → answer past (Take n) ≡ Sent bytes
+  pub empty : given_to n past ≡ going_out n j past → answer past (Take n) ≡ Refused Empty
   pub resent : (sequence : ℕ) (bytes : List ℕ)
       → (answer past (Resend n sequence) ≡ Sent bytes) ↔ (IsMember bytes (last_part 1024 (given_to n past)) × (sequence_of bytes ≡ sequence))
 
