@@ -1,12 +1,11 @@
 // The words of a line from the left.
-ghost use Rattle.std.specs.Prelude.{◌≡◌, ◌≢◌, ◌<◌, ◌^◌, ◌&&◌, if◌then◌else◌, length, nat_lt, slice_index, MatchResult, None, Some};
+ghost use Rattle.std.specs.Prelude.{◌≡◌, ◌^◌, ◌&&◌, if◌then◌else◌, nat_lt, MatchResult, None, Some};
 ghost use Rattle.std.specs.Result.{result_ok};
 ghost use Rattle.std.specs.Str.{all_ascii_digits};
 ghost use Rattle.std.specs.Str.Parse.{digits_value};
 ghost use Rattle.sfu_script.specs.Reading.{cut, cut_at, number_of, ssrc_of};
 
 use crate::NoLine;
-use std::str;
 
 /// What stands before the first such byte and behind it.
 #[inline(always)]
@@ -30,14 +29,18 @@ pub fn split(text: &[u8]) -> Result<(&[u8], &[u8]), NoLine>
 
 // The number that digits are, where it fits.
 fn decimal(word: &[u8]) -> Option<u64>
-    requires nonempty { 0 < length word.now }
-    requires unsigned { slice_index word.now 0 ≢ 43 }
     ensures { result ≡ (if all_ascii_digits word.now && nat_lt (digits_value 10 word.now) (2 ^ 64) then Some (digits_value 10 word.now) else None) }
 {
-    match str::from_utf8(word) {
-        Ok(text) => text.parse::<u64>().ok(),
-        Err(_) => None,
+    let mut number = 0u64;
+    for byte in word {
+        if !byte.is_ascii_digit() {
+            return None;
+        }
+        number = number
+            .checked_mul(10)?
+            .checked_add(u64::from(*byte - b'0'))?;
     }
+    Some(number)
 }
 
 /// The number that a word is, in decimal digits without a leading zero.
@@ -47,7 +50,7 @@ pub fn number64(word: &[u8]) -> Result<u64, NoLine>
     let Some(first) = word.first() else {
         return Err(NoLine);
     };
-    if *first == b'+' || *first == b'0' && word.len() > 1 {
+    if *first == b'0' && word.len() > 1 {
         return Err(NoLine);
     }
     decimal(word).ok_or(NoLine)

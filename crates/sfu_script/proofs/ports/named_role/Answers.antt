@@ -1,4 +1,4 @@
-use Rattle.std.proofs.Common.{rules, ◌≡◌, List, ℕ, arith}
+use Rattle.std.proofs.Common.{rules, ◌≡◌, arith}
 use Rattle.std.specs.Prelude.{codes}
 use Rattle.std.proofs.lemmas.Slice.Eq.{text_from_reads}
 use Rattle.sfu_script.proofs.ports.named_role.Goals as goal
