@@ -1,11 +1,13 @@
 // Lines read one after another.
 ghost use Rattle.std.specs.Prelude.{◌≡◌, IfOk, IsTrue, MatchResult, None, OnErr, Some};
 ghost use Rattle.sfu_base.specs.declared.call.Call.{Call};
-ghost use Rattle.sfu_script.specs.Kept.{is_packet, is_take};
+ghost use Rattle.sfu_script.specs.Kept.{is_packet, is_take, is_tick};
 ghost use Rattle.sfu_script.specs.Lines.{IsLine};
-ghost use Rattle.sfu_script.specs.ReadLines.{call_of, packet_of, subscriber_call_of};
+ghost use Rattle.sfu_script.specs.ReadLines.{call_of, packet_of, subscriber_call_of, track_call_of};
 
-use crate::commands::SubscriberCommand;
+use crate::commands::{SubscriberCommand, TrackCommand};
+use crate::fields::Field::{Number32, Number64};
+use crate::fields::read_fields;
 use crate::hex_text::{MOST_BYTES, decode};
 use crate::lines::packet;
 use crate::words::{number32, split};
@@ -19,9 +21,11 @@ pub struct LineReader {
     room: [u8; MOST_BYTES],
     packet: Call,
     take: Call,
+    tick: Call,
     other: Call,
     ghost keeps_a_packet: { IsTrue (is_packet packet) },
     ghost keeps_a_take: { IsTrue (is_take take) },
+    ghost keeps_a_tick: { IsTrue (is_tick tick) },
 }
 
 impl LineReader {
@@ -35,6 +39,10 @@ impl LineReader {
                 bytes: PacketBuf::new(),
             },
             take: Call::Take { subscriber: 0 },
+            tick: Call::Tick {
+                track: 0,
+                moment: 0,
+            },
             other: Call::Take { subscriber: 0 },
         }
     }
@@ -73,6 +81,20 @@ impl LineReader {
         }
     }
 
+    fn read_tick(&mut self, rest: &[u8]) -> Result<(), NoLine>
+        ensures { MatchResult result (λ _. track_call_of TrackCommand.Tick rest.now ≡ Some self.new.tick) (λ _. track_call_of TrackCommand.Tick rest.now ≡ None) }
+    {
+        let [number, time] = read_fields(&[Number32, Number64], rest)?;
+        match &mut self.tick {
+            Call::Tick { track, moment } => {
+                *track = number as u32;
+                *moment = time;
+                Ok(())
+            }
+            _ => unreachable!(),
+        }
+    }
+
     // Apart, so that the other lines need no room for a call that is handed on.
     #[inline(never)]
     fn read_other(&mut self, line: &[u8]) -> Result<(), NoLine>
@@ -95,6 +117,10 @@ impl LineReader {
             b"take" => {
                 self.read_take(rest)?;
                 Ok(&self.take)
+            }
+            b"tick" => {
+                self.read_tick(rest)?;
+                Ok(&self.tick)
             }
             _ => {
                 self.read_other(line)?;
