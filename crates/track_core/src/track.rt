@@ -80,7 +80,7 @@ impl Track {
     }
 
     /// Takes in a packet that arrives at this moment, in milliseconds. The refusal is the first that stands, and changes nothing. All that
-    /// waited was worked off.
+    /// waited was worked off; what the last step made can still be had.
     pub fn arrive(&mut self, moment: u64, bytes: &[u8]) -> Result<(), Refusal>
         requires idle { self.old.window.waiting ≡ [] }
         requires length { length bytes.now ≤ 4294967295 }
@@ -89,6 +89,7 @@ impl Track {
         ensures stands { (events : List Event) (worked : List Piece) → StandsFor self.old events worked → IsOk result
             → StandsFor self.new (Arrives (sequence_of bytes.now) moment bytes.now ∷ events) worked }
         ensures stays { Stays self.old self.new }
+        ensures packets { self.new.packets ≡ self.old.packets }
     {
         if bytes.len() > MOST_BYTES {
             return Err(Refusal::TooBig {
@@ -111,11 +112,12 @@ impl Track {
         }
     }
 
-    /// Time has come to this moment, in milliseconds. All that waited was worked off.
+    /// Time has come to this moment, in milliseconds. All that waited was worked off; what the last step made can still be had.
     pub fn tick(&mut self, moment: u64)
         requires idle { self.old.window.waiting ≡ [] }
         ensures stands { (events : List Event) (worked : List Piece) → StandsFor self.old events worked → StandsFor self.new (Ticks moment ∷ events) worked }
         ensures stays { Stays self.old self.new }
+        ensures packets { self.new.packets ≡ self.old.packets }
     {
         self.window.tick(moment);
     }
