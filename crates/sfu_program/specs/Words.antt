@@ -1,14 +1,16 @@
 -- The words after the program's name, and which command they are. Own rule.
 use Rattle.std.specs.Prelude.{◌≡◌, ◌⊎◌, ℕ, List, [], ◌∷◌, Option, Some, None}
 use Rattle.sfu_program.specs.declared.words.Command.{Command}
-use Rattle.sfu_program.specs.declared.words.Command.TheVariants.{Run, Help}
+use Rattle.sfu_program.specs.declared.words.Command.TheVariants.{Run, Help, Check}
 use Rattle.sfu_program.specs.Run.{IsRun}
+use Rattle.sfu_program.specs.Check.{IsCheck}
 use Rattle.sfu_program.specs.Help.{IsHelp}
 
 -- the words are this command
 abbrev pub Says : List (List ℕ) → Command → Type 0
 Says words Run = IsRun words
 Says words Help = IsHelp words
+Says words (Check id) = IsCheck words id
 
 -- the words are one of the commands
 abbrev pub IsForm : List (List ℕ) → Type 0
@@ -25,4 +27,4 @@ ReadsWord word command = Reads (word ∷ []) command
 
 -- the statuses of the commands that wait for nobody
 abbrev pub IsStatus : ℕ → Type 0
-IsStatus status = (status ≡ 0) ⊎ (status ≡ 2) ⊎ (status ≡ 3) ⊎ (status ≡ 4) ⊎ (status ≡ 5) ⊎ (status ≡ 6)
+IsStatus status = (status ≡ 0) ⊎ (status ≡ 2) ⊎ (status ≡ 3) ⊎ (status ≡ 4) ⊎ (status ≡ 5) ⊎ (status ≡ 6) ⊎ (status ≡ 8)

@@ -1,6 +1,8 @@
 //! The program `sfu`: its top calls over any source and sink, and a `main` that hands in standard input and output.
 #![tactic(auto)]
 
+mod check;
+mod check_words;
 mod run;
 mod sfu;
 #[cfg(test)]

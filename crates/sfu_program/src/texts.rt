@@ -7,8 +7,8 @@ ghost use Rattle.sfu_program.specs.Script.{fault_line};
 use sfu_base::{Blob, NoMemory, Reply, Scratch};
 use sfu_script::{write_line_fault, write_reply};
 
-// Puts a line end behind a text that begins at this place, or takes the text away again.
-fn end_line(start: usize, ready: &mut Blob) -> Result<(), NoMemory>
+/// Puts a line end behind a text that begins at this place, or takes the text away again.
+pub fn end_line(start: usize, ready: &mut Blob) -> Result<(), NoMemory>
     ensures ok { OnOk result (ready.new ≡ ready.old ++ 10 ∷ []) }
     ensures err { OnErr result (ready.new ≡ take start ready.old) }
 {

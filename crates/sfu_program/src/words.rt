@@ -3,6 +3,8 @@ ghost use Rattle.std.specs.Prelude.{map};
 ghost use Rattle.std.specs.String.{string_bytes};
 ghost use Rattle.sfu_program.specs.Words.{Reads, ReadsWord};
 
+use crate::check_words::read_check;
+
 /// A command that waits for nobody.
 #[derive(Clone, Copy, Debug, PartialEq, Eq)]
 pub enum Command {
@@ -10,6 +12,8 @@ pub enum Command {
     Run,
     /// Writes the usage line.
     Help,
+    /// Judges packets as a strict receiver with this id of the descriptors' header extension does.
+    Check(u8),
 }
 
 // The command of one word.
@@ -29,6 +33,7 @@ pub fn read_words(words: &[String]) -> Option<Command>
 {
     match words {
         [word] => read_word(word.as_str()),
+        [word, id] => read_check(word.as_str(), id.as_str()).map(Command::Check),
         _ => None,
     }
 }
