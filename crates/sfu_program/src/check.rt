@@ -103,8 +103,10 @@ impl Judge for PacketJudge {
     }
 }
 
+// Apart, so that the loop of `run` keeps its counts in registers.
 /// Judges the packets of the source's lines as a strict receiver with this id of the descriptors' header extension does, and answers the
 /// status.
+#[inline(never)]
 pub fn check<S: Source, K: Sink>(alloc: Global, id: u8, source: &mut S, sink: &mut K) -> u8
     ensures checks { Checks id (S.left source.old) (S.left source.new) (K.written sink.old) (K.written sink.new) (S.faults source.old) (S.faults source.new)
         (K.faults sink.old) (K.faults sink.new) result }

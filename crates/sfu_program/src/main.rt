@@ -2,6 +2,8 @@
 #![tactic(auto)]
 
 mod check;
+#[cfg(test)]
+mod check_tests;
 mod check_words;
 mod run;
 mod sfu;

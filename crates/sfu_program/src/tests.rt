@@ -14,10 +14,10 @@ const TEXTS: [&str; 5] = ["ok\n", "ok\n", "empty\n", "ok\n", "line 5\n"];
 
 const USAGE: &str = "usage: run, together, trial, check, serve, help\n";
 
-// Gives a script byte by byte.
+/// Gives a script byte by byte.
 #[derive(Drop)]
-struct ByteSource {
-    inner: MemSource,
+pub struct ByteSource {
+    pub inner: MemSource,
 }
 
 impl Source for ByteSource {
@@ -33,7 +33,8 @@ impl Source for ByteSource {
     }
 }
 
-fn words(alloc: Global, texts: &[&str]) -> Result<Vec<String>, AllocError> {
+/// Words of these texts.
+pub fn words(alloc: Global, texts: &[&str]) -> Result<Vec<String>, AllocError> {
     let mut words = Vec::new(alloc);
     for text in texts {
         words.push(String::from_str(alloc, text)?)?;
@@ -203,7 +204,17 @@ fn other_words_get_the_usage_line(rt: HostRuntime) -> Result<(), Fail> {
         &[],
         &["--help"],
         &["--version"],
-        &["check", "4"],
+        &["check"],
+        &["check", "0"],
+        &["check", "256"],
+        &["check", "04"],
+        &["check", "+4"],
+        &["check", "4 "],
+        &["check", ""],
+        &["check", "4a"],
+        &["check", "4", "4"],
+        &["4", "check"],
+        &["Check", "4"],
         &["trial", "0", "7", "0"],
         &["help", "run"],
         &["Run"],
