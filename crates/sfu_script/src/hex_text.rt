@@ -1,5 +1,6 @@
 // A packet's bytes in hex digits, both ways.
-ghost use Rattle.std.specs.Prelude.{◌≡◌, ◌++◌, ◌≤◌, MatchResult, None, OnOk, Some, take};
+ghost use Rattle.std.specs.Prelude.{◌≡◌, ◌++◌, ◌*◌, ◌≤◌, length, MatchResult, None, OnOk, Some, take};
+ghost use Rattle.std.specs.List.{range_with_len};
 ghost use Rattle.hex.specs.Hex.{encode_lower};
 ghost use Rattle.sfu_script.specs.Reading.{bytes_of};
 ghost use Rattle.sfu_script.specs.Texts.{GoesOn};
@@ -14,6 +15,16 @@ const MOST_DIGITS: usize = 2 * MOST_BYTES;
 
 // How many bytes are written at once: few enough that clearing the room for their digits costs little.
 const CHUNK: usize = 256;
+
+// The two digits of each byte: one look-up writes both, where two would cost twice as much for each byte that is sent on.
+const PAIRS: &[u8; 512] = b"000102030405060708090a0b0c0d0e0f101112131415161718191a1b1c1d1e1f\
+    202122232425262728292a2b2c2d2e2f303132333435363738393a3b3c3d3e3f\
+    404142434445464748494a4b4c4d4e4f505152535455565758595a5b5c5d5e5f\
+    606162636465666768696a6b6c6d6e6f707172737475767778797a7b7c7d7e7f\
+    808182838485868788898a8b8c8d8e8f909192939495969798999a9b9c9d9e9f\
+    a0a1a2a3a4a5a6a7a8a9aaabacadaeafb0b1b2b3b4b5b6b7b8b9babbbcbdbebf\
+    c0c1c2c3c4c5c6c7c8c9cacbcccdcecfd0d1d2d3d4d5d6d7d8d9dadbdcdddedf\
+    e0e1e2e3e4e5e6e7e8e9eaebecedeeeff0f1f2f3f4f5f6f7f8f9fafbfcfdfeff";
 
 // Apart from its callers, where the loop would not keep its counts in registers.
 /// Reads the 1 to 2,048 bytes that a word is in hex digits into the front of the room, and says how many they are. `NoLine` where the word
@@ -32,6 +43,19 @@ pub fn decode(word: &[u8], room: &mut [u8; MOST_BYTES]) -> Result<usize, NoLine>
     }
 }
 
+// Writes the bytes in hex digits, by a table of each byte's, over a room of that size.
+fn write_digits(bytes: &[u8], pairs: &[u8; 512], digits: &mut [u8])
+    requires table { pairs.now ≡ encode_lower (range_with_len 0 256) }
+    requires fits { length digits.old ≡ 2 * length bytes.now }
+    ensures { digits.new ≡ encode_lower bytes.now }
+{
+    for (i, byte) in bytes.iter().enumerate() {
+        let place = 2 * usize::from(*byte);
+        digits[2 * i] = pairs[place];
+        digits[2 * i + 1] = pairs[place + 1];
+    }
+}
+
 /// Appends the bytes in hex digits. After `NoMemory` a front of them may stand there.
 pub fn append_hex(bytes: &[u8], out: &mut Blob) -> Result<(), NoMemory>
     ensures ok { OnOk result (out.new ≡ out.old ++ encode_lower bytes.now) }
@@ -42,7 +66,7 @@ pub fn append_hex(bytes: &[u8], out: &mut Blob) -> Result<(), NoMemory>
     'chunks: while !rest.is_empty() {
         let (chunk, after) = rest.split_at(rest.len().min(CHUNK));
         let text = &mut digits[..2 * chunk.len()];
-        hex::encode_to_slice(chunk, text).unwrap();
+        write_digits(chunk, PAIRS, text);
         out.append(text)?;
         rest = after;
     }

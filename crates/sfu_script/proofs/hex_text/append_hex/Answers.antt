@@ -1,18 +1,20 @@
-use Rattle.std.proofs.Common.{◌≡◌, ℕ, List, ◌++◌, ◌∙◌, ap, sym, subst, length, eqb-true, drop, Result, OnOk}
+use Rattle.std.proofs.Common.{◌≡◌, ℕ, List, ◌++◌, ◌∙◌, ap, sym, refl, subst, length, eqb-true, drop}
 use Rattle.std.proofs.lemmas.List.{take-append-drop}
-use Rattle.hex.specs.Hex.{encode_lower}
-use Rattle.hex.specs.declared.error.FromHexError.{FromHexError}
+use Rattle.hex.specs.Hex.{encode_lower, encode_with}
 use Rattle.sfu_script.specs.Texts.{GoesOn}
 use Rattle.sfu_script.proofs.HexText.{chunk_written, all_written, goes_on_further}
 use Rattle.sfu_script.proofs.hex_text.append_hex.Goals as goal
+
+pub write_digits-requires-clause-table : goal.write_digits-requires-clause-table
+unfolding encode_with
+write_digits-requires-clause-table c = refl
 
 pub chunks-preserved : goal.chunks-preserved
 chunks-preserved c =
     let chunk = c.split_at.result.0.now in
     let after = c.split_at.result.1.now in
-    let text = c.encode_to_slice.new.output in
-    let digits : text ≡ encode_lower chunk = subst (λ (r : Result (Unit {0}) FromHexError). OnOk r (text ≡ encode_lower chunk)) c.unwrap.ensures c.encode_to_slice.ensures.written in
-    let grown : c.append.new.self ≡ c.chunks.out ++ encode_lower chunk = c.in_ok-append.ensures.ok ∙ ap (λ (more : List ℕ). c.chunks.out ++ more) digits in
+    let text = c.write_digits.new.digits in
+    let grown : c.append.new.self ≡ c.chunks.out ++ encode_lower chunk = c.in_ok-append.ensures.ok ∙ ap (λ (more : List ℕ). c.chunks.out ++ more) c.write_digits.ensures in
     let parts : c.chunks.rest.now ≡ chunk ++ after =
     sym (take-append-drop c.min.result c.chunks.rest.now) ∙ ap (λ (front : List ℕ). front ++ drop c.min.result c.chunks.rest.now) (sym c.split_at.ensures.front)
     ∙ ap (λ (back : List ℕ). chunk ++ back) (sym c.split_at.ensures.back) in record {
