@@ -1,7 +1,7 @@
 // The texts of replies.
 ghost use Rattle.std.specs.Prelude.{◌≡◌, ◌++◌, map, OnErr, OnOk};
 ghost use Rattle.std.specs.List.{flat_map};
-ghost use Rattle.sfu_base.specs.Answer.{answer_of, Named, Sent};
+ghost use Rattle.sfu_base.specs.Answer.{answer_of, Named, Refused, Sent, Told};
 ghost use Rattle.sfu_script.specs.Replies.{answer_text, HasText};
 ghost use Rattle.sfu_script.specs.Texts.{GoesOn};
 
@@ -12,7 +12,7 @@ use crate::pieces::append_pieces;
 use crate::refusals::refusal_pieces;
 use crate::undo::whole_or_nothing;
 use crate::verdicts::verdict_pieces;
-use sfu_base::{Blob, NoMemory, Reply, Scratch};
+use sfu_base::{Blob, NoMemory, Refusal, Reply, Scratch, Verdict};
 
 fn append_packet(bytes: &[u8], out: &mut Blob) -> Result<(), NoMemory>
     ensures ok { OnOk result (out.new ≡ out.old ++ answer_text (Sent bytes.now)) }
@@ -37,6 +37,25 @@ fn append_names(numbers: &[u16], out: &mut Blob) -> Result<(), NoMemory>
     Ok(())
 }
 
+// Apart, as the next one is, so that the replies that come most often need no room for words.
+#[inline(never)]
+fn append_cause(verdict: &Verdict, out: &mut Blob) -> Result<(), NoMemory>
+    ensures ok { OnOk result (out.new ≡ out.old ++ answer_text (Told verdict.now)) }
+    ensures says { HasText (Told verdict.now) }
+    ensures begun { GoesOn out.old out.new }
+{
+    append_pieces(verdict_pieces(verdict).words(), out)
+}
+
+#[inline(never)]
+fn append_refusal(why: &Refusal, out: &mut Blob) -> Result<(), NoMemory>
+    ensures ok { OnOk result (out.new ≡ out.old ++ answer_text (Refused why.now)) }
+    ensures says { HasText (Refused why.now) }
+    ensures begun { GoesOn out.old out.new }
+{
+    append_pieces(refusal_pieces(why).words(), out)
+}
+
 fn append_reply(reply: &Reply, scratch: &Scratch, out: &mut Blob) -> Result<(), NoMemory>
     ensures ok { OnOk result (out.new ≡ out.old ++ answer_text (answer_of reply.now scratch.now.packet scratch.now.names)) }
     ensures says { OnOk result (HasText (answer_of reply.now scratch.now.packet scratch.now.names)) }
@@ -48,8 +67,8 @@ fn append_reply(reply: &Reply, scratch: &Scratch, out: &mut Blob) -> Result<(), 
         Reply::Names => append_names(scratch.names.numbers(), out),
         Reply::Key { wanted: true } => out.append(b"key yes"),
         Reply::Key { wanted: false } => out.append(b"key no"),
-        Reply::Cause(verdict) => append_pieces(verdict_pieces(verdict).words(), out),
-        Reply::Refused(why) => append_pieces(refusal_pieces(why).words(), out),
+        Reply::Cause(verdict) => append_cause(verdict, out),
+        Reply::Refused(why) => append_refusal(why, out),
     }
 }
 
