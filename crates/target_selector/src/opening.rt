@@ -5,9 +5,9 @@ ghost use Rattle.forwarding_model.specs.forwarding.Selection.{can_open};
 ghost use Rattle.forwarding_model.specs.forwarding.Targets.{aim, best, better_one, is_allowed, is_present, is_switch};
 ghost use Rattle.target_selector.specs.Targets.{IsBelow, IsIndexBelow, allowed_one};
 
-use crate::targets::{TARGETS, beats, is_allowed, is_switch};
+use crate::targets::{TARGETS, beats, is_allowed, is_present, is_switch};
 use forwarding_model::CurrentTarget;
-use sfu_base::{Dti, FrameMeaning, Wish};
+use sfu_base::{FrameMeaning, Wish};
 
 /// The best target that the frame can open. `complete` is whether all its references were passed, and `key_passed` whether its epoch's key
 /// frame was.
@@ -106,11 +106,7 @@ fn begins(frame: &FrameMeaning, target: u8) -> bool
     requires target { target < frame.now.target_count }
     ensures { result ≡ (is_switch frame.now target || (frame.now.key && is_present frame.now target)) }
 {
-    match frame.dtis[usize::from(target)] {
-        Dti::Switch => true,
-        Dti::NotPresent => false,
-        Dti::Discardable | Dti::Required => frame.key,
-    }
+    is_switch(frame, target) || (frame.key && is_present(frame, target))
 }
 
 fn allowed_one(wish: Wish, frame: &FrameMeaning, current: CurrentTarget) -> Option<u8>
