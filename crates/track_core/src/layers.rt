@@ -131,24 +131,22 @@ impl Layers {
             → marked mark.now bytes.now ≡ mark_with sent_of m → StartsAs self.old.table self.old.newest m → Pushed self.old self.new result marks m }
         ensures valid { IfSome result IsValid }
     {
-        self.head = self.next_head(mark);
+        keep_head(mark, &self.table, &self.newest, &mut self.head);
         match self.assembly.push(mark, bytes) {
             Outcome::Whole => self.table.whole_of(&self.head).ok(),
             _ => None,
         }
     }
+}
 
-    // What is kept of the first descriptor of the frame that goes on with this mark.
-    fn next_head(&self, mark: &Mark) -> FrameHead
-        requires { starts mark.now ≡ true → IsFirst self.now.table self.now.newest }
-        ensures started { starts mark.now ≡ true → IsHeadOf self.now.table self.now.newest result }
-        ensures kept { starts mark.now ≡ false → result ≡ self.now.head }
-    {
-        if is_start(mark) {
-            self.table.head(&self.newest)
-        } else {
-            self.head
-        }
+// The first descriptor of a frame is kept from the mark on that starts it.
+fn keep_head(mark: &Mark, table: &FrameTable, newest: &Descriptor, head: &mut FrameHead)
+    requires { starts mark.now ≡ true → IsFirst table.now newest.now }
+    ensures started { starts mark.now ≡ true → IsHeadOf table.now newest.now head.new }
+    ensures kept { starts mark.now ≡ false → head.new ≡ head.old }
+{
+    if is_start(mark) {
+        *head = table.head(newest);
     }
 }
 

@@ -5,15 +5,15 @@ use Rattle.track_core.proofs.layers.Layers.push.Goals as goal
 pub whole_of-requires-clause-references : goal.whole_of-requires-clause-references
 whole_of-requires-clause-references c =
     let p = c.requires.pushable in
-    (whole_head c.args.self.now (record c.args.self.now { assembly = c.push.new.self; head = c.next_head-self.result }) c.args.mark.now c.args.bytes.now c.push.result
-    c.push.ensures.outcome c.push.ensures.stands c.next_head-self.ensures.started c.next_head-self.ensures.kept
+    (whole_head c.args.self.now (record c.args.self.now { assembly = c.push.new.self; head = c.keep_head.new.head }) c.args.mark.now c.args.bytes.now c.push.result
+    c.push.ensures.outcome c.push.ensures.stands c.keep_head.ensures.started c.keep_head.ensures.kept
     p.marks p.next p.running p.same p.first refl c.in-Whole.is).references
 
 pub returns-in-Whole-clause-pushed : goal.returns-in-Whole-clause-pushed
 returns-in-Whole-clause-pushed c marks m running same first =
-    let p = pushed_whole c.args.self.now (record { id = c.args.self.now.id; table = c.whole_of.new.self; assembly = c.push.new.self; head = c.next_head-self.result; newest = c.args.self.now.newest })
+    let p = pushed_whole c.args.self.now (record { id = c.args.self.now.id; table = c.whole_of.new.self; assembly = c.push.new.self; head = c.keep_head.new.head; newest = c.args.self.now.newest })
     c.args.mark.now c.args.bytes.now c.push.result
-    c.push.ensures.outcome c.push.ensures.stands c.next_head-self.ensures.started c.next_head-self.ensures.kept
+    c.push.ensures.outcome c.push.ensures.stands c.keep_head.ensures.started c.keep_head.ensures.kept
     marks m running same first c.whole_of.result c.in-Whole.is c.whole_of.ensures.meaning c.whole_of.ensures.force in
     record { running = p.running; force = p.force; made = c.ok.ensures.value ∙ p.made }
 
@@ -25,9 +25,9 @@ returns-in_default c = record {
   id = refl;
   near = omega arith;
   pushed = λ marks m running same first.
-      pushed_other c.args.self.now (record { id = c.args.self.now.id; table = c.args.self.now.table; assembly = c.push.new.self; head = c.next_head-self.result; newest = c.args.self.now.newest })
+      pushed_other c.args.self.now (record { id = c.args.self.now.id; table = c.args.self.now.table; assembly = c.push.new.self; head = c.keep_head.new.head; newest = c.args.self.now.newest })
       c.args.mark.now c.args.bytes.now c.push.result
-      c.push.ensures.outcome c.push.ensures.stands c.next_head-self.ensures.started c.next_head-self.ensures.kept
+      c.push.ensures.outcome c.push.ensures.stands c.keep_head.ensures.started c.keep_head.ensures.kept
       marks m running same first c.in_default.not-Whole refl;
   valid = tt;
 }
