@@ -100,6 +100,15 @@ taken_front kind to events =
     let out : List Packet = outgoing (sent kind) to events in
     sym (map-append bytes_of (take (takes_of events) out) (drop (takes_of events) out)) ∙ ap (map bytes_of) (take-append-drop (takes_of events) out)
 
+-- whatever well-formed calls there were, accepted or not: no complaint of what was taken
+pub taken_pleases : (past : List Call) → AreWellFormed past → (id n : ℕ) (j : Joined) → joined n past ≡ Some j
+    → complaint (format_of id) (map read_packet (taken_bytes (Layered id) (subscriber_by j) (timeline_as (Layered id) n (entries_of j.track past)))) ≡ None
+taken_pleases past well id n j is =
+    let to : Subscriber = subscriber_by j in
+    let events : List Happened = timeline_as (Layered id) n (entries_of j.track past) in
+    pleased id n to (entries_of j.track past) (joined_fits past n j well is) (entries_came past j.track well) (taken_bytes (Layered id) to events)
+    (map bytes_of (drop (takes_of events) (outgoing (sent (Layered id)) to events))) (taken_front (Layered id) to events)
+
 receivers : (past : List Call) → AreWellFormed past → AreAccepted past → (id n : ℕ) (j : Joined) → joined n past ≡ Some j → kind_of j.track past ≡ Layered id
     → PleasesReceivers id n j past
 receivers past well all id n j is kind = record {

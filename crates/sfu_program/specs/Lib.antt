@@ -4,4 +4,7 @@ pub mod PacketScript
 pub mod Check
 pub mod Promise
 pub mod Help
+pub mod Trial
+pub mod Staged
+pub mod TrialWords
 pub mod Words

@@ -1,16 +1,18 @@
 -- The words after the program's name, and which command they are. Own rule.
 use Rattle.std.specs.Prelude.{◌≡◌, ◌⊎◌, ℕ, List, [], ◌∷◌, Option, Some, None}
 use Rattle.sfu_program.specs.declared.words.Command.{Command}
-use Rattle.sfu_program.specs.declared.words.Command.TheVariants.{Run, Help, Check}
+use Rattle.sfu_program.specs.declared.words.Command.TheVariants.{Run, Help, Check, Trial}
 use Rattle.sfu_program.specs.Run.{IsRun}
 use Rattle.sfu_program.specs.Check.{IsCheck}
 use Rattle.sfu_program.specs.Help.{IsHelp}
+use Rattle.sfu_program.specs.Trial.{IsTrial}
 
 -- the words are this command
 abbrev pub Says : List (List ℕ) → Command → Type 0
 Says words Run = IsRun words
 Says words Help = IsHelp words
 Says words (Check id) = IsCheck words id
+Says words (Trial frames start loss) = IsTrial words (record { frames = frames; start = start; loss = loss })
 
 -- the words are one of the commands
 abbrev pub IsForm : List (List ℕ) → Type 0

@@ -4,6 +4,7 @@ ghost use Rattle.std.specs.String.{string_bytes};
 ghost use Rattle.sfu_program.specs.Words.{Reads, ReadsWord};
 
 use crate::check_words::read_check;
+use crate::trial::read_trial;
 
 /// A command that waits for nobody.
 #[derive(Clone, Copy, Debug, PartialEq, Eq)]
@@ -14,6 +15,9 @@ pub enum Command {
     Help,
     /// Judges packets as a strict receiver with this id of the descriptors' header extension does.
     Check(u8),
+    /// Writes what strict receivers find in what three subscribers take of a stream: so many frames, made from the number `start`, of which
+    /// `loss` packets of a hundred are lost.
+    Trial { frames: u32, start: u64, loss: u8 },
 }
 
 // The command of one word.
@@ -34,6 +38,12 @@ pub fn read_words(words: &[String]) -> Option<Command>
     match words {
         [word] => read_word(word.as_str()),
         [word, id] => read_check(word.as_str(), id.as_str()).map(Command::Check),
+        [name, frames, start, loss] => read_trial(
+            name.as_str(),
+            frames.as_str(),
+            start.as_str(),
+            loss.as_str(),
+        ),
         _ => None,
     }
 }

@@ -1,10 +1,13 @@
-use Rattle.std.proofs.Common.{ℕ, subst, map}
+use Rattle.std.proofs.Common.{ℕ, map, refl, sym, subst}
 use Rattle.std.specs.String.{string_bytes}
+use Rattle.stream_maker.specs.Stream.{Stream}
 use Rattle.sfu_program.specs.declared.words.Command.{Command}
-use Rattle.sfu_program.specs.declared.words.Command.TheVariants.{Check}
+use Rattle.sfu_program.specs.declared.words.Command.TheVariants.{Check, Trial}
 use Rattle.sfu_program.specs.Check.{Checks, IsCheck}
+use Rattle.sfu_program.specs.Trial.{ShowsTrial}
 use Rattle.sfu_program.specs.Words.{Says}
 use Rattle.sfu_program.proofs.CheckWords.{one_id}
+use Rattle.sfu_program.proofs.TrialNumbers.{same_trial}
 use Rattle.sfu_program.proofs.sfu.sfu_alone.Goals as goal
 
 pub returns-in-Some-Check-clause-check : goal.returns-in-Some-Check-clause-check
@@ -17,3 +20,16 @@ returns-in-Some-Check-clause-check g c = λ id is.
 
 pub returns-in-None-clause-check : goal.returns-in-None-clause-check
 returns-in-None-clause-check g c = λ id is. absurd (c.in-None.ensures (Check id, is))
+
+pub returns-in-Some-Trial-clause-trial : goal.returns-in-Some-Trial-clause-trial
+returns-in-Some-Trial-clause-trial g c s is = record {
+  unread = refl;
+  shows = subst
+      (λ (t : Stream). ShowsTrial t (g.K.Sink.written c.args.sink.now) (g.K.Sink.written c.trial.new.sink) (g.K.Sink.faults c.args.sink.now) (g.K.Sink.faults c.trial.new.sink) c.trial.result)
+      (same_trial (map string_bytes c.args.words.now) (record { frames = c.in-Some-Trial.frames; start = c.in-Some-Trial.start; loss = c.in-Some-Trial.loss }) s
+      (subst (λ (k : Command). Says (map string_bytes c.args.words.now) k) c.in-Some-Trial.field-0-is c.in-Some-Trial.ensures) is)
+      c.trial.ensures;
+}
+
+pub returns-in-None-clause-trial : goal.returns-in-None-clause-trial
+returns-in-None-clause-trial g c s is = absurd (c.in-None.ensures (Trial s.frames s.start s.loss, is))

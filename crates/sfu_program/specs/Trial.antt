@@ -1,0 +1,152 @@
+-- The command `trial`: the stream of a number goes through a room to three subscribers, and what each took into a strict receiver of its own.
+-- Own rule. The code has a room and three receivers; here are the calls, and what the history of the calls says was taken.
+use Rattle.std.specs.Prelude.{◌≡◌, ◌⊎◌, ◌<◌, ◌≤◌, ◌+◌, ◌^◌, ℕ, zero, suc, min, fold, List, [], ◌∷◌, ◌++◌, length, reverse, Option, Some, None, is_some, codes, decimal}
+use Rattle.std.specs.Io.KnownBytes.{Appends}
+use Rattle.sfu_base.specs.Bytes.{bit}
+use Rattle.sfu_base.specs.Faults.{Rose}
+use Rattle.sfu_base.specs.declared.call.Call.{Call}
+use Rattle.sfu_base.specs.declared.call.Call.TheVariants as call
+use Rattle.sfu_base.specs.declared.call.Kind.TheVariants.{Layered}
+use Rattle.sfu_base.specs.declared.frame.Wish.{Wish}
+use Rattle.forwarding_model.specs.forwarding.Outgoing.{queue}
+use Rattle.room_core.specs.Live.{Joined, joined, kind_of}
+use Rattle.room_core.specs.Sent.{sent}
+use Rattle.room_core.specs.SentBytes.{taken_bytes}
+use Rattle.room_core.specs.Views.{events_for, subscriber_by}
+use Rattle.room_core.specs.Replies.{answer}
+use Rattle.room_core.specs.History.{after}
+use Rattle.stream_maker.specs.declared.counts.Counts.{Counts}
+use Rattle.stream_maker.specs.declared.event.Event.{Event}
+use Rattle.stream_maker.specs.declared.event.Event.TheVariants as event
+use Rattle.stream_maker.specs.declared.place.Place.{Place}
+use Rattle.stream_maker.specs.Bytes.{packet_bytes}
+use Rattle.stream_maker.specs.Packets.{packets}
+use Rattle.stream_maker.specs.Stream.{Stream, counts_of, events}
+use Rattle.stream_maker.specs.Turn.{Given}
+use Rattle.strict_receiver.specs.Receivers.{complaint_over, frames_over, greatest_count, packets_over}
+use Rattle.sfu_driver.specs.Drive.{WritesPart}
+
+-- ---- words
+
+-- `trial N START LOSS`: so many frames, the number that makes the stream, and the packets of a hundred that are lost
+pub record IsTrial (words : List (List ℕ)) (s : Stream) : Type 0 where
+  pub words_are : words ≡ codes "trial" ∷ decimal s.frames ∷ decimal s.start ∷ decimal s.loss ∷ []
+  pub some_frames : 1 ≤ s.frames
+  pub few_frames : s.frames ≤ 1000000
+  pub start : s.start < 2 ^ 64
+  pub loss : s.loss ≤ 50
+
+-- ---- calls; the accepted ones stand newest first
+
+-- the accepted calls after one more call
+abbrev pub and_call : List Call → Call → List Call
+and_call past call = after (answer past call) call past
+
+abbrev pub wish_for : ℕ → ℕ → Wish
+wish_for spatial temporal = record { spatial = spatial; temporal = temporal }
+
+-- Before the stream there is a layered track, whose descriptors stand under id 4, and which waits 50 milliseconds for a gap. Three subscribers
+-- wish for all layers, for the lower temporal layer, and for the lower layers.
+abbrev pub opening : List Call
+opening =
+    call.Publish 1 (Layered 4) 0x11111111 50
+    ∷ call.Join 1 1 0x22222222 0 (wish_for 1 1)
+    ∷ call.Join 2 1 0x22222223 0 (wish_for 1 0)
+    ∷ call.Join 3 1 0x22222224 0 (wish_for 0 0)
+    ∷ []
+
+abbrev pub opened : List Call
+opened = fold and_call [] opening
+
+-- how many packets wait for a subscriber that joined so
+abbrev pub queued_by : ℕ → Option Joined → List Call → ℕ
+queued_by n None past = 0
+queued_by n (Some j) past = length (queue (sent (kind_of j.track past)) (subscriber_by j) (events_for n j past))
+
+unfoldable pub queued_for : ℕ → List Call → ℕ
+queued_for n past = queued_by n (joined n past) past
+
+-- so many takes of a subscriber, one after another
+unfoldable pub takes : ℕ → ℕ → List Call → List Call
+takes zero n past = past
+takes (suc count) n past = and_call (takes count n past) (call.Take n)
+
+-- a subscriber takes all that waits for it, and once more, which finds nothing
+unfoldable pub after_takes : ℕ → List Call → List Call
+after_takes n past = takes (queued_for n past + 1) n past
+
+-- what an event of the stream brings: a packet comes, or a tick, behind which each subscriber takes until nothing waits for it
+unfoldable pub after_event : List Call → Event → Option Place → List Call
+after_event past (event.Packet moment) None = past
+after_event past (event.Packet moment) (Some p) = and_call past (call.Packet 1 moment (packet_bytes p))
+after_event past (event.Tick moment) place = after_takes 3 (after_takes 2 (after_takes 1 (and_call past (call.Tick 1 moment))))
+after_event past event.End place = past
+
+abbrev pub after_given : List Call → Given → List Call
+after_given past given = after_event past given.event given.place
+
+-- all accepted calls of a trial
+unfoldable pub trial_calls : Stream → List Call
+trial_calls s = fold after_given opened (events s)
+
+-- ---- what was taken
+
+abbrev pub taken_by : ℕ → Option Joined → List Call → List (List ℕ)
+taken_by n None past = []
+taken_by n (Some j) past = taken_bytes (kind_of j.track past) (subscriber_by j) (events_for n j past)
+
+-- the bytes of the packets that a subscriber took, the oldest first
+unfoldable pub received : ℕ → List Call → List (List ℕ)
+received n past = taken_by n (joined n past) past
+
+-- A strict receiver of what each subscriber took has no complaint.
+pub record ArePleased (past : List Call) : Type 0 where
+  pub first : complaint_over 4 (received 1 past) ≡ None
+  pub second : complaint_over 4 (received 2 past) ≡ None
+  pub third : complaint_over 4 (received 3 past) ≡ None
+
+-- ---- the summary
+
+-- what was made of the whole stream
+unfoldable pub made : Stream → Counts
+made s = counts_of s (reverse (packets s.frames))
+
+abbrev pub made_text : Counts → List ℕ
+made_text c =
+    codes "made " ++ (decimal c.frames ++ (codes " frames " ++ (decimal c.packets ++ (codes " packets\nlost "
+    ++ (decimal c.lost ++ (codes " repeated " ++ (decimal c.repeated ++ (codes " swapped " ++ (decimal c.swapped ++ codes "\n")))))))))
+
+-- the line of a subscriber, whose receiver accepted so many frames and packets, and has a complaint or none
+abbrev pub counts_text : ℕ → ℕ → ℕ → ℕ → List ℕ
+counts_text n frames packets complaints =
+    codes "subscriber " ++ (decimal n ++ (codes " frames " ++ (decimal frames ++ (codes " packets " ++ (decimal packets
+    ++ (codes " complaints " ++ (decimal complaints ++ codes "\n")))))))
+
+-- the line of a subscriber that took these packets
+unfoldable pub subscriber_text : ℕ → List (List ℕ) → List ℕ
+subscriber_text n taken =
+    counts_text n (min (frames_over 4 taken) greatest_count) (min (packets_over 4 taken) greatest_count)
+    (bit (is_some (complaint_over 4 taken)))
+
+unfoldable pub summary_of : Counts → List Call → List ℕ
+summary_of counts past =
+    made_text counts ++ (subscriber_text 1 (received 1 past) ++ (subscriber_text 2 (received 2 past) ++ subscriber_text 3 (received 3 past)))
+
+unfoldable pub trial_text : Stream → List ℕ
+trial_text s = summary_of (made s) (trial_calls s)
+
+-- ---- statuses
+
+-- The summary was written, or the sink failed before all of it was, or memory was wanting, and nothing was written.
+pub record ShowsTrial (s : Stream) (written written' : Option (List ℕ)) (writes writes' status : ℕ) : Type 0 where
+  pub done : status ≡ 0 → Appends written written' (trial_text s)
+  pub sink : status ≡ 4 → Rose writes writes'
+  pub unwritten : status ≡ 4 → WritesPart written written' (trial_text s)
+  pub memory : status ≡ 6 → Appends written written' []
+  pub only : (status ≡ 0) ⊎ (status ≡ 4) ⊎ (status ≡ 6)
+  pub pleased : ArePleased (trial_calls s)
+
+-- `trial`: nothing is read.
+pub record Tries {S : Type 0} (source source' : S) (s : Stream) (written written' : Option (List ℕ)) (writes writes' status : ℕ) : Type 0 where
+  pub unread : source' ≡ source
+  pub shows : ShowsTrial s written written' writes writes' status
