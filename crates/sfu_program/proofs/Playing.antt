@@ -1,18 +1,12 @@
 -- A trial, event by event.
-use Rattle.std.proofs.Common.{◌≡◌, ◌<◌, ◌+◌, ◌^◌, ℕ, zero, suc, arith, Bool, true, false, cond, List, [], ◌∷◌, ◌++◌, append_assoc, append-nil, fold, length, map, reverse, refl, sym, ap, subst, ◌∙◌, Option, Some, None}
+use Rattle.std.proofs.Common.{◌≡◌, ◌+◌, ℕ, zero, suc, arith, cond, List, [], ◌∷◌, ◌++◌, append-nil, fold, map, reverse, refl, sym, ap, subst, ◌∙◌, Option, Some, None}
 use Rattle.std.specs.List.{AllByRecursion}
 use Rattle.std.specs.Option.{option_to_list}
 use Rattle.std.proofs.lemmas.Grind.{common_steps, fold-append}
 use Rattle.sfu_base.specs.declared.call.Call.{Call}
 use Rattle.sfu_base.specs.declared.call.Call.TheVariants as call
-use Rattle.sfu_base.specs.declared.call.Kind.{Kind}
-use Rattle.sfu_base.specs.declared.call.Kind.TheVariants.{Layered}
-use Rattle.forwarding_model.specs.Receiver.{complaint}
-use Rattle.packet_format.specs.Packets.{read_packet}
 use Rattle.room_core.specs.Formats.{format_of}
-use Rattle.room_core.specs.WellFormed.{AreWellFormed, IsValue}
-use Rattle.room_core.specs.TrackHistory.{entries_of}
-use Rattle.room_core.specs.Views.{timeline_as}
+use Rattle.room_core.specs.WellFormed.{AreWellFormed}
 use Rattle.room_core.proofs.Promising.{taken_pleases}
 use Rattle.room_core.proofs.WellFormed.{well_formed_after}
 use Rattle.stream_maker.specs.declared.counts.Counts.{Counts}
@@ -23,13 +17,13 @@ use Rattle.stream_maker.specs.Bytes.{packet_bytes}
 use Rattle.stream_maker.specs.Giving.{GivesNext, Making, filled}
 use Rattle.stream_maker.specs.Order.{ends_stream, tick_due}
 use Rattle.stream_maker.specs.Packets.{packets}
-use Rattle.stream_maker.specs.Stream.{Stream, counts_of, events, fate, last_moment, turns, waiting}
+use Rattle.stream_maker.specs.Stream.{Stream, counts_of, events, fate, turns, waiting}
 use Rattle.stream_maker.specs.Turn.{Given, sent, sent_event, tick_event, turn}
 use Rattle.strict_receiver.specs.Receivers.{complaint_over}
 use Rattle.sfu_program.specs.Trial.{ArePleased, after_event, after_given, after_takes, and_call, made, opened, received, takes, queued_for, trial_calls}
 use Rattle.sfu_program.specs.Staged.{AllJoined, HasJoined, IsStaged}
 use Rattle.sfu_program.specs.declared.trial.stage.Stage.{Stage}
-use Rattle.sfu_program.proofs.Viewers.{packet_stays, received_is, tick_stays, to_of}
+use Rattle.sfu_program.proofs.Viewers.{packet_stays, received_is, tick_stays}
 use Rattle.sfu_program.proofs.Staging.{all_joined, own_takes_all, other_takes_all}
 
 -- ---- what a stream gives: packets with their places, and ticks
@@ -135,14 +129,14 @@ plays_packet stage next old new s moment out out' gives playing comes = go old.l
         ∙ ap (λ (o : Option Place). after_event playing.past (event.Packet moment) o) (sym place.1)
         ∙ ap (λ (e : Event). after_event playing.past e x.place) g.0 in
         record {
-            past = and_call playing.past (call.Packet 1 moment out');
-            staged = comes playing.past playing.staged;
-            calls_are = ap (λ (past : List Call). fold after_given past new.left) call_is ∙ ap (fold after_given (after_given playing.past x)) left_is
-                ∙ sym (ap (fold after_given playing.past) is) ∙ playing.calls_are;
-            counts_are = ap (λ (c : Counts). last_counts c new.left) counts_is ∙ ap (last_counts x.counts) left_is
-                ∙ sym (ap (last_counts old.counts) is) ∙ playing.counts_are;
-            sound = subst AreSound (sym left_is) (rest_sound x rest sound);
-          }
+          past = and_call playing.past (call.Packet 1 moment out');
+          staged = comes playing.past playing.staged;
+          calls_are = ap (λ (past : List Call). fold after_given past new.left) call_is ∙ ap (fold after_given (after_given playing.past x)) left_is
+              ∙ sym (ap (fold after_given playing.past) is) ∙ playing.calls_are;
+          counts_are = ap (λ (c : Counts). last_counts c new.left) counts_is ∙ ap (last_counts x.counts) left_is
+              ∙ sym (ap (last_counts old.counts) is) ∙ playing.counts_are;
+          sound = subst AreSound (sym left_is) (rest_sound x rest sound);
+        }
 
 pub plays_tick : (stage next : Stage) (old new : Making) (s : Stream) (moment : ℕ) (out out' : List ℕ) → GivesNext old.left old new (event.Tick moment) out out'
     → IsPlaying stage old.left old.counts s
@@ -160,14 +154,14 @@ plays_tick stage next old new s moment out out' gives playing comes = go old.lef
         let past' : List Call = after_takes 3 (after_takes 2 (after_takes 1 (and_call playing.past (call.Tick 1 moment)))) in
         let call_is : past' ≡ after_given playing.past x = ap (λ (e : Event). after_event playing.past e x.place) g.0 in
         record {
-            past = past';
-            staged = comes playing.past playing.staged;
-            calls_are = ap (λ (past : List Call). fold after_given past new.left) call_is ∙ ap (fold after_given (after_given playing.past x)) left_is
-                ∙ sym (ap (fold after_given playing.past) is) ∙ playing.calls_are;
-            counts_are = ap (λ (c : Counts). last_counts c new.left) counts_is ∙ ap (last_counts x.counts) left_is
-                ∙ sym (ap (last_counts old.counts) is) ∙ playing.counts_are;
-            sound = subst AreSound (sym left_is) (rest_sound x rest sound);
-          }
+          past = past';
+          staged = comes playing.past playing.staged;
+          calls_are = ap (λ (past : List Call). fold after_given past new.left) call_is ∙ ap (fold after_given (after_given playing.past x)) left_is
+              ∙ sym (ap (fold after_given playing.past) is) ∙ playing.calls_are;
+          counts_are = ap (λ (c : Counts). last_counts c new.left) counts_is ∙ ap (last_counts x.counts) left_is
+              ∙ sym (ap (last_counts old.counts) is) ∙ playing.counts_are;
+          sound = subst AreSound (sym left_is) (rest_sound x rest sound);
+        }
 
 -- at the end
 pub record HasPlayed (stage : Stage) (counts : Counts) (s : Stream) : Type 0 where

@@ -1,8 +1,8 @@
 -- What a call on the room does to a trial.
-use Rattle.std.proofs.Common.{◌≡◌, ◌⊎◌, inl, inr, ◌+◌, ◌<◌, ℕ, zero, suc, arith, add-one, eqb, Bool, true, false, cond, List, [], ◌∷◌, ◌++◌, fold, refl, sym, ap, subst, ◌∙◌, Option, Some, None}
+use Rattle.std.proofs.Common.{◌≡◌, ◌⊎◌, inl, inr, ◌+◌, ℕ, zero, suc, arith, eqb, Bool, true, false, cond, List, [], ◌∷◌, ◌++◌, refl, sym, ap, subst, ◌∙◌, Option, Some, None}
 use Rattle.std.specs.Prelude.{IsTrue}
 use Rattle.std.proofs.lemmas.Grind.{fold-append}
-use Rattle.sfu_base.specs.Answer.{Answer, Refused, Sent, answer_of, is_starved}
+use Rattle.sfu_base.specs.Answer.{Refused, Sent, answer_of, is_starved}
 use Rattle.sfu_base.specs.declared.call.Call.{Call}
 use Rattle.sfu_base.specs.declared.call.Call.TheVariants as call
 use Rattle.sfu_base.specs.declared.call.Kind.TheVariants.{Layered}
@@ -15,7 +15,7 @@ use Rattle.packet_format.specs.Packets.{bytes_of}
 use Rattle.room_core.specs.declared.recorder.KeepNone.{KeepNone}
 use Rattle.room_core.specs.declared.room.Room.{Room}
 use Rattle.room_core.specs.Content.{TakesMemory}
-use Rattle.room_core.specs.History.{Entry, accepted, after, after_entry}
+use Rattle.room_core.specs.History.{Entry, after_entry}
 use Rattle.room_core.specs.Replies.{answer, sent_or}
 use Rattle.room_core.specs.Sent.{sent}
 use Rattle.room_core.specs.Serves.{Serves}
@@ -26,7 +26,7 @@ use Rattle.sfu_program.specs.Trial.{after_takes, and_call, opened, queued_for, r
 use Rattle.sfu_program.specs.Staged.{AllJoined, HasJoined, IsFedAfter, IsStaged, StandsAfter, TakesOne, WasFed}
 use Rattle.sfu_program.specs.declared.trial.stage.Stage.{Stage}
 use Rattle.sfu_program.specs.declared.trial.viewer.Viewer.{Viewer}
-use Rattle.sfu_program.proofs.Viewers.{Stays, TakesNext, TakesNone, other_stays, own_stays, packet_stays, queue_is_short, seen, take_finds, take_finds_none, take_is_answered, tick_stays, to_of}
+use Rattle.sfu_program.proofs.Viewers.{Stays, other_stays, own_stays, packet_stays, queue_is_short, seen, take_finds, take_finds_none, take_is_answered, tick_stays, to_of}
 
 -- a call that takes no memory finds it
 pub not_starved : (starved : Bool) (c : Call) → (TakesMemory c → ⊥) → (IsTrue starved → TakesMemory c ⊎ IsTrue false) → starved ≡ false

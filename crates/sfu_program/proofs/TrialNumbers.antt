@@ -1,7 +1,6 @@
 -- The words of a trial, and the numbers that they say.
-use Rattle.std.proofs.Common.{◌≡◌, ◌⊎◌, inl, inr, ◌≤◌, ◌<◌, ◌^◌, ℕ, List, [], ◌∷◌, length, refl, sym, ap, subst, ◌∙◌, arith, Option, Some, None, slice_index, get_or}
+use Rattle.std.proofs.Common.{◌≡◌, ◌⊎◌, inl, inr, ◌≤◌, ◌<◌, ℕ, List, [], ◌∷◌, length, sym, ap, subst, ◌∙◌, arith, Option, Some, None, slice_index, get_or}
 use Rattle.std.specs.Prelude.{MatchOption, codes, decimal}
-use Rattle.sfu_script.specs.Grammar.{Fills, Number}
 use Rattle.sfu_script.specs.Reading.{◌>>=◌, number_of}
 use Rattle.sfu_script.specs.Fields.{fields_of}
 use Rattle.sfu_script.specs.declared.fields.Field.TheVariants.{Number64}
@@ -9,10 +8,10 @@ use Rattle.sfu_script.proofs.Filled.{number_again, number_found}
 use Rattle.sfu_script.proofs.Options.{bind_some, some_same}
 use Rattle.stream_maker.specs.Stream.{Stream}
 use Rattle.sfu_program.specs.declared.words.Command.{Command}
-use Rattle.sfu_program.specs.declared.words.Command.TheVariants.{Run, Help, Trial}
+use Rattle.sfu_program.specs.declared.words.Command.TheVariants.{Run, Help, Check, Trial}
 use Rattle.sfu_program.specs.Trial.{IsTrial}
 use Rattle.sfu_program.specs.TrialWords.{IsNumber, SaysTrial}
-use Rattle.sfu_program.specs.Words.{IsForm, Reads, Says}
+use Rattle.sfu_program.specs.Words.{Reads, Says}
 
 pub number_is : (word numbers : List ℕ) → fields_of (Number64 ∷ []) word ≡ Some numbers → IsNumber (slice_index numbers 0) word
 number_is word numbers e =
@@ -85,6 +84,7 @@ no_other : (name frames start loss : List ℕ) (c : Command) → ((s : Stream) �
     → ¬ (Says (name ∷ frames ∷ start ∷ loss ∷ []) c)
 no_other name frames start loss Run none says = cc
 no_other name frames start loss Help none says = cc
+no_other name frames start loss (Check id) none says = let e = says.2 in cc
 no_other name frames start loss (Trial f s l) none says = none (record { frames = f; start = s; loss = l }) says
 
 four_read : (name frames start loss : List ℕ) (o : Option Command)
@@ -93,6 +93,7 @@ four_read : (name frames start loss : List ℕ) (o : Option Command)
 four_read name frames start loss None h = λ form. no_other name frames start loss form.0 h form.1
 four_read name frames start loss (Some Run) h = absurd h
 four_read name frames start loss (Some Help) h = absurd h
+four_read name frames start loss (Some (Check id)) h = absurd h
 four_read name frames start loss (Some (Trial f s l)) h = h
 
 pub reads_four : (words : List (List ℕ)) (name frames start loss : List ℕ) (o : Option Command) → words ≡ name ∷ frames ∷ start ∷ loss ∷ []

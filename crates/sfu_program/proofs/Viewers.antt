@@ -1,6 +1,5 @@
 -- What each call of a trial does to what a subscriber took, and to what waits for it.
-use Rattle.std.proofs.Common.{◌≡◌, ◌≤◌, ◌<◌, ◌+◌, ◌-◌, ℕ, zero, suc, arith, Bool, true, false, cond, List, [], ◌∷◌, ◌++◌, length, map, take, drop, eqb, refl, sym, ap, subst, ◌∙◌, Option, Some, None, length-drop}
-use Rattle.std.specs.Prelude.{nat_lt}
+use Rattle.std.proofs.Common.{◌≡◌, ◌≤◌, ◌<◌, ◌+◌, ℕ, zero, suc, arith, Bool, true, false, cond, List, [], ◌∷◌, ◌++◌, length, map, take, drop, eqb, refl, sym, ap, subst, ◌∙◌, Option, Some, None, length-drop}
 use Rattle.std.proofs.lemmas.Bool.{eq-eqb, lt-ltb}
 use Rattle.std.proofs.lemmas.List.{map-append, take-append-le}
 use Rattle.sfu_base.specs.Answer.{Answer, Refused}
@@ -30,7 +29,7 @@ use Rattle.room_core.specs.Replies.{answer, of_subscriber, sent_or, take_answer}
 use Rattle.room_core.specs.Sent.{sent}
 use Rattle.room_core.specs.SentBytes.{taken_bytes}
 use Rattle.room_core.specs.TrackHistory.{and_where, entries_of}
-use Rattle.room_core.specs.Views.{events_for, subscriber_by, timeline_as}
+use Rattle.room_core.specs.Views.{subscriber_by, timeline_as}
 use Rattle.room_core.specs.History.{is_accepted}
 use Rattle.room_core.proofs.SentMarked.{sent_keeps_count}
 use Rattle.sfu_program.specs.Trial.{and_call, queued_by, queued_for, received, taken_by}

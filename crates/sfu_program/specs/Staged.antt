@@ -1,10 +1,9 @@
 -- What the parts of a trial stand for while it runs. No public clause cites these.
-use Rattle.std.specs.Prelude.{◌≡◌, ℕ, Bool, true, false, suc, if◌then◌else◌, List, Option, Some, is_some}
+use Rattle.std.specs.Prelude.{◌≡◌, ℕ, Bool, suc, if◌then◌else◌, List, Some, is_some}
 use Rattle.sfu_base.specs.declared.call.Call.TheVariants as call
 use Rattle.sfu_base.specs.declared.call.Call.{Call}
 use Rattle.sfu_base.specs.declared.call.Kind.TheVariants.{Layered}
 use Rattle.sfu_base.specs.declared.frame.Wish.{Wish}
-use Rattle.forwarding_model.specs.forwarding.Outgoing.{Subscriber}
 use Rattle.forwarding_model.specs.History.{subscriber_of}
 use Rattle.room_core.specs.declared.recorder.KeepNone.{KeepNone}
 use Rattle.room_core.specs.declared.room.Room.{Room}
@@ -14,7 +13,7 @@ use Rattle.room_core.specs.Serves.{Stands}
 use Rattle.room_core.specs.TrackHistory.{entries_of}
 use Rattle.strict_receiver.specs.Receivers.{StandsFor, complaint_over}
 use Rattle.sfu_program.specs.Run.{untold}
-use Rattle.sfu_program.specs.Trial.{after_takes, and_call, queued_for, received}
+use Rattle.sfu_program.specs.Trial.{and_call, queued_for, received}
 use Rattle.sfu_program.specs.declared.trial.viewer.Viewer.{Viewer}
 use Rattle.sfu_program.specs.declared.trial.stage.Stage.{Stage}
 

@@ -1,7 +1,7 @@
 -- What the words of a trial are read as.
 use Rattle.std.specs.Prelude.{◌≡◌, ◌<◌, ◌^◌, ℕ, List, decimal}
 use Rattle.sfu_program.specs.declared.words.Command.{Command}
-use Rattle.sfu_program.specs.declared.words.Command.TheVariants.{Run, Help, Trial}
+use Rattle.sfu_program.specs.declared.words.Command.TheVariants.{Trial}
 use Rattle.sfu_program.specs.Trial.{IsTrial}
 
 -- the word is this number, of 64 bits

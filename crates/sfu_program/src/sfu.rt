@@ -68,11 +68,13 @@ pub fn sfu_alone<S: Source, K: Sink>(
         Some(Command::Run) => run(alloc, source, sink),
         Some(Command::Help) => help(sink),
         Some(Command::Check(id)) => check(alloc, id, source, sink),
-        Some(Command::Trial {
-            frames,
-            start,
-            loss,
-        }) => trial(alloc, frames, start, loss, sink),
+        Some(
+            Command::Trial {
+                frames,
+                start,
+                loss,
+            },
+        ) => trial(alloc, frames, start, loss, sink),
         None => refuse(sink),
     }
 }

@@ -10,14 +10,13 @@ mod tests;
 mod viewer;
 mod words;
 
-pub use words::read_trial;
-
 use sfu_base::{NoMemory, PacketBuf, Sink};
 use sfu_driver::write_all;
 use stage::Stage;
 use std::alloc::Global;
 use stream_maker::{Event, Maker};
 use summary::summary;
+pub use words::read_trial;
 
 // The summary of a trial.
 fn play(alloc: Global, frames: u32, start: u64, loss: u8) -> Result<String, NoMemory>

@@ -22,7 +22,9 @@ fn made_text(alloc: Global, counts: Counts) -> Result<String, AllocError>
         repeated,
         swapped,
     } = counts;
-    format!(in alloc; "made {frames} frames {packets} packets\nlost {lost} repeated {repeated} swapped {swapped}\n")
+    format!(in alloc;
+        "made {frames} frames {packets} packets\nlost {lost} repeated {repeated} swapped {swapped}\n"
+    )
 }
 
 fn counts_text(
@@ -34,7 +36,9 @@ fn counts_text(
 ) -> Result<String, AllocError>
     ensures { IfOk result (λ text. string_bytes text ≡ counts_text number frames packets complaints) }
 {
-    format!(in alloc; "subscriber {number} frames {frames} packets {packets} complaints {complaints}\n")
+    format!(in alloc;
+        "subscriber {number} frames {frames} packets {packets} complaints {complaints}\n"
+    )
 }
 
 fn bit(set: bool) -> u8

@@ -36,10 +36,7 @@ impl Sink for ByteSink {
 }
 
 // The words, at a source whose first read fails.
-fn at_words(
-    alloc: Global,
-    texts: &[&str],
-) -> Result<(Vec<String>, MemSource), AllocError> {
+fn at_words(alloc: Global, texts: &[&str]) -> Result<(Vec<String>, MemSource), AllocError> {
     let mut words = Vec::new(alloc);
     for text in texts {
         words.push(String::from_str(alloc, text)?)?;
@@ -84,7 +81,11 @@ fn words_out_of_range_are_no_trial(rt: HostRuntime) -> Result<(), Fail> {
     ] {
         let (words, mut source) = at_words(alloc, texts)?;
         let mut sink = MemSink::new(alloc, Vec::new(alloc));
-        assert_eq!(rt; sfu(alloc, words.as_slice(), &mut source, &mut sink), 2, "{texts:?}");
+        assert_eq!(rt;
+            sfu(alloc, words.as_slice(), &mut source, &mut sink),
+            2,
+            "{texts:?}"
+        );
         assert_eq!(rt; sink.written(), USAGE.as_bytes(), "{texts:?}");
     }
     // The greatest numbers: of one frame three packets are made.

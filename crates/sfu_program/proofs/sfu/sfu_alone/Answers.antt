@@ -1,4 +1,4 @@
-use Rattle.std.proofs.Common.{ℕ, map, refl, sym, subst}
+use Rattle.std.proofs.Common.{ℕ, map, refl, subst}
 use Rattle.std.specs.String.{string_bytes}
 use Rattle.stream_maker.specs.Stream.{Stream}
 use Rattle.sfu_program.specs.declared.words.Command.{Command}

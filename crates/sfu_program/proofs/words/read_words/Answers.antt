@@ -1,4 +1,4 @@
-use Rattle.std.proofs.Common.{◌≡◌, ℕ, [], ◌∷◌, List, map, sym, ap, ◌∙◌}
+use Rattle.std.proofs.Common.{map, ap}
 use Rattle.std.specs.String.{string_bytes}
 use Rattle.sfu_program.proofs.TrialNumbers.{four_items, reads_four}
 use Rattle.sfu_program.proofs.words.read_words.Goals as goal

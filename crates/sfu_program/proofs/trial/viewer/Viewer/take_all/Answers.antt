@@ -1,4 +1,4 @@
-use Rattle.std.proofs.Common.{◌≡◌, ◌<◌, ◌≤◌, ◌+◌, ℕ, Bool, true, false, arith, sym, subst}
+use Rattle.std.proofs.Common.{◌≡◌, ℕ, Bool, arith, subst}
 use Rattle.sfu_program.specs.Staged.{TakesOne}
 use Rattle.sfu_program.specs.Trial.{takes}
 use Rattle.sfu_program.proofs.Staging.{TakesSome, takes_begin, takes_end, takes_on, takes_over}
