@@ -1,4 +1,4 @@
-use Rattle.std.proofs.Common.{◌≡◌, ◌<◌, ◌∙◌, arith, length-set}
+use Rattle.std.proofs.Common.{◌<◌, ◌∙◌, arith, length-set}
 use Rattle.hex.specs.Hex.{lower_digits}
 use Rattle.hex.proofs.Pairs.{encode_done}
 use Rattle.sfu_script.proofs.HexText.{pair_written}
