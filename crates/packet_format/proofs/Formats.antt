@@ -1,19 +1,15 @@
 -- The format of each id has the facts on which the laws of forwarding rest.
-use Rattle.std.proofs.Common.{◌≡◌, ℕ, ◌<◌, ◌≤◌, ◌^◌, ◌++◌, Bool, true, false, cond, eqb, List, length, get_or, drop, replicate, Option, Some, None, Result, Ok, Err, refl, sym, subst, ap, ◌∙◌, arith}
-use Rattle.std.specs.Prelude.{◌≢◌, IfSome, slice_index}
-use Rattle.std.specs.List.{AllByRecursion}
-use Rattle.std.proofs.lemmas.List.{get_or_append_left}
-use Rattle.std.proofs.lemmas.Bool.{ne_eqb}
+use Rattle.std.proofs.Common.{◌≡◌, ℕ, ◌<◌, ◌^◌, true, List, Option, Some, None, Result, Ok, Err, refl, sym, subst, ap, ◌∙◌, arith}
+use Rattle.std.specs.Prelude.{IfSome}
 use Rattle.sfu_base.specs.Frame.{IsDistance}
-use Rattle.forwarding_model.specs.frames.Reading.{Descriptor, DescriptorReading, IsCarried, IsDescriptor, IsFormat, IsLayout, MayBeInForce, has_structure, read_by}
-use Rattle.forwarding_model.specs.frames.Reading.DescriptorReading.{Faulty, NeedsStructure, Reads}
-use Rattle.dd_structure.specs.Reading.{guard_count}
+use Rattle.forwarding_model.specs.frames.Reading.{Descriptor, IsCarried, IsDescriptor, IsFormat, MayBeInForce, has_structure, read_by}
+use Rattle.forwarding_model.specs.frames.Reading.DescriptorReading.{Reads}
 use Rattle.dd_structure.specs.Spelling.{IsWellFormed}
 use Rattle.dd_structure.specs.TemplateStructure.{TemplateStructure}
 use Rattle.dd_descriptor.specs.declared.fault.DdFault.{DdFault}
 use Rattle.dd_descriptor.specs.declared.fault.DdFault.TheVariants as faults
 use Rattle.dd_descriptor.specs.Content.{Content, holding}
-use Rattle.dd_layout.specs.Layouts.{filled_up, layout_of}
+use Rattle.dd_layout.specs.Layouts.{layout_of}
 use Rattle.packet_format.specs.Formats.{said}
 use Rattle.dd_descriptor.specs.Reading.{descriptor_at}
 use Rattle.dd_descriptor.specs.Spelling.{IsReference, IsWritable, IsWritableBy}
@@ -24,14 +20,14 @@ use Rattle.dd_descriptor.proofs.OwnStructure.{own_structure}
 use Rattle.packet_format.specs.Formats.{descriptor_in, element_of, format_of, reading_of}
 
 -- a descriptor that reads is what the element's bytes say
-record IsRead (id : ℕ) (force : Option TemplateStructure) (rest : List ℕ) (d : Descriptor TemplateStructure) : Type 0 where
-  bytes : List ℕ
-  found : element_of id rest ≡ Some bytes
-  content : Content
-  reads : descriptor_at bytes force ≡ Ok content
-  is : said content ≡ d
+pub record IsRead (id : ℕ) (force : Option TemplateStructure) (rest : List ℕ) (d : Descriptor TemplateStructure) : Type 0 where
+  pub bytes : List ℕ
+  pub found : element_of id rest ≡ Some bytes
+  pub content : Content
+  pub reads : descriptor_at bytes force ≡ Ok content
+  pub is : said content ≡ d
 
-is_read : (id : ℕ) (force : Option TemplateStructure) (rest : List ℕ) (d : Descriptor TemplateStructure) → (format_of id).descriptor force rest ≡ Reads d → IsRead id force rest d
+pub is_read : (id : ℕ) (force : Option TemplateStructure) (rest : List ℕ) (d : Descriptor TemplateStructure) → (format_of id).descriptor force rest ≡ Reads d → IsRead id force rest d
 is_read id force rest d h = go (element_of id rest) refl h
   where
     read : (bytes : List ℕ) → element_of id rest ≡ Some bytes → (r : Result Content DdFault) → descriptor_at bytes force ≡ r → reading_of r ≡ Reads d → IsRead id force rest d
@@ -50,13 +46,13 @@ some_holds : {A : Type 0} (P : A → Type 0) (o : Option A) (x : A) → IfSome o
 some_holds P (Some y) x h e = let same : y ≡ x = cc in subst P same h
 some_holds P None x h e = absurd (cc)
 
-well_carried : (id : ℕ) (s : TemplateStructure) → IsCarried (format_of id) s → IsWellFormed s
+pub well_carried : (id : ℕ) (s : TemplateStructure) → IsCarried (format_of id) s → IsWellFormed s
 well_carried id s carried =
     let r = is_read id None carried.rest carried.descriptor carried.reads in
     some_holds IsWellFormed r.content.structure s (carried_well_formed r.bytes None r.content r.reads)
     (ap (λ (d : Descriptor TemplateStructure). d.structure) r.is ∙ carried.carries)
 
-well_in_force : (id : ℕ) (force : Option TemplateStructure) → MayBeInForce (format_of id) force → IfSome force IsWellFormed
+pub well_in_force : (id : ℕ) (force : Option TemplateStructure) → MayBeInForce (format_of id) force → IfSome force IsWellFormed
 well_in_force id None may = tt
 well_in_force id (Some s) may = well_carried id s may
 

@@ -1,11 +1,10 @@
 -- What a packet shows, case by case.
-use Rattle.std.proofs.Common.{◌≡◌, ℕ, Bool, true, false, cond, ◌||◌, ◌≤◌, take, List, Option, Some, None, Result, Ok, Err, refl, sym, ap, ap₂, subst, ◌∙◌}
+use Rattle.std.proofs.Common.{◌≡◌, ℕ, Bool, true, false, cond, ◌||◌, ◌≤◌, take, List, Option, Some, None, Result, Ok, Err, sym, ap, ap₂, ◌∙◌}
 use Rattle.std.specs.Bool.{Decides}
-use Rattle.std.specs.Option.{option_copied}
 use Rattle.std.proofs.lemmas.Bool.Decides.{same_from_decides}
-use Rattle.forwarding_model.specs.frames.Reading.{DescriptorReading, Payload, Showing, has_structure, is_key_start, keeps_structure, obeys_structure, shown, shown_by}
-use Rattle.forwarding_model.specs.frames.Reading.DescriptorReading.{Faulty, NeedsStructure, Reads}
-use Rattle.forwarding_model.specs.frames.Reading.Showing.{LacksStructure, Unread, Shows}
+use Rattle.forwarding_model.specs.frames.Reading.{DescriptorReading, keeps_structure, obeys_structure, shown, shown_by}
+use Rattle.forwarding_model.specs.frames.Reading.DescriptorReading.{Faulty}
+use Rattle.forwarding_model.specs.frames.Reading.Showing.{Unread, Shows}
 use Rattle.rtp_packet.specs.declared.packet.Rtp.{Rtp}
 use Rattle.rtp_packet.specs.Packet.{Packet as RtpPacket}
 use Rattle.rtp_packet.proofs.Faultless.{header_there}
@@ -17,7 +16,7 @@ use Rattle.dd_descriptor.specs.Content.{Content}
 use Rattle.dd_layout.specs.Layouts.{is_same_structure, structures_alone}
 use Rattle.packet_format.specs.Formats.{said}
 use Rattle.dd_descriptor.specs.Reading.{descriptor_at}
-use Rattle.dd_descriptor.specs.Seen.{AnswersIn, content_of}
+use Rattle.dd_descriptor.specs.Seen.{content_of}
 use Rattle.dd_layout.proofs.Layouts.{same_structure}
 use Rattle.packet_format.specs.Formats.{descriptor_in, element_in, element_of, format_of, payload_in, reading_of}
 use Rattle.packet_format.specs.Packets.{packet_of}

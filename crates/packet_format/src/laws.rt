@@ -4,6 +4,7 @@ ghost use Rattle.std.specs.Prelude.{ℕ};
 ghost use Rattle.forwarding_model.specs.frames.Reading.{IsFormat};
 ghost use Rattle.packet_format.specs.Formats.{format_of};
 ghost use Rattle.packet_format.specs.Packets.{PacketsAreSent, RestsSayTheSame};
+ghost use Rattle.packet_format.specs.RemaskedReads.{FirstPacketsShow, PacketsAreRemasked, RemaskedPacketsShow, RestsAreRemasked};
 
 /// Whatever the id, its packets are read by a format that has all the facts on which the laws of forwarding rest.
 pub fn formats_have_the_facts()
@@ -14,4 +15,13 @@ pub fn formats_have_the_facts()
 pub fn packets_are_sent_as_they_came()
     ensures sent { PacketsAreSent }
     ensures rests { RestsSayTheSame }
+{}
+
+/// A packet that gets a new mask is the same packet but for its header extension, whose other elements keep their values; and it shows the
+/// same descriptor but for its mask, and the same payload.
+pub fn remasked_packets_show_the_new_mask()
+    ensures packets { PacketsAreRemasked }
+    ensures shown { RemaskedPacketsShow }
+    ensures first { FirstPacketsShow }
+    ensures rests { RestsAreRemasked }
 {}

@@ -1,5 +1,7 @@
 // Packets, and what they show by the structure in force.
 
+mod remasking;
+
 use crate::{PayloadFlags, Shown, begins_epoch, show};
 use dd_descriptor::Descriptor;
 use std::test::Fail;

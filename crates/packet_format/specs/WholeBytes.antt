@@ -1,0 +1,17 @@
+-- Bits in whole bytes, the highest bit of each byte first.
+-- RTP Payload Format For AV1 v1.0, Appendix A: zero_padding fills a descriptor's last byte. The code puts bits into a buffer, field by field.
+use Rattle.std.specs.Prelude.{ℕ, zero, suc, ◌+◌, ◌-◌, ◌*◌, ◌/◌, Bool, false, List, [], ◌∷◌, ◌++◌, length, take, drop, replicate}
+use Rattle.dd_bits.specs.Bits.{value}
+
+-- so many bytes off the front of the bits
+unfoldable pub bytes_from : ℕ → List Bool → List ℕ
+bytes_from zero bits = []
+bytes_from (suc n) bits = value (take 8 bits) ∷ bytes_from n (drop 8 bits)
+
+-- how many bytes hold so many bits
+abbrev pub bytes_for : ℕ → ℕ
+bytes_for n = (n + 7) / 8
+
+-- the bits, and zero bits to a whole byte
+abbrev pub whole_bytes : List Bool → List ℕ
+whole_bytes bits = bytes_from (bytes_for (length bits)) (bits ++ replicate (8 * bytes_for (length bits) - length bits) false)

@@ -1,0 +1,116 @@
+// A packet whose dependency descriptor tells another mask.
+
+ghost use Rattle.std.specs.Prelude.{◌≡◌, ◌≤◌, ◌+◌, ◌*◌, IfSome, None, OnErr, OnOk, Some, drop, length};
+ghost use Rattle.std.specs.Option.{option_copied};
+ghost use Rattle.sfu_base.specs.Bytes.{AreBytes};
+ghost use Rattle.rtp_packet.specs.Fields.{behind_header, csrc_count};
+ghost use Rattle.dd_structure.specs.Spelling.{IsWellFormed};
+ghost use Rattle.dd_descriptor.specs.Remasking.{TakesMask};
+ghost use Rattle.packet_format.specs.Remasked.{at_most, new_value, remasked, with_extension};
+ghost use Rattle.packet_format.specs.RemaskedReads.{CanRemask};
+
+use crate::look::descriptor_bytes;
+use dd_structure::Structure;
+use sfu_base::{NoFit, PacketBuf};
+
+/// The bytes of the fixed header (RFC 3550, section 5.1).
+const FIXED_HEADER: usize = 12;
+
+/// The bytes of a CSRC identifier.
+const CSRC: usize = 4;
+
+/// The bytes of the header extension's profile and count of words (RFC 3550, section 5.3.1).
+const EXTENSION_HEADER: usize = 4;
+
+/// The bytes that a remasked packet has at most.
+const MOST: usize = 1536;
+
+/// Fills `out` with the packet as it tells another mask in its dependency descriptor (AV1 RTP payload format, Appendix A): bit i of the
+/// mask, the lowest first, says whether decode target i is active. The descriptor is the value of the first header extension element with
+/// the id (RFC 8285); the elements stand in their order, and a descriptor of more than 16 bytes turns the one-byte form into the two-byte
+/// form. Fixed header, CSRC identifiers, payload and padding (RFC 3550, section 5.1) stay bit by bit. `NoFit` comes where the descriptor
+/// would have more than 255 bytes or the packet more than 1,536; `out` is then as it was.
+///
+/// RTP reads the packet, its descriptor reads with the structure in force, and the mask has no bit past the last decode target.
+pub fn remask(
+    packet: &[u8],
+    id: u8,
+    force: Option<&Structure>,
+    mask: u32,
+    out: &mut PacketBuf,
+) -> Result<(), NoFit>
+    requires { CanRemask id (option_copied force) mask packet.now }
+    ensures ok { OnOk result (remasked id (option_copied force.entry) mask packet.now ≡ Some out.new) }
+    ensures err { OnErr result (remasked id (option_copied force.entry) mask packet.now ≡ None) }
+    ensures unchanged { OnErr result (out.new ≡ out.old) }
+{
+    let Ok(parts) = rtp_packet::read(packet) else {
+        unreachable!()
+    };
+    let (Some(profile), Some(descriptor)) = (parts.profile, descriptor_bytes(&parts, id)) else {
+        unreachable!()
+    };
+    let mut value = PacketBuf::new();
+    fill_value(descriptor, force, mask, &mut value)?;
+    let mut extension = PacketBuf::new();
+    rtp_extension::reblock(profile, parts.block, id, value.bytes(), &mut extension)?;
+    let old = EXTENSION_HEADER + parts.block.len();
+    fill_packet(packet, old, extension.bytes(), out)
+}
+
+/// Fills `out` with the descriptor as it tells this mask.
+fn fill_value(
+    descriptor: &[u8],
+    force: Option<&Structure>,
+    mask: u32,
+    out: &mut PacketBuf,
+) -> Result<(), NoFit>
+    requires { TakesMask descriptor.now (option_copied force) mask }
+    ensures ok { OnOk result (at_most 255 (new_value (option_copied force.entry) mask (Some descriptor.now)) ≡ Some out.new) }
+    ensures err { OnErr result (at_most 255 (new_value (option_copied force.entry) mask (Some descriptor.now)) ≡ None) }
+{
+    force_is_well_formed(force);
+    let result = dd_descriptor::remask(descriptor, force, mask, out);
+    are_bytes(out.bytes());
+    result
+}
+
+/// What a structure keeps, where one is in force.
+fn force_is_well_formed(force: Option<&Structure>)
+    ensures { IfSome (option_copied force.entry) IsWellFormed }
+{
+    if let Some(structure) = force {
+        structure.is_well_formed();
+    }
+}
+
+/// What bytes are.
+fn are_bytes(bytes: &[u8])
+    ensures { AreBytes bytes.now }
+{
+    let _ = bytes;
+}
+
+/// Fills `out` with the packet as it has this header extension in place of its own, which has so many bytes.
+fn fill_packet(
+    packet: &[u8],
+    old: usize,
+    extension: &[u8],
+    out: &mut PacketBuf,
+) -> Result<(), NoFit>
+    requires there { 12 + 4 * csrc_count packet.now + old ≤ length packet.now }
+    requires behind { behind_header packet.now ≡ drop (12 + 4 * csrc_count packet.now + old) packet.now }
+    ensures ok { OnOk result (at_most 1536 (Some (with_extension extension.now packet.now)) ≡ Some out.new) }
+    ensures err { OnErr result (at_most 1536 (Some (with_extension extension.now packet.now)) ≡ None) }
+    ensures unchanged { OnErr result (out.new ≡ out.old) }
+{
+    let front = FIXED_HEADER + CSRC * (packet[0] % 16) as usize;
+    let behind = &packet[front + old..];
+    if front + extension.len() + behind.len() > MOST {
+        return Err(NoFit);
+    }
+    out.fill(&packet[..front]);
+    out.append(extension);
+    out.append(behind);
+    Ok(())
+}
