@@ -8,3 +8,6 @@ pub mod Staging
 pub mod TrialNumbers
 pub mod Summing
 pub mod Playing
+pub mod TogetherParts
+pub mod TogetherJudging
+pub mod TogetherDue

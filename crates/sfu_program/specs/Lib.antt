@@ -8,3 +8,6 @@ pub mod Trial
 pub mod Staged
 pub mod TrialWords
 pub mod Words
+pub mod TogetherScript
+pub mod TogetherReader
+pub mod TogetherReading

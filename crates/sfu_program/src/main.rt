@@ -10,6 +10,7 @@ mod sfu;
 #[cfg(test)]
 mod tests;
 mod texts;
+mod together;
 mod trial;
 mod usage;
 mod words;
