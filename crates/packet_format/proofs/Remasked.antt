@@ -32,9 +32,9 @@ use Rattle.dd_layout.proofs.Layouts.{same_structure}
 use Rattle.packet_format.specs.Formats.{descriptor_in, element_in, element_of, format_of, payload_in, reading_of}
 use Rattle.packet_format.specs.WholeBytes.{whole_bytes}
 use Rattle.packet_format.specs.Remasked.{at_most, new_value, remasked, value_with, with_extension, with_value}
-use Rattle.packet_format.specs.RemaskedReads.{FirstPacketsShow, IsRemasked, PacketsAreRemasked, RemaskedPacketsShow, telling}
+use Rattle.packet_format.specs.RemaskedReads.{CarriedStructuresDecide, FirstPacketsShow, IsRemasked, PacketsAreRemasked, RemaskedPacketsShow, telling}
 use Rattle.packet_format.proofs.Extended.{IsExtended, extended, length-with_extension}
-use Rattle.packet_format.proofs.Formats.{is_read, well_carried}
+use Rattle.packet_format.proofs.Formats.{is_read, well_carried, well_in_force}
 use Rattle.packet_format.proofs.Reblocked.{new_elements, new_profile_small}
 use Rattle.packet_format.proofs.WholeBytes.{length-whole, padded}
 
@@ -279,3 +279,17 @@ pub first_shows : FirstPacketsShow
 first_shows id mask s key rest d payload carried small is owns new e shows force which =
     let old = has_shown id force rest d payload (shows force which) in
     remasked_shows id mask s force rest new d payload carried small e (structure_first id s force key d is owns old.obeys which) (shows force which)
+
+pub carried_decides : CarriedStructuresDecide
+carried_decides id mask s force other rest d payload may e_shown carries =
+    let old = has_shown id force rest d payload e_shown in
+    let read = is_read id force rest d old.reads in
+    let own : read.content.structure ≡ Some s = ap (λ (x : Descriptor TemplateStructure). x.structure) read.is ∙ carries in
+    let by_own : (f : Option TemplateStructure) → holding read.content.structure f ≡ Some s = λ f. ap (λ (o : Option TemplateStructure). holding o f) own in
+    let l : IsDescriptor read.bytes force read.content = descriptor_laid read.bytes force read.content (well_in_force id force may) read.reads in
+    let same : s ≡ l.by = some_is s l.by (sym (by_own force) ∙ l.holds) in
+    let parts : parts_at read.bytes other ≡ parts_at read.bytes force =
+    parts_laid l.by other l.layout read.content read.bytes (by_own other ∙ ap (λ (t : TemplateStructure). Some t) same) l.laid
+    ∙ sym (parts_laid l.by force l.layout read.content read.bytes l.holds l.laid) in
+    ap (λ (v : Option (List ℕ)). at_most 1536 (with_value id (profile_of rest) (at_most 255 v) rest))
+    (ap (new_value other mask) read.found ∙ ap (value_with mask) parts ∙ sym (ap (new_value force mask) read.found))

@@ -2,7 +2,7 @@
 -- RFC 3550, section 5.1, RFC 8285, AV1 RTP payload format, section 4.4 and Appendix A. Own statement. The code doesn't compute it; it is
 -- what laws say of the definition.
 use Rattle.std.specs.Prelude.{◌≡◌, ◌≢◌, ◌⊎◌, ◌≤◌, ◌<◌, ◌^◌, ℕ, Bool, true, List, length, take, Option, None, Some}
-use Rattle.forwarding_model.specs.frames.Reading.{Descriptor, IsCarried, Payload, is_key_start, read_by, shown}
+use Rattle.forwarding_model.specs.frames.Reading.{Descriptor, IsCarried, MayBeInForce, Payload, is_key_start, read_by, shown}
 use Rattle.forwarding_model.specs.frames.Reading.Showing.{Shows}
 use Rattle.rtp_packet.specs.Faults.{first_fault}
 use Rattle.rtp_packet.specs.Fields.{csrc_count, marker_of, payload_type_of, sequence_of, timestamp_of, ssrc_of, behind_header, payload_of}
@@ -57,6 +57,11 @@ abbrev pub FirstPacketsShow : Type 0
 FirstPacketsShow = (id mask : ℕ) (s : TemplateStructure) (key : Bool) (rest : List ℕ) (d : Descriptor TemplateStructure) (payload : Payload)
     → IsCarried (format_of id) s → mask < 2 ^ s.target_count → is_key_start d ≡ key → (key ≡ true → d.structure ≡ Some s)
     → (new : List ℕ) → remasked id (Some s) mask rest ≡ Some new → ShowsFirst id s key rest d payload → ShowsFirst id s key new (telling mask d) payload
+
+-- Where the descriptor carries a structure, it is remasked alike whatever is in force.
+abbrev pub CarriedStructuresDecide : Type 0
+CarriedStructuresDecide = (id mask : ℕ) (s : TemplateStructure) (force other : Option TemplateStructure) (rest : List ℕ) (d : Descriptor TemplateStructure) (payload : Payload)
+    → MayBeInForce (format_of id) force → shown (format_of id) force rest ≡ Shows d payload → d.structure ≡ Some s → remasked id other mask rest ≡ remasked id force mask rest
 
 -- The model's packet of the remasked bytes is the remasked packet: the definition looks at no sequence number, SSRC and marker.
 abbrev pub RestsAreRemasked : Type 0

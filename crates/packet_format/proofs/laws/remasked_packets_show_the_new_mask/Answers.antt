@@ -1,4 +1,4 @@
-use Rattle.packet_format.proofs.Remasked.{first_shows, packets_remasked, remasked_shows}
+use Rattle.packet_format.proofs.Remasked.{carried_decides, first_shows, packets_remasked, remasked_shows}
 use Rattle.packet_format.proofs.RemaskedRests.{rests_remasked}
 use Rattle.packet_format.proofs.laws.remasked_packets_show_the_new_mask.Goals as goal
 
@@ -10,6 +10,9 @@ returns-clause-shown c = remasked_shows
 
 pub returns-clause-first : goal.returns-clause-first
 returns-clause-first c = first_shows
+
+pub returns-clause-carried : goal.returns-clause-carried
+returns-clause-carried c = carried_decides
 
 pub returns-clause-rests : goal.returns-clause-rests
 returns-clause-rests c = rests_remasked
