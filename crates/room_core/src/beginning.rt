@@ -54,6 +54,8 @@ impl Content {
         }
     }
 
+    // Apart, as the three below are: a call of another kind then needs no room for a track or a subscriber.
+    #[inline(never)]
     fn prepare_track(
         &mut self,
         alloc: Global,
@@ -79,6 +81,7 @@ impl Content {
         }
     }
 
+    #[inline(never)]
     fn prepare_feed(
         &mut self,
         alloc: Global,
@@ -111,6 +114,7 @@ impl Content {
     }
 
     /// A track begins, where its pipeline was made ready.
+    #[inline(never)]
     pub fn publish(&mut self, track: u32, kind: Kind, ready: Ready) -> Reply
         requires { (ssrc : ℕ) × (hold : ℕ) × IsReady self.old (call.Publish track kind ssrc hold) ready }
         ensures does { (ssrc hold : ℕ) → IsReady self.old (call.Publish track kind ssrc hold) ready
@@ -142,6 +146,7 @@ impl Content {
     }
 
     /// A subscriber begins, where what it is sent was made ready.
+    #[inline(never)]
     pub fn join(&mut self, subscriber: u32, track: u32, ready: Ready) -> Reply
         requires { (ssrc : ℕ) × (first : ℕ) × (wish : Wish) × IsReady self.old (call.Join subscriber track ssrc first wish) ready }
         ensures does { (ssrc first : ℕ) (wish : Wish) → IsReady self.old (call.Join subscriber track ssrc first wish) ready

@@ -111,23 +111,48 @@ impl<R: Recorder> Room<R> {
     pub fn packet(&mut self, seat: u32, track: u32, moment: u64, bytes: &PacketBuf) -> Reply
         ensures { DoesAsServe R.noted R.may_refuse self.old self.new seat (call.Packet track moment bytes.now) result }
     {
+        self.bring(seat, track, moment, bytes)
+    }
+
+    // The call is made for the recorder alone: where it keeps nothing, no copy is made.
+    fn bring(&mut self, seat: u32, track: u32, moment: u64, bytes: &PacketBuf) -> Reply
+        ensures serves { (buffer numbers : List ℕ) → Serves R.noted self.old self.new seat (call.Packet track moment bytes.now) result buffer numbers }
+        ensures headline { StandsHeadline R.noted self.new }
+        ensures memory { MemoryHasCause R.may_refuse self.old (call.Packet track moment bytes.now) result }
+        ensures last { MemoryIsLast R.noted R.may_refuse self.old (call.Packet track moment bytes.now) result }
+        ensures recorder { recorder_may_refuse R.may_refuse self.new ≡ recorder_may_refuse R.may_refuse self.old }
+    {
         let mut copy = PacketBuf::new();
         copy.fill(bytes.bytes());
-        self.serve_silently(
-            seat,
-            &Call::Packet {
-                track,
-                moment,
-                bytes: copy,
-            },
-        )
+        let call = Call::Packet {
+            track,
+            moment,
+            bytes: copy,
+        };
+        match self.recorder.note(seat, &call) {
+            Ok(()) => self.content.packet(track, moment, bytes),
+            Err(_) => Reply::Refused(Refusal::NoMemory),
+        }
     }
 
     /// Tells a track that it is this moment, as [`Call::Tick`] does: gaps that were waited for long enough are given up. `NoTrack`.
     pub fn tick(&mut self, seat: u32, track: u32, moment: u64) -> Reply
         ensures { DoesAsServe R.noted R.may_refuse self.old self.new seat (call.Tick track moment) result }
     {
-        self.serve_silently(seat, &Call::Tick { track, moment })
+        self.pass_time(seat, track, moment)
+    }
+
+    fn pass_time(&mut self, seat: u32, track: u32, moment: u64) -> Reply
+        ensures serves { (buffer numbers : List ℕ) → Serves R.noted self.old self.new seat (call.Tick track moment) result buffer numbers }
+        ensures headline { StandsHeadline R.noted self.new }
+        ensures memory { MemoryHasCause R.may_refuse self.old (call.Tick track moment) result }
+        ensures last { MemoryIsLast R.noted R.may_refuse self.old (call.Tick track moment) result }
+        ensures recorder { recorder_may_refuse R.may_refuse self.new ≡ recorder_may_refuse R.may_refuse self.old }
+    {
+        match self.recorder.note(seat, &Call::Tick { track, moment }) {
+            Ok(()) => self.content.tick(track, moment),
+            Err(_) => Reply::Refused(Refusal::NoMemory),
+        }
     }
 
     /// Begins a subscriber, as [`Call::Join`] does. `NoTrack`; `NumberUsed`: the number is at most the highest that a subscriber ever had;
@@ -180,7 +205,10 @@ impl<R: Recorder> Room<R> {
         ensures packet { result ≢ reply.Packet → scratch.new.packet ≡ scratch.old.packet }
         ensures names { result ≢ reply.Names → scratch.new.names ≡ scratch.old.names }
     {
-        self.serve(seat, &Call::Take { subscriber }, scratch)
+        match self.recorder.note(seat, &Call::Take { subscriber }) {
+            Ok(()) => self.content.take(subscriber, &mut scratch.packet),
+            Err(_) => Reply::Refused(Refusal::NoMemory),
+        }
     }
 
     /// Hands out a packet again that was taken under this sequence number, as [`Call::Resend`] does: `Packet`, with its bytes in

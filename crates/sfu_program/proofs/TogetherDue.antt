@@ -19,7 +19,7 @@ use Rattle.sfu_driver.specs.Units.{rule_of}
 use Rattle.sfu_driver.proofs.Cutting.{at}
 use Rattle.sfu_driver.proofs.LineInputs.{due_is_lines, judged_is_lines}
 use Rattle.sfu_script.specs.Skipped.{is_skipped}
-use Rattle.sfu_program.specs.Script.{fault_line}
+use Rattle.sfu_commands.specs.Script.{fault_line}
 use Rattle.sfu_program.specs.TogetherScript.{Lines, Said, may_follow, said_behind, said_by, stops_at, together_script, with_line, with_said}
 use Rattle.sfu_program.specs.TogetherReader.{fault_at, judged_line, judged_said}
 use Rattle.sfu_program.specs.TogetherReading.{due_for, read_due, read_part}

@@ -1,13 +1,3 @@
-pub mod Script
-pub mod Run
-pub mod PacketScript
-pub mod Check
-pub mod Promise
-pub mod Help
-pub mod Trial
-pub mod Staged
-pub mod TrialWords
-pub mod Words
 pub mod TogetherScript
 pub mod TogetherReader
 pub mod TogetherReading

@@ -3,7 +3,7 @@ use Rattle.std.specs.Prelude.{◌≡◌, ℕ, nat_le, if◌then◌else◌, Bool,
 use Rattle.sfu_driver.specs.declared.halt.Ending.TheVariants.{Outside}
 use Rattle.sfu_driver.specs.Outcome.{Outcome, ends_with, goes_on}
 use Rattle.sfu_script.specs.Skipped.{is_skipped}
-use Rattle.sfu_program.specs.Script.{fault_line}
+use Rattle.sfu_commands.specs.Script.{fault_line}
 use Rattle.sfu_program.specs.TogetherScript.{Said, acts_of, closing_of, is_plain, may_follow, opening_of, said_by}
 use Rattle.sfu_program.specs.declared.together.reader.ActorsReader.{ActorsReader}
 

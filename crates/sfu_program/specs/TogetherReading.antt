@@ -3,7 +3,7 @@ use Rattle.std.specs.Prelude.{◌≡◌, ◌⊎◌, ℕ, List, [], Option, None}
 use Rattle.std.specs.Io.KnownBytes.{Appends, Consumes, IsAtEnd}
 use Rattle.sfu_driver.specs.Statuses.{Due, Statuses}
 use Rattle.sfu_script.specs.declared.journal.Actors.{Actors}
-use Rattle.sfu_program.specs.Run.{fault_end}
+use Rattle.sfu_commands.specs.Run.{fault_end}
 use Rattle.sfu_program.specs.TogetherScript.{AreActors, Lines, together_script, together_so_far}
 
 -- nothing is due for lines, and then which is outside the grammar

@@ -1,19 +1,8 @@
-//! The program `sfu`: its top calls over any source and sink, and a `main` that hands in standard input and output.
+//! The program `sfu`: its top call over any source and sink, and a `main` that hands in standard input and output.
 #![tactic(auto)]
 
-mod check;
-#[cfg(test)]
-mod check_tests;
-mod check_words;
-mod run;
 mod sfu;
-#[cfg(test)]
-mod tests;
-mod texts;
 mod together;
-mod trial;
-mod usage;
-mod words;
 
 use sfu_base::{StdSink, StdSource};
 use std::process::ExitCode;

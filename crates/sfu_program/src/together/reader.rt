@@ -1,12 +1,12 @@
 // The script of `together`, read line by line.
 ghost use Rattle.std.specs.Prelude.{◌≡◌, ◌<◌, ◌≤◌, ◌∷◌, ◌++◌, [], List, MatchResult, IfOk, OnOk, Some, None};
-ghost use Rattle.sfu_program.specs.Script.{fault_line};
+ghost use Rattle.sfu_commands.specs.Script.{fault_line};
 ghost use Rattle.sfu_base.specs.declared.call.Call.{Call};
 ghost use Rattle.sfu_program.specs.TogetherScript.{AreActors, Said, may_follow, said_by};
 ghost use Rattle.sfu_program.specs.TogetherReader.{Holds, judged_line};
 
-use crate::texts::add_fault;
 use sfu_base::{Blob, Call, NoMemory};
+use sfu_commands::add_fault;
 use sfu_driver::{Ending, Halt, Judge};
 use sfu_script::{Actors, Calls, NoLine, is_skipped, read_actor_line, read_call};
 use std::alloc::Global;

@@ -1,7 +1,7 @@
 use Rattle.std.proofs.Common.{◌≡◌, ◌∷◌, ◌++◌, [], List, le-leb, ◌≤◌, ap, sym, ◌∙◌, append-nil}
 use Rattle.std.proofs.lemmas.Bool.{lt-leb}
 use Rattle.sfu_driver.specs.Outcome.{Outcome}
-use Rattle.sfu_program.specs.Script.{fault_line}
+use Rattle.sfu_commands.specs.Script.{fault_line}
 use Rattle.sfu_program.specs.TogetherReader.{fault_at, judged_line}
 use Rattle.sfu_program.specs.TogetherScript.{Said}
 use Rattle.sfu_program.proofs.TogetherParts.{said}

@@ -1,0 +1,10 @@
+pub mod Replies
+pub mod Histories
+pub mod Checking
+pub mod CheckWords
+pub mod Starving
+pub mod Viewers
+pub mod Staging
+pub mod TrialNumbers
+pub mod Summing
+pub mod Playing

@@ -1,0 +1,19 @@
+-- What is promised to the subscribers of a script: own statement. The replies that `run` writes are those of the script's history, by
+-- its statuses; here is what is true of every such history.
+use Rattle.std.specs.Prelude.{◌≡◌, ℕ, List, ◌++◌, map, Option, IfSome}
+use Rattle.room_core.specs.History.{Entry, accepted}
+use Rattle.room_core.specs.Headline.{Headline}
+use Rattle.sfu_commands.specs.Script.{Script, entry_of, script_of, script_so_far}
+
+-- the history of a script's calls
+abbrev pub history_of : Script → List Entry
+history_of script = map entry_of script.calls
+
+-- Each subscriber of the script that these bytes say was sent what it should be, and so was each of every front of it.
+pub record IsServed (bytes : List ℕ) : Type 0 where
+  pub whole : Headline (accepted (history_of (script_of bytes)))
+  pub so_far : (front rest : List ℕ) → front ++ rest ≡ bytes → Headline (accepted (history_of (script_so_far front)))
+
+-- the same of the bytes that a source still has, where it tells them
+abbrev pub AreServed : Option (List ℕ) → Type 0
+AreServed left = IfSome left IsServed

@@ -1,0 +1,32 @@
+-- The words after the program's name, and which command they are. Own rule.
+use Rattle.std.specs.Prelude.{◌≡◌, ◌⊎◌, ℕ, List, [], ◌∷◌, Option, Some, None}
+use Rattle.sfu_commands.specs.declared.words.Command.{Command}
+use Rattle.sfu_commands.specs.declared.words.Command.TheVariants.{Run, Help, Check, Trial}
+use Rattle.sfu_commands.specs.Run.{IsRun}
+use Rattle.sfu_commands.specs.Check.{IsCheck}
+use Rattle.sfu_commands.specs.Help.{IsHelp}
+use Rattle.sfu_commands.specs.Trial.{IsTrial}
+
+-- the words are this command
+abbrev pub Says : List (List ℕ) → Command → Type 0
+Says words Run = IsRun words
+Says words Help = IsHelp words
+Says words (Check id) = IsCheck words id
+Says words (Trial frames start loss) = IsTrial words (record { frames = frames; start = start; loss = loss })
+
+-- the words are one of the commands
+abbrev pub IsForm : List (List ℕ) → Type 0
+IsForm words = (command : Command) × Says words command
+
+-- which command the words are, if they are one
+abbrev pub Reads : List (List ℕ) → Option Command → Type 0
+Reads words (Some command) = Says words command
+Reads words None = ¬ (IsForm words)
+
+-- which command a single word is
+abbrev pub ReadsWord : List ℕ → Option Command → Type 0
+ReadsWord word command = Reads (word ∷ []) command
+
+-- the statuses of the commands that wait for nobody
+abbrev pub IsStatus : ℕ → Type 0
+IsStatus status = (status ≡ 0) ⊎ (status ≡ 2) ⊎ (status ≡ 3) ⊎ (status ≡ 4) ⊎ (status ≡ 5) ⊎ (status ≡ 6) ⊎ (status ≡ 8)

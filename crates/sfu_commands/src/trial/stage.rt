@@ -1,0 +1,98 @@
+// A room with one track and three subscribers, each with a strict receiver of its own.
+ghost use Rattle.std.specs.Prelude.{◌≡◌, List, IfOk, OnOk, false};
+ghost use Rattle.sfu_base.specs.Answer.{is_starved};
+ghost use Rattle.sfu_base.specs.declared.call.Call.{Call};
+ghost use Rattle.sfu_base.specs.declared.call.Call.TheVariants as call;
+ghost use Rattle.sfu_commands.specs.Trial.{and_call, after_takes, opened, wish_for};
+ghost use Rattle.sfu_commands.specs.Staged.{IsStaged, StandsAfter};
+
+use super::viewer::{EXTENSION, SEAT, Viewer};
+use room_core::{KeepNone, Room};
+use sfu_base::{Kind, NoMemory, PacketBuf, Refusal, Reply, Scratch, SeqList, Wish};
+use std::alloc::Global;
+
+const TRACK: u32 = 1;
+
+const PUBLISHER: u32 = 0x1111_1111;
+
+// How long a gap is waited for, in milliseconds.
+const HOLD: u32 = 50;
+
+/// A room with one track, and what each of its subscribers took, in a strict receiver.
+#[derive(Drop)]
+pub struct Stage {
+    pub room: Room<KeepNone>,
+    pub scratch: Scratch,
+    pub first: Viewer,
+    pub second: Viewer,
+    pub third: Viewer,
+}
+
+// Whether a call found its memory.
+fn found(reply: Reply) -> Result<(), NoMemory>
+    ensures { OnOk result (is_starved reply ≡ false) }
+{
+    match reply {
+        Reply::Refused(Refusal::NoMemory) => Err(NoMemory),
+        _ => Ok(()),
+    }
+}
+
+fn wish(spatial: u8, temporal: u8) -> Wish
+    ensures { result ≡ wish_for spatial temporal }
+{
+    Wish { spatial, temporal }
+}
+
+// A room in which the track and its three subscribers have begun.
+fn open(alloc: Global) -> Result<Room<KeepNone>, NoMemory>
+    ensures { IfOk result (λ room. StandsAfter room opened) }
+{
+    let mut room = Room::new(alloc, KeepNone::new());
+    let kind = Kind::Layered { id: EXTENSION };
+    found(room.publish(SEAT, TRACK, kind, PUBLISHER, HOLD))?;
+    found(room.join(SEAT, 1, TRACK, 0x2222_2222, 0, wish(1, 1)))?;
+    found(room.join(SEAT, 2, TRACK, 0x2222_2223, 0, wish(1, 0)))?;
+    found(room.join(SEAT, 3, TRACK, 0x2222_2224, 0, wish(0, 0)))?;
+    Ok(room)
+}
+
+impl Stage {
+    /// The room before the stream.
+    pub fn new(alloc: Global) -> Result<Stage, NoMemory>
+        ensures { IfOk result (λ stage. IsStaged stage opened) }
+    {
+        let room = open(alloc)?;
+        let first = Viewer::new(alloc)?;
+        let second = Viewer::new(alloc)?;
+        let third = Viewer::new(alloc)?;
+        Ok(Stage {
+            room,
+            scratch: Scratch {
+                packet: PacketBuf::new(),
+                names: SeqList::new(),
+            },
+            first,
+            second,
+            third,
+        })
+    }
+
+    /// A packet comes.
+    pub fn packet(&mut self, moment: u64, bytes: &PacketBuf)
+        ensures { (past : List Call) → IsStaged self.old past → IsStaged self.new (and_call past (call.Packet 1 moment bytes.now)) }
+    {
+        self.room.packet(SEAT, TRACK, moment, bytes);
+    }
+
+    /// It is this moment; then each subscriber takes until nothing waits for it.
+    pub fn tick(&mut self, moment: u64)
+        ensures { (past : List Call) → IsStaged self.old past
+            → IsStaged self.new (after_takes 3 (after_takes 2 (after_takes 1 (and_call past (call.Tick 1 moment))))) }
+    {
+        self.room.tick(SEAT, TRACK, moment);
+        self.first.take_all(1, &mut self.room, &mut self.scratch);
+        self.second.take_all(2, &mut self.room, &mut self.scratch);
+        self.third.take_all(3, &mut self.room, &mut self.scratch);
+    }
+}

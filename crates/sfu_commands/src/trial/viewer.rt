@@ -1,0 +1,75 @@
+// One subscriber, and the strict receiver of what it takes.
+ghost use Rattle.std.specs.Prelude.{◌++◌, ◌∷◌, [], List, ℕ, IfOk};
+ghost use Rattle.sfu_base.specs.declared.call.Call.{Call};
+ghost use Rattle.sfu_commands.specs.Trial.{after_takes, received};
+ghost use Rattle.sfu_commands.specs.Staged.{HasJoined, IsFedAfter, StandsAfter, TakesOne, WasFed};
+
+use room_core::{KeepNone, Room};
+use sfu_base::{NoMemory, Reply, Scratch};
+use std::alloc::Global;
+use strict_receiver::Receiver;
+
+/// The seat that makes all calls.
+pub const SEAT: u32 = 0;
+
+/// The id of the header extension element that has a packet's descriptor.
+pub const EXTENSION: u8 = 4;
+
+// At most so many packets wait for a subscriber.
+const MOST_QUEUED: u32 = 512;
+
+/// A subscriber's strict receiver.
+#[derive(Drop)]
+pub struct Viewer {
+    pub receiver: Receiver,
+    /// It has a complaint.
+    pub complains: bool,
+}
+
+impl Viewer {
+    /// A receiver that nothing came to.
+    pub fn new(alloc: Global) -> Result<Viewer, NoMemory>
+        ensures { IfOk result (λ viewer. WasFed viewer []) }
+    {
+        Ok(Viewer {
+            receiver: Receiver::new(alloc, EXTENSION)?,
+            complains: false,
+        })
+    }
+
+    // A packet comes to the receiver.
+    fn feed(&mut self, packet: &[u8])
+        ensures { (taken : List (List ℕ)) → WasFed self.old taken → WasFed self.new (taken ++ packet.now ∷ []) }
+    {
+        self.complains = self.receiver.feed(packet).is_err();
+    }
+
+    // Takes a packet, if one waits.
+    fn take_one(
+        &mut self,
+        subscriber: u32,
+        room: &mut Room<KeepNone>,
+        scratch: &mut Scratch,
+    ) -> bool
+        ensures { (past : List Call) → IsFedAfter room.old self.old subscriber past → TakesOne result room.new self.new subscriber past }
+    {
+        match room.take(SEAT, subscriber, scratch) {
+            Reply::Packet => {
+                self.feed(scratch.packet.bytes());
+                true
+            }
+            _ => false,
+        }
+    }
+
+    /// Takes until nothing waits for the subscriber with this number, each packet into the receiver.
+    pub fn take_all(&mut self, subscriber: u32, room: &mut Room<KeepNone>, scratch: &mut Scratch)
+        ensures { (past : List Call) → IsFedAfter room.old self.old subscriber past → IsFedAfter room.new self.new subscriber (after_takes subscriber past) }
+    {
+        'takes: for _count in 0..MOST_QUEUED + 1 {
+            if !self.take_one(subscriber, room, scratch) {
+                return;
+            }
+        }
+    }
+}

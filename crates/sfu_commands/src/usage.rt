@@ -1,0 +1,28 @@
+// The usage line.
+ghost use Rattle.std.specs.Prelude.{◌≡◌, []};
+ghost use Rattle.sfu_driver.specs.Drive.{WritesEnd};
+ghost use Rattle.sfu_commands.specs.Help.{ShowsUsage, usage_text};
+
+use sfu_base::Sink;
+use sfu_driver::write_all;
+
+const USAGE: &[u8] = b"usage: run, together, trial, check, serve, help\n";
+
+/// The command `help`: writes the usage line, and answers the status.
+pub fn help<K: Sink>(sink: &mut K) -> u8
+    ensures { ShowsUsage (K.written sink.old) (K.written sink.new) (K.faults sink.old) (K.faults sink.new) result }
+{
+    match write_all(sink, USAGE) {
+        Ok(()) => 0,
+        Err(_) => 4,
+    }
+}
+
+/// Refuses words that are no command: writes the usage line, and answers the status, which stays where the sink fails.
+pub fn refuse<K: Sink>(sink: &mut K) -> u8
+    ensures shows { WritesEnd (K.written sink.old) (K.written sink.new) (K.faults sink.old) (K.faults sink.new) [] usage_text }
+    ensures status { result ≡ 2 }
+{
+    let _ = write_all(sink, USAGE);
+    2
+}

@@ -1,0 +1,49 @@
+// The words after the program's name.
+ghost use Rattle.std.specs.Prelude.{map};
+ghost use Rattle.std.specs.String.{string_bytes};
+ghost use Rattle.sfu_commands.specs.Words.{Reads, ReadsWord};
+
+use crate::check_words::read_check;
+use crate::trial::read_trial;
+
+/// A command that waits for nobody.
+#[derive(Clone, Copy, Debug, PartialEq, Eq)]
+pub enum Command {
+    /// Serves the calls of a script.
+    Run,
+    /// Writes the usage line.
+    Help,
+    /// Judges packets as a strict receiver with this id of the descriptors' header extension does.
+    Check(u8),
+    /// Writes what strict receivers find in what three subscribers take of a stream: so many frames, made from the number `start`, of which
+    /// `loss` packets of a hundred are lost.
+    Trial { frames: u32, start: u64, loss: u8 },
+}
+
+// The command of one word.
+fn read_word(word: &str) -> Option<Command>
+    ensures { ReadsWord word.now result }
+{
+    match word {
+        "run" => Some(Command::Run),
+        "help" => Some(Command::Help),
+        _ => None,
+    }
+}
+
+/// The command that the words are; `None` exactly when they are none.
+pub fn read_words(words: &[String]) -> Option<Command>
+    ensures { Reads (map string_bytes words.now) result }
+{
+    match words {
+        [word] => read_word(word.as_str()),
+        [word, id] => read_check(word.as_str(), id.as_str()).map(Command::Check),
+        [name, frames, start, loss] => read_trial(
+            name.as_str(),
+            frames.as_str(),
+            start.as_str(),
+            loss.as_str(),
+        ),
+        _ => None,
+    }
+}
