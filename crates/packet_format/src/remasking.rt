@@ -1,15 +1,16 @@
 // A packet whose dependency descriptor tells another mask.
 
-ghost use Rattle.std.specs.Prelude.{◌≡◌, ◌≤◌, ◌+◌, ◌*◌, IfSome, None, OnErr, OnOk, Some, drop, length};
+ghost use Rattle.std.specs.Prelude.{◌≡◌, ◌≤◌, ◌+◌, ◌*◌, ◌%◌, ◌^◌, IfSome, None, OnErr, OnOk, Some, drop, length};
 ghost use Rattle.std.specs.Option.{option_copied};
 ghost use Rattle.sfu_base.specs.Bytes.{AreBytes};
+ghost use Rattle.rtp_packet.specs.Faults.{first_fault};
 ghost use Rattle.rtp_packet.specs.Fields.{behind_header, csrc_count};
 ghost use Rattle.dd_structure.specs.Spelling.{IsWellFormed};
-ghost use Rattle.dd_descriptor.specs.Remasking.{TakesMask};
 ghost use Rattle.packet_format.specs.Remasked.{at_most, new_value, remasked, with_extension};
-ghost use Rattle.packet_format.specs.RemaskedReads.{CanRemask};
+ghost use Rattle.packet_format.specs.RemaskedReads.{IsReadBy};
 
 use crate::look::descriptor_bytes;
+use dd_descriptor::{Descriptor, read_into};
 use dd_structure::Structure;
 use sfu_base::{NoFit, PacketBuf};
 
@@ -26,12 +27,13 @@ const EXTENSION_HEADER: usize = 4;
 const MOST: usize = 1536;
 
 /// Fills `out` with the packet as it tells another mask in its dependency descriptor (AV1 RTP payload format, Appendix A): bit i of the
-/// mask, the lowest first, says whether decode target i is active. The descriptor is the value of the first header extension element with
-/// the id (RFC 8285); the elements stand in their order, and a descriptor of more than 16 bytes turns the one-byte form into the two-byte
-/// form. Fixed header, CSRC identifiers, payload and padding (RFC 3550, section 5.1) stay bit by bit. `NoFit` comes where the descriptor
-/// would have more than 255 bytes or the packet more than 1,536; `out` is then as it was.
+/// mask, the lowest first, says whether decode target i is active, and bits past the last decode target are left out. The descriptor is the
+/// value of the first header extension element with the id (RFC 8285); the elements stand in their order, and a descriptor of more than 16
+/// bytes turns the one-byte form into the two-byte form. Fixed header, CSRC identifiers, payload and padding (RFC 3550, section 5.1) stay
+/// bit by bit. `NoFit` comes where the packet can't be remasked: it has no descriptor, or one that doesn't read with the structure in force,
+/// or the descriptor would have more than 255 bytes or the packet more than 1,536; `out` is then as it was.
 ///
-/// RTP reads the packet, its descriptor reads with the structure in force, and the mask has no bit past the last decode target.
+/// RTP reads the packet.
 pub fn remask(
     packet: &[u8],
     id: u8,
@@ -39,7 +41,7 @@ pub fn remask(
     mask: u32,
     out: &mut PacketBuf,
 ) -> Result<(), NoFit>
-    requires { CanRemask id (option_copied force) mask packet.now }
+    requires { first_fault packet.now ≡ None }
     ensures ok { OnOk result (remasked id (option_copied force.entry) mask packet.now ≡ Some out.new) }
     ensures err { OnErr result (remasked id (option_copied force.entry) mask packet.now ≡ None) }
     ensures unchanged { OnErr result (out.new ≡ out.old) }
@@ -47,8 +49,11 @@ pub fn remask(
     let Ok(parts) = rtp_packet::read(packet) else {
         unreachable!()
     };
-    let (Some(profile), Some(descriptor)) = (parts.profile, descriptor_bytes(&parts, id)) else {
-        unreachable!()
+    let Some(profile) = parts.profile else {
+        return Err(NoFit);
+    };
+    let Some(descriptor) = descriptor_bytes(&parts, id) else {
+        return Err(NoFit);
     };
     let mut value = PacketBuf::new();
     fill_value(descriptor, force, mask, &mut value)?;
@@ -65,14 +70,48 @@ fn fill_value(
     mask: u32,
     out: &mut PacketBuf,
 ) -> Result<(), NoFit>
-    requires { TakesMask descriptor.now (option_copied force) mask }
     ensures ok { OnOk result (at_most 255 (new_value (option_copied force.entry) mask (Some descriptor.now)) ≡ Some out.new) }
     ensures err { OnErr result (at_most 255 (new_value (option_copied force.entry) mask (Some descriptor.now)) ≡ None) }
 {
     force_is_well_formed(force);
-    let result = dd_descriptor::remask(descriptor, force, mask, out);
+    let Some(targets) = target_count(descriptor, force) else {
+        return Err(NoFit);
+    };
+    let result = dd_descriptor::remask(descriptor, force, lowest(mask, targets), out);
     are_bytes(out.bytes());
     result
+}
+
+/// How many decode targets the structure has by which the descriptor is read, or `None` where it doesn't read. It has a frame of its own,
+/// since a descriptor is long.
+#[inline(never)]
+fn target_count(descriptor: &[u8], force: Option<&Structure>) -> Option<u8>
+    ensures read { IsReadBy descriptor.now (option_copied force.entry) result }
+    ensures few { IfSome result (λ n. n ≤ 32) }
+{
+    let mut read = Descriptor::new();
+    if read_into(descriptor, force, &mut read).is_err() {
+        return None;
+    }
+    match &read.structure {
+        Some(structure) => Some(structure.target_count()),
+        None => match force {
+            Some(structure) => Some(structure.target_count()),
+            None => None,
+        },
+    }
+}
+
+/// The lowest so many bits of a mask.
+fn lowest(mask: u32, count: u8) -> u32
+    requires { count ≤ 32 }
+    ensures { result ≡ mask % 2 ^ count }
+{
+    if count == 32 {
+        mask
+    } else {
+        mask % (1 << count)
+    }
 }
 
 /// What a structure keeps, where one is in force.

@@ -11,3 +11,4 @@ mod tests;
 mod verdict;
 
 pub use selector::Selector;
+pub use targets::is_allowed;

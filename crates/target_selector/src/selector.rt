@@ -8,7 +8,7 @@ ghost use Rattle.forwarding_model.specs.forwarding.Standing.{Standing, after_fra
 ghost use Rattle.ref_window.specs.Numbers.{IsAboveAll as IsAboveAllNumbers, held_of};
 ghost use Rattle.target_selector.specs.Seen.{begun};
 ghost use Rattle.target_selector.specs.Stands.{IsAboveAll, StandsAt, StandsFor, is_opening_at};
-ghost use Rattle.target_selector.specs.Targets.{IsIndexBelow};
+ghost use Rattle.target_selector.specs.Targets.{IsBelow, IsIndexBelow};
 
 use crate::decision::{Decision, decide};
 use crate::targets::is_top_layer;
@@ -80,6 +80,7 @@ impl Selector {
     /// The target that is open, or none.
     pub fn target(&self) -> Option<u8>
         ensures target { result ≡ open_target self.now.target }
+        ensures few { IsBelow 32 result }
         ensures stands { (s : Standing) → StandsFor self.now s → result ≡ open_target s.target }
     {
         match self.target {

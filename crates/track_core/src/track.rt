@@ -132,10 +132,21 @@ impl Track {
     /// The template structure in force on a layered track, once its newest item was worked off: none before the first key start, and none
     /// on a plain track.
     pub fn force(&self) -> Option<&Structure>
-        ensures { (events : List Event) (worked : List Piece) → StandsFor self.now events worked
+        ensures kept { option_copied result ≡ structure_in self.now.layers }
+        ensures stands { (events : List Event) (worked : List Piece) → StandsFor self.now events worked
             → option_copied result ≡ structure_after self.now.layers worked }
     {
         structure_of(&self.layers)
+    }
+
+    /// The id of the track's header extension element (RFC 8285) that has the dependency descriptor: none on a plain track.
+    pub fn id(&self) -> Option<u8>
+        ensures { result ≡ option_map id_of self.now.layers }
+    {
+        match &self.layers {
+            Some(layers) => Some(layers.id),
+            None => None,
+        }
     }
 
     /// Works off one item. `Idle` comes exactly where none waits.

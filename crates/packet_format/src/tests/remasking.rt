@@ -2,7 +2,7 @@
 
 ghost use Rattle.std.specs.Prelude.{◌≤◌, ◌+◌, length};
 
-use crate::{descriptor_bytes, remask};
+use crate::remask;
 use dd_structure::Structure;
 use sfu_base::PacketBuf;
 use std::test::Fail;
@@ -60,18 +60,8 @@ fn remasked(
     force: Option<&Structure>,
     mask: u32,
 ) -> Result<Option<PacketBuf>, Fail> {
-    let parts = rtp_packet::read(packet)?;
-    let Some(descriptor) = descriptor_bytes(&parts, 4) else {
-        return Err(Fail::from("no descriptor"));
-    };
-    let found = dd_descriptor::read(descriptor, force)?;
-    let targets = match (&found.structure, force) {
-        (Some(own), _) => own.target_count(),
-        (None, Some(current)) => current.target_count(),
-        (None, None) => return Err(Fail::from("no structure")),
-    };
-    if mask as u64 >= 1 << targets {
-        return Err(Fail::from("a mask with bits past the targets"));
+    if rtp_packet::read(packet).is_err() {
+        return Err(Fail::from("no packet"));
     }
     let mut out = PacketBuf::new();
     out.fill(&[7]);
@@ -253,4 +243,46 @@ fn a_packet_of_more_than_1536_bytes_isnt_sent(rt: HostRuntime) -> Result<(), Fai
     let packet = laid(&HEADER, &old, &payload);
     assert!(rt; remasked(packet.bytes(), Some(&structure), 3)?.is_none());
     Ok(())
+}
+
+#[test]
+fn a_packet_without_a_descriptor_that_reads_isnt_remasked(rt: HostRuntime) -> Result<(), Fail> {
+    let structure = structure_of(&C)?;
+    // A frame of C's template 1 has a structure in force or none; template 63 is none of C's; then another id, a cut descriptor, no element.
+    let frame = [0xbe, 0xde, 0x00, 0x01, 0x42, 0xc2, 0x00, 0x02];
+    let rows: [(&[u8], Option<&Structure>); 5] = [
+        (&frame, None),
+        (
+            &[0xbe, 0xde, 0x00, 0x01, 0x42, 0xff, 0x00, 0x02],
+            Some(&structure),
+        ),
+        (
+            &[0xbe, 0xde, 0x00, 0x01, 0x52, 0xc2, 0x00, 0x02],
+            Some(&structure),
+        ),
+        (
+            &[0xbe, 0xde, 0x00, 0x01, 0x41, 0xc2, 0x00, 0x00],
+            Some(&structure),
+        ),
+        (&[0xbe, 0xde, 0x00, 0x00], Some(&structure)),
+    ];
+    for (extension, force) in rows {
+        if extension.len() > 100 {
+            return Err(Fail::from("a long extension"));
+        }
+        let packet = laid(&HEADER, extension, &PAYLOAD);
+        assert!(rt; remasked(packet.bytes(), force, 1)?.is_none());
+    }
+    // Bits past the last of the two targets are left out.
+    let told = [
+        0xbe, 0xde, 0x00, 0x02, 0x43, 0xc2, 0x00, 0x02, 0x44, 0, 0, 0,
+    ];
+    check(
+        &HEADER,
+        &frame,
+        &PAYLOAD,
+        Some(&structure),
+        0xffff_fffe,
+        &told,
+    )
 }
