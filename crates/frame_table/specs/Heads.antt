@@ -1,5 +1,5 @@
 -- What is kept of a frame's first descriptor until the frame is whole, and what it means then.
-use Rattle.std.specs.Prelude.{◌≤◌, ◌<◌, ℕ, if◌then◌else◌, slice_index, Option, None, Some, Result, Ok, Err}
+use Rattle.std.specs.Prelude.{◌≤◌, ◌<◌, ℕ, Bool, true, false, if◌then◌else◌, slice_index, Option, None, Some, Result, Ok, Err}
 use Rattle.sfu_base.specs.declared.frame.FrameMeaning.{FrameMeaning}
 use Rattle.sfu_base.specs.Frame.{IsDistance}
 use Rattle.wrap_number.specs.Number.{is_above, number_above}
@@ -66,6 +66,11 @@ meant_with_head s force head (Some number) = Ok (meaning_at (layout_of s) force 
 
 abbrev pub meant_at : TemplateStructure → Force TemplateStructure → FrameHead → Result FrameMeaning Stale
 meant_at s force head = meant_with_head s force head (number_at force head)
+
+-- a meaning that was written where it is kept, or the fault of a stale number
+abbrev pub written_or_stale : Bool → FrameMeaning → ℕ → Result FrameMeaning Stale
+written_or_stale false meaning newest = Err (record { newest = newest })
+written_or_stale true meaning newest = Ok meaning
 
 abbrev pub numbered_at : Force TemplateStructure → FrameHead → Force TemplateStructure
 numbered_at force head = record force { newest = newest_after (number_at force head) force.newest }

@@ -1,6 +1,6 @@
 // What is in force.
 
-ghost use Rattle.std.specs.Prelude.{◌≡◌, ◌≤◌, ◌<◌, ◌+◌, ◌-◌, ◌^◌, IfSome, IfOk, Option, Some, is_some, option_copied, take, true};
+ghost use Rattle.std.specs.Prelude.{◌≡◌, ◌≤◌, ◌<◌, ◌+◌, ◌-◌, ◌^◌, IfSome, IfOk, Option, Some, is_some, option_copied, take, false, true};
 ghost use Rattle.sfu_base.specs.Frame.{IsValid};
 ghost use Rattle.forwarding_model.specs.frames.Frames.{no_force};
 ghost use Rattle.forwarding_model.specs.frames.Reading.{is_key_start, keeps_structure};
@@ -8,7 +8,7 @@ ghost use Rattle.dd_structure.specs.Spelling.{IsWellFormed};
 ghost use Rattle.dd_structure.specs.TemplateStructure.{TemplateStructure};
 ghost use Rattle.dd_layout.specs.Layouts.{layout_of, structures_alone};
 ghost use Rattle.frame_table.specs.Seen.{IsFirst, IsReadBy, IsMaskOf, answer, begun, masked, meant, numbered, said_of, seen_by};
-ghost use Rattle.frame_table.specs.Heads.{HasReferences, head_of, meaning_at, meant_at, number_or_stale, numbered_at};
+ghost use Rattle.frame_table.specs.Heads.{HasReferences, head_of, meaning_at, meant_at, number_or_stale, numbered_at, written_or_stale};
 
 use crate::fill::{filled_distances, filled_indications, filled_numbers, filled_pairs};
 use dd_descriptor::Descriptor;
@@ -182,6 +182,25 @@ impl FrameTable {
         let number = self.number(head)?;
         self.newest = number;
         Ok(self.meaning(number, head))
+    }
+
+    /// The same, with the meaning written where the caller keeps it. False where the number is stale: then nothing is written.
+    pub fn whole_into(&mut self, head: &FrameHead, out: &mut FrameMeaning) -> bool
+        requires structure { is_some self.old.structure ≡ true }
+        requires references { HasReferences head.now }
+        requires bound { self.old.newest < 2 ^ 63 }
+        ensures meaning { (s : TemplateStructure) → self.old.structure ≡ Some s → written_or_stale result out.new self.old.newest ≡ meant_at s self.old head.now }
+        ensures valid { result ≡ true → IsValid out.new }
+        ensures untouched { result ≡ false → out.new ≡ out.old }
+        ensures force { self.new ≡ numbered_at self.old head.now }
+        ensures near { self.new.newest ≤ self.old.newest + 65536 }
+    {
+        let Ok(number) = self.number(head) else {
+            return false;
+        };
+        self.newest = number;
+        *out = self.meaning(number, head);
+        true
     }
 
     // What a head has of each field.

@@ -3,6 +3,7 @@ ghost use Rattle.std.specs.Prelude.{◌≡◌, ◌≤◌, ◌&&◌, None, nat_eq
 ghost use Rattle.indexmap.specs.IndexMap.{get, index_map_len};
 ghost use Rattle.rtp_packet.specs.Faults.{first_fault};
 ghost use Rattle.sfu_base.specs.Frame.{IsValid};
+ghost use Rattle.track_core.specs.Track.{told_with};
 ghost use Rattle.room_core.specs.Follows.{FollowsFrame, FollowsPacket};
 ghost use Rattle.room_core.specs.Passing.{IsPassed, PassedTo, WaitsIn, WaitsOne, WorkedIf, WorkedOff};
 ghost use Rattle.room_core.specs.Stepping.{IsMadeValid, Steps};
@@ -10,7 +11,7 @@ ghost use Rattle.room_core.specs.Stepping.{IsMadeValid, Steps};
 use crate::live::LiveSubscriber;
 use indexmap::IndexMap;
 use sfu_base::FrameMeaning;
-use track_core::{Made, Track};
+use track_core::{Advance, Track};
 
 /// Works off all items of a track that wait: what they make goes to each of its subscribers, and a key frame ends a plea.
 pub fn work_off(
@@ -36,26 +37,27 @@ fn work_off_one(
     ensures count { index_map_len subscribers.new ≡ index_map_len subscribers.old }
 {
     match step(pipeline) {
-        Made::Idle => false,
-        Made::Nothing => true,
-        Made::Packet => {
+        Advance::Idle => false,
+        Advance::Nothing => true,
+        Advance::Packet => {
             pass_packet_to_all(subscribers, number, pipeline.packet(0));
             true
         }
-        Made::Frame(frame) => {
+        Advance::Frame => {
+            let frame = pipeline.meaning();
             *pleaded = still_pleaded(*pleaded, frame.key);
-            pass_frame_to_all(subscribers, number, pipeline, &frame);
+            pass_frame_to_all(subscribers, number, pipeline, frame);
             true
         }
     }
 }
 
 // One step of a track, told by its items.
-fn step(pipeline: &mut Track) -> Made
-    ensures steps { Steps pipeline.old pipeline.new result }
-    ensures valid { IsMadeValid result pipeline.new.packets }
+fn step(pipeline: &mut Track) -> Advance
+    ensures steps { Steps pipeline.old pipeline.new (told_with pipeline.new.meaning result) }
+    ensures valid { IsMadeValid (told_with pipeline.new.meaning result) pipeline.new.packets }
 {
-    pipeline.step()
+    pipeline.advance()
 }
 
 // A key frame ends a plea.

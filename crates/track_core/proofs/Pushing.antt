@@ -1,6 +1,6 @@
 -- What a mark that is pushed makes.
-use Rattle.std.proofs.Common.{◌≡◌, ℕ, true, false, List, ◌∷◌, Option, Some, None, Result, Ok, Err, refl, sym, ap, subst, ◌∙◌}
-use Rattle.std.specs.Prelude.{IfOk, IfSome, is_some}
+use Rattle.std.proofs.Common.{◌≡◌, ℕ, Bool, true, false, List, ◌∷◌, Option, Some, None, Result, refl, sym, ap, subst, ◌∙◌}
+use Rattle.std.specs.Prelude.{IfSome, is_some}
 use Rattle.std.specs.Option.{option_map}
 use Rattle.std.specs.Result.{result_ok}
 use Rattle.sfu_base.specs.declared.frame.FrameMeaning.{FrameMeaning}
@@ -17,10 +17,10 @@ use Rattle.frame_assembly.specs.declared.mark.Outcome.TheVariants as made
 use Rattle.frame_assembly.specs.Assembled.{answer, marked, IsAfter as AssembledAfter}
 use Rattle.frame_table.specs.declared.table.FrameHead.{FrameHead}
 use Rattle.frame_table.specs.declared.table.Stale.{Stale}
-use Rattle.frame_table.specs.Heads.{head_of, meant_at, meant_with_head, numbered_at}
+use Rattle.frame_table.specs.Heads.{head_of, meant_at, meant_with_head, numbered_at, written_or_stale}
 use Rattle.frame_table.specs.Seen.{newest_after}
 use Rattle.track_core.specs.declared.layers.Layers.{Layers}
-use Rattle.track_core.specs.Layers.{HasHead, IsHeadOf, IsRunning, Pushed, StartsAs, framed_by, sent_marks, sent_of, starts}
+use Rattle.track_core.specs.Layers.{HasHead, IsHeadOf, IsRunning, Pushed, StartsAs, framed_by, sent_marks, sent_of, starts, written}
 use Rattle.track_core.specs.Mapped.{mark_with}
 use Rattle.track_core.proofs.Heads.{TheMark, TheRun, extended_head, same_start}
 use Rattle.track_core.proofs.Mapped.{no_cut, outcome_of_with, whole_cut}
@@ -88,10 +88,14 @@ some_structure : (o : Option TemplateStructure) → is_some o ≡ true → (s : 
 some_structure None e = absurd (cc)
 some_structure (Some s) e = (s, refl)
 
--- a meaning that is answered is valid
-pub valid_where_ok : (r : Result FrameMeaning Stale) (o : Option FrameMeaning) → o ≡ result_ok r → IfOk r IsValid → IfSome o IsValid
-valid_where_ok (Ok m) o is valid = subst (λ (x : Option FrameMeaning). IfSome x IsValid) (sym is) valid
-valid_where_ok (Err e) o is valid = subst (λ (x : Option FrameMeaning). IfSome x IsValid) (sym is) tt
+-- a meaning that was written, as the table tells it
+pub written_ok : (is_written : Bool) (meaning : FrameMeaning) (newest : ℕ) → written is_written meaning ≡ result_ok (written_or_stale is_written meaning newest)
+written_ok false meaning newest = refl
+written_ok true meaning newest = refl
+
+pub written_valid : (is_written : Bool) (meaning : FrameMeaning) → (is_written ≡ true → IsValid meaning) → IfSome (written is_written meaning) IsValid
+written_valid false meaning valid = tt
+written_valid true meaning valid = valid refl
 
 -- ---- one push, by its outcome
 

@@ -17,6 +17,7 @@ seen t = record {
   window = t.window;
   layers = t.layers;
   packets = if t.given then packets_in t.layers t.buffer else [];
+  meaning = t.meaning;
 }
 
 -- there are events that it stands for

@@ -1,5 +1,5 @@
 -- What a layered track stands for between two items. Lists of items and marks have the newest first.
-use Rattle.std.specs.Prelude.{◌≡◌, ℕ, Bool, true, false, if◌then◌else◌, List, [], ◌∷◌, map, Option, IfSome, is_some}
+use Rattle.std.specs.Prelude.{◌≡◌, ℕ, Bool, true, false, if◌then◌else◌, List, [], ◌∷◌, map, Option, None, Some, IfSome, is_some}
 use Rattle.std.specs.Option.{option_map}
 use Rattle.sfu_base.specs.declared.frame.FrameMeaning.{FrameMeaning}
 use Rattle.forwarding_model.specs.forwarding.Timeline.{Frame, meaning_of}
@@ -100,6 +100,11 @@ pub record Looked (id : ℕ) (old new : Force TemplateStructure) (d : Descriptor
   pub force : new ≡ force_of id old (Arrived (packet_of bytes))
   pub starts : StartsAs new d (mark_of id old.structure (Arrived (packet_of bytes)))
   pub structure : is_some old.structure ≡ true → is_some new.structure ≡ true
+
+-- the meaning that was written where it is kept, if one was
+abbrev pub written : Bool → FrameMeaning → Option FrameMeaning
+written false meaning = None
+written true meaning = Some meaning
 
 -- what a mark makes of the frame under assembly
 abbrev pub framed_by : Force TemplateStructure → List (Mark (ReadPacket TemplateStructure)) → Mark (ReadPacket TemplateStructure) → Option (Frame TemplateStructure)

@@ -18,6 +18,8 @@ use Rattle.sfu_base.specs.declared.call.Refusal.{Refusal}
 use Rattle.sfu_base.specs.declared.call.Refusal.TheVariants as refusal
 use Rattle.track_core.specs.declared.track.Made.{Made}
 use Rattle.track_core.specs.declared.track.Made.TheVariants as made
+use Rattle.track_core.specs.declared.track.Advance.{Advance}
+use Rattle.track_core.specs.declared.track.Advance.TheVariants as advance
 use Rattle.track_core.specs.declared.layers.Layers.{Layers}
 use Rattle.sfu_base.specs.declared.call.Kind.{Kind}
 use Rattle.sfu_base.specs.declared.call.Kind.TheVariants as kind
@@ -29,12 +31,14 @@ use Rattle.std.specs.Option.{option_map}
 use Rattle.track_core.specs.Layers.{IsAfter, meaning_made}
 use Rattle.track_core.specs.Pieces.{IsTakenIn, item_by, item_of, items_of}
 
--- The SSRC, the order with the pieces that wait, what a layered track keeps, and the packets of what the last step made.
+-- The SSRC, the order with the pieces that wait, what a layered track keeps, the packets of what the last step made, and the meaning of the
+-- last frame that was made.
 pub record Seen : Type 0 where
   pub ssrc : ℕ
   pub window : Window
   pub layers : Option Layers
   pub packets : List (List ℕ)
+  pub meaning : FrameMeaning
 
 -- The track stands for these events, the newest first, of whose pieces these, the oldest first, are worked off.
 pub record StandsFor (track : Seen) (events : List Event) (worked : List Piece) : Type 0 where
@@ -94,6 +98,13 @@ made_plain (Gone from to) = made.Nothing
 abbrev pub plain_packets : Piece → List (List ℕ)
 plain_packets (Got h) = h.bytes ∷ []
 plain_packets (Gone from to) = []
+
+-- what an item made, told by the meaning that the track keeps
+abbrev pub told_with : FrameMeaning → Advance → Made
+told_with meaning advance.Idle = made.Idle
+told_with meaning advance.Nothing = made.Nothing
+told_with meaning advance.Packet = made.Packet
+told_with meaning advance.Frame = made.Frame meaning
 
 -- what a step makes of the piece that waits first, if one does
 abbrev pub made_of : Option Layers → List Piece → Option Piece → Made
@@ -171,8 +182,15 @@ abbrev pub made_by : Option Layers → List Item → Bool → List ℕ → Made
 made_by None past came bytes = if came then made.Packet else made.Nothing
 made_by (Some l) past came bytes = made_meaning (meaning_made l.id past (item_by came bytes))
 
+-- whether a packet or a frame was made
 abbrev pub gives : Made → Bool
 gives made.Idle = false
 gives made.Nothing = false
 gives made.Packet = true
 gives (made.Frame meaning) = true
+
+abbrev pub has_given : Advance → Bool
+has_given advance.Idle = false
+has_given advance.Nothing = false
+has_given advance.Packet = true
+has_given advance.Frame = true

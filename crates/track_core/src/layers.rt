@@ -9,7 +9,7 @@ ghost use Rattle.dd_structure.specs.TemplateStructure.{TemplateStructure};
 ghost use Rattle.frame_assembly.specs.Assembled.{marked};
 ghost use Rattle.packet_format.specs.Packets.{packet_of};
 ghost use Rattle.packet_format.specs.Shown.{IsOf};
-ghost use Rattle.track_core.specs.Layers.{HasStood, IsAfter, IsHeadOf, IsPushable, IsRunning, Looked, Pushed, StartsAs, meaning_made, sent_of, starts};
+ghost use Rattle.track_core.specs.Layers.{HasStood, IsAfter, IsHeadOf, IsPushable, IsRunning, Looked, Pushed, StartsAs, meaning_made, sent_of, starts, written};
 ghost use Rattle.track_core.specs.Mapped.{mark_with};
 ghost use Rattle.track_core.specs.Pieces.{IsTaken, item_by};
 ghost use Rattle.frame_table.specs.Seen.{IsFirst};
@@ -69,8 +69,8 @@ impl Layers {
         let _ = self.assembly.push(&Mark::Gone, &[]);
     }
 
-    /// The next packet, with its bytes. Answers what the frame means that it made whole, if it made one.
-    pub fn take(&mut self, packet: &Rtp<'_>, bytes: &[u8]) -> Option<FrameMeaning>
+    /// The next packet, with its bytes. Answers whether it made a frame whole, whose meaning is written then.
+    pub fn take(&mut self, packet: &Rtp<'_>, bytes: &[u8], meaning: &mut FrameMeaning) -> bool
         requires length { length bytes.now ≤ 1500 }
         requires packet { IsOf bytes.now packet.now }
         requires stood { HasStood self.old }
@@ -78,11 +78,11 @@ impl Layers {
         ensures id { self.new.id ≡ self.old.id }
         ensures stands { (past : List Item) → IsAfter self.old past → IsAfter self.new (Arrived (packet_of bytes.now) ∷ past) }
         ensures near { self.new.table.newest ≤ self.old.table.newest + 131072 }
-        ensures made { (past : List Item) → IsAfter self.old past → result ≡ meaning_made self.old.id past (Arrived (packet_of bytes.now)) }
-        ensures valid { IfSome result IsValid }
+        ensures made { (past : List Item) → IsAfter self.old past → written result meaning.new ≡ meaning_made self.old.id past (Arrived (packet_of bytes.now)) }
+        ensures valid { IfSome (written result meaning.new) IsValid }
     {
         let mark = self.look(packet, bytes);
-        self.push(&mark, bytes)
+        self.push(&mark, bytes, meaning)
     }
 
     // What a packet is to the frame under assembly. Its descriptor, where it has one that is read, acts on what is in force.
@@ -121,20 +121,20 @@ impl Layers {
     }
 
     // The mark goes to the frame under assembly, with its packet.
-    fn push(&mut self, mark: &Mark, bytes: &[u8]) -> Option<FrameMeaning>
+    fn push(&mut self, mark: &Mark, bytes: &[u8], meaning: &mut FrameMeaning) -> bool
         requires length { length bytes.now ≤ 1500 }
         requires bound { self.old.table.newest < 2 ^ 63 }
         requires pushable { IsPushable self.old mark.now bytes.now }
         ensures id { self.new.id ≡ self.old.id }
         ensures near { self.new.table.newest ≤ self.old.table.newest + 65536 }
         ensures pushed { (marks : List (CutMark (ReadPacket TemplateStructure))) (m : CutMark (ReadPacket TemplateStructure)) → IsRunning self.old marks
-            → marked mark.now bytes.now ≡ mark_with sent_of m → StartsAs self.old.table self.old.newest m → Pushed self.old self.new result marks m }
-        ensures valid { IfSome result IsValid }
+            → marked mark.now bytes.now ≡ mark_with sent_of m → StartsAs self.old.table self.old.newest m → Pushed self.old self.new (written result meaning.new) marks m }
+        ensures valid { IfSome (written result meaning.new) IsValid }
     {
         keep_head(mark, &self.table, &self.newest, &mut self.head);
         match self.assembly.push(mark, bytes) {
-            Outcome::Whole => self.table.whole_of(&self.head).ok(),
-            _ => None,
+            Outcome::Whole => self.table.whole_into(&self.head, meaning),
+            _ => false,
         }
     }
 }
@@ -150,26 +150,27 @@ fn keep_head(mark: &Mark, table: &FrameTable, newest: &Descriptor, head: &mut Fr
     }
 }
 
-/// Works off one item of a layered track: the packet with these bytes, or numbers that were given up.
-pub fn work_off(layers: &mut Layers, came: bool, bytes: &[u8]) -> Option<FrameMeaning>
+/// Works off one item of a layered track: the packet with these bytes, or numbers that were given up. Answers whether it made a frame whole,
+/// whose meaning is written then.
+pub fn work_off(layers: &mut Layers, came: bool, bytes: &[u8], meaning: &mut FrameMeaning) -> bool
     requires taken { came ≡ true → IsTaken bytes.now }
     requires stood { HasStood layers.old }
     requires bound { layers.old.table.newest ≤ 2 ^ 63 - 131072 }
     ensures id { layers.new.id ≡ layers.old.id }
     ensures near { layers.new.table.newest ≤ layers.old.table.newest + 131072 }
     ensures stands { (past : List Item) → IsAfter layers.old past → IsAfter layers.new (item_by came bytes.now ∷ past) }
-    ensures made { (past : List Item) → IsAfter layers.old past → result ≡ meaning_made layers.old.id past (item_by came bytes.now) }
-    ensures valid { IfSome result IsValid }
-    ensures came { is_some result ≡ true → came ≡ true }
+    ensures made { (past : List Item) → IsAfter layers.old past → written result meaning.new ≡ meaning_made layers.old.id past (item_by came bytes.now) }
+    ensures valid { IfSome (written result meaning.new) IsValid }
+    ensures came { result ≡ true → came ≡ true }
 {
     if !came {
         layers.give_up();
-        return None;
+        return false;
     }
     match rtp_packet::read(bytes) {
-        Ok(packet) => layers.take(&packet, bytes),
+        Ok(packet) => layers.take(&packet, bytes, meaning),
         // It was taken in, so RTP reads it.
-        Err(_) => None,
+        Err(_) => false,
     }
 }
 

@@ -6,7 +6,7 @@ mod layers;
 mod track;
 
 pub use layers::Layers;
-pub use track::{Made, Track};
+pub use track::{Advance, Made, Track};
 
 #[cfg(test)]
 mod tests;

@@ -6,7 +6,7 @@ ghost use Rattle.reorder_window.specs.Missing.{missing_sequences};
 ghost use Rattle.rtp_packet.specs.Faults.{first_fault};
 ghost use Rattle.rtp_packet.specs.Fields.{sequence_of};
 ghost use Rattle.packet_format.specs.Packets.{packet_of};
-ghost use Rattle.track_core.specs.Track.{HasKind, IsMadeValid, StandsFor, Stays, and_piece, first_refusal, frames_packets, gives, id_of, is_got, made_by, made_of, packets_of, refusal_of, refused, structure_after, structure_in};
+ghost use Rattle.track_core.specs.Track.{HasKind, IsMadeValid, StandsFor, Stays, and_piece, first_refusal, frames_packets, has_given, id_of, is_got, made_by, made_of, packets_of, refusal_of, refused, structure_after, structure_in, told_with};
 ghost use Rattle.track_core.specs.Layers.{HasStood, IsAfter};
 ghost use Rattle.track_core.specs.Pieces.{IsTaken, item_by};
 ghost use Rattle.forwarding_model.specs.frames.Frames.{Item};
@@ -16,7 +16,7 @@ ghost use Rattle.std.specs.Option.{option_map};
 use crate::layers::{Layers, work_off};
 use dd_structure::Structure;
 use reorder_window::{Arrival, Item as OrderItem, Window};
-use sfu_base::{FrameMeaning, Kind, NoMemory, PacketBuf, Refusal, SeqList};
+use sfu_base::{Dti, FrameMeaning, Kind, NoMemory, PacketBuf, Refusal, SeqList};
 use std::alloc::Global;
 use std::marker::Model;
 
@@ -33,8 +33,21 @@ pub enum Made {
     Frame(FrameMeaning),
 }
 
+/// What one item made, where the track keeps what a frame means.
+#[derive(Clone, Copy, Debug)]
+pub enum Advance {
+    /// No item waits.
+    Idle,
+    /// Neither a packet nor a frame.
+    Nothing,
+    /// A packet of a plain track.
+    Packet,
+    /// A whole frame of a layered track, which means what [`Track::meaning`] says.
+    Frame,
+}
+
 /// One publisher's packets, from their arrival to plain packets or whole frames. Clauses see it as its SSRC, the order with the pieces that
-/// wait, what a layered track keeps, and the packets of what the last step made.
+/// wait, what a layered track keeps, the packets of what the last step made, and the meaning of the last frame that was made.
 #[derive(Drop)]
 pub struct Track {
     ssrc: u32,
@@ -44,6 +57,8 @@ pub struct Track {
     layers: Option<Layers>,
     // Whether the last step made a packet or a frame.
     given: bool,
+    // Of the last frame that was made. It is written in place, since it is some 260 bytes.
+    meaning: FrameMeaning,
 }
 
 impl Model for Track {
@@ -61,6 +76,25 @@ impl Model for Track {
 /// The longest packet that is taken in.
 const MOST_BYTES: usize = 1500;
 
+/// What stands where no frame was made yet.
+const NO_MEANING: FrameMeaning = FrameMeaning {
+    number: 0,
+    start: 0,
+    epoch: 0,
+    spatial: 0,
+    temporal: 0,
+    key: false,
+    mask: 0,
+    target_count: 0,
+    dtis: [Dti::NotPresent; 32],
+    pairs: [None; 32],
+    chain_count: 0,
+    guards: [0; 32],
+    links: [0; 32],
+    ref_count: 0,
+    refs: [0; 16],
+};
+
 impl Track {
     /// A track before its first packet, that holds a packet behind a gap for so many milliseconds. All its memory is taken here.
     pub fn new(alloc: Global, kind: Kind, ssrc: u32, hold: u32) -> Result<Track, NoMemory>
@@ -76,6 +110,7 @@ impl Track {
             buffer: PacketBuf::new(),
             layers,
             given: false,
+            meaning: NO_MEANING,
         })
     }
 
@@ -165,13 +200,45 @@ impl Track {
         ensures valid { IsMadeValid result }
         ensures stays { Stays self.old self.new }
     {
+        let advance = self.advance();
+        told(advance, self.meaning())
+    }
+
+    /// Works off one item as [`Track::step`] does, and keeps what a frame means for [`Track::meaning`].
+    pub fn advance(&mut self) -> Advance
+        ensures rest { self.new.window ≡ record self.old.window { waiting = drop 1 self.old.window.waiting } }
+        ensures idle { (result ≡ Advance.Idle) ↔ (self.old.window.waiting ≡ []) }
+        ensures stands { (events : List Event) (worked : List Piece) → StandsFor self.old events worked
+            → StandsFor self.new events (and_piece worked (slice_get self.old.window.waiting 0)) }
+        ensures made { (events : List Event) (worked : List Piece) → StandsFor self.old events worked
+            → told_with self.new.meaning result ≡ made_of self.old.layers worked (slice_get self.old.window.waiting 0) }
+        ensures packets { (events : List Event) (worked : List Piece) → StandsFor self.old events worked
+            → self.new.packets ≡ packets_of self.old.layers worked (slice_get self.old.window.waiting 0) }
+        ensures of_frame { (events : List Event) (worked : List Piece) → StandsFor self.old events worked
+            → map packet_of self.new.packets ≡ frames_packets self.old.layers worked (slice_get self.old.window.waiting 0) }
+        ensures one { result ≡ Advance.Packet → length self.new.packets ≡ 1 }
+        ensures valid { IsMadeValid (told_with self.new.meaning result) }
+        ensures stays { Stays self.old self.new }
+    {
         self.given = false;
         let Some(item) = self.window.next_item(&mut self.buffer) else {
-            return Made::Idle;
+            return Advance::Idle;
         };
-        let made = worked(&mut self.layers, is_packet(&item), self.buffer.bytes());
-        self.given = is_given(&made);
+        let made = worked(
+            &mut self.layers,
+            is_packet(&item),
+            self.buffer.bytes(),
+            &mut self.meaning,
+        );
+        self.given = is_given(made);
         made
+    }
+
+    /// What the last frame means that was made.
+    pub fn meaning(&self) -> &FrameMeaning
+        ensures { result.now ≡ self.now.meaning }
+    {
+        &self.meaning
     }
 
     /// How many packets the last step made: 1 after a packet, those of the frame after a frame, else 0.
@@ -239,34 +306,54 @@ fn structure_of(layers: &Option<Layers>) -> Option<&Structure>
     }
 }
 
+// What an item made, told by the meaning that the track keeps.
+fn told(advance: Advance, meaning: &FrameMeaning) -> Made
+    ensures { result ≡ told_with meaning.now advance }
+{
+    match advance {
+        Advance::Idle => Made::Idle,
+        Advance::Nothing => Made::Nothing,
+        Advance::Packet => Made::Packet,
+        Advance::Frame => Made::Frame(*meaning),
+    }
+}
+
 // Works off one item: the packet with these bytes, or numbers that were given up.
-fn worked(layers: &mut Option<Layers>, came: bool, bytes: &[u8]) -> Made
+fn worked(
+    layers: &mut Option<Layers>,
+    came: bool,
+    bytes: &[u8],
+    meaning: &mut FrameMeaning,
+) -> Advance
     requires taken { came ≡ true → IsTaken bytes.now }
     requires stood { IfSome layers.old HasStood }
     requires bound { IfSome layers.old (λ l. l.table.newest ≤ 2 ^ 63 - 131072) }
     ensures kind { option_map id_of layers.new ≡ option_map id_of layers.old }
     ensures near { (n : ℕ) → IfSome layers.old (λ l. l.table.newest ≤ n) → IfSome layers.new (λ l. l.table.newest ≤ n + 131072) }
     ensures stands { (past : List Item) → IfSome layers.old (λ l. IsAfter l past) → IfSome layers.new (λ l. IsAfter l (item_by came bytes.now ∷ past)) }
-    ensures made { (past : List Item) → IfSome layers.old (λ l. IsAfter l past) → result ≡ made_by layers.old past came bytes.now }
-    ensures some { result ≡ Made.Idle → ⊥ }
-    ensures came { gives result ≡ true → came ≡ true }
-    ensures valid { IsMadeValid result }
+    ensures made { (past : List Item) → IfSome layers.old (λ l. IsAfter l past) → told_with meaning.new result ≡ made_by layers.old past came bytes.now }
+    ensures some { result ≡ Advance.Idle → ⊥ }
+    ensures came { has_given result ≡ true → came ≡ true }
+    ensures valid { IsMadeValid (told_with meaning.new result) }
 {
     match layers {
-        None => { if came { Made::Packet } else { Made::Nothing } }
-        Some(layers) => match work_off(layers, came, bytes) {
-            Some(meaning) => Made::Frame(meaning),
-            None => Made::Nothing,
-        },
+        None => { if came { Advance::Packet } else { Advance::Nothing } }
+        Some(layers) => {
+            if work_off(layers, came, bytes, meaning) {
+                Advance::Frame
+            } else {
+                Advance::Nothing
+            }
+        }
     }
 }
 
-fn is_given(made: &Made) -> bool
-    ensures { result ≡ gives made.now }
+fn is_given(made: Advance) -> bool
+    ensures { result ≡ has_given made }
 {
     match made {
-        Made::Packet | Made::Frame(_) => true,
-        Made::Idle | Made::Nothing => false,
+        Advance::Packet | Advance::Frame => true,
+        Advance::Idle | Advance::Nothing => false,
     }
 }
 

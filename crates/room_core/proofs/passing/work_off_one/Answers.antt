@@ -1,5 +1,8 @@
-use Rattle.std.proofs.Common.{nat_eq}
+use Rattle.std.proofs.Common.{nat_eq, subst, sym}
 use Rattle.indexmap.specs.IndexMap.{get}
+use Rattle.sfu_base.specs.declared.frame.FrameMeaning.{FrameMeaning}
+use Rattle.track_core.specs.declared.track.Made.TheVariants as made
+use Rattle.room_core.specs.Stepping.{Steps}
 use Rattle.room_core.proofs.Working.{one_frame, one_nothing, one_packet}
 use Rattle.room_core.proofs.passing.work_off_one.Goals as goal
 
@@ -15,4 +18,4 @@ returns-in-Packet-clause-worked c =
 pub returns-in-Frame-clause-worked : goal.returns-in-Frame-clause-worked
 returns-in-Frame-clause-worked c =
     one_frame c.args.pipeline.now c.step.new.pipeline c.args.number (get nat_eq c.args.subscribers.now) (get nat_eq c.pass_frame_to_all.new.subscribers) c.args.pleaded.now c.still_pleaded.result
-    c.in-Frame.frame c.in-Frame.ensures.steps c.still_pleaded.ensures c.pass_frame_to_all.ensures.passed
+    c.meaning-frame.result.now (subst (λ (m : FrameMeaning). Steps c.args.pipeline.now c.step.new.pipeline (made.Frame m)) (sym c.meaning-frame.ensures) c.in-Frame.ensures.steps) c.still_pleaded.ensures c.pass_frame_to_all.ensures.passed

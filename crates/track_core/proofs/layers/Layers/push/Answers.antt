@@ -1,9 +1,10 @@
 use Rattle.std.proofs.Common.{◌∙◌, refl, arith}
-use Rattle.track_core.proofs.Pushing.{pushed_other, pushed_whole, valid_where_ok, whole_head}
+use Rattle.frame_table.specs.Heads.{written_or_stale}
+use Rattle.track_core.proofs.Pushing.{pushed_other, pushed_whole, whole_head, written_ok, written_valid}
 use Rattle.track_core.proofs.layers.Layers.push.Goals as goal
 
-pub whole_of-requires-clause-references : goal.whole_of-requires-clause-references
-whole_of-requires-clause-references c =
+pub whole_into-requires-clause-references : goal.whole_into-requires-clause-references
+whole_into-requires-clause-references c =
     let p = c.requires.pushable in
     (whole_head c.args.self.now (record c.args.self.now { assembly = c.push.new.self; head = c.keep_head.new.head }) c.args.mark.now c.args.bytes.now c.push.result
     c.push.ensures.outcome c.push.ensures.stands c.keep_head.ensures.started c.keep_head.ensures.kept
@@ -11,14 +12,14 @@ whole_of-requires-clause-references c =
 
 pub returns-in-Whole-clause-pushed : goal.returns-in-Whole-clause-pushed
 returns-in-Whole-clause-pushed c marks m running same first =
-    let p = pushed_whole c.args.self.now (record { id = c.args.self.now.id; table = c.whole_of.new.self; assembly = c.push.new.self; head = c.keep_head.new.head; newest = c.args.self.now.newest })
+    let p = pushed_whole c.args.self.now (record { id = c.args.self.now.id; table = c.whole_into.new.self; assembly = c.push.new.self; head = c.keep_head.new.head; newest = c.args.self.now.newest })
     c.args.mark.now c.args.bytes.now c.push.result
     c.push.ensures.outcome c.push.ensures.stands c.keep_head.ensures.started c.keep_head.ensures.kept
-    marks m running same first c.whole_of.result c.in-Whole.is c.whole_of.ensures.meaning c.whole_of.ensures.force in
-    record { running = p.running; force = p.force; made = c.ok.ensures.value ∙ p.made }
+    marks m running same first (written_or_stale c.whole_into.result c.whole_into.new.out c.args.self.now.table.newest) c.in-Whole.is c.whole_into.ensures.meaning c.whole_into.ensures.force in
+    record { running = p.running; force = p.force; made = written_ok c.whole_into.result c.whole_into.new.out c.args.self.now.table.newest ∙ p.made }
 
 pub returns-in-Whole-clause-valid : goal.returns-in-Whole-clause-valid
-returns-in-Whole-clause-valid c = valid_where_ok c.whole_of.result _ c.ok.ensures.value c.whole_of.ensures.valid
+returns-in-Whole-clause-valid c = written_valid c.whole_into.result c.whole_into.new.out c.whole_into.ensures.valid
 
 pub returns-in_default : goal.returns-in_default
 returns-in_default c = record {

@@ -1,7 +1,7 @@
 use Rattle.std.proofs.Common.{◌∙◌, sym, subst, ℕ, ◌∷◌}
 use Rattle.forwarding_model.specs.frames.Frames.Item.{Arrived}
 use Rattle.packet_format.specs.Packets.{packet_of}
-use Rattle.track_core.specs.Layers.{IsAfterAs, marks_of, mark_of}
+use Rattle.track_core.specs.Layers.{IsAfterAs, marks_of, mark_of, written}
 use Rattle.track_core.proofs.Standing.{after_packet, made_packet, now_running, pushable}
 use Rattle.track_core.proofs.layers.Layers.take.Goals as goal
 
@@ -17,7 +17,7 @@ returns-clause-stands c past is =
     c.look-mark.ensures.looked c.look-mark.ensures.assembly c.look-mark.ensures.head in
     subst (λ (id : ℕ). IsAfterAs id c.push.new.self (Arrived (packet_of c.args.bytes.now) ∷ past)) (sym (c.push.ensures.id ∙ c.look-mark.ensures.id))
     (after_packet c.args.self.now.id c.args.self.now c.look-mark.new.self c.look-mark.result c.args.bytes.now past is
-    c.look-mark.ensures.looked c.look-mark.ensures.assembly c.look-mark.ensures.head c.push.new.self c.push.result
+    c.look-mark.ensures.looked c.look-mark.ensures.assembly c.look-mark.ensures.head c.push.new.self (written c.push.result c.push.new.meaning)
     (c.push.ensures.pushed (marks_of c.args.self.now.id past) (mark_of c.args.self.now.id c.args.self.now.table.structure (Arrived (packet_of c.args.bytes.now)))
     running c.look-mark.ensures.looked.marked c.look-mark.ensures.looked.starts))
 
@@ -26,6 +26,6 @@ returns-clause-made c past is =
     let running = now_running c.args.self.now.id c.args.self.now c.look-mark.new.self c.look-mark.result c.args.bytes.now past is
     c.look-mark.ensures.looked c.look-mark.ensures.assembly c.look-mark.ensures.head in
     made_packet c.args.self.now.id c.args.self.now c.look-mark.new.self c.look-mark.result c.args.bytes.now past is
-    c.look-mark.ensures.looked c.look-mark.ensures.assembly c.look-mark.ensures.head c.push.new.self c.push.result
+    c.look-mark.ensures.looked c.look-mark.ensures.assembly c.look-mark.ensures.head c.push.new.self (written c.push.result c.push.new.meaning)
     (c.push.ensures.pushed (marks_of c.args.self.now.id past) (mark_of c.args.self.now.id c.args.self.now.table.structure (Arrived (packet_of c.args.bytes.now)))
     running c.look-mark.ensures.looked.marked c.look-mark.ensures.looked.starts)

@@ -1,90 +1,22 @@
-use Rattle.std.proofs.Common.{◌∙◌, ◌∷◌, ◌++◌, ℕ, List, subst, sym, ap, ap₂, Bool, IfSome, []}
-use Rattle.std.specs.Prelude.{map, slice_get}
-use Rattle.packet_format.specs.Packets.{packet_of}
-use Rattle.reorder_window.specs.Events.{Piece}
-use Rattle.forwarding_model.specs.frames.Frames.{Item}
-use Rattle.track_core.specs.Layers.{IsAfter}
-use Rattle.track_core.specs.Pieces.{IsTaken, item_by, items_of}
-use Rattle.track_core.specs.Track.{Seen, StandsFor, gives, made_by, made_of, packets_of, and_piece}
-use Rattle.track_core.specs.Kept.{seen}
-use Rattle.track_core.proofs.OfFrames.{made_alone, of_frame}
-use Rattle.track_core.proofs.Orders.{bound_step, fetched, item_here, made_with, packets_given, made_step, some_stood, step_stands, taken_step, worked_step}
+use Rattle.std.proofs.Common.{◌∙◌, ap, subst, sym}
+use Rattle.sfu_base.specs.declared.frame.FrameMeaning.{FrameMeaning}
+use Rattle.track_core.specs.Track.{IsMadeValid, told_with}
+use Rattle.track_core.proofs.Told.{told_idle, told_packet}
 use Rattle.track_core.proofs.track.Track.step.Goals as goal
 
-pub worked-made-requires-clause-taken : goal.worked-made-requires-clause-taken
-worked-made-requires-clause-taken c got =
-    let h = c.self.invariant.stood in
-    let f = fetched c.self.inside.window.waiting c.in-Some.item c.self.inside.buffer c.next_item.new.buf c.in-Some.ensures.item c.next_item.ensures.bytes in
-    subst IsTaken (sym c.bytes.ensures.bytes) (taken_step (seen c.self.inside) h.events h.worked h.stands c.in-Some.item c.self.inside.buffer c.next_item.new.buf f (sym c.is_packet.ensures ∙ got))
-
-pub worked-made-requires-clause-stood : goal.worked-made-requires-clause-stood
-worked-made-requires-clause-stood c = (let h = c.self.invariant.stood in some_stood c.self.inside.layers (items_of h.worked) h.stands.layers)
-
-pub worked-made-requires-clause-bound : goal.worked-made-requires-clause-bound
-worked-made-requires-clause-bound c =
-    let h = c.self.invariant.stood in
-    let f = fetched c.self.inside.window.waiting c.in-Some.item c.self.inside.buffer c.next_item.new.buf c.in-Some.ensures.item c.next_item.ensures.bytes in
-    bound_step (seen c.self.inside) h.events h.worked h.stands c.in-Some.item c.self.inside.buffer c.next_item.new.buf f
-
-pub invariant_of-self-2 : goal.invariant_of-self-2
-invariant_of-self-2 c =
-    let h = c.self.invariant.stood in
-    let f = fetched c.self.inside.window.waiting c.in-Some.item c.self.inside.buffer c.next_item.new.buf c.in-Some.ensures.item c.next_item.ensures.bytes in
-    record {
-      stood = record {
-        events = h.events;
-        worked = h.worked ++ f.piece ∷ [];
-        stands = step_stands (seen c.self.inside) h.events h.worked h.stands c.in-Some.item c.self.inside.buffer c.next_item.new.buf f _ c.next_item.ensures.rest c.worked-made.ensures.near
-            (λ past is. subst (λ (x : Item). IfSome c.worked-made.new.layers (λ l. IsAfter l (x ∷ past)))
-            (ap₂ item_by c.is_packet.ensures c.bytes.ensures.bytes) (c.worked-made.ensures.stands past is));
-      };
-      buffer = λ given. taken_step (seen c.self.inside) h.events h.worked h.stands c.in-Some.item c.self.inside.buffer c.next_item.new.buf f
-          (sym c.is_packet.ensures ∙ c.worked-made.ensures.came (sym c.is_given-self-inside.ensures ∙ given));
-    }
-
-pub returns-clause-stands : goal.returns-clause-stands
-returns-clause-stands c events worked stands =
-    let f = fetched c.self.inside.window.waiting c.in-Some.item c.self.inside.buffer c.next_item.new.buf c.in-Some.ensures.item c.next_item.ensures.bytes in
-    let before : StandsFor (seen c.self.inside) events worked = subst (λ (t : Seen). StandsFor t events worked) (sym c.self.view_is) stands in
-    let now : Seen = seen (record { ssrc = c.self.inside.ssrc; window = c.next_item.new.self; buffer = c.next_item.new.buf; layers = c.worked-made.new.layers; given = c.is_given-self-inside.result }) in
-    let more = worked_step (seen c.self.inside) events worked before c.in-Some.item c.self.inside.buffer c.next_item.new.buf f in
-    subst (λ (ps : List Piece). StandsFor now events ps)
-    (more ∙ ap (λ (t : Seen). and_piece worked (slice_get t.window.waiting 0)) c.self.view_is)
-    (step_stands (seen c.self.inside) events worked before c.in-Some.item c.self.inside.buffer c.next_item.new.buf f now c.next_item.ensures.rest c.worked-made.ensures.near
-    (λ past is. subst (λ (x : Item). IfSome c.worked-made.new.layers (λ l. IsAfter l (x ∷ past)))
-    (ap₂ item_by c.is_packet.ensures c.bytes.ensures.bytes) (c.worked-made.ensures.stands past is)))
+pub returns-clause-idle : goal.returns-clause-idle
+returns-clause-idle c = (
+  λ none. c.advance-advance.ensures.idle.0 (told_idle c.meaning.result.now c.advance-advance.result (sym c.told.ensures ∙ none)),
+  λ empty. c.told.ensures ∙ ap (told_with c.meaning.result.now) (c.advance-advance.ensures.idle.1 empty),
+)
 
 pub returns-clause-made : goal.returns-clause-made
 returns-clause-made c events worked stands =
-    let f = fetched c.self.inside.window.waiting c.in-Some.item c.self.inside.buffer c.next_item.new.buf c.in-Some.ensures.item c.next_item.ensures.bytes in
-    let before : StandsFor (seen c.self.inside) events worked = subst (λ (t : Seen). StandsFor t events worked) (sym c.self.view_is) stands in
-    c.worked-made.ensures.made (items_of worked) before.layers
-    ∙ ap₂ (λ (b : Bool) (xs : List ℕ). made_by c.self.inside.layers (items_of worked) b xs) c.is_packet.ensures c.bytes.ensures.bytes
-    ∙ made_step (seen c.self.inside) events worked before c.in-Some.item c.self.inside.buffer c.next_item.new.buf f
-    ∙ ap (λ (t : Seen). made_of t.layers worked (slice_get t.window.waiting 0)) c.self.view_is
-
-pub returns-clause-packets : goal.returns-clause-packets
-returns-clause-packets c events worked stands =
-    let f = fetched c.self.inside.window.waiting c.in-Some.item c.self.inside.buffer c.next_item.new.buf c.in-Some.ensures.item c.next_item.ensures.bytes in
-    let before : StandsFor (seen c.self.inside) events worked = subst (λ (t : Seen). StandsFor t events worked) (sym c.self.view_is) stands in
-    let item = ap₂ item_by c.is_packet.ensures c.bytes.ensures.bytes ∙ item_here f.piece c.in-Some.item c.self.inside.buffer c.next_item.new.buf f.told f.bytes in
-    let made = c.worked-made.ensures.made (items_of worked) before.layers
-    ∙ ap₂ (λ (b : Bool) (xs : List ℕ). made_by c.self.inside.layers (items_of worked) b xs) c.is_packet.ensures c.bytes.ensures.bytes
-    ∙ made_with (seen c.self.inside) events worked before c.in-Some.item c.self.inside.buffer c.next_item.new.buf f c.self.inside.layers in
-    packets_given worked f.piece c.in-Some.item c.self.inside.buffer c.next_item.new.buf f.told f.bytes c.self.inside.layers c.worked-made.new.layers c.is_given-self-inside.result
-    c.worked-made.ensures.kind
-    (subst (λ (x : Item). IfSome c.worked-made.new.layers (λ l. IsAfter l (x ∷ items_of worked))) item (c.worked-made.ensures.stands (items_of worked) before.layers))
-    (c.is_given-self-inside.ensures ∙ ap gives made)
-    ∙ ap (λ (xs : List Piece). packets_of c.self.inside.layers worked (slice_get xs 0)) (sym f.is)
-    ∙ ap (λ (t : Seen). packets_of t.layers worked (slice_get t.window.waiting 0)) c.self.view_is
-
-pub returns-clause-of_frame : goal.returns-clause-of_frame
-returns-clause-of_frame c events worked stands =
-    ap (map packet_of) (returns-clause-packets c events worked stands) ∙ of_frame _ events worked stands
+    c.told.ensures ∙ ap (λ (m : FrameMeaning). told_with m c.advance-advance.result) c.meaning.ensures ∙ c.advance-advance.ensures.made events worked stands
 
 pub returns-clause-one : goal.returns-clause-one
-returns-clause-one c packet =
-    let h = c.self.invariant.stood in
-    let stands : StandsFor c.args.self.now h.events h.worked = subst (λ (t : Seen). StandsFor t h.events h.worked) c.self.view_is h.stands in
-    made_alone c.args.self.now.layers h.worked (slice_get c.args.self.now.window.waiting 0) _ (sym (returns-clause-made c h.events h.worked stands) ∙ packet)
-    (returns-clause-packets c h.events h.worked stands)
+returns-clause-one c packet = c.advance-advance.ensures.one (told_packet c.meaning.result.now c.advance-advance.result (sym c.told.ensures ∙ packet))
+
+pub returns-clause-valid : goal.returns-clause-valid
+returns-clause-valid c =
+    subst IsMadeValid (sym (c.told.ensures ∙ ap (λ (m : FrameMeaning). told_with m c.advance-advance.result) c.meaning.ensures)) c.advance-advance.ensures.valid
