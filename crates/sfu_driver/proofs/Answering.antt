@@ -1,5 +1,5 @@
 -- What a command did, by its status.
-use Rattle.std.proofs.Common.{◌≡◌, ◌<◌, ◌⊎◌, inl, inr, ℕ, List, ◌++◌, refl, sym, ap, ◌∙◌, subst, arith, Option, Some, None, Result, Ok, Err}
+use Rattle.std.proofs.Common.{◌≡◌, ◌<◌, ◌≤◌, ◌⊎◌, inl, inr, ℕ, List, ◌++◌, refl, sym, ap, ◌∙◌, subst, arith, Option, Some, None, Result, Ok, Err}
 use Rattle.std.specs.Prelude.{IfSome, IsOk}
 use Rattle.std.specs.Io.KnownBytes.{Consumes, IsAtEnd}
 use Rattle.sfu_driver.specs.declared.halt.Ending.{Ending}
@@ -11,6 +11,7 @@ use Rattle.sfu_driver.specs.Outcome.{End, Outcome, takes, then_due}
 use Rattle.sfu_driver.specs.Drive.{CauseOf, Drove, WritesFront, end_by}
 use Rattle.sfu_driver.specs.Statuses.{Completes, Decides, IsPrompt, Statuses, due_of, end_of, full_text, status_for, status_of}
 use Rattle.sfu_driver.proofs.Driving.{ToldBy, told, told_begun}
+use Rattle.sfu_driver.proofs.Fronts.{rose_since}
 
 if_some : (left : Option (List ℕ)) (P Q : List ℕ → Type 0) → ((b : List ℕ) → P b → Q b) → IfSome left P → IfSome left Q
 if_some None P Q f p = tt
@@ -54,6 +55,13 @@ same_why ending.Outside ending.Complaint is = absurd (omega arith)
 same_why ending.Complaint ending.Outside is = absurd (omega arith)
 same_why ending.Complaint ending.Complaint is = refl
 
+-- a count that rose in a later call rose in both together
+pub cause_since : (g0 g g' f f' : ℕ) (result : Result (Unit {0}) Stop) → g0 ≤ g → CauseOf g g' f f' result → CauseOf g0 g' f f' result
+cause_since g0 g g' f f' (Ok _) le cause = tt
+cause_since g0 g g' f f' (Err SourceFault) le cause = rose_since g0 g g' le cause
+cause_since g0 g g' f f' (Err SinkFault) le cause = cause
+cause_since g0 g g' f f' (Err (Halted why)) le cause = tt
+
 -- the told facts, whatever the source tells
 told_if : {U S T : Type 0} (stands : U → T → Type 0) (byte : S → ℕ → Outcome S) (ends : S → Outcome T) (s : S) (new : U) (left left' w w' : Option (List ℕ)) (f f' : ℕ) (result : Result (Unit {0}) Stop)
     → Drove stands byte ends s new left left' w w' f f' result → IfSome left (λ b. ToldBy byte ends s b left' w w' f f' result)
@@ -68,8 +76,7 @@ prompt_by stands byte ends s new left left' w w' f f' result d = always left _ (
   consumed = d.consumed;
   small = d.small;
   goes = no_end (takes byte s d.earlier).result d.first.0;
-  more = d.first.1;
-  wrote = d.first.2;
+  wrote = λ some. (d.first.1, d.first.2);
 })
 
 begun_by : {U S T : Type 0} (stands : U → T → Type 0) (byte : S → ℕ → Outcome S) (ends : S → Outcome T) (s : S) (new : U) (left left' w w' : Option (List ℕ)) (f f' : ℕ) (result : Result (Unit {0}) Stop)

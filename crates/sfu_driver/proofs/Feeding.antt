@@ -1,8 +1,8 @@
 -- What pieces do, one after another, and a flush, and an end.
 use Rattle.std.proofs.Common.{◌≡◌, ◌≤◌, ℕ, ◌-◌, List, [], ◌∷◌, ◌++◌, length, take, drop, refl, sym, ap, ◌∙◌, subst, arith, Option, Result, Ok, Err, append_assoc, append-nil}
 use Rattle.std.specs.Prelude.{IsOk, OnErr, OnOk}
-use Rattle.std.specs.Io.KnownBytes.{Appends, Consumes}
-use Rattle.std.proofs.KnownBytes.{Appends-trans, Appends-nil, Consumes-nil, Consumes-trans}
+use Rattle.std.specs.Io.KnownBytes.{Appends, Consumes, Keeps}
+use Rattle.std.proofs.KnownBytes.{Appends-trans, Appends-nil, Consumes-kept, Consumes-nil, Consumes-trans}
 use Rattle.std.proofs.lemmas.List.{take_rest, take-append-drop}
 use Rattle.std.proofs.Math.Seq.{take-append_seam, drop-append_seam}
 use Rattle.sfu_base.specs.Faults.{Rose}
@@ -210,6 +210,39 @@ took_on stands byte u0 u1 u2 r0 r1 r2 left0 left1 left2 w0 w1 w2 f0 f1 f2 piece 
       let more = some_by stands byte a.later piece u2 r1 r2 w1 w2 f1 f2 result (feeds a.later a.at) in
       (goes_ok (takes byte s bytes).result a.later a.goes, more.0, Appends-trans w0 w1 w2 (takes byte s bytes).text more.0 (all_flushed stands byte s bytes u1 r0 r1 w0 w1 none empty a) more.1);
   feeds = feeds_on stands byte u0 u1 u2 (took.earlier ++ took.piece) piece r0 r1 r2 w0 w1 w2 f0 f1 f2 result le took.feeds feeds;
+}
+
+-- bytes were taken, and a piece was read behind them
+pub record HasRead {U S : Type 0} (stands : U → S → Type 0) (byte : S → ℕ → Outcome S) (old new : U) (ready ready' : List ℕ) (left left' written written' : Option (List ℕ)) (faults faults' : ℕ) (piece : List ℕ) : Type 0 where
+  pub before : Option (List ℕ)
+  pub took : Took stands byte old new ready ready' left before written written' faults faults' (Ok tt)
+  pub read : Consumes before left' piece
+
+-- nothing was read behind the bytes that were taken
+pub took_all : {U S : Type 0} (stands : U → S → Type 0) (byte : S → ℕ → Outcome S) (u0 u1 : U) (r0 r1 : List ℕ) (left left1 left2 w0 w1 : Option (List ℕ)) (f0 f1 : ℕ) (result : Result (Unit {0}) Stop)
+    → Took stands byte u0 u1 r0 r1 left left1 w0 w1 f0 f1 result → Consumes left1 left2 [] → Took stands byte u0 u1 r0 r1 left left2 w0 w1 f0 f1 result
+took_all stands byte u0 u1 r0 r1 left left1 left2 w0 w1 f0 f1 result took none = record {
+  earlier = took.earlier;
+  piece = took.piece;
+  consumed = subst (Consumes left left2) (append-nil (took.earlier ++ took.piece)) (Consumes-trans left left1 left2 (took.earlier ++ took.piece) [] took.consumed none);
+  small = took.small;
+  first = took.first;
+  feeds = took.feeds;
+}
+
+-- the source failed behind bytes all of whose texts were written
+pub took_fails : {U S : Type 0} (stands : U → S → Type 0) (byte : S → ℕ → Outcome S) (u0 u1 : U) (r0 r1 : List ℕ) (left left1 left2 w0 w1 : Option (List ℕ)) (f0 f1 : ℕ)
+    → r1 ≡ [] → Took stands byte u0 u1 r0 r1 left left1 w0 w1 f0 f1 (Ok tt) → Keeps left1 left2 → Took stands byte u0 u1 r0 r1 left left2 w0 w1 f0 f1 (Err SourceFault)
+took_fails stands byte u0 u1 r0 r1 left left1 left2 w0 w1 f0 f1 empty took keeps = record {
+  earlier = took.earlier;
+  piece = took.piece;
+  consumed = Consumes-kept left left1 left2 (took.earlier ++ took.piece) took.consumed keeps;
+  small = took.small;
+  first = took.first;
+  feeds = λ s stand.
+      let bytes = took.earlier ++ took.piece in
+      let a = took.feeds s stand in
+      (goes_ok (takes byte s bytes).result a.later a.goes, subst (Appends w0 w1) (sym (a.whole ∙ ap (λ (xs : List ℕ). a.flushed ++ xs) empty ∙ append-nil a.flushed)) a.wrote);
 }
 
 -- ---- a piece is what was taken of it and what is left

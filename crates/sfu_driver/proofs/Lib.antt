@@ -8,5 +8,6 @@ pub mod Driving
 pub mod LineEnds
 pub mod LineScans
 pub mod LineInputs
+pub mod UnitInputs
 pub mod Answering
 pub mod Meanings

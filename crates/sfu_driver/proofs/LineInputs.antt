@@ -151,18 +151,18 @@ due_is_lines {S} step outside closing s n kept (b ∷ bytes) unended short =
 
 -- ---- the lines that are judged before the end is seen
 
-takes_more : {S : Type 0} (rule : Rule S) (s : S) (n : ℕ) (kept : List ℕ) (b : ℕ) (bytes : List ℕ) → rule.scan n kept b ≡ More
+pub takes_more : {S : Type 0} (rule : Rule S) (s : S) (n : ℕ) (kept : List ℕ) (b : ℕ) (bytes : List ℕ) → rule.scan n kept b ≡ More
     → takes (byte rule) (at s n kept) (b ∷ bytes) ≡ takes (byte rule) (at s n (kept ++ b ∷ [])) bytes
 takes_more {S} rule s n kept b bytes is = ap (λ (o : Outcome (Point S)). then_due o (λ q. takes (byte rule) q bytes)) (by_scan rule s n kept b More is)
 
-takes_end : {S : Type 0} (rule : Rule S) (s : S) (n : ℕ) (kept : List ℕ) (b : ℕ) (bytes : List ℕ) (seen : Scan) → IsEnd seen → rule.scan n kept b ≡ seen
+pub takes_end : {S : Type 0} (rule : Rule S) (s : S) (n : ℕ) (kept : List ℕ) (b : ℕ) (bytes : List ℕ) (seen : Scan) → IsEnd seen → rule.scan n kept b ≡ seen
     → takes (byte rule) (at s n kept) (b ∷ bytes) ≡ then_due (judged rule s n seen) (λ later. takes (byte rule) (behind n later) bytes)
 takes_end {S} rule s n kept b bytes seen end is =
     ap (λ (o : Outcome (Point S)). then_due o (λ q. takes (byte rule) q bytes)) (by_scan rule s n kept b seen is ∙ end_moves rule s n kept b seen end)
     ∙ then_assoc (judged rule s n seen) (λ later. goes_on (behind n later)) (λ q. takes (byte rule) q bytes)
 
 -- what comes next may be exchanged for what is due as well
-then_same : {S T V : Type 0} (o : Outcome S) (f : S → Outcome T) (g : S → Outcome V) → ((s : S) → due_of (f s) ≡ due_of (g s)) → due_of (then_due o f) ≡ due_of (then_due o g)
+pub then_same : {S T V : Type 0} (o : Outcome S) (f : S → Outcome T) (g : S → Outcome V) → ((s : S) → due_of (f s) ≡ due_of (g s)) → due_of (then_due o f) ≡ due_of (then_due o g)
 then_same {S} {T} {V} o f g same = by_result o.result
   where
     by_result : (r : Result S End) → due_of (after o.text r f) ≡ due_of (after o.text r g)

@@ -40,8 +40,7 @@ statuses_same whole part whole' part' left left' w w' g g' f f' status same same
       consumed = x.consumed;
       small = x.small;
       goes = sym (ap (λ (d : Due). d.end) (same_part x.earlier)) ∙ x.goes;
-      more = x.more;
-      wrote = subst (λ (d : Due). Appends w w' (d.text ++ x.more)) (same_part x.earlier) x.wrote;
+      wrote = λ some. let y = x.wrote some in (y.0, subst (λ (d : Due). Appends w w' (d.text ++ y.0)) (same_part x.earlier) y.1);
     }
 
     only_also : (status ≡ 0) ⊎ (status ≡ 3) ⊎ (status ≡ 4) ⊎ (status ≡ 6) ⊎ ((bytes : List ℕ) × (end : End) × ((whole bytes).end ≡ Some end) × (status ≡ status_of end.why))

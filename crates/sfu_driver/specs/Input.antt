@@ -1,7 +1,8 @@
--- A whole input as its lines. The code never has a whole input in its hands: it reads pieces of any size, and puts lines together from them.
-use Rattle.std.specs.Prelude.{ℕ, ◌+◌, ◌==◌, ◌||◌, Bool, true, false, nat_lt, if◌then◌else◌, List, [], ◌∷◌, length}
+-- A whole input as its lines, or as its units however it is cut. The code never has a whole input in its hands: it reads pieces of any size,
+-- and puts units together from them.
+use Rattle.std.specs.Prelude.{ℕ, ◌+◌, ◌==◌, ◌||◌, Bool, true, false, nat_lt, if◌then◌else◌, List, [], ◌∷◌, ◌++◌, length}
 use Rattle.sfu_driver.specs.Outcome.{Outcome, goes_on, then_due}
-use Rattle.sfu_driver.specs.Scan.{Scan}
+use Rattle.sfu_driver.specs.Scan.{Scan, More, Whole, NoUnit}
 use Rattle.sfu_driver.specs.Lines.{short_line, without_cr}
 use Rattle.sfu_driver.specs.Point.{Rule, closed, judged}
 
@@ -34,6 +35,29 @@ is_judged line = line.ended || nat_lt 4200 (length line.bytes)
 abbrev pub judged_lines : List Line → List Line
 judged_lines [] = []
 judged_lines (line ∷ lines) = if is_judged line then line ∷ judged_lines lines else []
+
+-- ---- units of any cut
+
+-- A byte goes on with its unit, or ends it, and others follow. Nothing is said behind one that is outside the grammar.
+abbrev pub with_unit : Scan → List Scan → List Scan → List Scan
+with_unit More same next = same
+with_unit (Whole text) same next = Whole text ∷ next
+with_unit NoUnit same next = NoUnit ∷ []
+
+-- what the end of the input makes of a unit: none, or the last
+abbrev pub last_unit : Scan → List Scan
+last_unit More = []
+last_unit seen = seen ∷ []
+
+-- the units of bytes behind those that were kept, of which the first has this number
+abbrev pub units_of : (ℕ → List ℕ → ℕ → Scan) → (ℕ → List ℕ → Scan) → ℕ → List ℕ → List ℕ → List Scan
+units_of scan scan_end number kept [] = last_unit (scan_end number kept)
+units_of scan scan_end number kept (b ∷ bytes) =
+    with_unit (scan number kept b) (units_of scan scan_end number (kept ++ b ∷ []) bytes) (units_of scan scan_end (number + 1) [] bytes)
+
+-- those that are judged before the end of the input is seen
+abbrev pub judged_units : (ℕ → List ℕ → ℕ → Scan) → ℕ → List ℕ → List ℕ → List Scan
+judged_units scan number kept bytes = units_of scan (λ _ _. More) number kept bytes
 
 -- ---- what is due
 

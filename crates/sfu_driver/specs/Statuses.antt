@@ -1,7 +1,7 @@
 -- What each status says, for every command that reads its input unit by unit. `whole` is what is due for all bytes of the source, its end
 -- included, and `part` what is due for bytes whose end hasn't been seen. Where a source or a sink tells nothing of its bytes, nothing is
 -- said of them.
-use Rattle.std.specs.Prelude.{◌≡◌, ◌⊎◌, ℕ, ◌≤◌, List, [], ◌++◌, length, Option, Some, None, IfSome, Result, Ok, Err}
+use Rattle.std.specs.Prelude.{◌≡◌, ◌⊎◌, ℕ, ◌<◌, ◌≤◌, List, [], ◌++◌, length, Option, Some, None, IfSome, Result, Ok, Err}
 use Rattle.std.specs.Io.KnownBytes.{Appends, Consumes, IsAtEnd}
 use Rattle.sfu_base.specs.Faults.{Rose}
 use Rattle.sfu_driver.specs.declared.halt.Ending.{Ending}
@@ -60,16 +60,15 @@ Completes (Some end) status = (status ≡ status_of end.why) ⊎ (status ≡ 6)
 abbrev pub Decides : (List ℕ → Due) → Ending → Option (List ℕ) → List ℕ → Type 0
 Decides part why left' taken = ((last : List ℕ) × ((part taken).end ≡ Some (end_by why last))) ⊎ IsAtEnd left'
 
--- No more is read than is judged: the bytes before the last piece, which has at most 65,536, don't end the command, and all that is due for
--- them was written.
+-- No more is read than is judged: the bytes before the last piece, which has at most 65,536, don't end the command, and where there are
+-- some, all that is due for them was written.
 pub record IsPrompt (part : List ℕ → Due) (left left' written written' : Option (List ℕ)) : Type 0 where
   pub earlier : List ℕ
   pub piece : List ℕ
   pub consumed : Consumes left left' (earlier ++ piece)
   pub small : length piece ≤ 65536
   pub goes : (part earlier).end ≡ None
-  pub more : List ℕ
-  pub wrote : Appends written written' ((part earlier).text ++ more)
+  pub wrote : 0 < length earlier → (more : List ℕ) × Appends written written' ((part earlier).text ++ more)
 
 -- What a status says. The first that is met ends the command.
 pub record Statuses (whole part : List ℕ → Due) (left left' written written' : Option (List ℕ)) (reads reads' writes writes' status : ℕ) : Type 0 where

@@ -1,6 +1,6 @@
 // What goes from the source through the units to the sink.
-ghost use Rattle.std.specs.Prelude.{◌≡◌, ◌≢◌, ◌≤◌, ◌<◌, ◌+◌, [], Ok, Err, OnOk, OnErr, IfOk, take, drop, length};
-ghost use Rattle.std.specs.Io.KnownBytes.{Appends, IsAtEnd};
+ghost use Rattle.std.specs.Prelude.{◌≡◌, ◌≢◌, ◌≤◌, ◌<◌, ◌+◌, ℕ, List, Option, [], Ok, Err, OnOk, OnErr, IfOk, take, drop, length};
+ghost use Rattle.std.specs.Io.KnownBytes.{Appends, Consumes, IsAtEnd};
 ghost use Rattle.sfu_base.specs.Faults.{Rose};
 ghost use Rattle.sfu_driver.specs.Drive.{CauseOf, Drove, EndsBy, Feeds, Halts, Took, WritesPart};
 ghost use Rattle.sfu_driver.specs.Point.{Point, byte, ends};
@@ -11,8 +11,8 @@ use crate::{Cut, Halt, Judge, Stop, Units};
 use sfu_base::{Blob, Sink, Source};
 use std::alloc::Global;
 
-/// So many bytes are read at once at most.
-const MOST_PIECE: usize = 65_536;
+/// So many bytes of a source are read at once at most.
+pub const MOST_PIECE: usize = 65_536;
 
 /// Texts of so many bytes are written at once, also where a piece of the input has more to say.
 const MOST_READY: usize = 65_536;
@@ -104,31 +104,35 @@ fn feed<C: Cut, J: Judge, K: Sink>(
     flush(ready, sink)
 }
 
-// Takes all bytes of the source, piece by piece.
+// Takes so many bytes of a piece that was read, and then all bytes of the source, piece by piece.
 fn take_all<C: Cut, J: Judge, S: Source, K: Sink>(
     units: &mut Units<C, J>,
     ready: &mut Blob,
+    piece: &mut [u8; MOST_PIECE],
+    first: usize,
     source: &mut S,
     sink: &mut K,
 ) -> Result<(), Stop>
-    requires { ready.old ≡ [] }
-    ensures took { Took (StandsAt J.stands) (byte (rule_of C.scan C.scan_end J.step J.outside J.closing)) units.old units.new ready.old ready.new (S.left source.old) (S.left source.new)
+    requires ready { ready.old ≡ [] }
+    requires within { first ≤ MOST_PIECE }
+    requires end { first ≡ 0 → IsAtEnd (S.left source.old) }
+    ensures took { (left : Option (List ℕ)) → Consumes left (S.left source.old) (take first piece.old)
+        → Took (StandsAt J.stands) (byte (rule_of C.scan C.scan_end J.step J.outside J.closing)) units.old units.new ready.old ready.new left (S.left source.new)
         (K.written sink.old) (K.written sink.new) (K.faults sink.old) (K.faults sink.new) result }
     ensures end { OnOk result (IsAtEnd (S.left source.new)) }
     ensures written { OnOk result (ready.new ≡ []) }
     ensures cause { CauseOf (S.faults source.old) (S.faults source.new) (K.faults sink.old) (K.faults sink.new) result }
     ensures never_falls { K.faults sink.old ≤ K.faults sink.new }
 {
-    let mut piece = [0u8; MOST_PIECE];
-    loop {
-        let Ok(count) = source.read(&mut piece) else {
+    let mut count = first;
+    while count > 0 {
+        feed(units, ready, sink, &piece[..count])?;
+        let Ok(next) = source.read(piece) else {
             return Err(Stop::SourceFault);
         };
-        if count == 0 {
-            return Ok(());
-        }
-        feed(units, ready, sink, &piece[..count])?;
+        count = next;
     }
+    Ok(())
 }
 
 // Takes the end of the input, and writes the texts that are due.
@@ -149,6 +153,28 @@ fn finish<C: Cut, J: Judge, K: Sink>(
     }
 }
 
+/// Takes a command's input of which so many bytes of a piece were read, none only at its end, and writes what is due.
+pub fn drive_behind<C: Cut, J: Judge, S: Source, K: Sink>(
+    alloc: Global,
+    units: &mut Units<C, J>,
+    piece: &mut [u8; MOST_PIECE],
+    first: usize,
+    source: &mut S,
+    sink: &mut K,
+) -> Result<(), Stop>
+    requires within { first ≤ MOST_PIECE }
+    requires end { first ≡ 0 → IsAtEnd (S.left source.old) }
+    ensures drove { (left : Option (List ℕ)) (point : Point J.State) → Consumes left (S.left source.old) (take first piece.old) → StandsAt J.stands units.old point
+        → Drove (JudgeStands J.stands) (byte (rule_of C.scan C.scan_end J.step J.outside J.closing)) (ends (rule_of C.scan C.scan_end J.step J.outside J.closing)) point units.new
+        left (S.left source.new) (K.written sink.old) (K.written sink.new) (K.faults sink.old) (K.faults sink.new) result }
+    ensures cause { CauseOf (S.faults source.old) (S.faults source.new) (K.faults sink.old) (K.faults sink.new) result }
+    ensures never_falls { K.faults sink.old ≤ K.faults sink.new }
+{
+    let mut ready = Blob::new(alloc);
+    take_all(units, &mut ready, piece, first, source, sink)?;
+    finish(units, &mut ready, sink)
+}
+
 /// Takes the whole input of a command, and writes what is due.
 pub fn drive<C: Cut, J: Judge, S: Source, K: Sink>(
     alloc: Global,
@@ -162,7 +188,9 @@ pub fn drive<C: Cut, J: Judge, S: Source, K: Sink>(
     ensures cause { CauseOf (S.faults source.old) (S.faults source.new) (K.faults sink.old) (K.faults sink.new) result }
     ensures never_falls { K.faults sink.old ≤ K.faults sink.new }
 {
-    let mut ready = Blob::new(alloc);
-    take_all(units, &mut ready, source, sink)?;
-    finish(units, &mut ready, sink)
+    let mut piece = [0u8; MOST_PIECE];
+    let Ok(first) = source.read(&mut piece) else {
+        return Err(Stop::SourceFault);
+    };
+    drive_behind(alloc, units, &mut piece, first, source, sink)
 }

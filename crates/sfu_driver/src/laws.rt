@@ -4,10 +4,10 @@ ghost use Rattle.sfu_driver.specs.Outcome.{takes};
 ghost use Rattle.sfu_driver.specs.Lines.{line_scan, line_scan_end};
 ghost use Rattle.sfu_driver.specs.Point.{byte, due};
 ghost use Rattle.sfu_driver.specs.Units.{rule_of};
-ghost use Rattle.sfu_driver.specs.Input.{due_all, judged_all, judged_lines, lines_of, said};
+ghost use Rattle.sfu_driver.specs.Input.{due_all, judged_all, judged_lines, judged_units, lines_of, said, units_of};
 ghost use Rattle.sfu_driver.specs.Statuses.{due_of};
 
-use crate::Judge;
+use crate::{Cut, Judge};
 
 /// What is due for all bytes of an input, one after another, is what is due for its lines. What is due for bytes whose end hasn't been seen
 /// is what is due for the lines that are judged by then.
@@ -18,4 +18,14 @@ pub fn bytes_make_lines<J: Judge>()
     ensures part { (state : J.State) (number : ℕ) (bytes : List ℕ)
         → due_of (takes (byte (rule_of line_scan line_scan_end J.step J.outside J.closing)) (record { state = state; number = number; kept = [] }) bytes)
         ≡ due_of (judged_all (rule_of line_scan line_scan_end J.step J.outside J.closing) (map said (judged_lines (lines_of bytes))) number state) }
+{}
+
+/// The same for units that are cut in any way.
+pub fn bytes_make_units<C: Cut, J: Judge>()
+    ensures whole { (state : J.State) (number : ℕ) (bytes : List ℕ)
+        → due (rule_of C.scan C.scan_end J.step J.outside J.closing) (record { state = state; number = number; kept = [] }) bytes
+        ≡ due_all (rule_of C.scan C.scan_end J.step J.outside J.closing) (units_of C.scan C.scan_end number [] bytes) number state }
+    ensures part { (state : J.State) (number : ℕ) (bytes : List ℕ)
+        → due_of (takes (byte (rule_of C.scan C.scan_end J.step J.outside J.closing)) (record { state = state; number = number; kept = [] }) bytes)
+        ≡ due_of (judged_all (rule_of C.scan C.scan_end J.step J.outside J.closing) (judged_units C.scan number [] bytes) number state) }
 {}

@@ -14,12 +14,12 @@ mod tests;
 mod unit_buf;
 mod units;
 
-pub use conclusion::{answer, status};
+pub use conclusion::{answer, answer_behind, status};
 pub use cut::{Cut, Found, Last, MOST_UNIT};
-pub use driver::drive;
+pub use driver::{MOST_PIECE, drive, drive_behind};
 pub use halt::{Ending, Halt, Stop};
 pub use judge::Judge;
-pub use laws::bytes_make_lines;
+pub use laws::{bytes_make_lines, bytes_make_units};
 pub use lines::Lines;
 pub use sink::write_all;
 pub use units::Units;

@@ -5,24 +5,24 @@ use Rattle.sfu_driver.proofs.Results.{err_of}
 use Rattle.sfu_driver.specs.Point.{byte, ends}
 use Rattle.sfu_driver.specs.Units.{JudgeStands, StandsAt, rule_of}
 use Rattle.sfu_driver.proofs.Driving.{drove_ended, drove_took}
-use Rattle.sfu_driver.proofs.driver.drive.Goals as goal
+use Rattle.sfu_driver.proofs.driver.drive_behind.Goals as goal
 
 pub returns-clause-drove : goal.returns-clause-drove
-returns-clause-drove g c point stand =
+returns-clause-drove g c left point from stand =
     let rule = rule_of g.C.Cut.scan g.C.Cut.scan_end g.J.Judge.step g.J.Judge.outside g.J.Judge.closing in
     drove_ended (StandsAt g.J.Judge.stands) (JudgeStands g.J.Judge.stands) (byte rule) (ends rule) c.args.units.now c.take_all.new.units c.finish.new.units
-    c.new-ready.result c.take_all.new.ready (g.S.Source.left c.args.source.now) (g.S.Source.left c.take_all.new.source)
+    c.new-ready.result c.take_all.new.ready left (g.S.Source.left c.take_all.new.source)
     (g.K.Sink.written c.args.sink.now) (g.K.Sink.written c.take_all.new.sink) (g.K.Sink.written c.finish.new.sink)
     (g.K.Sink.faults c.args.sink.now) (g.K.Sink.faults c.take_all.new.sink) (g.K.Sink.faults c.finish.new.sink) c.finish.result
-    c.take_all.ensures.never_falls c.new-ready.ensures c.in_ok-take_all.ensures.took c.in_ok-take_all.ensures.written c.in_ok-take_all.ensures.end c.finish.ensures.ends point stand
+    c.take_all.ensures.never_falls c.new-ready.ensures (c.in_ok-take_all.ensures.took left from) c.in_ok-take_all.ensures.written c.in_ok-take_all.ensures.end c.finish.ensures.ends point stand
 
 pub returns-in_err-take_all-clause-drove : goal.returns-in_err-take_all-clause-drove
-returns-in_err-take_all-clause-drove g c point stand =
+returns-in_err-take_all-clause-drove g c left point from stand =
     let rule = rule_of g.C.Cut.scan g.C.Cut.scan_end g.J.Judge.step g.J.Judge.outside g.J.Judge.closing in
     let stop = c.in_err-take_all.field-0.0 in
-    subst (λ (r : Result (Unit {0}) Stop). Drove (JudgeStands g.J.Judge.stands) (byte rule) (ends rule) point c.take_all.new.units (g.S.Source.left c.args.source.now) (g.S.Source.left c.take_all.new.source)
+    subst (λ (r : Result (Unit {0}) Stop). Drove (JudgeStands g.J.Judge.stands) (byte rule) (ends rule) point c.take_all.new.units left (g.S.Source.left c.take_all.new.source)
     (g.K.Sink.written c.args.sink.now) (g.K.Sink.written c.take_all.new.sink) (g.K.Sink.faults c.args.sink.now) (g.K.Sink.faults c.take_all.new.sink) r) (sym (err_of c.from_residual.result stop c.from_residual.ensures.1))
     (drove_took (StandsAt g.J.Judge.stands) (JudgeStands g.J.Judge.stands) (byte rule) (ends rule) c.args.units.now c.take_all.new.units c.take_all.new.units
-    c.new-ready.result c.take_all.new.ready (g.S.Source.left c.args.source.now) (g.S.Source.left c.take_all.new.source)
+    c.new-ready.result c.take_all.new.ready left (g.S.Source.left c.take_all.new.source)
     (g.K.Sink.written c.args.sink.now) (g.K.Sink.written c.take_all.new.sink) (g.K.Sink.faults c.args.sink.now) (g.K.Sink.faults c.take_all.new.sink) stop
-    c.new-ready.ensures c.in_err-take_all.ensures.took point stand)
+    c.new-ready.ensures (c.in_err-take_all.ensures.took left from) point stand)
