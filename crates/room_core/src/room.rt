@@ -54,6 +54,29 @@ impl<R: Recorder> Room<R> {
         ensures packet { result ≢ reply.Packet → scratch.new.packet ≡ scratch.old.packet }
         ensures names { result ≢ reply.Names → scratch.new.names ≡ scratch.old.names }
     {
+        match call {
+            // These three are most calls, and need nothing to be made ready.
+            Call::Take { subscriber } => self.take(seat, *subscriber, scratch),
+            Call::Packet {
+                track,
+                moment,
+                bytes,
+            } => self.serve_packet(seat, call, *track, *moment, bytes),
+            Call::Tick { track, moment } => self.pass_time(seat, *track, *moment),
+            _ => self.serve_any(seat, call, scratch),
+        }
+    }
+
+    // The same of a call of any kind.
+    fn serve_any(&mut self, seat: u32, call: &Call, scratch: &mut Scratch) -> Reply
+        ensures serves { Serves R.noted self.old self.new seat call.now result scratch.new.packet scratch.new.names }
+        ensures headline { StandsHeadline R.noted self.new }
+        ensures memory { MemoryHasCause R.may_refuse self.old call.now result }
+        ensures last { MemoryIsLast R.noted R.may_refuse self.old call.now result }
+        ensures recorder { recorder_may_refuse R.may_refuse self.new ≡ recorder_may_refuse R.may_refuse self.old }
+        ensures packet { result ≢ reply.Packet → scratch.new.packet ≡ scratch.old.packet }
+        ensures names { result ≢ reply.Names → scratch.new.names ≡ scratch.old.names }
+    {
         match self.content.prepare(self.alloc, call) {
             Ok(ready) => match self.recorder.note(seat, call) {
                 Ok(()) => self.content.serve(call, ready, scratch),
@@ -112,6 +135,28 @@ impl<R: Recorder> Room<R> {
         ensures { DoesAsServe R.noted R.may_refuse self.old self.new seat (call.Packet track moment bytes.now) result }
     {
         self.bring(seat, track, moment, bytes)
+    }
+
+    // A call that brings a packet.
+    fn serve_packet(
+        &mut self,
+        seat: u32,
+        made: &Call,
+        track: u32,
+        moment: u64,
+        bytes: &PacketBuf,
+    ) -> Reply
+        requires { made.now ≡ call.Packet track moment bytes.now }
+        ensures serves { (buffer numbers : List ℕ) → Serves R.noted self.old self.new seat (call.Packet track moment bytes.now) result buffer numbers }
+        ensures headline { StandsHeadline R.noted self.new }
+        ensures memory { MemoryHasCause R.may_refuse self.old (call.Packet track moment bytes.now) result }
+        ensures last { MemoryIsLast R.noted R.may_refuse self.old (call.Packet track moment bytes.now) result }
+        ensures recorder { recorder_may_refuse R.may_refuse self.new ≡ recorder_may_refuse R.may_refuse self.old }
+    {
+        match self.recorder.note(seat, made) {
+            Ok(()) => self.content.packet(track, moment, bytes),
+            Err(_) => Reply::Refused(Refusal::NoMemory),
+        }
     }
 
     // The call is made for the recorder alone: where it keeps nothing, no copy is made.

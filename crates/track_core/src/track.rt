@@ -337,7 +337,13 @@ fn worked(
     ensures valid { IsMadeValid (told_with meaning.new result) }
 {
     match layers {
-        None => { if came { Advance::Packet } else { Advance::Nothing } }
+        None => {
+            if came {
+                Advance::Packet
+            } else {
+                Advance::Nothing
+            }
+        }
         Some(layers) => {
             if work_off(layers, came, bytes, meaning) {
                 Advance::Frame

@@ -1,5 +1,5 @@
 use Rattle.room_core.proofs.Served.{stands_headline}
-use Rattle.room_core.proofs.room.Room.serve.Goals as goal
+use Rattle.room_core.proofs.room.Room.serve_any.Goals as goal
 
 pub returns-in-Ok-note-clause-headline : goal.returns-in-Ok-note-clause-headline
 returns-in-Ok-note-clause-headline g c = stands_headline g.R.Recorder.noted _
