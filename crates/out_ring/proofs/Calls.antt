@@ -1,16 +1,15 @@
 -- Takes and resends, as contracts see them.
-use Rattle.std.proofs.Common.{◌≡◌, ◌≢◌, ◌<◌, ◌≤◌, ◌⊎◌, inl, inr, ℕ, suc, ◌+◌, ◌-◌, ◌%◌, min, List, [], ◌∷◌, length, map, take, drop, refl, sym, ap, subst, ◌∙◌, arith, Option, Some, None, Ok, Err, slice_get, Box}
+use Rattle.std.proofs.Common.{◌≡◌, ◌≢◌, ◌<◌, ◌≤◌, ◌⊎◌, inl, inr, ℕ, suc, ◌+◌, ◌-◌, ◌%◌, min, List, [], ◌∷◌, length, map, take, drop, refl, sym, ap, subst, ◌∙◌, arith, Option, Some, None, Ok, Err, slice_get}
 use Rattle.std.specs.Prelude.{◌==◌}
 use Rattle.std.specs.List.{find}
 use Rattle.std.proofs.lemmas.List.{drop_all, length-take-le}
-use Rattle.std.specs.declared.alloc.Global.{Global}
 use Rattle.sfu_base.specs.declared.call.Refusal.TheVariants.{Empty, NotKept}
 use Rattle.out_ring.specs.Ring.{Pushed, Resends, ResendsIt, Ring, Sent, Takes, TakesFrom, oldest_in, sent, taken}
 use Rattle.out_ring.specs.History.{numbered}
 use Rattle.out_ring.specs.Places.{SendsFrom}
 use Rattle.out_ring.proofs.Lists.{drop_at_item, item_before_end}
 use Rattle.out_ring.proofs.Numbers.{find-numbered, no_number}
-use Rattle.out_ring.proofs.Steps.{bytes_of, gives_at, held_at, held_taken, ring_of, ring_taken, size_of_held, value_of}
+use Rattle.out_ring.proofs.Steps.{bytes_of, gives_at, held_at, held_taken, ring_of, ring_taken, size_of_held}
 
 -- ---- takes
 
@@ -45,22 +44,22 @@ pub resends_one : (ring : Ring) (seq : ℕ) (before bytes : List ℕ) → find (
     → Resends ring seq (Ok tt) before bytes
 resends_one ring seq before bytes found = subst (λ (o : Option Sent). ResendsIt o ring (Ok tt) before bytes) (sym found) (refl, refl)
 
-module _ (slots : List (Box Pushed Global)) (ssrc next queued kept : ℕ) (full : length slots ≡ 1536) (small : next < 65536) (few : queued ≤ 512) (few_kept : kept ≤ 1024) where
+module _ (slots : List Pushed) (ssrc next queued kept : ℕ) (full : length slots ≡ 1536) (small : next < 65536) (few : queued ≤ 512) (few_kept : kept ≤ 1024) where
   abbrev held : List Pushed
-  held = map (λ slot. slot.value) (drop (1536 - queued - kept) slots)
+  held = drop (1536 - queued - kept) slots
 
   pub take_fields : (keeps : ℕ) (bytes : List ℕ) → 0 < queued → keeps ≡ min (kept + 1) 1024 → SendsFrom slots (1536 - queued) next ssrc bytes
       → TakesOne (ring_of ssrc next kept held)
-      (ring_of ssrc ((next + 1) % 65536) keeps (map (λ slot. slot.value) (drop (1536 - (queued - 1) - keeps) slots))) bytes
+      (ring_of ssrc ((next + 1) % 65536) keeps (drop (1536 - (queued - 1) - keeps) slots)) bytes
   take_fields keeps bytes some is sends =
       let given = gives_at slots (1536 - queued) next ssrc bytes sends in
       let p : Pushed = given.packet in
       let here : slice_get held kept ≡ Some p =
       held_at slots (1536 - queued - kept) kept
-      ∙ ap (slice_get (map value_of slots)) (let e : 1536 - queued - kept + kept ≡ 1536 - queued = omega (arith, few, few_kept) in e)
+      ∙ ap (slice_get slots) (let e : 1536 - queued - kept + kept ≡ 1536 - queued = omega (arith, few, few_kept) in e)
       ∙ given.at in
       let rest : List Pushed = drop (suc kept) held in
-      let after : map (λ slot. slot.value) (drop (1536 - (queued - 1) - keeps) slots) ≡ drop (kept + 1 - keeps) held =
+      let after : drop (1536 - (queued - 1) - keeps) slots ≡ drop (kept + 1 - keeps) held =
       held_taken slots queued kept keeps some (omega (arith, few, few_kept)) (omega (arith, is)) in
       record {
         rest = map bytes_of (numbered (next + 1) ssrc rest);
@@ -105,7 +104,7 @@ module _ (slots : List (Box Pushed Global)) (ssrc next queued kept : ℕ) (full 
       let here : slice_get (take kept held) (kept - back) ≡ Some given.packet =
       item_before_end held kept (kept - back) (omega (arith, some, near))
       ∙ held_at slots (1536 - queued - kept) (kept - back)
-      ∙ ap (slice_get (map value_of slots)) (let e : 1536 - queued - kept + (kept - back) ≡ 1536 - (queued + back) = omega (arith, near, few, few_kept) in e)
+      ∙ ap (slice_get slots) (let e : 1536 - queued - kept + (kept - back) ≡ 1536 - (queued + back) = omega (arith, near, few, few_kept) in e)
       ∙ given.at in
       find-numbered (next + 65536 - kept) ssrc seq (kept - back) (take kept held) given.packet here (omega (arith, few_kept)) (omega (arith, near, small, few_kept, fits))
       ∙ ap (λ (b : List ℕ). Some (record { number = seq; bytes = b })) (sym given.is)

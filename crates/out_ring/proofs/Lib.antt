@@ -4,3 +4,4 @@ pub mod Steps
 pub mod Calls
 pub mod Histories
 pub mod Modelled
+pub mod Turning

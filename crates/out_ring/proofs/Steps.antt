@@ -1,10 +1,7 @@
 -- What each call makes of the fields, over plain lists.
-use Rattle.std.proofs.Common.{◌≡◌, ◌<◌, ◌≤◌, ℕ, suc, ◌+◌, ◌-◌, ◌%◌, min, List, [], ◌∷◌, ◌++◌, length, map, take, drop, refl, sym, ap, ◌∙◌, arith, Option, Some, None, slice_get, length-append, length-drop, Box}
-use Rattle.std.proofs.lemmas.List.{drop-append-le, drop-drop, drop-map, drop-take, length-map, length-take-le, map-append, take-append-le}
-use Rattle.std.proofs.lemmas.Option.{slice_get-map, slice_get_within}
-use Rattle.std.specs.Option.{option_map}
-use Rattle.std.specs.declared.alloc.Global.{Global}
-use Rattle.circular_buffer.specs.Buffer.{keep_last}
+use Rattle.std.proofs.Common.{◌≡◌, ◌<◌, ◌≤◌, ℕ, suc, ◌+◌, ◌-◌, ◌%◌, min, List, [], ◌∷◌, ◌++◌, length, map, take, drop, refl, sym, ap, ◌∙◌, arith, Option, Some, None, slice_get, length-append, length-drop}
+use Rattle.std.proofs.lemmas.List.{drop-append-le, drop-drop, drop-take, length-map, length-take-le, map-append, take-append-le}
+use Rattle.std.proofs.lemmas.Option.{slice_get_within}
 use Rattle.out_ring.specs.Ring.{Pushed, Ring, Sent, pushed, sent, taken}
 use Rattle.out_ring.specs.History.{numbered}
 use Rattle.out_ring.specs.Places.{SendsFrom, SendsIt}
@@ -23,19 +20,12 @@ ring_of ssrc next kept held = record {
   kept = numbered (next + 65536 - kept) ssrc (take kept held);
 }
 
--- what stands in a slot
-abbrev pub value_of : Box Pushed Global → Pushed
-value_of slot = slot.value
-
 -- ---- a push
 
 -- in a full ring the front place is given up for one at the back
-pub rotated : {X : Type 0} (xs : List X) (x : X) (m : ℕ) → length xs ≡ 1536 → m < 1536
-    → drop m (keep_last 1536 (drop 1 xs ++ x ∷ [])) ≡ drop (m + 1) xs ++ x ∷ []
+pub rotated : {X : Type 0} (xs : List X) (x : X) (m : ℕ) → length xs ≡ 1536 → m < 1536 → drop m (drop 1 xs ++ x ∷ []) ≡ drop (m + 1) xs ++ x ∷ []
 rotated xs x m full lt =
-    let size : length (drop 1 xs ++ x ∷ []) - 1536 ≡ 0 = omega (arith, length-append (drop 1 xs) (x ∷ []), length-drop 1 xs, full) in
-    ap (λ k. drop m (drop k (drop 1 xs ++ x ∷ []))) size
-    ∙ drop-append-le m (drop 1 xs) (x ∷ []) (omega (arith, length-drop 1 xs, full))
+    drop-append-le m (drop 1 xs) (x ∷ []) (omega (arith, length-drop 1 xs, full))
     ∙ ap (λ l. l ++ x ∷ []) (drop-drop m 1 xs ∙ ap (λ k. drop k xs) (let e : 1 + m ≡ m + 1 = omega arith in e))
 
 pub ring_pushed : (ssrc next kept : ℕ) (held : List Pushed) (p : Pushed) → kept ≤ length held
@@ -56,22 +46,18 @@ ring_pushed ssrc next kept held p few =
 -- ---- a take
 
 -- the packet that a place gives
-pub record GivesAt (slots : List (Box Pushed Global)) (place number ssrc : ℕ) (bytes : List ℕ) : Type 0 where
+pub record GivesAt (slots : List Pushed) (place number ssrc : ℕ) (bytes : List ℕ) : Type 0 where
   pub packet : Pushed
-  pub at : slice_get (map (λ slot. slot.value) slots) place ≡ Some packet
+  pub at : slice_get slots place ≡ Some packet
   pub is : bytes ≡ (sent number ssrc packet).bytes
 
-pub gives_at : (slots : List (Box Pushed Global)) (place number ssrc : ℕ) (bytes : List ℕ) → SendsFrom slots place number ssrc bytes
+pub gives_at : (slots : List Pushed) (place number ssrc : ℕ) (bytes : List ℕ) → SendsFrom slots place number ssrc bytes
     → GivesAt slots place number ssrc bytes
 gives_at slots place number ssrc bytes h = go (slice_get slots place) refl h
   where
-    go : (o : Option (Box Pushed Global)) → slice_get slots place ≡ o → SendsIt o number ssrc bytes → GivesAt slots place number ssrc bytes
+    go : (o : Option (Pushed)) → slice_get slots place ≡ o → SendsIt o number ssrc bytes → GivesAt slots place number ssrc bytes
     go None e sends = absurd sends
-    go (Some slot) e sends = record {
-      packet = slot.value;
-      at = slice_get-map (λ slot. slot.value) slots place ∙ ap (option_map (λ slot. slot.value)) e;
-      is = sends;
-    }
+    go (Some packet) e sends = record { packet = packet; at = e; is = sends }
 
 -- the ring whose oldest queued packet p was taken, and where at most 1,024 are kept from then on
 pub ring_taken : (ssrc next kept keeps : ℕ) (held rest : List Pushed) (p : Pushed) → next < 65536 → kept ≤ 1024 → keeps ≡ min (kept + 1) 1024
@@ -106,48 +92,38 @@ ring_taken ssrc next kept keeps held rest p small few is at left =
 
 -- ---- the fields of the ring
 
-pub size_of_held : (slots : List (Box Pushed Global)) (queued kept : ℕ) → length slots ≡ 1536 → queued + kept ≤ 1536
-    → length (map (λ slot. slot.value) (drop (1536 - queued - kept) slots)) ≡ queued + kept
-size_of_held slots queued kept full fit =
-    length-map (drop (1536 - queued - kept) slots) value_of ∙ length-drop (1536 - queued - kept) slots ∙ omega (arith, full, fit)
+pub size_of_held : (slots : List Pushed) (queued kept : ℕ) → length slots ≡ 1536 → queued + kept ≤ 1536
+    → length (drop (1536 - queued - kept) slots) ≡ queued + kept
+size_of_held slots queued kept full fit = length-drop (1536 - queued - kept) slots ∙ omega (arith, full, fit)
 
 pub size_of_queue : (ssrc next kept queued : ℕ) (held : List Pushed) → length held ≡ queued + kept → length (ring_of ssrc next kept held).queued ≡ queued
 size_of_queue ssrc next kept queued held size =
     length-map (numbered next ssrc (drop kept held)) bytes_of ∙ length-numbered next ssrc (drop kept held) ∙ length-drop kept held ∙ omega (arith, size)
 
 -- what is held after a push
-pub held_pushed : (slots : List (Box Pushed Global)) (slot : Box Pushed Global) (queued kept : ℕ) → length slots ≡ 1536 → queued + kept < 1536
-    → map (λ slot. slot.value) (drop (1536 - (queued + 1) - kept) (keep_last 1536 (drop 1 slots ++ slot ∷ [])))
-    ≡ map (λ slot. slot.value) (drop (1536 - queued - kept) slots) ++ slot.value ∷ []
+pub held_pushed : (slots : List Pushed) (slot : Pushed) (queued kept : ℕ) → length slots ≡ 1536 → queued + kept < 1536
+    → drop (1536 - (queued + 1) - kept) (drop 1 slots ++ slot ∷ []) ≡ drop (1536 - queued - kept) slots ++ slot ∷ []
 held_pushed slots slot queued kept full few =
-    ap (map value_of) (rotated slots slot (1536 - (queued + 1) - kept) full (omega arith))
-    ∙ map-append value_of (drop (1536 - (queued + 1) - kept + 1) slots) (slot ∷ [])
-    ∙ ap (λ (k : ℕ). map value_of (drop k slots) ++ slot.value ∷ []) (let e : 1536 - (queued + 1) - kept + 1 ≡ 1536 - queued - kept = omega (arith, few) in e)
+    rotated slots slot (1536 - (queued + 1) - kept) full (omega arith)
+    ∙ ap (λ (k : ℕ). drop k slots ++ slot ∷ []) (let e : 1536 - (queued + 1) - kept + 1 ≡ 1536 - queued - kept = omega (arith, few) in e)
 
 -- and after a take
-pub held_taken : (slots : List (Box Pushed Global)) (queued kept keeps : ℕ) → 0 < queued → queued + kept ≤ 1536 → keeps ≤ kept + 1
-    → map (λ slot. slot.value) (drop (1536 - (queued - 1) - keeps) slots)
-    ≡ drop (kept + 1 - keeps) (map (λ slot. slot.value) (drop (1536 - queued - kept) slots))
+pub held_taken : (slots : List Pushed) (queued kept keeps : ℕ) → 0 < queued → queued + kept ≤ 1536 → keeps ≤ kept + 1
+    → drop (1536 - (queued - 1) - keeps) slots ≡ drop (kept + 1 - keeps) (drop (1536 - queued - kept) slots)
 held_taken slots queued kept keeps some few most =
     let d : ℕ = kept + 1 - keeps in
-    ap (λ (k : ℕ). map value_of (drop k slots)) (let e : 1536 - (queued - 1) - keeps ≡ 1536 - queued - kept + d = omega (arith, some, few, most) in e)
-    ∙ ap (map value_of) (sym (drop-drop d (1536 - queued - kept) slots))
-    ∙ sym (drop-map value_of d (drop (1536 - queued - kept) slots))
+    ap (λ (k : ℕ). drop k slots) (let e : 1536 - (queued - 1) - keeps ≡ 1536 - queued - kept + d = omega (arith, some, few, most) in e)
+    ∙ sym (drop-drop d (1536 - queued - kept) slots)
 
 -- the place of what is held
-pub held_at : (slots : List (Box Pushed Global)) (from i : ℕ) → slice_get (map (λ slot. slot.value) (drop from slots)) i ≡ slice_get (map (λ slot. slot.value) slots) (from + i)
-held_at slots from i = ap (λ (l : List Pushed). slice_get l i) (sym (drop-map value_of from slots)) ∙ item_after_drop (map value_of slots) from i
-
-pub size_rotated : {X : Type 0} (xs : List X) (x : X) → length xs ≡ 1536 → length (keep_last 1536 (drop 1 xs ++ x ∷ [])) ≡ 1536
-size_rotated xs x full =
-    length-drop (length (drop 1 xs ++ x ∷ []) - 1536) (drop 1 xs ++ x ∷ [])
-    ∙ omega (arith, length-append (drop 1 xs) (x ∷ []), length-drop 1 xs, full)
+pub held_at : (slots : List Pushed) (from i : ℕ) → slice_get (drop from slots) i ≡ slice_get slots (from + i)
+held_at slots from i = item_after_drop slots from i
 
 -- the fields after a push
-pub push_fields : (slots : List (Box Pushed Global)) (slot : Box Pushed Global) (ssrc next queued kept : ℕ) → length slots ≡ 1536 → queued < 512 → kept ≤ 1024
-    → ring_of ssrc next kept (map (λ slot. slot.value) (drop (1536 - (queued + 1) - kept) (keep_last 1536 (drop 1 slots ++ slot ∷ []))))
-    ≡ pushed slot.value.bytes slot.value.marker (ring_of ssrc next kept (map (λ slot. slot.value) (drop (1536 - queued - kept) slots)))
+pub push_fields : (slots : List Pushed) (slot : Pushed) (ssrc next queued kept : ℕ) → length slots ≡ 1536 → queued < 512 → kept ≤ 1024
+    → ring_of ssrc next kept (drop (1536 - (queued + 1) - kept) (drop 1 slots ++ slot ∷ []))
+    ≡ pushed slot.bytes slot.marker (ring_of ssrc next kept (drop (1536 - queued - kept) slots))
 push_fields slots slot ssrc next queued kept full few most =
     ap (ring_of ssrc next kept) (held_pushed slots slot queued kept full (omega (arith, few, most)))
-    ∙ ring_pushed ssrc next kept (map value_of (drop (1536 - queued - kept) slots)) slot.value
+    ∙ ring_pushed ssrc next kept (drop (1536 - queued - kept) slots) slot
     (let size = size_of_held slots queued kept full (omega (arith, few, most)) in omega (arith, size))

@@ -1,12 +1,14 @@
 -- What the fields of a slot and of a ring stand for.
 use Rattle.std.specs.Prelude.{◌≡◌, ◌≤◌, ◌<◌, ◌+◌, ◌-◌, List, length, map, take, drop}
+use Rattle.std.specs.List.{AllByRecursion}
 use Rattle.out_ring.specs.declared.ring.OutRing.TheInside.{Inside}
 use Rattle.out_ring.specs.Ring.{Pushed, Ring}
 use Rattle.out_ring.specs.History.{numbered}
+use Rattle.out_ring.specs.Places.{IsBelow, IsDistinct, packets_in}
 
 -- the packets that are kept or queued, the oldest first
 abbrev pub held : Inside → List Pushed
-held a = map (λ slot. slot.value) (drop (1536 - a.queued - a.kept) a.slots.items)
+held a = drop (1536 - a.queued - a.kept) (packets_in a.slots.items a.places.items)
 
 abbrev pub seen : Inside → Ring
 seen a = record {
@@ -18,7 +20,10 @@ seen a = record {
 
 pub record IsFull (a : Inside) : Type 0 where
   pub slots : length a.slots.items ≡ 1536
-  pub capacity : a.slots.capacity ≡ 1536
+  pub places : length a.places.items ≡ 1536
+  pub capacity : a.places.capacity ≡ 1536
+  pub below : AllByRecursion (IsBelow 1536) a.places.items
+  pub distinct : IsDistinct a.places.items
   pub next : a.next < 65536
   pub queued : a.queued ≤ 512
   pub kept : a.kept ≤ 1024

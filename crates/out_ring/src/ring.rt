@@ -1,9 +1,10 @@
 // The ring of one subscriber.
 ghost use Rattle.std.specs.Prelude.{◌≡◌, ◌<◌, ◌≤◌, ◌↔◌, Err, IfOk, None, OnErr, OnOk, length};
+ghost use Rattle.std.specs.List.{AllByRecursion};
 ghost use Rattle.rtp_packet.specs.Faults.{first_fault};
 ghost use Rattle.out_ring.specs.History.{Gives, GaveLately, GaveNoneLately, History, IsAfter, and_push, and_take, nothing_done};
 ghost use Rattle.out_ring.specs.Ring.{Resends, Takes, begun, pushed};
-ghost use Rattle.out_ring.specs.Places.{SendsFrom};
+ghost use Rattle.out_ring.specs.Places.{IsBelow, IsDistinct, SendsFrom, packets_in};
 
 use crate::slot::Slot;
 use circular_buffer::HeapCircularBuffer;
@@ -26,8 +27,9 @@ pub struct OutRing {
     next: u16,
     queued: u16,
     kept: u16,
-    // All places have a packet. The last ones, as many as are queued, are those; before them stand those that are kept.
-    slots: HeapCircularBuffer<Box<Slot>>,
+    // Each place names a slot of its own. The last ones, as many as are queued, have the packets that are; before them stand those that are kept.
+    places: HeapCircularBuffer<u16>,
+    slots: Vec<Slot>,
 }
 
 impl Model for OutRing {
@@ -54,7 +56,8 @@ impl OutRing {
             next: first,
             queued: 0,
             kept: 0,
-            slots: full_ring(alloc)?,
+            places: all_places(alloc)?,
+            slots: all_slots(alloc)?,
         })
     }
 
@@ -75,11 +78,11 @@ impl OutRing {
         ensures pushed { self.new ≡ pushed packet.now marker self.old }
         ensures stands { (h : History) → IsAfter self.old h → IsAfter self.new (and_push h packet.now marker) }
     {
-        let Some(mut slot) = self.slots.pop_front() else {
+        let Some(slot) = self.places.pop_front() else {
             unreachable!()
         };
-        slot.fill(packet, marker);
-        let _ = self.slots.push_back(slot);
+        self.slots[usize::from(slot)].fill(packet, marker);
+        let _ = self.places.push_back(slot);
         self.queued += 1;
     }
 
@@ -98,6 +101,7 @@ impl OutRing {
         }
         let number = self.next;
         give(
+            &self.places,
             &self.slots,
             PLACES - usize::from(self.queued),
             number,
@@ -126,6 +130,7 @@ impl OutRing {
             });
         }
         give(
+            &self.places,
             &self.slots,
             PLACES - usize::from(self.queued + takes_ago),
             seq,
@@ -136,34 +141,50 @@ impl OutRing {
     }
 }
 
-// The ring with a packet at each place.
-fn full_ring(alloc: Global) -> Result<HeapCircularBuffer<Box<Slot>>, NoMemory>
-    ensures { IfOk result (λ slots. (length slots.items ≡ 1536) × (slots.capacity ≡ 1536)) }
+// Each place names the slot of its own number.
+fn all_places(alloc: Global) -> Result<HeapCircularBuffer<u16>, NoMemory>
+    ensures size { IfOk result (λ places. length places.items ≡ 1536) }
+    ensures capacity { IfOk result (λ places. places.capacity ≡ 1536) }
+    ensures below { IfOk result (λ places. AllByRecursion (IsBelow 1536) places.items) }
+    ensures distinct { IfOk result (λ places. IsDistinct places.items) }
 {
-    let Ok(mut slots) = HeapCircularBuffer::with_capacity(alloc, PLACES) else {
+    let Ok(mut places) = HeapCircularBuffer::with_capacity(alloc, PLACES) else {
         return Err(NoMemory);
     };
-    for _ in 0..PLACES {
-        let Ok(slot) = Box::new(alloc, Slot::new()) else {
-            return Err(NoMemory);
-        };
-        let _ = slots.push_back(slot);
+    for slot in 0..PLACES as u16 {
+        let _ = places.push_back(slot);
+    }
+    Ok(places)
+}
+
+// All slots, each with a packet.
+fn all_slots(alloc: Global) -> Result<Vec<Slot>, NoMemory>
+    ensures { IfOk result (λ slots. length slots.items ≡ 1536) }
+{
+    let Ok(mut slots) = Vec::with_capacity(alloc, PLACES) else {
+        return Err(NoMemory);
+    };
+    while slots.len() < PLACES {
+        slots.push_reserved(Slot::new());
     }
     Ok(slots)
 }
 
 // Copies out the packet at this place, with this sequence number and SSRC.
 fn give(
-    slots: &HeapCircularBuffer<Box<Slot>>,
+    places: &HeapCircularBuffer<u16>,
+    slots: &[Slot],
     place: usize,
     seq: u16,
     ssrc: u32,
     out: &mut PacketBuf,
 )
-    requires { place < length slots.now.items }
-    ensures { SendsFrom slots.now.items place seq ssrc out.new }
+    requires place { place < length places.now.items }
+    requires below { AllByRecursion (IsBelow 1536) places.now.items }
+    requires slots { length slots.now ≡ 1536 }
+    ensures { SendsFrom (packets_in slots.now places.now.items) place seq ssrc out.new }
 {
-    if let Some(slot) = slots.get(place) {
-        slot.send(seq, ssrc, out);
+    if let Some(slot) = places.get(place) {
+        slots[usize::from(*slot)].send(seq, ssrc, out);
     }
 }
