@@ -1,10 +1,10 @@
 -- The places of a ring, each of which names a slot of its own, when the front one goes to the back.
-use Rattle.std.proofs.Common.{◌≡◌, ◌<◌, zero, suc, false, ◌+◌, ◌-◌, ℕ, List, [], ◌∷◌, ◌++◌, length, drop, refl, sym, ap, ap₂, subst, ◌∙◌, arith, Option, Some, slice_get}
+use Rattle.std.proofs.Common.{◌≡◌, ◌<◌, zero, suc, false, ◌+◌, ◌-◌, ℕ, List, [], ◌∷◌, ◌++◌, length, drop, refl, sym, ap, ap₂, subst, ◌∙◌, arith, Option, Some, slice_get, length-append}
 use Rattle.std.specs.Prelude.{unwrap_or}
 use Rattle.std.specs.List.{AllByRecursion}
 use Rattle.std.specs.Option.{option_map}
 use Rattle.std.proofs.Math.ListN.{set}
-use Rattle.std.proofs.lemmas.List.{length-map, map-append}
+use Rattle.std.proofs.lemmas.List.{drop-append-le, length-map, map-append}
 use Rattle.std.proofs.lemmas.Option.{slice_get-map}
 use Rattle.circular_buffer.specs.Buffer.{keep_last}
 use Rattle.circular_buffer.proofs.Places.{slice_get-set_other, slice_get-set_same}
@@ -44,6 +44,12 @@ next_below n ns below = all-append (IsBelow (n + 1)) ns n (all_mapped ns (λ m l
 
 pub kept_all : {X : Type 0} (xs : List X) (n : ℕ) → length xs - n ≡ 0 → keep_last n xs ≡ xs
 kept_all xs n none = ap (λ (k : ℕ). drop k xs) none
+
+-- a full ring gives up its front for what is pushed
+pub one_less : {X : Type 0} (xs : List X) (x : X) → length xs ≡ 1536 → keep_last 1536 (xs ++ x ∷ []) ≡ drop 1 xs ++ x ∷ []
+one_less xs x full =
+    ap (λ (k : ℕ). drop k (xs ++ x ∷ [])) (let e : length (xs ++ x ∷ []) - 1536 ≡ 1 = omega (arith, length-append xs (x ∷ []), full) in e)
+    ∙ drop-append-le 1 xs (x ∷ []) (omega (arith, full))
 
 others_stay : (slots : List Pushed) (slot : ℕ) (p : Pushed) (ns : List ℕ) → AllByRecursion (λ m. m ≡ slot → ⊥) ns → packets_in (set slots slot p) ns ≡ packets_in slots ns
 others_stay slots slot p [] other = refl

@@ -78,7 +78,8 @@ impl OutRing {
         ensures pushed { self.new ≡ pushed packet.now marker self.old }
         ensures stands { (h : History) → IsAfter self.old h → IsAfter self.new (and_push h packet.now marker) }
     {
-        let Some(slot) = self.places.pop_front() else {
+        // All places have one, so that the front one is given up for that at the back.
+        let Some(slot) = self.places.front().copied() else {
             unreachable!()
         };
         self.slots[usize::from(slot)].fill(packet, marker);

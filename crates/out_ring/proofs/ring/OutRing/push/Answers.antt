@@ -9,13 +9,13 @@ use Rattle.out_ring.specs.Places.{IsBelow, IsDistinct, packets_in}
 use Rattle.out_ring.specs.Ring.{Pushed, Ring, pushed}
 use Rattle.out_ring.proofs.Histories.{push_stands}
 use Rattle.out_ring.proofs.Steps.{push_fields, ring_of, size_of_held, size_of_queue}
-use Rattle.out_ring.proofs.Turning.{IsTurned, kept_all, size_of_places, turned}
+use Rattle.out_ring.proofs.Turning.{IsTurned, one_less, size_of_places, turned}
 use Rattle.out_ring.proofs.ring.OutRing.push.Goals as goal
 
 the_turn : (c : goal.After-self-2-1) → IsTurned c.self.inside.slots.items c.in-Some.slot c.fill.new.self c.self.inside.places.items
 the_turn c =
     let i = c.self.invariant in
-    turned c.self.inside.slots.items c.in-Some.slot c.fill.new.self c.self.inside.places.items (sym c.in-Some.ensures.value) i.slots i.below i.distinct
+    turned c.self.inside.slots.items c.in-Some.slot c.fill.new.self c.self.inside.places.items (sym (c.in-Some.ensures ∙ c.front.ensures)) i.slots i.below i.distinct
 
 -- the places after the push
 places_now : (c : goal.After-self-2-1) → c.push_back.new.self.items ≡ drop 1 c.self.inside.places.items ++ c.in-Some.slot ∷ []
@@ -24,9 +24,8 @@ places_now c =
     let slot : ℕ = c.in-Some.slot in
     let size = c.self.invariant.places in
     ap (λ (b : Buffer ℕ). b.items) c.push_back.ensures.items
-    ∙ ap (λ (b : Buffer ℕ). keep_last b.capacity (b.items ++ slot ∷ [])) c.pop_front.ensures.items
-    ∙ ap (λ (n : ℕ). keep_last n (rest ++ slot ∷ [])) c.self.invariant.capacity
-    ∙ kept_all (rest ++ slot ∷ []) 1536 (omega (arith, length-append rest (slot ∷ []), length-drop 1 c.self.inside.places.items, size))
+    ∙ ap (λ (n : ℕ). keep_last n (c.self.inside.places.items ++ slot ∷ [])) c.self.invariant.capacity
+    ∙ one_less c.self.inside.places.items slot size
 
 -- and the packets there
 packets_now : (c : goal.After-self-2-1)
@@ -55,7 +54,7 @@ invariant_of-self c =
       slots = length-set c.self.inside.slots.items c.from.result c.fill.new.self ∙ c.self.invariant.slots;
       places = ap length (places_now c) ∙ omega (arith, length-append rest (c.in-Some.slot ∷ []), length-drop 1 c.self.inside.places.items, size);
       capacity = ap (λ (b : Buffer ℕ). b.capacity) c.push_back.ensures.items
-          ∙ ap (λ (b : Buffer ℕ). b.capacity) c.pop_front.ensures.items ∙ c.self.invariant.capacity;
+          ∙ c.self.invariant.capacity;
       below = subst (AllByRecursion (IsBelow 1536)) (sym (places_now c)) (the_turn c).below;
       distinct = subst IsDistinct (sym (places_now c)) (the_turn c).distinct;
       next = c.self.invariant.next;
