@@ -1,3 +1,5 @@
 pub mod TogetherParts
 pub mod TogetherJudging
 pub mod TogetherDue
+pub mod ServeJudging
+pub mod ServeDue

@@ -1,6 +1,7 @@
 //! The program `sfu`: its top call over any source and sink, and a `main` that hands in standard input and output.
 #![tactic(auto)]
 
+mod serve;
 mod sfu;
 mod together;
 

@@ -1,0 +1,13 @@
+use Rattle.std.proofs.Common.{◌≡◌, ◌++◌, [], ap, sym, ◌∙◌, append-nil}
+use Rattle.sfu_driver.specs.Outcome.{Outcome}
+use Rattle.sfu_commands.specs.Script.{fault_line}
+use Rattle.sfu_program.specs.ServeReader.{fault_at, judged_line, meaning_of}
+use Rattle.sfu_program.specs.ServeScript.{Setup, and_said}
+use Rattle.sfu_program.proofs.ServeJudging.{line_goes_on, line_of_a_port_too_many, line_says_nothing}
+use Rattle.sfu_program.proofs.serve.reader.ServeReaderJudge.judge.Goals as goal
+
+pub returns-then-may_follow-clause-judges : goal.returns-then-may_follow-clause-judges
+returns-then-may_follow-clause-judges c = λ setup holds.
+    let x = meaning_of c.in-Ok.said in
+    let due = line_goes_on setup c.args.number c.args.line.now x (sym c.is_skipped.ensures.value ∙ c.if-is_skipped.false) c.in-Ok.ensures (sym (c.may_follow.ensures setup holds) ∙ c.if-may_follow.true) in
+    (and_said setup x, ap (λ (o : Outcome Setup). o.result) due, c.in_ok-add.ensures setup holds, sym (append-nil c.args.ready.now) ∙ ap (λ (o : Outcome Setup). c.args.ready.now ++ o.text) (sym due))
