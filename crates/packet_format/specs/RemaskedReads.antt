@@ -12,6 +12,7 @@ use Rattle.dd_descriptor.specs.Content.{Content, holding}
 use Rattle.dd_descriptor.specs.Reading.{descriptor_at}
 use Rattle.packet_format.specs.Formats.{element_of, format_of}
 use Rattle.packet_format.specs.Packets.{packet_of}
+use Rattle.packet_format.specs.Telling.{tells}
 use Rattle.packet_format.specs.Remasked.{remasked, remasked_bytes, remasked_packet}
 
 -- the descriptor is read by a structure with so many decode targets
@@ -75,3 +76,7 @@ CarriedStructuresDecide = (id mask : ℕ) (s : TemplateStructure) (force other :
 abbrev pub RestsAreRemasked : Type 0
 RestsAreRemasked = (id mask : ℕ) (force : Option TemplateStructure) (bytes : List ℕ) → 12 ≤ length bytes
     → packet_of (remasked_bytes id force mask bytes) ≡ remasked_packet id force mask (packet_of bytes)
+
+-- And where the descriptor stands in the rest of a packet, it tells the same.
+abbrev pub RestsTell : Type 0
+RestsTell = (id : ℕ) (bytes : List ℕ) → 12 ≤ length bytes → tells id (packet_of bytes).rest ≡ tells id bytes

@@ -4,7 +4,7 @@ ghost use Rattle.std.specs.Prelude.{ℕ};
 ghost use Rattle.forwarding_model.specs.frames.Reading.{IsFormat};
 ghost use Rattle.packet_format.specs.Formats.{format_of};
 ghost use Rattle.packet_format.specs.Packets.{PacketsAreSent, RestsSayTheSame};
-ghost use Rattle.packet_format.specs.RemaskedReads.{CarriedStructuresDecide, FirstPacketsShow, PacketsAreRemasked, RemaskedPacketsShow, RestsAreRemasked};
+ghost use Rattle.packet_format.specs.RemaskedReads.{CarriedStructuresDecide, FirstPacketsShow, PacketsAreRemasked, RemaskedPacketsShow, RestsAreRemasked, RestsTell};
 
 /// Whatever the id, its packets are read by a format that has all the facts on which the laws of forwarding rest.
 pub fn formats_have_the_facts()
@@ -25,4 +25,5 @@ pub fn remasked_packets_show_the_new_mask()
     ensures first { FirstPacketsShow }
     ensures carried { CarriedStructuresDecide }
     ensures rests { RestsAreRemasked }
+    ensures tells { RestsTell }
 {}

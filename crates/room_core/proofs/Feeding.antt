@@ -1,5 +1,5 @@
 -- What each packet and frame makes of a subscriber's part of the room, and what is told of it.
-use Rattle.std.proofs.Common.{◌≡◌, ◌≤◌, ◌<◌, ℕ, Bool, true, false, List, [], ◌∷◌, length, map, refl, sym, ap, subst, ◌∙◌, arith}
+use Rattle.std.proofs.Common.{◌≡◌, ◌≤◌, ◌<◌, ℕ, Bool, true, false, List, [], ◌∷◌, length, map, refl, sym, ap, subst, ◌∙◌, ◌||◌, arith}
 use Rattle.std.proofs.lemmas.List.{length-map}
 use Rattle.sfu_base.specs.declared.call.Kind.{Kind}
 use Rattle.sfu_base.specs.declared.frame.FrameMeaning.{FrameMeaning}
@@ -9,6 +9,8 @@ use Rattle.sfu_base.specs.declared.frame.Verdict.TheVariants.{Passed}
 use Rattle.sfu_base.specs.declared.frame.Wish.{Wish}
 use Rattle.rtp_packet.specs.Fields.{marker_of}
 use Rattle.forwarding_model.specs.Lists.{IsMember}
+use Rattle.forwarding_model.specs.declared.target.CurrentTarget.{CurrentTarget}
+use Rattle.forwarding_model.specs.forwarding.Selection.{open_target}
 use Rattle.forwarding_model.specs.forwarding.Timeline.{Packet, Frame, meanings_of, takes_of}
 use Rattle.forwarding_model.specs.forwarding.Timeline.Event.{WholeFrame, PlainPacket}
 use Rattle.forwarding_model.specs.frames.TrackFrames.{IsOneTrack, Precedes}
@@ -28,16 +30,18 @@ use Rattle.packet_format.specs.Packets.{bytes_of, packet_of}
 use Rattle.out_ring.specs.Ring.{Ring, pushed}
 use Rattle.cause_book.specs.Book.{AreFalling, IsAboveAll as IsAboveSteps, IsAfter}
 use Rattle.cause_book.proofs.Modelled.{keeps_causes}
-use Rattle.target_selector.specs.Seen.{Seen}
-use Rattle.target_selector.specs.Stands.{IsAboveAll, StandsFor}
-use Rattle.room_core.specs.Sent.{sent}
+use Rattle.target_selector.specs.Seen.{Seen as Selecting}
+use Rattle.track_core.specs.Track.{Seen}
+use Rattle.target_selector.specs.Stands.{IsAboveAll, StandsFor, is_opening_at}
+use Rattle.room_core.specs.Sent.{mask_for, opens, sent}
 use Rattle.room_core.specs.declared.feed.Feed.{Feed}
-use Rattle.room_core.specs.Follows.{Follows, FollowsFrame, FollowsPacket, Happened, IsRingOf, PushesFrame, frame_by, pushed_all}
+use Rattle.room_core.specs.Follows.{Follows, FollowsFrame, FollowsPacket, Happened, IsRingOf, PushesFrame, frame_by, pushed_all, tells_by}
 use Rattle.room_core.proofs.Rings.{pushed_is, ring_grows}
-use Rattle.room_core.proofs.SentMarked.{sends_frame, sent_keeps_count}
+use Rattle.room_core.proofs.Masks.{opens_here, target_here}
+use Rattle.room_core.proofs.SentMarked.{queued_by, sends_frame, sent_keeps_count}
 
 -- the selector doesn't know what is queued
-pub stands_queued : (x : Seen) (s : Standing) (queued : ℕ) → StandsFor x s → StandsFor x (record s { queued = queued })
+pub stands_queued : (x : Selecting) (s : Standing) (queued : ℕ) → StandsFor x s → StandsFor x (record s { queued = queued })
 stands_queued x s queued h = record { wish = h.wish; epoch = h.epoch; target = h.target; key_passed = h.key_passed; numbers = h.numbers }
 
 -- as many packets are queued as the standing has
@@ -136,21 +140,31 @@ passes_where s f packets h = passes_from_verdict (has_passed s f) (key_passed s 
 passed_where : (s : Standing) (f : FrameMeaning) (packets : ℕ) → passes_at s f packets ≡ true → verdict_at s f packets ≡ Passed
 passed_where s f packets h = verdict_from_passes (has_passed s f) (key_passed s f) s.wish f (target_at s f) s.queued packets h
 
-pub frame_passes : (old new : Feed) (meaning : FrameMeaning) (packets : List (List ℕ)) (count queued : ℕ) (verdict : Verdict) (is_top : Bool)
-    → Judges old new meaning packets count queued verdict → verdict ≡ Passed → PushesFrame old.ring new.ring packets is_top
-    → ((s : Standing) → StandsFor old.selector s → IsAboveAll meaning s → s.queued ≡ queued → is_top ≡ is_top_layer meaning (candidate_at s meaning))
-    → FollowsFrame old new meaning packets
-frame_passes old new meaning packets count queued verdict is_top j passed pushes tops kind to structure events track h =
+-- what the calls say of the packets of a frame that passed
+pub record Queues (old new : Feed) (meaning : FrameMeaning) (track : Seen) (queued : ℕ) (is_top told : Bool) (mask : ℕ) : Type 0 where
+  pub pushes : PushesFrame old.ring new.ring (queued_by told track.layers mask track.packets) is_top
+  pub top : (s : Standing) → StandsFor old.selector s → IsAboveAll meaning s → s.queued ≡ queued → is_top ≡ is_top_layer meaning (candidate_at s meaning)
+  pub tells : (s : Standing) → StandsFor old.selector s → IsAboveAll meaning s → s.queued ≡ queued → told ≡ (is_opening_at s meaning || tells_by track.layers track.packets)
+  pub mask_is : told ≡ true → (s : Standing) → StandsFor new.selector s → mask ≡ mask_for meaning (open_target s.target)
+
+pub frame_passes : (old new : Feed) (meaning : FrameMeaning) (track : Seen) (count queued : ℕ) (verdict : Verdict) (is_top told : Bool) (mask : ℕ)
+    → Judges old new meaning track.packets count queued verdict → verdict ≡ Passed → Queues old new meaning track queued is_top told mask → FollowsFrame old new meaning track
+frame_passes old new meaning track count queued verdict is_top told mask j passed q kind to structure events is force one h =
     let s : Standing = standing to.wish events in
-    let frame : Frame TemplateStructure = frame_by meaning structure packets in
-    let n : ℕ = length (map packet_of packets) in
-    let at = judges_at kind old new meaning structure packets count queued verdict to events j track h in
+    let frame : Frame TemplateStructure = frame_by meaning structure track.packets in
+    let n : ℕ = length (map packet_of track.packets) in
+    let at = judges_at kind old new meaning structure track.packets count queued verdict to events j one h in
     let passes : passes_at s meaning n ≡ true = passes_where s meaning n (sym at.verdict_is ∙ passed) in
-    let sends : List Packet = sent kind frame (candidate_at s meaning) in
-    let top : is_top ≡ is_top_layer meaning (candidate_at s meaning) =
-    tops s h.selector (lies_above meaning to.wish events track) (queued_same kind old to events h ∙ sym j.queued_is) in
-    let now : new.ring ≡ pushed_all sends old.ring = sends_frame kind old.ring new.ring meaning structure packets is_top (candidate_at s meaning) top pushes in
-    judges_follow kind old new meaning structure packets verdict to events j.kind_is at h
+    let target : CurrentTarget = candidate_at s meaning in
+    let sends : List Packet = sent kind frame target in
+    let above : IsAboveAll meaning s = lies_above meaning to.wish events one in
+    let waits : s.queued ≡ queued = queued_same kind old to events h ∙ sym j.queued_is in
+    let tells : told ≡ (opens meaning target || tells_by track.layers track.packets) =
+    q.tells s h.selector above waits ∙ ap (λ (b : Bool). b || tells_by track.layers track.packets) (opens_here to.wish events meaning one) in
+    let now : new.ring ≡ pushed_all sends old.ring =
+    sends_frame kind old.ring new.ring meaning structure track is_top told mask target is force (q.top s h.selector above waits) tells
+    (λ so. q.mask_is so (after_frame s meaning n) at.stands ∙ ap (λ (t : CurrentTarget). mask_for meaning (open_target t)) (target_here s meaning n passes)) q.pushes in
+    judges_follow kind old new meaning structure track.packets verdict to events j.kind_is at h
     (subst (λ (r : Ring). IsRingOf r to (takes_of events) (outgoing (sent kind) to (WholeFrame frame ∷ events))) (sym now)
     (subst (λ (l : List Packet). IsRingOf (pushed_all sends old.ring) to (takes_of events) l) (sym (passing_frames_go_out (sent kind) to frame events passes))
     (ring_grows old.ring to (takes_of events) (outgoing (sent kind) to events) sends (takes_fit (sent kind) to events h.finds) h.ring)))
@@ -159,15 +173,15 @@ not_passed : (b : Bool) (v : Verdict) → (b ≡ true → v ≡ Passed) → (v �
 not_passed true v h none = absurd (none (h refl))
 not_passed false v h none = refl
 
-pub frame_is_withheld : (old new : Feed) (meaning : FrameMeaning) (packets : List (List ℕ)) (count queued : ℕ) (verdict : Verdict)
-    → Judges old new meaning packets count queued verdict → (verdict ≡ Passed → ⊥) → new.ring ≡ old.ring → FollowsFrame old new meaning packets
-frame_is_withheld old new meaning packets count queued verdict j withheld now kind to structure events track h =
+pub frame_is_withheld : (old new : Feed) (meaning : FrameMeaning) (track : Seen) (count queued : ℕ) (verdict : Verdict)
+    → Judges old new meaning track.packets count queued verdict → (verdict ≡ Passed → ⊥) → new.ring ≡ old.ring → FollowsFrame old new meaning track
+frame_is_withheld old new meaning track count queued verdict j withheld now kind to structure events is force one h =
     let s : Standing = standing to.wish events in
-    let frame : Frame TemplateStructure = frame_by meaning structure packets in
-    let n : ℕ = length (map packet_of packets) in
-    let at = judges_at kind old new meaning structure packets count queued verdict to events j track h in
+    let frame : Frame TemplateStructure = frame_by meaning structure track.packets in
+    let n : ℕ = length (map packet_of track.packets) in
+    let at = judges_at kind old new meaning structure track.packets count queued verdict to events j one h in
     let fails : passes_at s meaning n ≡ false =
     not_passed (passes_at s meaning n) (verdict_at s meaning n) (passed_where s meaning n) (λ e. withheld (at.verdict_is ∙ e)) in
-    judges_follow kind old new meaning structure packets verdict to events j.kind_is at h
+    judges_follow kind old new meaning structure track.packets verdict to events j.kind_is at h
     (subst (λ (r : Ring). IsRingOf r to (takes_of events) (outgoing (sent kind) to (WholeFrame frame ∷ events))) (sym now)
     (subst (λ (l : List Packet). IsRingOf old.ring to (takes_of events) l) (sym ((nothing_else_goes_out (sent kind) to frame to.wish events).0 fails)) h.ring))

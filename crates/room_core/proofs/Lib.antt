@@ -1,5 +1,6 @@
 pub mod Rings
 pub mod SentMarked
+pub mod Masks
 pub mod Pushing
 pub mod Feeding
 pub mod HandingOut

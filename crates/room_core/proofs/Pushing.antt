@@ -1,14 +1,25 @@
 -- The packets of a frame are queued one after another.
-use Rattle.std.proofs.Common.{◌≡◌, ◌≤◌, ◌<◌, ℕ, ◌+◌, Bool, ◌&&◌, ◌||◌, List, ◌∷◌, [], length, map, take, sym, ap, ◌∙◌, arith, Some, slice_get, eqb}
-use Rattle.std.proofs.lemmas.List.{length-map, length-take, take_all}
+use Rattle.std.proofs.Common.{◌≡◌, ◌≤◌, ◌<◌, ℕ, zero, suc, ◌+◌, ◌-◌, Bool, true, false, ◌&&◌, ◌||◌, List, ◌∷◌, [], ◌++◌, length, map, take, drop, refl, sym, ap, ◌∙◌, arith, Option, None, Some, slice_get, eqb}
+use Rattle.std.proofs.lemmas.Bool.{ne_eqb}
+use Rattle.std.proofs.lemmas.List.{length-drop, length-map, length-take, take_all}
 use Rattle.std.proofs.lemmas.Option.{slice_get-map}
 use Rattle.std.specs.Option.{option_map}
 use Rattle.forwarding_model.specs.forwarding.Timeline.{Packet}
 use Rattle.forwarding_model.specs.forwarding.Outgoing.{marked}
+use Rattle.dd_structure.specs.TemplateStructure.{TemplateStructure}
 use Rattle.packet_format.specs.Packets.{packet_of}
+use Rattle.packet_format.specs.Remasked.{or_same, remasked, remasked_packet}
+use Rattle.packet_format.specs.Telling.{tells}
+use Rattle.packet_format.proofs.Remasked.{packets_remasked}
+use Rattle.packet_format.proofs.RemaskedRests.{rests_remasked, rests_tell}
+use Rattle.rtp_packet.specs.Faults.{first_fault}
+use Rattle.rtp_packet.proofs.Faultless.{header_there}
 use Rattle.out_ring.specs.Ring.{Ring, pushed}
-use Rattle.room_core.specs.Follows.{pushed_all}
-use Rattle.room_core.proofs.Rings.{length-pushed, pushed_is, pushed_more, take_next}
+use Rattle.track_core.specs.declared.layers.Layers.{Layers}
+use Rattle.track_core.specs.Track.{id_of}
+use Rattle.room_core.specs.Follows.{pushed_all, remasked_by, tells_by}
+use Rattle.room_core.specs.Sent.{remasked_first, tells_first}
+use Rattle.room_core.proofs.Rings.{length-pushed, pushed_both, pushed_is, pushed_more, pushed_none, take_next}
 use Rattle.room_core.proofs.SentMarked.{length-marked, marked_at}
 
 -- what the packets of a frame are queued as, but for their numbers
@@ -24,30 +35,152 @@ queued_at top packets i bytes at =
     marked_at top (map packet_of packets) i (packet_of bytes) (slice_get-map packet_of packets i ∙ ap (option_map packet_of) at)
     ∙ ap (λ (n : ℕ). Some (record (packet_of bytes) { marker = top && eqb (i + 1) n || (packet_of bytes).marker })) (length-map packets packet_of)
 
+-- the packets from a place on
+abbrev pub to_queue_from : ℕ → Bool → List (List ℕ) → List Packet
+to_queue_from from top packets = drop from (to_queue top packets)
+
+length-to_queue_from : (from : ℕ) (top : Bool) (packets : List (List ℕ)) → length (to_queue_from from top packets) ≡ length packets - from
+length-to_queue_from from top packets = length-drop from (to_queue top packets) ∙ ap (λ (n : ℕ). n - from) (length-to_queue top packets)
+
+behind : {X : Type 0} (n i j : ℕ) (xs : List X) → j ≡ n + i → slice_get (drop n xs) i ≡ slice_get xs j
+behind zero i j xs e = ap (slice_get xs) (let same : i ≡ j = omega (arith, e) in same)
+behind (suc n) i j [] e = refl
+behind (suc n) i zero (x ∷ xs) e = absurd (omega (arith, e))
+behind (suc n) i (suc j) (x ∷ xs) e = behind n i j xs (omega (arith, e))
+
+queued_behind : (from : ℕ) (top : Bool) (packets : List (List ℕ)) (i : ℕ) (p : Packet) → from ≤ i → slice_get (to_queue top packets) i ≡ Some p
+    → slice_get (to_queue_from from top packets) (i - from) ≡ Some p
+queued_behind from top packets i p le at = behind from (i - from) i (to_queue top packets) (omega (arith, le)) ∙ at
+
+-- none is queued yet
+pub push_begins : (from : ℕ) (top : Bool) (packets : List (List ℕ)) (ring : Ring) → ring ≡ pushed_all (take (from - from) (to_queue_from from top packets)) ring
+push_begins from top packets ring =
+    let none : 0 ≡ from - from = omega arith in
+    sym (pushed_none ring) ∙ ap (λ (n : ℕ). pushed_all (take n (to_queue_from from top packets)) ring) none
+
 -- one more packet of the frame is queued
-pub push_next : (bytes : List ℕ) (packets : List (List ℕ)) (top : Bool) (i : ℕ) (ring ring' first : Ring) → 12 ≤ length bytes
+pub push_next : (bytes : List ℕ) (packets : List (List ℕ)) (top : Bool) (from i : ℕ) (ring ring' first : Ring) → 12 ≤ length bytes → from ≤ i
     → slice_get packets i ≡ Some bytes
-    → ring ≡ pushed_all (take i (to_queue top packets)) first
+    → ring ≡ pushed_all (take (i - from) (to_queue_from from top packets)) first
     → ring' ≡ pushed bytes (top && eqb (i + 1) (length packets) || (packet_of bytes).marker) ring
-    → ring' ≡ pushed_all (take (i + 1) (to_queue top packets)) first
-push_next bytes packets top i ring ring' first long at so_far now =
+    → ring' ≡ pushed_all (take (i + 1 - from) (to_queue_from from top packets)) first
+push_next bytes packets top from i ring ring' first long le at so_far now =
     let m : Bool = top && eqb (i + 1) (length packets) || (packet_of bytes).marker in
     let p : Packet = record (packet_of bytes) { marker = m } in
-    let ps : List Packet = to_queue top packets in
-    now ∙ pushed_is bytes m ring long ∙ ap (pushed_all (p ∷ [])) so_far ∙ sym (pushed_more (take i ps) p first)
-    ∙ ap (λ (xs : List Packet). pushed_all xs first) (sym (take_next i ps p (queued_at top packets i bytes at)))
+    let ps : List Packet = to_queue_from from top packets in
+    let one : (i - from) + 1 ≡ i + 1 - from = omega (arith, le) in
+    now ∙ pushed_is bytes m ring long ∙ ap (pushed_all (p ∷ [])) so_far ∙ sym (pushed_more (take (i - from) ps) p first)
+    ∙ ap (λ (xs : List Packet). pushed_all xs first) (sym (take_next (i - from) ps p (queued_behind from top packets i p le (queued_at top packets i bytes at))))
+    ∙ ap (λ (n : ℕ). pushed_all (take n ps) first) one
 
 -- there is room for one more
-pub push_room : (packets : List (List ℕ)) (top : Bool) (i : ℕ) (ring first : Ring) → i < length packets → length first.queued + length packets ≤ 512
-    → ring ≡ pushed_all (take i (to_queue top packets)) first → length ring.queued < 512
-push_room packets top i ring first lt room so_far =
-    let size : length ring.queued ≡ length first.queued + length (take i (to_queue top packets)) =
-    ap (λ (r : Ring). length r.queued) so_far ∙ length-pushed (take i (to_queue top packets)) first in
-    let few : length (take i (to_queue top packets)) ≤ i = omega (arith, length-take i (to_queue top packets)) in
+pub push_room : (packets : List (List ℕ)) (top : Bool) (from i : ℕ) (ring first : Ring) → from ≤ i → i < length packets → length first.queued + length packets ≤ 512 + from
+    → ring ≡ pushed_all (take (i - from) (to_queue_from from top packets)) first → length ring.queued < 512
+push_room packets top from i ring first le lt room so_far =
+    let size : length ring.queued ≡ length first.queued + length (take (i - from) (to_queue_from from top packets)) =
+    ap (λ (r : Ring). length r.queued) so_far ∙ length-pushed (take (i - from) (to_queue_from from top packets)) first in
+    let few : length (take (i - from) (to_queue_from from top packets)) ≤ i - from = omega (arith, length-take (i - from) (to_queue_from from top packets)) in
     omega arith
 
 -- all of them are queued
-pub push_ends : (packets : List (List ℕ)) (top : Bool) (i : ℕ) (ring first : Ring) → length packets ≤ i
-    → ring ≡ pushed_all (take i (to_queue top packets)) first → ring ≡ pushed_all (to_queue top packets) first
-push_ends packets top i ring first all so_far =
-    so_far ∙ ap (λ (xs : List Packet). pushed_all xs first) (take_all i (to_queue top packets) (omega (arith, length-to_queue top packets, all)))
+pub push_ends : (packets : List (List ℕ)) (top : Bool) (from i : ℕ) (ring first : Ring) → length packets ≤ i
+    → ring ≡ pushed_all (take (i - from) (to_queue_from from top packets)) first → ring ≡ pushed_all (to_queue_from from top packets) first
+push_ends packets top from i ring first all so_far =
+    so_far ∙ ap (λ (xs : List Packet). pushed_all xs first) (take_all (i - from) (to_queue_from from top packets) (omega (arith, length-to_queue_from from top packets, all)))
+
+-- ---- the first one apart
+
+-- the first packet with its mark, and then those behind it
+first_apart : (id : ℕ) (force : Option TemplateStructure) (mask : ℕ) (top : Bool) (p : Packet) (ps : List Packet)
+    → marked top (remasked_first id force mask (p ∷ ps))
+    ≡ remasked_packet id force mask (record p { marker = top && eqb (length (p ∷ ps)) 1 || p.marker }) ∷ drop 1 (marked top (p ∷ ps))
+first_apart id force mask true p [] = refl
+first_apart id force mask false p [] = refl
+first_apart id force mask top p (q ∷ ps) =
+    ap (λ (m : Bool). remasked_packet id force mask (record p { marker = m }) ∷ marked top (q ∷ ps)) (sym (none top (eqb (length (p ∷ (q ∷ ps))) 1) (ne_eqb (length (p ∷ (q ∷ ps))) 1 (λ e. omega arith))))
+  where
+    none : (top last : Bool) → last ≡ false → (top && last || p.marker) ≡ p.marker
+    none true last e = ap (λ (b : Bool). b || p.marker) e
+    none false last e = refl
+
+plain_apart : (top : Bool) (p : Packet) (ps : List Packet) → marked top (p ∷ ps) ≡ record p { marker = top && eqb (length (p ∷ ps)) 1 || p.marker } ∷ drop 1 (marked top (p ∷ ps))
+plain_apart true p [] = refl
+plain_apart false p [] = refl
+plain_apart top p (q ∷ ps) =
+    ap (λ (m : Bool). record p { marker = m } ∷ marked top (q ∷ ps)) (sym (none top (eqb (length (p ∷ (q ∷ ps))) 1) (ne_eqb (length (p ∷ (q ∷ ps))) 1 (λ e. omega arith))))
+  where
+    none : (top last : Bool) → last ≡ false → (top && last || p.marker) ≡ p.marker
+    none true last e = ap (λ (b : Bool). b || p.marker) e
+    none false last e = refl
+
+-- one packet with its mark
+abbrev pub first_of : Bool → ℕ → List ℕ → Packet
+first_of top count bytes = record (packet_of bytes) { marker = top && eqb count 1 || (packet_of bytes).marker }
+
+either_apart : (layers : Option Layers) (mask : ℕ) (top : Bool) (bytes : List ℕ) (rest : List (List ℕ))
+    → marked top (remasked_by layers mask (map packet_of (bytes ∷ rest))) ≡ remasked_by layers mask (first_of top (length (bytes ∷ rest)) bytes ∷ []) ++ to_queue_from 1 top (bytes ∷ rest)
+either_apart None mask top bytes rest =
+    plain_apart top (packet_of bytes) (map packet_of rest)
+    ∙ ap (λ (n : ℕ). record (packet_of bytes) { marker = top && eqb (suc n) 1 || (packet_of bytes).marker } ∷ to_queue_from 1 top (bytes ∷ rest)) (length-map rest packet_of)
+either_apart (Some l) mask top bytes rest =
+    first_apart l.id l.table.structure mask top (packet_of bytes) (map packet_of rest)
+    ∙ ap (λ (n : ℕ). remasked_packet l.id l.table.structure mask (record (packet_of bytes) { marker = top && eqb (suc n) 1 || (packet_of bytes).marker }) ∷ to_queue_from 1 top (bytes ∷ rest)) (length-map rest packet_of)
+
+-- the first packet is queued, and then those behind it
+pub push_first_ends : (layers : Option Layers) (mask : ℕ) (top : Bool) (packets : List (List ℕ)) (bytes : List ℕ) (first mid last : Ring) → slice_get packets 0 ≡ Some bytes
+    → mid ≡ pushed_all (remasked_by layers mask (first_of top (length packets) bytes ∷ [])) first → last ≡ pushed_all (to_queue_from 1 top packets) mid
+    → last ≡ pushed_all (marked top (remasked_by layers mask (map packet_of packets))) first
+push_first_ends layers mask top [] bytes first mid last at one more = absurd cc
+push_first_ends layers mask top (b ∷ rest) bytes first mid last at one more =
+    let same : bytes ≡ b = cc in
+    more ∙ ap (pushed_all (to_queue_from 1 top (b ∷ rest))) (one ∙ ap (λ (x : List ℕ). pushed_all (remasked_by layers mask (first_of top (length (b ∷ rest)) x ∷ [])) first) same)
+    ∙ sym (pushed_both (remasked_by layers mask (first_of top (length (b ∷ rest)) b ∷ [])) (to_queue_from 1 top (b ∷ rest)) first)
+    ∙ ap (λ (ps : List Packet). pushed_all ps first) (sym (either_apart layers mask top b rest))
+
+-- no packet, no change
+pub push_first_none : (layers : Option Layers) (mask : ℕ) (top : Bool) (packets : List (List ℕ)) (ring : Ring) → length packets ≡ 0
+    → ring ≡ pushed_all (marked top (remasked_by layers mask (map packet_of packets))) ring
+push_first_none None mask top [] ring none = sym (pushed_none ring)
+push_first_none (Some l) mask top [] ring none = sym (pushed_none ring)
+push_first_none layers mask top (b ∷ rest) ring none = absurd (omega (arith, none))
+
+-- ---- whether it tells
+
+pub first_tells : (l : Layers) (packets : List (List ℕ)) (bytes : List ℕ) → slice_get packets 0 ≡ Some bytes → 12 ≤ length bytes → tells l.id bytes ≡ tells_first l.id (map packet_of packets)
+first_tells l [] bytes at long = absurd cc
+first_tells l (b ∷ rest) bytes at long = let same : bytes ≡ b = cc in sym (rests_tell l.id bytes long) ∙ ap (λ (x : List ℕ). tells l.id (packet_of x).rest) same
+
+pub tells_said : (layers : Option Layers) (id : ℕ) (packets : List (List ℕ)) (bytes : List ℕ) → Some id ≡ option_map id_of layers → slice_get packets 0 ≡ Some bytes → 12 ≤ length bytes
+    → tells id bytes ≡ tells_by layers packets
+tells_said None id packets bytes is at long = absurd cc
+tells_said (Some l) id packets bytes is at long = let same : id ≡ l.id = cc in ap (λ (n : ℕ). tells n bytes) same ∙ first_tells l packets bytes at long
+
+-- ---- a packet with a mask, where it can be remasked
+
+pub told_reads : (id mask : ℕ) (force : Option TemplateStructure) (bytes new : List ℕ) → remasked id force mask bytes ≡ Some new → first_fault bytes ≡ None → first_fault new ≡ None
+told_reads id mask force bytes new is reads = (packets_remasked id mask force bytes new is).reads reads
+
+told_as : (id mask : ℕ) (force : Option TemplateStructure) (bytes : List ℕ) (o : Option (List ℕ)) (marker : Bool) (ring ring' : Ring) → 12 ≤ length bytes → 12 ≤ length (or_same o bytes)
+    → remasked id force mask bytes ≡ o → ring' ≡ pushed (or_same o bytes) marker ring
+    → ring' ≡ pushed_all (remasked_packet id force mask (record (packet_of bytes) { marker = marker }) ∷ []) ring
+told_as id mask force bytes o marker ring ring' long short is now =
+    now ∙ pushed_is (or_same o bytes) marker ring short
+    ∙ ap (λ (p : Packet). pushed_all (record p { marker = marker } ∷ []) ring)
+    (ap (λ (x : Option (List ℕ)). packet_of (or_same x bytes)) (sym is) ∙ rests_remasked id mask force bytes long)
+
+pub told_pushed : (id mask : ℕ) (force : Option TemplateStructure) (bytes new : List ℕ) (marker : Bool) (ring ring' : Ring) → first_fault bytes ≡ None
+    → remasked id force mask bytes ≡ Some new → ring' ≡ pushed new marker ring
+    → ring' ≡ pushed_all (remasked_packet id force mask (record (packet_of bytes) { marker = marker }) ∷ []) ring
+told_pushed id mask force bytes new marker ring ring' reads is now =
+    told_as id mask force bytes (Some new) marker ring ring' (header_there bytes reads) (header_there new (told_reads id mask force bytes new is reads)) is now
+
+pub same_pushed : (id mask : ℕ) (force : Option TemplateStructure) (bytes : List ℕ) (marker : Bool) (ring ring' : Ring) → first_fault bytes ≡ None
+    → remasked id force mask bytes ≡ None → ring' ≡ pushed bytes marker ring
+    → ring' ≡ pushed_all (remasked_packet id force mask (record (packet_of bytes) { marker = marker }) ∷ []) ring
+same_pushed id mask force bytes marker ring ring' reads is now =
+    told_as id mask force bytes None marker ring ring' (header_there bytes reads) (header_there bytes reads) is now
+
+-- on a plain track it is as it was
+pub none_told : (layers : Option Layers) (mask : ℕ) (ps : List Packet) → None ≡ option_map id_of layers → remasked_by layers mask ps ≡ ps
+none_told None mask ps is = refl
+none_told (Some l) mask ps is = absurd (let none : None ≡ Some l.id = is in cc)

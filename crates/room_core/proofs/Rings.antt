@@ -62,15 +62,19 @@ length-pushed ps ring =
     length-append ring.queued (map bytes_of (numbered n ring.ssrc ps))
     ∙ ap (λ (k : ℕ). length ring.queued + k) (length-map (numbered n ring.ssrc ps) bytes_of ∙ length-numbered n ring.ssrc ps)
 
-pub pushed_more : (xs : List Packet) (p : Packet) (ring : Ring) → pushed_all (xs ++ p ∷ []) ring ≡ pushed_all (p ∷ []) (pushed_all xs ring)
-pushed_more xs p ring =
+-- some, and then others
+pub pushed_both : (xs ys : List Packet) (ring : Ring) → pushed_all (xs ++ ys) ring ≡ pushed_all ys (pushed_all xs ring)
+pushed_both xs ys ring =
     let n : ℕ = ring.next + length ring.queued in
     let first : List (List ℕ) = map bytes_of (numbered n ring.ssrc xs) in
     let number : n + length xs ≡ ring.next + length (ring.queued ++ first) = omega (arith, length-pushed xs ring) in
-    ap (λ (l : List Packet). record ring { queued = ring.queued ++ map bytes_of l }) (numbered-append n ring.ssrc xs (p ∷ []))
-    ∙ ap (λ (l : List (List ℕ)). record ring { queued = ring.queued ++ l }) (map-append bytes_of (numbered n ring.ssrc xs) (numbered (n + length xs) ring.ssrc (p ∷ [])))
-    ∙ ap (λ (l : List (List ℕ)). record ring { queued = l }) (sym (append_assoc ring.queued first (map bytes_of (numbered (n + length xs) ring.ssrc (p ∷ [])))))
-    ∙ ap (λ (k : ℕ). record ring { queued = (ring.queued ++ first) ++ map bytes_of (numbered k ring.ssrc (p ∷ [])) }) number
+    ap (λ (l : List Packet). record ring { queued = ring.queued ++ map bytes_of l }) (numbered-append n ring.ssrc xs ys)
+    ∙ ap (λ (l : List (List ℕ)). record ring { queued = ring.queued ++ l }) (map-append bytes_of (numbered n ring.ssrc xs) (numbered (n + length xs) ring.ssrc ys))
+    ∙ ap (λ (l : List (List ℕ)). record ring { queued = l }) (sym (append_assoc ring.queued first (map bytes_of (numbered (n + length xs) ring.ssrc ys))))
+    ∙ ap (λ (k : ℕ). record ring { queued = (ring.queued ++ first) ++ map bytes_of (numbered k ring.ssrc ys) }) number
+
+pub pushed_more : (xs : List Packet) (p : Packet) (ring : Ring) → pushed_all (xs ++ p ∷ []) ring ≡ pushed_all (p ∷ []) (pushed_all xs ring)
+pushed_more xs p ring = pushed_both xs (p ∷ []) ring
 
 -- ---- the oldest is taken
 

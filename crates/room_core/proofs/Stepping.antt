@@ -1,13 +1,17 @@
 -- A track's pipeline in the words of the room: its events, its items, and one step.
-use Rattle.std.proofs.Common.{◌≡◌, ◌↔◌, ℕ, List, [], ◌∷◌, ◌++◌, length, map, drop, refl, sym, ap, subst, ◌∙◌, Option, Some, None, slice_get, option_map}
+use Rattle.std.proofs.Common.{◌≡◌, ◌↔◌, ℕ, Bool, true, false, cond, List, [], ◌∷◌, ◌++◌, length, map, drop, refl, sym, ap, subst, ◌∙◌, Option, Some, None, slice_get, option_map}
+use Rattle.std.specs.Prelude.{IfSome}
 use Rattle.std.proofs.lemmas.List.{append-nil}
 use Rattle.sfu_base.specs.declared.call.Kind.{Kind}
 use Rattle.sfu_base.specs.declared.call.Kind.TheVariants.{Plain, Layered}
 use Rattle.reorder_window.specs.Events.{Event, Piece, Got, Gone}
 use Rattle.reorder_window.specs.Order.{Order, added, order_of, items_of as order_items}
 use Rattle.forwarding_model.specs.forwarding.Timeline.{Frame}
-use Rattle.forwarding_model.specs.frames.Frames.{Item, made_by_item, state_after}
-use Rattle.forwarding_model.specs.frames.Reading.{Format, IsFormat}
+use Rattle.forwarding_model.specs.frames.Cuts.{Run, cut_by}
+use Rattle.forwarding_model.specs.frames.Cuts.Mark.{Gone as GoneMark, Padding as PaddingMark}
+use Rattle.forwarding_model.specs.frames.Frames.{Force, Item, ReadPacket, TrackState, after_showing, frame_of, framed, is_padding, made_by, made_by_item, made_by_packet, number_of, showing_mark, state_after}
+use Rattle.forwarding_model.specs.frames.Frames.Item.{Missing, Arrived}
+use Rattle.forwarding_model.specs.frames.Reading.{Format, IsFormat, shown}
 use Rattle.dd_structure.specs.TemplateStructure.{TemplateStructure}
 use Rattle.packet_format.specs.Formats.{format_of as the_format}
 use Rattle.packet_format.specs.Packets.{packet_of}
@@ -16,7 +20,9 @@ use Rattle.track_core.specs.declared.layers.Layers.{Layers}
 use Rattle.track_core.specs.declared.track.Made.{Made}
 use Rattle.track_core.specs.declared.track.Made.TheVariants as made
 use Rattle.track_core.specs.Pieces.{item_of, items_of}
-use Rattle.track_core.specs.Track.{HasKind, IsMadeValid as IsValidMade, Seen, StandsFor, Stays, and_piece, frame_by, framed_packets, frames_packets, id_of, made_frame, made_of, packets_of}
+use Rattle.track_core.specs.Track.{HasKind, IsMadeValid as IsValidMade, Seen, StandsFor, Stays, and_piece, frame_by, framed_packets, frames_packets, id_of, made_frame, made_of, packets_of, structure_in}
+use Rattle.track_core.specs.Layers.{IsAfter}
+use Rattle.track_core.proofs.Orders.{structure_stands}
 use Rattle.room_core.specs.Formats.{format_of}
 use Rattle.room_core.specs.Stepping.{IsAt, IsBegun, IsBrought, IsFrameMade, IsMade, IsMadeValid, Steps, StepsOn, kind_by}
 
@@ -92,6 +98,35 @@ items_more : (worked : List Piece) (piece : Piece) → items_of (worked ++ piece
 items_more [] piece = refl
 items_more (p ∷ ps) piece = ap (λ (xs : List Item). xs ++ item_of p ∷ []) (items_more ps piece)
 
+abbrev structure_by : Option (Frame TemplateStructure) → Option TemplateStructure
+structure_by None = None
+structure_by (Some frame) = Some frame.structure
+
+framed_in_force : (format : Format TemplateStructure) (force : Force TemplateStructure) (cut : Option (Run (ReadPacket TemplateStructure))) (frame : Frame TemplateStructure)
+    → frame_of format force cut ≡ Some frame → force.structure ≡ Some frame.structure
+framed_in_force format force None frame e = absurd cc
+framed_in_force format force (Some run) frame e = go force.structure (number_of force run.first.brings.descriptor) refl e
+  where
+    go : (o : Option TemplateStructure) (n : Option ℕ) → force.structure ≡ o → framed format force run o n ≡ Some frame → force.structure ≡ Some frame.structure
+    go None n is e = absurd cc
+    go (Some s) None is e = absurd cc
+    go (Some s) (Some n) is e = is ∙ ap (λ (o : Option (Frame TemplateStructure)). structure_by o) e
+
+-- a frame was read by the structure that is in force once its last packet was read
+made_in_force : (format : Format TemplateStructure) (state : TrackState TemplateStructure) (item : Item) (frame : Frame TemplateStructure)
+    → (made_by_item format state item).frame ≡ Some frame → (made_by_item format state item).state.force.structure ≡ Some frame.structure
+made_in_force format state Missing frame e = framed_in_force format state.force (cut_by state.run GoneMark) frame e
+made_in_force format state (Arrived packet) frame e = go (is_padding (format.payload packet.rest)) e
+  where
+    force : Force TemplateStructure
+    force = after_showing format state.force (shown format state.force.structure packet.rest)
+
+    go : (b : Bool)
+        → (cond b (made_by format state.force state.run PaddingMark) (made_by_packet format state packet (shown format state.force.structure packet.rest))).frame ≡ Some frame
+        → (cond b (made_by format state.force state.run PaddingMark) (made_by_packet format state packet (shown format state.force.structure packet.rest))).state.force.structure ≡ Some frame.structure
+    go true e = framed_in_force format state.force (cut_by state.run PaddingMark) frame e
+    go false e = framed_in_force format force (cut_by state.run (showing_mark (shown format state.force.structure packet.rest) packet)) frame e
+
 module _ (old new : Seen) (result : Made)
     (rest : new.window ≡ record old.window { waiting = drop 1 old.window.waiting })
     (idle : (result ≡ made.Idle) ↔ (old.window.waiting ≡ []))
@@ -101,19 +136,33 @@ module _ (old new : Seen) (result : Made)
     (of_frame : (events : List Event) (worked : List Piece) → StandsFor old events worked → map packet_of new.packets ≡ frames_packets old.layers worked (slice_get old.window.waiting 0))
     (stays : Stays old new)
   where
-    frame_made : (o : Option (Frame TemplateStructure)) → result ≡ made_frame o → map packet_of new.packets ≡ framed_packets o → IsFrameMade o result new.packets
-    frame_made None e p = e
-    frame_made (Some frame) e p = (e, sym p)
+    frame_made : (o : Option (Frame TemplateStructure)) → result ≡ made_frame o → map packet_of new.packets ≡ framed_packets o
+        → ((frame : Frame TemplateStructure) → o ≡ Some frame → structure_in new.layers ≡ Some frame.structure) → IsFrameMade o result new
+    frame_made None e p force = e
+    frame_made (Some frame) e p force = (e, sym p, force frame refl)
 
-    is_made : (o : Option Layers) (worked : List Piece) (items : List Item) (piece : Piece) → items_of worked ≡ items
+    -- the structure in force after the piece, as the track has it
+    in_force : (o : Option Layers) (id : ℕ) (events : List Event) (worked : List Piece) (piece : Piece) → new.layers ≡ o → option_map id_of o ≡ Some id → StandsFor new events (worked ++ piece ∷ [])
+        → (frame : Frame TemplateStructure) → frame_by id worked piece ≡ Some frame → structure_in o ≡ Some frame.structure
+    in_force None id events worked piece is same stood frame e = absurd (let none : None ≡ Some id = same in cc)
+    in_force (Some m) id events worked piece is same stood frame e =
+        let id_is : m.id ≡ id = cc in
+        let after : IfSome (Some m) (λ (l : Layers). IsAfter l (items_of (worked ++ piece ∷ []))) = subst (λ (o : Option Layers). IfSome o (λ l. IsAfter l (items_of (worked ++ piece ∷ [])))) is stood.layers in
+        structure_stands (Some m) (worked ++ piece ∷ []) after
+        ∙ ap (λ (n : ℕ). (state_after (the_format n) (items_of (worked ++ piece ∷ []))).force.structure) id_is
+        ∙ ap (λ (xs : List Item). (state_after (the_format id) xs).force.structure) (items_more worked piece)
+        ∙ made_in_force (the_format id) (state_after (the_format id) (items_of worked)) (item_of piece) frame e
+
+    is_made : (o : Option Layers) (events : List Event) (worked : List Piece) (items : List Item) (piece : Piece) → old.layers ≡ o → items_of worked ≡ items → StandsFor new events (worked ++ piece ∷ [])
         → result ≡ made_of o worked (Some piece) → new.packets ≡ packets_of o worked (Some piece) → map packet_of new.packets ≡ frames_packets o worked (Some piece)
-        → IsMade (kind_by o) items piece result new.packets
-    is_made None worked items (Got h) are e p f = (e, p)
-    is_made None worked items (Gone from to) are e p f = e
-    is_made (Some l) worked items piece are e p f =
-        subst (λ (format : Format TemplateStructure). IsFrameMade (made_by_item format (state_after format items) (item_of piece)).frame result new.packets) (sym (format_is l.id))
-        (subst (λ (xs : List Item). IsFrameMade (made_by_item (the_format l.id) (state_after (the_format l.id) xs) (item_of piece)).frame result new.packets) are
-        (frame_made (frame_by l.id worked piece) e f))
+        → IsMade (kind_by o) items piece result new
+    is_made None events worked items (Got h) was are stood e p f = (e, p)
+    is_made None events worked items (Gone from to) was are stood e p f = e
+    is_made (Some l) events worked items piece was are stood e p f =
+        subst (λ (format : Format TemplateStructure). IsFrameMade (made_by_item format (state_after format items) (item_of piece)).frame result new) (sym (format_is l.id))
+        (subst (λ (xs : List Item). IsFrameMade (made_by_item (the_format l.id) (state_after (the_format l.id) xs) (item_of piece)).frame result new) are
+        (frame_made (frame_by l.id worked piece) e f
+        (in_force new.layers l.id events worked piece refl (stays.id ∙ ap (option_map id_of) was) stood)))
 
     steps_by : (w : List Piece) → old.window.waiting ≡ w → StepsOn w old new result
     steps_by [] e = (
@@ -136,7 +185,8 @@ module _ (old new : Seen) (result : Made)
               stands = subst (λ (o : Option Piece). StandsFor new events (and_piece h.worked o)) first (stands events h.worked h.stands);
               items_are = items_more h.worked piece ∙ ap (λ (xs : List Item). item_of piece ∷ xs) h.items_are;
             };
-            made = is_made old.layers h.worked items piece h.items_are
+            made = is_made old.layers events h.worked items piece refl h.items_are
+                (subst (λ (o : Option Piece). StandsFor new events (and_piece h.worked o)) first (stands events h.worked h.stands))
                 (makes events h.worked h.stands ∙ ap (made_of old.layers h.worked) first)
                 (packets events h.worked h.stands ∙ ap (packets_of old.layers h.worked) first)
                 (of_frame events h.worked h.stands ∙ ap (frames_packets old.layers h.worked) first);

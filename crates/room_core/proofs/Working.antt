@@ -15,7 +15,7 @@ use Rattle.dd_structure.specs.TemplateStructure.{TemplateStructure}
 use Rattle.packet_format.specs.Packets.{packet_of}
 use Rattle.room_core.specs.Formats.{format_of}
 use Rattle.room_core.specs.Items.{and_pieces}
-use Rattle.track_core.specs.Track.{Seen}
+use Rattle.track_core.specs.Track.{Seen, structure_in}
 use Rattle.track_core.specs.Pieces.{item_of}
 use Rattle.room_core.specs.Stepping.{IsFrameMade, IsMade, Steps, StepsOn, WorksOff, kind_by}
 use Rattle.track_core.specs.declared.track.Made.TheVariants as made
@@ -77,67 +77,69 @@ pub record PacketMade (kind : Kind) (older done : List Item) (item : Item) (byte
   pub released : released_as kind older (item ∷ done) ≡ PlainPacket (packet_of bytes) ∷ released_as kind older done
   pub key : makes_key kind older (item ∷ done) ≡ makes_key kind older done
 
-pub record FrameMade (kind : Kind) (older done : List Item) (item : Item) (meaning : FrameMeaning) (packets : List (List ℕ)) : Type 0 where
+pub record FrameMade (kind : Kind) (older done : List Item) (item : Item) (meaning : FrameMeaning) (track : Seen) : Type 0 where
   pub structure : TemplateStructure
-  pub released : released_as kind older (item ∷ done) ≡ WholeFrame (frame_by meaning structure packets) ∷ released_as kind older done
+  pub in_force : structure_in track.layers ≡ Some structure
+  pub released : released_as kind older (item ∷ done) ≡ WholeFrame (frame_by meaning structure track.packets) ∷ released_as kind older done
   pub key : makes_key kind older (item ∷ done) ≡ (meaning.key || makes_key kind older done)
-  pub track : (events : List Happened) → StayOneTrack kind older events → IsOneTrack (meanings_of (released_as kind older (item ∷ done) ++ events))
+  pub one_track : (events : List Happened) → StayOneTrack kind older events → IsOneTrack (meanings_of (released_as kind older (item ∷ done) ++ events))
 
-none_made : (id : ℕ) (older done : List Item) (item : Item) (o : Option (Frame TemplateStructure)) (packets : List (List ℕ))
-    → (made_by_item (format_of id) (state_after (format_of id) (done ++ older)) item).frame ≡ o → IsFrameMade o made.Nothing packets → NothingMade (Layered id) older done item
-none_made id older done item None packets e h = record {
+none_made : (id : ℕ) (older done : List Item) (item : Item) (o : Option (Frame TemplateStructure)) (new : Seen)
+    → (made_by_item (format_of id) (state_after (format_of id) (done ++ older)) item).frame ≡ o → IsFrameMade o made.Nothing new → NothingMade (Layered id) older done item
+none_made id older done item None new e h = record {
   released = ap (λ (o : Option (Frame TemplateStructure)). frame_events (in_front o (frames_since (format_of id) older done))) e;
   key = ap (λ (o : Option (Frame TemplateStructure)). list_any (λ frame. frame.meaning.key) (in_front o (frames_since (format_of id) older done))) e;
 }
-none_made id older done item (Some frame) packets e h = absurd (let none : made.Nothing ≡ made.Frame frame.meaning = h.0 in cc)
+none_made id older done item (Some frame) new e h = absurd (let none : made.Nothing ≡ made.Frame frame.meaning = h.0 in cc)
 
-pub nothing_made : (kind : Kind) (older done : List Item) (piece : Piece) (packets : List (List ℕ)) → IsMade kind (done ++ older) piece made.Nothing packets
+pub nothing_made : (kind : Kind) (older done : List Item) (piece : Piece) (new : Seen) → IsMade kind (done ++ older) piece made.Nothing new
     → NothingMade kind older done (item_of piece)
-nothing_made Plain older done (Got h) packets m = absurd (let none : made.Nothing ≡ made.Packet = m.0 in cc)
-nothing_made Plain older done (Gone from to) packets m = record { released = refl; key = refl }
-nothing_made (Layered id) older done piece packets m = none_made id older done (item_of piece) _ packets refl m
+nothing_made Plain older done (Got h) new m = absurd (let none : made.Nothing ≡ made.Packet = m.0 in cc)
+nothing_made Plain older done (Gone from to) new m = record { released = refl; key = refl }
+nothing_made (Layered id) older done piece new m = none_made id older done (item_of piece) _ new refl m
 
-no_packet : (o : Option (Frame TemplateStructure)) (packets : List (List ℕ)) → IsFrameMade o made.Packet packets → ⊥
-no_packet None packets h = cc
-no_packet (Some frame) packets h = let none : made.Packet ≡ made.Frame frame.meaning = h.0 in cc
+no_packet : (o : Option (Frame TemplateStructure)) (new : Seen) → IsFrameMade o made.Packet new → ⊥
+no_packet None new h = cc
+no_packet (Some frame) new h = let none : made.Packet ≡ made.Frame frame.meaning = h.0 in cc
 
 only_one : (bytes first : List ℕ) (packets : List (List ℕ)) → packets ≡ bytes ∷ [] → slice_get packets 0 ≡ Some first → bytes ≡ first
 only_one bytes first [] e at = cc
 only_one bytes first (p ∷ ps) e at = let one : p ≡ bytes = cc in let two : p ≡ first = cc in sym one ∙ two
 
-pub packet_made : (kind : Kind) (older done : List Item) (piece : Piece) (packets : List (List ℕ)) (bytes : List ℕ) → IsMade kind (done ++ older) piece made.Packet packets
-    → slice_get packets 0 ≡ Some bytes → PacketMade kind older done (item_of piece) bytes
-packet_made Plain older done (Got h) packets bytes m at = record {
-  released = ap (λ (b : List ℕ). let e : Happened = PlainPacket (packet_of b) in e ∷ released_as Plain older done) (only_one h.bytes bytes packets m.1 at);
+pub packet_made : (kind : Kind) (older done : List Item) (piece : Piece) (new : Seen) (bytes : List ℕ) → IsMade kind (done ++ older) piece made.Packet new
+    → slice_get new.packets 0 ≡ Some bytes → PacketMade kind older done (item_of piece) bytes
+packet_made Plain older done (Got h) new bytes m at = record {
+  released = ap (λ (b : List ℕ). let e : Happened = PlainPacket (packet_of b) in e ∷ released_as Plain older done) (only_one h.bytes bytes new.packets m.1 at);
   key = refl;
 }
-packet_made Plain older done (Gone from to) packets bytes m at = absurd (let none : made.Packet ≡ made.Nothing = m in cc)
-packet_made (Layered id) older done piece packets bytes m at = absurd (no_packet _ packets m)
+packet_made Plain older done (Gone from to) new bytes m at = absurd (let none : made.Packet ≡ made.Nothing = m in cc)
+packet_made (Layered id) older done piece new bytes m at = absurd (no_packet _ new m)
 
 same_meaning : (a b : FrameMeaning) → made.Frame a ≡ made.Frame b → a ≡ b
 same_meaning a b e = cc
 
-frame_made_by : (id : ℕ) (older done : List Item) (item : Item) (o : Option (Frame TemplateStructure)) (meaning : FrameMeaning) (packets : List (List ℕ))
-    → (made_by_item (format_of id) (state_after (format_of id) (done ++ older)) item).frame ≡ o → IsFrameMade o (made.Frame meaning) packets
-    → FrameMade (Layered id) older done item meaning packets
-frame_made_by id older done item None meaning packets e h = absurd (let none : made.Frame meaning ≡ made.Nothing = h in cc)
-frame_made_by id older done item (Some frame) meaning packets e h =
+frame_made_by : (id : ℕ) (older done : List Item) (item : Item) (o : Option (Frame TemplateStructure)) (meaning : FrameMeaning) (new : Seen)
+    → (made_by_item (format_of id) (state_after (format_of id) (done ++ older)) item).frame ≡ o → IsFrameMade o (made.Frame meaning) new
+    → FrameMade (Layered id) older done item meaning new
+frame_made_by id older done item None meaning new e h = absurd (let none : made.Frame meaning ≡ made.Nothing = h in cc)
+frame_made_by id older done item (Some frame) meaning new e h =
     let is : frame.meaning ≡ meaning = sym (same_meaning meaning frame.meaning h.0) in
-    let same : frame ≡ frame_by meaning frame.structure packets =
+    let same : frame ≡ frame_by meaning frame.structure new.packets =
     ap (λ (m : FrameMeaning). let f : Frame TemplateStructure = record { meaning = m; structure = frame.structure; packets = frame.packets } in f) is
     ∙ ap (λ ps. let f : Frame TemplateStructure = record { meaning = meaning; structure = frame.structure; packets = ps } in f) h.1 in
     record {
       structure = frame.structure;
+      in_force = h.2;
       released = ap (λ (o : Option (Frame TemplateStructure)). frame_events (in_front o (frames_since (format_of id) older done))) (e ∙ ap Some same);
       key = ap (λ (o : Option (Frame TemplateStructure)). list_any (λ frame. frame.meaning.key) (in_front o (frames_since (format_of id) older done))) (e ∙ ap Some same);
-      track = λ events stay. stay (item ∷ done);
+      one_track = λ events stay. stay (item ∷ done);
     }
 
-pub frame_made : (kind : Kind) (older done : List Item) (piece : Piece) (meaning : FrameMeaning) (packets : List (List ℕ)) → IsMade kind (done ++ older) piece (made.Frame meaning) packets
-    → FrameMade kind older done (item_of piece) meaning packets
-frame_made Plain older done (Got h) meaning packets m = absurd (let none : made.Frame meaning ≡ made.Packet = m.0 in cc)
-frame_made Plain older done (Gone from to) meaning packets m = absurd (let none : made.Frame meaning ≡ made.Nothing = m in cc)
-frame_made (Layered id) older done piece meaning packets m = frame_made_by id older done (item_of piece) _ meaning packets refl m
+pub frame_made : (kind : Kind) (older done : List Item) (piece : Piece) (meaning : FrameMeaning) (new : Seen) → IsMade kind (done ++ older) piece (made.Frame meaning) new
+    → FrameMade kind older done (item_of piece) meaning new
+frame_made Plain older done (Got h) meaning new m = absurd (let none : made.Frame meaning ≡ made.Packet = m.0 in cc)
+frame_made Plain older done (Gone from to) meaning new m = absurd (let none : made.Frame meaning ≡ made.Nothing = m in cc)
+frame_made (Layered id) older done piece meaning new m = frame_made_by id older done (item_of piece) _ meaning new refl m
 
 -- ---- and what it does to one
 
@@ -149,12 +151,12 @@ packet_follows : (kind : Kind) (older done : List Item) (item : Item) (bytes : L
 packet_follows kind older done item bytes old new m f to events stay h =
     subst (λ (l : List Happened). Follows kind new to (l ++ events)) (sym m.released) (f kind to (released_as kind older done ++ events) h)
 
-frame_follows : (kind : Kind) (older done : List Item) (item : Item) (meaning : FrameMeaning) (packets : List (List ℕ)) (old new : Feed)
-    → FrameMade kind older done item meaning packets → FollowsFrame old new meaning packets → FollowsOn kind older done (item ∷ done) old new
-frame_follows kind older done item meaning packets old new m f to events stay h =
+frame_follows : (kind : Kind) (older done : List Item) (item : Item) (meaning : FrameMeaning) (track : Seen) (old new : Feed) → kind_by track.layers ≡ kind
+    → FrameMade kind older done item meaning track → FollowsFrame old new meaning track → FollowsOn kind older done (item ∷ done) old new
+frame_follows kind older done item meaning track old new is m f to events stay h =
     subst (λ (l : List Happened). Follows kind new to (l ++ events)) (sym m.released)
-    (f kind to m.structure (released_as kind older done ++ events)
-    (subst (λ (l : List Happened). IsOneTrack (meanings_of (l ++ events))) m.released (m.track events stay)) h)
+    (f kind to m.structure (released_as kind older done ++ events) is m.in_force
+    (subst (λ (l : List Happened). IsOneTrack (meanings_of (l ++ events))) m.released (m.one_track events stay)) h)
 
 -- ---- one piece
 
@@ -189,7 +191,7 @@ one_nothing old new number f plea h = go old.window.waiting refl h.on
       works = λ events older done at.
           let kind : Kind = kind_by old.layers in
           let w : WorksOff events old new piece made.Nothing (done ++ older) = s.2 events (done ++ older) at in
-          let m : NothingMade kind older done (item_of piece) = nothing_made kind older done piece new.packets w.made in
+          let m : NothingMade kind older done (item_of piece) = nothing_made kind older done piece new w.made in
           record {
             at = w.at;
             passed = passed_none (FollowsOn kind older done (item_of piece ∷ done)) number f (λ feed. nothing_follows kind older done (item_of piece) feed m);
@@ -212,7 +214,7 @@ one_packet old new number f g plea bytes h first passed = go old.window.waiting 
       works = λ events older done at.
           let kind : Kind = kind_by old.layers in
           let w : WorksOff events old new piece made.Packet (done ++ older) = s.2 events (done ++ older) at in
-          let m : PacketMade kind older done (item_of piece) bytes = packet_made kind older done piece new.packets bytes w.made first in
+          let m : PacketMade kind older done (item_of piece) bytes = packet_made kind older done piece new bytes w.made first in
           record {
             at = w.at;
             passed = passed_weaker (λ a b. FollowsPacket a b bytes) (FollowsOn kind older done (item_of piece ∷ done)) number f g
@@ -229,7 +231,7 @@ plea_by true false false = refl
 plea_by false key made = refl
 
 pub one_frame : (old new : Seen) (number : ℕ) (f g : ℕ → Option LiveSubscriber) (plea plea' : Bool) (meaning : FrameMeaning) → Steps old new (made.Frame meaning)
-    → plea' ≡ (plea && not meaning.key) → PassedTo (λ a b. FollowsFrame a b meaning new.packets) number f g → WorkedOne old new number f g plea plea'
+    → plea' ≡ (plea && not meaning.key) → PassedTo (λ a b. FollowsFrame a b meaning new) number f g → WorkedOne old new number f g plea plea'
 one_frame old new number f g plea plea' meaning h ends passed = go old.window.waiting refl h.on
   where
     go : (w : List Piece) → old.window.waiting ≡ w → StepsOn w old new (made.Frame meaning) → WorkedOne old new number f g plea plea'
@@ -243,11 +245,11 @@ one_frame old new number f g plea plea' meaning h ends passed = go old.window.wa
       works = λ events older done at.
           let kind : Kind = kind_by old.layers in
           let w : WorksOff events old new piece (made.Frame meaning) (done ++ older) = s.2 events (done ++ older) at in
-          let m : FrameMade kind older done (item_of piece) meaning new.packets = frame_made kind older done piece meaning new.packets w.made in
+          let m : FrameMade kind older done (item_of piece) meaning new = frame_made kind older done piece meaning new w.made in
           record {
             at = w.at;
-            passed = passed_weaker (λ a b. FollowsFrame a b meaning new.packets) (FollowsOn kind older done (item_of piece ∷ done)) number f g
-                (λ a b. frame_follows kind older done (item_of piece) meaning new.packets a b m) passed;
+            passed = passed_weaker (λ a b. FollowsFrame a b meaning new) (FollowsOn kind older done (item_of piece ∷ done)) number f g
+                (λ a b. frame_follows kind older done (item_of piece) meaning new a b (kind_stays old.layers new.layers h.stays.id) m) passed;
             plea_is = λ p is.
                 ends ∙ ap (λ (b : Bool). b && not meaning.key) is ∙ plea_by p meaning.key (makes_key kind older done) ∙ ap (λ (b : Bool). p && not b) (sym m.key);
           };

@@ -19,7 +19,10 @@ use Rattle.packet_format.specs.Packets.{bytes_of, packet_of}
 use Rattle.out_ring.specs.Ring.{Sent, Ring, begun}
 use Rattle.cause_book.specs.Book.{judged, recent}
 use Rattle.target_selector.specs.Stands.{StandsFor}
-use Rattle.room_core.specs.Sent.{sent}
+use Rattle.track_core.specs.declared.layers.Layers.{Layers}
+use Rattle.track_core.specs.Track.{Seen, structure_in}
+use Rattle.room_core.specs.Stepping.{kind_by}
+use Rattle.room_core.specs.Sent.{remasked_first, sent, tells_first}
 use Rattle.room_core.specs.Targets.{has_no_target}
 use Rattle.room_core.specs.declared.feed.Feed.{Feed}
 
@@ -62,15 +65,16 @@ abbrev pub FollowsPacket : Feed → Feed → List ℕ → Type 0
 FollowsPacket old new bytes = (kind : Kind) (to : Subscriber) (events : List Happened) → Follows kind old to events
     → Follows kind new to (PlainPacket (packet_of bytes) ∷ events)
 
--- the frame with this meaning and these packets, whatever structure it was read by
+-- the frame with this meaning and these packets, as it was read by this structure
 abbrev pub frame_by : FrameMeaning → TemplateStructure → List (List ℕ) → Frame TemplateStructure
 frame_by meaning structure packets = record { meaning = meaning; structure = structure; packets = map packet_of packets }
 
--- a frame got whole, whose number is above those of all frames before
-abbrev pub FollowsFrame : Feed → Feed → FrameMeaning → List (List ℕ) → Type 0
-FollowsFrame old new meaning packets = (kind : Kind) (to : Subscriber) (structure : TemplateStructure) (events : List Happened)
+-- A frame of the track got whole, whose number is above those of all frames before. It was read by the structure that is in force.
+abbrev pub FollowsFrame : Feed → Feed → FrameMeaning → Seen → Type 0
+FollowsFrame old new meaning track = (kind : Kind) (to : Subscriber) (structure : TemplateStructure) (events : List Happened)
+    → kind_by track.layers ≡ kind → structure_in track.layers ≡ Some structure
     → IsOneTrack (meaning ∷ meanings_of events) → Follows kind old to events
-    → Follows kind new to (WholeFrame (frame_by meaning structure packets) ∷ events)
+    → Follows kind new to (WholeFrame (frame_by meaning structure track.packets) ∷ events)
 
 -- ---- takes and resends
 
@@ -113,6 +117,20 @@ Tells feed number result = (kind : Kind) (to : Subscriber) (events : List Happen
 abbrev pub pushed_all : List Packet → Ring → Ring
 pushed_all packets ring = record ring { queued = ring.queued ++ map bytes_of (numbered (ring.next + length ring.queued) ring.ssrc packets) }
 
--- the packets of a frame are queued, the last one's marker set where the frame ends the target's layer
-abbrev pub PushesFrame : Ring → Ring → List (List ℕ) → Bool → Type 0
-PushesFrame old new packets is_top = new ≡ pushed_all (marked is_top (map packet_of packets)) old
+-- they are the packets of a frame, the last one's marker set where the frame ends the target's layer
+abbrev pub PushesFrame : Ring → Ring → List Packet → Bool → Type 0
+PushesFrame old new packets is_top = new ≡ pushed_all (marked is_top packets) old
+
+-- the same without the first so many
+abbrev pub PushesBehind : ℕ → Ring → Ring → List (List ℕ) → Bool → Type 0
+PushesBehind from old new packets is_top = new ≡ pushed_all (drop from (marked is_top (map packet_of packets))) old
+
+-- ---- the first packet of a frame, by what a layered track keeps
+
+abbrev pub tells_by : Option Layers → List (List ℕ) → Bool
+tells_by None packets = false
+tells_by (Some l) packets = tells_first l.id (map packet_of packets)
+
+abbrev pub remasked_by : Option Layers → ℕ → List Packet → List Packet
+remasked_by None mask packets = packets
+remasked_by (Some l) mask packets = remasked_first l.id l.table.structure mask packets

@@ -1,8 +1,67 @@
--- What is sent of a frame of a track of this kind to a subscriber with a target, before it is numbered. Own rule. This is the one place
--- that says it: all that is told of a subscriber cites it, and so does the code that queues a frame. On a plain track there are no frames.
+-- What is sent of a frame of a track of this kind to a subscriber with a target, before it is numbered. Own rules, over AV1 RTP payload
+-- format, Appendix A (active_decode_targets_bitmask). This is the one place that says it: all that is told of a subscriber cites it, and so
+-- does the code that queues a frame. On a plain track there are no frames.
+use Rattle.std.specs.Prelude.{ℕ, zero, suc, ◌+◌, ◌^◌, ◌==◌, ◌||◌, Bool, false, if◌then◌else◌, List, [], ◌∷◌, Option, None, Some}
 use Rattle.sfu_base.specs.declared.call.Kind.{Kind}
-use Rattle.dd_structure.specs.TemplateStructure.{TemplateStructure}
+use Rattle.sfu_base.specs.declared.call.Kind.TheVariants.{Plain, Layered}
+use Rattle.sfu_base.specs.declared.frame.FrameMeaning.{FrameMeaning}
+use Rattle.sfu_base.specs.declared.frame.Wish.{Wish}
+use Rattle.forwarding_model.specs.declared.target.CurrentTarget.{CurrentTarget}
+use Rattle.forwarding_model.specs.declared.target.CurrentTarget.TheVariants.{Open, Closed}
+use Rattle.forwarding_model.specs.forwarding.Targets.{is_allowed, layers}
+use Rattle.forwarding_model.specs.forwarding.Selection.{open_target}
+use Rattle.forwarding_model.specs.forwarding.Timeline.{Frame, Packet}
 use Rattle.forwarding_model.specs.forwarding.Outgoing.{Sender, send_marked}
+use Rattle.dd_structure.specs.TemplateStructure.{TemplateStructure}
+use Rattle.packet_format.specs.Remasked.{remasked_packet}
+use Rattle.packet_format.specs.Telling.{tells}
+
+-- ---- the mask of the targets that the subscriber gets
+
+-- of the targets below n those that the frame's mask has, and whose layers exist and are both at most these; bit t says it of target t
+abbrev pub targets_within : Wish → FrameMeaning → ℕ → ℕ
+targets_within most f zero = 0
+targets_within most f (suc t) = targets_within most f t + (if is_allowed most f t then 2 ^ t else 0)
+
+abbrev pub mask_within : FrameMeaning → Option Wish → ℕ
+mask_within f None = 0
+mask_within f (Some most) = targets_within most f f.target_count
+
+-- the layers of the subscriber's own target are the most that it gets
+abbrev pub mask_for : FrameMeaning → Option ℕ → ℕ
+mask_for f None = 0
+mask_for f (Some target) = mask_within f (layers f target)
+
+-- ---- the first packet
+
+-- the frame opened the target
+abbrev pub opens : FrameMeaning → CurrentTarget → Bool
+opens f (Open target opened) = opened == f.number
+opens f (Closed reason) = false
+
+-- the first packet's descriptor carries a structure or a mask
+abbrev pub tells_first : ℕ → List Packet → Bool
+tells_first id [] = false
+tells_first id (packet ∷ rest) = tells id packet.rest
+
+-- the first packet alone gets another mask
+abbrev pub remasked_first : ℕ → Option TemplateStructure → ℕ → List Packet → List Packet
+remasked_first id force mask [] = []
+remasked_first id force mask (packet ∷ rest) = remasked_packet id force mask packet ∷ rest
+
+-- ---- the frame
+
+-- The packets go out with the marker of the frame's end, as every sender of forwarding has it; the first one gets the mask of the targets that
+-- the subscriber gets, where the frame opens its target, or where that packet tells which there are.
+unfoldable pub layered_sent : ℕ → Sender TemplateStructure
+layered_sent id frame target =
+    send_marked (record frame {
+      packets =
+          if opens frame.meaning target || tells_first id frame.packets
+          then remasked_first id (Some frame.structure) (mask_for frame.meaning (open_target target)) frame.packets
+          else frame.packets;
+    }) target
 
 abbrev pub sent : Kind → Sender TemplateStructure
-sent kind = send_marked
+sent Plain = send_marked
+sent (Layered id) = layered_sent id

@@ -13,7 +13,7 @@ use Rattle.track_core.specs.declared.layers.Layers.{Layers}
 use Rattle.track_core.specs.declared.track.Made.{Made}
 use Rattle.track_core.specs.declared.track.Made.TheVariants as made
 use Rattle.track_core.specs.Pieces.{item_of, items_of}
-use Rattle.track_core.specs.Track.{HasKind, Seen, StandsFor, Stays}
+use Rattle.track_core.specs.Track.{HasKind, Seen, StandsFor, Stays, structure_in}
 use Rattle.room_core.specs.Formats.{format_of}
 
 -- the kind of a pipeline, by what a layered one keeps
@@ -41,22 +41,23 @@ pub record IsBrought (event : Event) (old new : Seen) : Type 0 where
 
 -- ---- one step
 
--- a frame was made, or none
-abbrev pub IsFrameMade : Option (Frame TemplateStructure) → Made → List (List ℕ) → Type 0
-IsFrameMade None result packets = result ≡ made.Nothing
-IsFrameMade (Some frame) result packets = (result ≡ made.Frame frame.meaning) × (frame.packets ≡ map packet_of packets)
+-- a frame was made, read by the structure that is in force then, or none
+abbrev pub IsFrameMade : Option (Frame TemplateStructure) → Made → Seen → Type 0
+IsFrameMade None result new = result ≡ made.Nothing
+IsFrameMade (Some frame) result new =
+    (result ≡ made.Frame frame.meaning) × (frame.packets ≡ map packet_of new.packets) × (structure_in new.layers ≡ Some frame.structure)
 
 -- what is made of a piece after these items
-abbrev pub IsMade : Kind → List Item → Piece → Made → List (List ℕ) → Type 0
-IsMade Plain items (Got h) result packets = (result ≡ made.Packet) × (packets ≡ h.bytes ∷ [])
-IsMade Plain items (Gone from to) result packets = result ≡ made.Nothing
-IsMade (Layered id) items piece result packets =
-    IsFrameMade (made_by_item (format_of id) (state_after (format_of id) items) (item_of piece)).frame result packets
+abbrev pub IsMade : Kind → List Item → Piece → Made → Seen → Type 0
+IsMade Plain items (Got h) result new = (result ≡ made.Packet) × (new.packets ≡ h.bytes ∷ [])
+IsMade Plain items (Gone from to) result new = result ≡ made.Nothing
+IsMade (Layered id) items piece result new =
+    IsFrameMade (made_by_item (format_of id) (state_after (format_of id) items) (item_of piece)).frame result new
 
 -- a piece was worked off after these items
 pub record WorksOff (events : List Event) (old new : Seen) (piece : Piece) (result : Made) (items : List Item) : Type 0 where
   pub at : IsAt events new (item_of piece ∷ items)
-  pub made : IsMade (kind_by old.layers) items piece result new.packets
+  pub made : IsMade (kind_by old.layers) items piece result new
 
 -- the piece that waits first is worked off, if one does
 abbrev pub StepsOn : List Piece → Seen → Seen → Made → Type 0

@@ -1,10 +1,11 @@
 // What one subscriber is sent.
-ghost use Rattle.std.specs.Prelude.{◌≡◌, ◌≤◌, ◌+◌, ◌<◌, ◌&&◌, ◌||◌, false, IfOk, OnErr, length};
+ghost use Rattle.std.specs.Prelude.{◌≡◌, ◌≤◌, ◌||◌, false, IfOk, OnErr, length};
 ghost use Rattle.rtp_packet.specs.Faults.{first_fault};
-ghost use Rattle.rtp_packet.specs.Fields.{marker_of};
 ghost use Rattle.sfu_base.specs.Frame.{IsValid};
-ghost use Rattle.room_core.specs.Follows.{FollowsAim, FollowsFrame, FollowsPacket, FollowsTake, HasNoTarget, IsFed, IsFresh, PushesFrame, Resends, Tells};
+ghost use Rattle.room_core.specs.Follows.{FollowsAim, FollowsFrame, FollowsPacket, FollowsTake, HasNoTarget, IsFed, IsFresh, Resends, Tells, tells_by};
 
+use crate::mask::mask_for;
+use crate::sending::{own_marker, push_from, push_remasked};
 use cause_book::CauseBook;
 use out_ring::OutRing;
 use sfu_base::{FrameMeaning, Kind, NoMemory, PacketBuf, Refusal, Verdict, Wish};
@@ -62,17 +63,26 @@ impl Feed {
         }
     }
 
-    /// A frame of its layered track got whole, the one that the track made last.
-    pub fn pass_frame(&mut self, track: &Track, frame: &FrameMeaning)
-        requires { IsValid frame.now }
-        ensures follows { FollowsFrame self.old self.new frame.now track.now.packets }
+    /// A frame of its layered track got whole, the one that the track made last; `tells` is whether its first packet tells which decode
+    /// targets there are. Where it does, or the frame opens the target, that packet goes out with the mask of the targets that the subscriber
+    /// gets.
+    pub fn pass_frame(&mut self, track: &Track, frame: &FrameMeaning, tells: bool)
+        requires valid { IsValid frame.now }
+        requires tells { tells ≡ tells_by track.now.layers track.now.packets }
+        ensures follows { FollowsFrame self.old self.new frame.now track.now }
     {
         let verdict = self
             .selector
             .admit(frame, track.count(), self.ring.queued());
         self.causes.write(frame.number, verdict);
         if let Verdict::Passed = verdict {
-            push_frame(&mut self.ring, track, self.selector.marks_last());
+            let is_top = self.selector.marks_last();
+            if is_told(self.selector.opened(), tells) {
+                let mask = mask_for(frame, self.selector.target());
+                push_remasked(&mut self.ring, track, mask, is_top);
+            } else {
+                push_from(&mut self.ring, track, 0, is_top);
+            }
         }
     }
 
@@ -110,31 +120,9 @@ impl Feed {
     }
 }
 
-// Queues the packets of the frame that the track made last. The last one's marker is set where the frame ends the target's layer.
-fn push_frame(ring: &mut OutRing, track: &Track, is_top: bool)
-    requires room { length ring.old.queued + length track.now.packets ≤ 512 }
-    ensures pushed { PushesFrame ring.old ring.new track.now.packets is_top }
+// Whether the first packet of a frame that passed goes out with the mask of the subscriber's targets.
+fn is_told(opened: bool, tells: bool) -> bool
+    ensures { result ≡ (opened || tells) }
 {
-    let count = track.count();
-    for place in 0..count {
-        let packet = track.packet(place);
-        let marker = sent_marker(packet, is_top, place + 1 == count);
-        ring.push(packet, marker);
-    }
-}
-
-// The marker with which a packet of a frame is sent: that of the frame's last packet is set where the frame ends the target's layer.
-fn sent_marker(packet: &[u8], is_top: bool, is_last: bool) -> bool
-    requires { first_fault packet.now ≡ None }
-    ensures { result ≡ (is_top && is_last || marker_of packet.now) }
-{
-    (is_top && is_last) || own_marker(packet)
-}
-
-// The marker of a packet that RTP reads (RFC 3550, section 5.1): the first bit of its second byte.
-fn own_marker(packet: &[u8]) -> bool
-    requires { first_fault packet.now ≡ None }
-    ensures { result ≡ marker_of packet.now }
-{
-    packet[1] >= 0x80
+    opened || tells
 }

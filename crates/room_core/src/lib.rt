@@ -7,11 +7,13 @@ mod content;
 mod feed;
 mod keep_all;
 mod live;
+mod mask;
 mod note;
 mod passing;
 mod recorder;
 mod refusals;
 mod room;
+mod sending;
 mod serving;
 mod subscribers;
 #[cfg(test)]

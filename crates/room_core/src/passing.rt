@@ -4,11 +4,12 @@ ghost use Rattle.indexmap.specs.IndexMap.{get, index_map_len};
 ghost use Rattle.rtp_packet.specs.Faults.{first_fault};
 ghost use Rattle.sfu_base.specs.Frame.{IsValid};
 ghost use Rattle.track_core.specs.Track.{told_with};
-ghost use Rattle.room_core.specs.Follows.{FollowsFrame, FollowsPacket};
+ghost use Rattle.room_core.specs.Follows.{FollowsFrame, FollowsPacket, tells_by};
 ghost use Rattle.room_core.specs.Passing.{IsPassed, PassedTo, WaitsIn, WaitsOne, WorkedIf, WorkedOff};
 ghost use Rattle.room_core.specs.Stepping.{IsMadeValid, Steps};
 
 use crate::live::LiveSubscriber;
+use crate::sending::first_tells;
 use indexmap::IndexMap;
 use sfu_base::FrameMeaning;
 use track_core::{Advance, Track};
@@ -101,24 +102,32 @@ fn pass_frame_to_all(
     frame: &FrameMeaning,
 )
     requires { IsValid frame.now }
-    ensures passed { PassedTo (λ old new. FollowsFrame old new frame.now track.now.packets) number (get nat_eq subscribers.old) (get nat_eq subscribers.new) }
+    ensures passed { PassedTo (λ old new. FollowsFrame old new frame.now track.now) number (get nat_eq subscribers.old) (get nat_eq subscribers.new) }
     ensures count { index_map_len subscribers.new ≡ index_map_len subscribers.old }
 {
+    let tells = first_tells(track);
     let count = subscribers.len();
     for place in 0..count {
         if let Some(subscriber) = subscribers.get_index_mut(place) {
-            pass_frame(subscriber, number, track, frame);
+            pass_frame(subscriber, number, track, frame, tells);
         }
     }
 }
 
 // One subscriber gets it, where it is the track's.
-fn pass_frame(subscriber: &mut LiveSubscriber, number: u32, track: &Track, frame: &FrameMeaning)
-    requires { IsValid frame.now }
-    ensures { IsPassed (λ old new. FollowsFrame old new frame.now track.now.packets) number subscriber.old subscriber.new }
+fn pass_frame(
+    subscriber: &mut LiveSubscriber,
+    number: u32,
+    track: &Track,
+    frame: &FrameMeaning,
+    tells: bool,
+)
+    requires valid { IsValid frame.now }
+    requires tells { tells ≡ tells_by track.now.layers track.now.packets }
+    ensures { IsPassed (λ old new. FollowsFrame old new frame.now track.now) number subscriber.old subscriber.new }
 {
     if subscriber.track == number {
-        subscriber.feed.pass_frame(track, frame);
+        subscriber.feed.pass_frame(track, frame, tells);
     }
 }
 

@@ -2,6 +2,8 @@
 // lay them, the descriptors as Appendix A of RTP Payload Format For AV1 does.
 ghost use Rattle.std.specs.Prelude.{◌≤◌, length};
 
+mod masks;
+
 use crate::{KeepAll, KeepNone, Room};
 use sfu_base::{Call, Kind, PacketBuf, Refusal, Reply, Scratch, SeqList, Verdict, Wish};
 use std::process::Abort;
@@ -33,6 +35,14 @@ const KEY: [u8; 47] = [
     0x80, 0x03, 0x18, 0x7f, 0xaf, 0xac, 0x4a, 0x0a, 0x04, 0x04, 0xd1, 0x41, 0x09, 0xa1, 0x15, 0x80,
     0x08, 0x64, 0x22, 0x22, 0x26, 0x40, 0, 0x18, 0x30, 0x00,
 ];
+
+// The same as it goes out: the mask of these targets, bit i for target i, follows the structure.
+fn key_telling(mask: u8) -> [u8; 47] {
+    let mut key = KEY;
+    key[21] = 0xc0;
+    key[42] = 0x40 | mask;
+    key
+}
 
 // A packet that is a frame by a template; the last of a temporal unit has the marker. Templates 1 and 4 refer to the frame 4 numbers back.
 fn frame(seq: u16, number: u16, template: u8) -> [u8; 23] {
@@ -308,8 +318,14 @@ fn each_subscriber_gets_its_own(rt: HostRuntime) {
         ],
     );
     expect(&rt, &mut room, &mut scratch, 3, &outgoing(&PLAIN, 7, false));
-    // The highest target gets both frames, the lowest the first, which ends its layer.
-    expect(&rt, &mut room, &mut scratch, 1, &outgoing(&KEY, 7, false));
+    // The highest target gets both frames, the lowest the first, which ends its layer. The key frame tells each of them its targets.
+    expect(
+        &rt,
+        &mut room,
+        &mut scratch,
+        1,
+        &outgoing(&key_telling(15), 7, false),
+    );
     expect(
         &rt,
         &mut room,
@@ -317,7 +333,13 @@ fn each_subscriber_gets_its_own(rt: HostRuntime) {
         1,
         &outgoing(&frame(1, 1, 3), 8, true),
     );
-    expect(&rt, &mut room, &mut scratch, 2, &outgoing(&KEY, 7, true));
+    expect(
+        &rt,
+        &mut room,
+        &mut scratch,
+        2,
+        &outgoing(&key_telling(8), 7, true),
+    );
     serve(
         &rt,
         &mut room,
@@ -368,7 +390,13 @@ fn a_full_queue_withholds_nothing_from_another(rt: HostRuntime) {
             (packet(1, &frame(1, 1, 3)), Reply::Done),
         ],
     );
-    expect(&rt, &mut room, &mut scratch, 2, &outgoing(&KEY, 7, true));
+    expect(
+        &rt,
+        &mut room,
+        &mut scratch,
+        2,
+        &outgoing(&key_telling(8), 7, true),
+    );
     // The first subscriber takes none: its queue is full before frame 1024.
     for unit in 1u16..258 {
         let lower = frame(2 * unit, 4 * unit, 1);
@@ -398,5 +426,11 @@ fn a_full_queue_withholds_nothing_from_another(rt: HostRuntime) {
             "{subscriber} {number}"
         );
     }
-    expect(&rt, &mut room, &mut scratch, 1, &outgoing(&KEY, 7, false));
+    expect(
+        &rt,
+        &mut room,
+        &mut scratch,
+        1,
+        &outgoing(&key_telling(15), 7, false),
+    );
 }

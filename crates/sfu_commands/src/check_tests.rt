@@ -6,7 +6,7 @@ use std::alloc::{AllocError, Global};
 use std::test::Fail;
 
 // The two packets that go out for the layered track of `tests.rt`: a key frame of one packet, and a frame that refers to it.
-const KEY: &str = "90e0ffff0000000022222222bede000348c0000180003a4101000000183000\n";
+const KEY: &str = "90e0ffff0000000022222222bede000348c00001c0003a4101400000183000\n";
 
 const NEXT: &str = "90e000000000000022222222bede000142c10002103000\n";
 

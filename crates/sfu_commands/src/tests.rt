@@ -158,9 +158,9 @@ fn two_frames_of_a_layered_track_go_out_and_are_resent(rt: HostRuntime) -> Resul
         packet 1 33 90e003e90000000011111111bede000142c10002103000\n\
         take 1\ntake 1\ntake 1\nresend 1 65535\nkey 1\nwhy 1 2\n";
     let wanted = "ok\nok\nok\nok\n\
-        packet 90e0ffff0000000022222222bede000348c0000180003a4101000000183000\n\
+        packet 90e0ffff0000000022222222bede000348c00001c0003a4101400000183000\n\
         packet 90e000000000000022222222bede000142c10002103000\nempty\n\
-        packet 90e0ffff0000000022222222bede000348c0000180003a4101000000183000\nkey no\npassed\n";
+        packet 90e0ffff0000000022222222bede000348c00001c0003a4101400000183000\nkey no\npassed\n";
     let (got, written) = run(rt.alloc(), script)?;
     assert_eq!(rt; got, 0);
     assert_eq!(rt; written.as_slice(), wanted.as_bytes());

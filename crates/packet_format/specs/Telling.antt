@@ -1,0 +1,12 @@
+-- Whether a packet's descriptor tells which decode targets there are: it carries a template dependency structure or a mask.
+-- AV1 RTP payload format, Appendix A, extended_descriptor_fields: template_dependency_structure_present_flag and
+-- active_decode_targets_present_flag are the two highest bits of the fourth byte, and are 0 where there are three bytes alone.
+use Rattle.std.specs.Prelude.{ℕ, Bool, false, ◌&&◌, nat_le, nat_lt, List, length, Option, None, Some, slice_index}
+use Rattle.packet_format.specs.Formats.{element_of}
+
+abbrev pub tells_in : Option (List ℕ) → Bool
+tells_in None = false
+tells_in (Some descriptor) = nat_lt 3 (length descriptor) && nat_le 64 (slice_index descriptor 3)
+
+abbrev pub tells : ℕ → List ℕ → Bool
+tells id bytes = tells_in (element_of id bytes)

@@ -1,0 +1,28 @@
+// Whether a packet tells its decode targets.
+
+ghost use Rattle.std.specs.Prelude.{◌≡◌, None};
+ghost use Rattle.rtp_packet.specs.Faults.{first_fault};
+ghost use Rattle.packet_format.specs.Telling.{tells};
+
+use crate::look::descriptor_bytes;
+
+/// The bytes of the mandatory descriptor fields (AV1 RTP payload format, Appendix A).
+const MANDATORY: usize = 3;
+
+/// Either flag of the fourth byte: a structure is carried, or a mask.
+const STRUCTURE_OR_MASK: u8 = 0x40;
+
+/// Whether the packet's dependency descriptor carries a structure or a mask (AV1 RTP payload format, Appendix A,
+/// extended_descriptor_fields). RTP reads the packet.
+pub fn tells(packet: &[u8], id: u8) -> bool
+    requires { first_fault packet.now ≡ None }
+    ensures { result ≡ tells id packet.now }
+{
+    let Ok(parts) = rtp_packet::read(packet) else {
+        unreachable!()
+    };
+    match descriptor_bytes(&parts, id) {
+        Some(descriptor) => descriptor.len() > MANDATORY && descriptor[3] >= STRUCTURE_OR_MASK,
+        None => false,
+    }
+}

@@ -1,0 +1,31 @@
+use Rattle.std.proofs.Common.{◌≡◌, ◌+◌, ◌-◌, ℕ, Bool, ◌∙◌, ◌&&◌, ◌||◌, List, sym, ap, take, arith, eqb}
+use Rattle.rtp_packet.specs.Fields.{marker_of}
+use Rattle.rtp_packet.proofs.Faultless.{header_there}
+use Rattle.forwarding_model.specs.forwarding.Timeline.{Packet}
+use Rattle.out_ring.specs.Ring.{pushed}
+use Rattle.room_core.specs.Follows.{pushed_all}
+use Rattle.room_core.proofs.Pushing.{push_begins, push_ends, push_next, push_room}
+use Rattle.room_core.proofs.sending.push_from.Goals as goal
+
+pub loop-place-init : goal.loop-place-init
+loop-place-init c = record { above = omega arith; so_far = push_begins c.args.from c.args.is_top c.args.track.now.packets c.args.ring.now }
+
+pub push-requires-clause-room : goal.push-requires-clause-room
+push-requires-clause-room c =
+    push_room c.args.track.now.packets c.args.is_top c.args.from c.loop-place.place c.loop-place.ring c.args.ring.now c.loop-place.invariant.above
+    (let lt = c.loop-place-test.true in omega (arith, lt, c.count-count.ensures.count)) c.requires.room c.loop-place.invariant.so_far
+
+pub loop-place-preserved : goal.loop-place-preserved
+loop-place-preserved c = record {
+  above = omega (arith, c.loop-place.invariant.above);
+  so_far = push_next c.packet-packet.result.now c.args.track.now.packets c.args.is_top c.args.from c.loop-place.place c.loop-place.ring c.push.new.self c.args.ring.now
+      (header_there c.packet-packet.result.now c.packet-packet.ensures.reads) c.loop-place.invariant.above c.packet-packet.ensures.at c.loop-place.invariant.so_far
+      (c.push.ensures.pushed ∙ ap (λ (m : Bool). pushed c.packet-packet.result.now m c.loop-place.ring) (c.sent_marker-marker.ensures
+      ∙ ap (λ (n : ℕ). (c.args.is_top && eqb (c.loop-place.place + 1) n || marker_of c.packet-packet.result.now)) c.count-count.ensures.count));
+}
+
+pub returns : goal.returns
+returns c = record {
+  pushed = push_ends c.args.track.now.packets c.args.is_top c.args.from c.loop-place.place c.loop-place.ring c.args.ring.now
+      (let ge = c.loop-place-test.false in omega (arith, ge, c.count-count.ensures.count)) c.loop-place.invariant.so_far;
+}

@@ -1,0 +1,10 @@
+use Rattle.std.proofs.Common.{◌≡◌, ◌≤◌, ◌-◌, take}
+use Rattle.room_core.specs.Follows.{pushed_all}
+use Rattle.room_core.proofs.Pushing.{to_queue_from}
+use Rattle.room_core.proofs.sending.push_from.Given as goal
+
+abbrev pub invariant-loop-place : goal.invariant-loop-place
+invariant-loop-place l = record {
+  above : l.from ≤ l.place;
+  so_far : l.ring ≡ pushed_all (take (l.place - l.from) (to_queue_from l.from l.is_top l.track.packets)) l.initial.ring;
+}

@@ -1,0 +1,108 @@
+// What is queued of a frame.
+ghost use Rattle.std.specs.Prelude.{◌≡◌, ◌≤◌, ◌+◌, ◌<◌, ◌&&◌, ◌||◌, [], ◌∷◌, None, length, map};
+ghost use Rattle.std.specs.Option.{option_copied};
+ghost use Rattle.rtp_packet.specs.Faults.{first_fault};
+ghost use Rattle.rtp_packet.specs.Fields.{marker_of};
+ghost use Rattle.packet_format.specs.Packets.{packet_of};
+ghost use Rattle.packet_format.specs.Remasked.{remasked_packet};
+ghost use Rattle.room_core.specs.Follows.{PushesBehind, PushesFrame, pushed_all, remasked_by, tells_by};
+
+use dd_structure::Structure;
+use out_ring::OutRing;
+use packet_format::{remask, tells};
+use sfu_base::PacketBuf;
+use track_core::Track;
+
+/// Whether the first packet of the frame that the track made last tells which decode targets there are.
+pub fn first_tells(track: &Track) -> bool
+    ensures { result ≡ tells_by track.now.layers track.now.packets }
+{
+    let Some(id) = track.id() else {
+        return false;
+    };
+    if track.count() == 0 {
+        return false;
+    }
+    tells(track.packet(0), id)
+}
+
+/// Queues the packets of the frame that the track made last, from this place on. The last one's marker is set where the frame ends the
+/// target's layer.
+pub fn push_from(ring: &mut OutRing, track: &Track, from: u16, is_top: bool)
+    requires start { from ≤ length track.now.packets }
+    requires room { length ring.old.queued + length track.now.packets ≤ 512 + from }
+    ensures pushed { PushesBehind from ring.old ring.new track.now.packets is_top }
+{
+    let count = track.count();
+    for place in from..count {
+        let packet = track.packet(place);
+        let marker = sent_marker(packet, is_top, place + 1 == count);
+        ring.push(packet, marker);
+    }
+}
+
+/// Queues them all, the first with this mask.
+#[inline(never)]
+pub fn push_remasked(ring: &mut OutRing, track: &Track, mask: u32, is_top: bool)
+    requires room { length ring.old.queued + length track.now.packets ≤ 512 }
+    ensures pushed { PushesFrame ring.old ring.new (remasked_by track.now.layers mask (map packet_of track.now.packets)) is_top }
+{
+    let count = track.count();
+    if count == 0 {
+        return;
+    }
+    let packet = track.packet(0);
+    let marker = sent_marker(packet, is_top, count == 1);
+    push_first(ring, track, packet, marker, mask);
+    push_from(ring, track, 1, is_top);
+}
+
+// Queues a packet as the first of a frame of the track, with this mask.
+fn push_first(ring: &mut OutRing, track: &Track, packet: &[u8], marker: bool, mask: u32)
+    requires room { length ring.old.queued < 512 }
+    requires reads { first_fault packet.now ≡ None }
+    requires fits { length packet.now ≤ 1500 }
+    ensures { ring.new ≡ pushed_all (remasked_by track.now.layers mask (record (packet_of packet.now) { marker = marker } ∷ [])) ring.old }
+{
+    match track.id() {
+        Some(id) => push_told(ring, packet, marker, id, track.force(), mask),
+        None => ring.push(packet, marker),
+    }
+}
+
+// Queues a packet with this mask, or as it is where it can't be remasked.
+fn push_told(
+    ring: &mut OutRing,
+    packet: &[u8],
+    marker: bool,
+    id: u8,
+    force: Option<&Structure>,
+    mask: u32,
+)
+    requires room { length ring.old.queued < 512 }
+    requires reads { first_fault packet.now ≡ None }
+    requires fits { length packet.now ≤ 1500 }
+    ensures { ring.new ≡ pushed_all (remasked_packet id (option_copied force.entry) mask (record (packet_of packet.now) { marker = marker }) ∷ []) ring.old }
+{
+    let mut told = PacketBuf::new();
+    match remask(packet, id, force, mask, &mut told) {
+        Ok(()) => ring.push(told.bytes(), marker),
+        Err(_) => ring.push(packet, marker),
+    }
+}
+
+// The marker with which a packet of a frame is sent: that of the frame's last packet is set where the frame ends the target's layer.
+fn sent_marker(packet: &[u8], is_top: bool, is_last: bool) -> bool
+    requires { first_fault packet.now ≡ None }
+    ensures { result ≡ (is_top && is_last || marker_of packet.now) }
+{
+    (is_top && is_last) || own_marker(packet)
+}
+
+/// The marker of a packet that RTP reads (RFC 3550, section 5.1): the first bit of its second byte.
+pub fn own_marker(packet: &[u8]) -> bool
+    requires { first_fault packet.now ≡ None }
+    ensures { result ≡ marker_of packet.now }
+{
+    packet[1] >= 0x80
+}

@@ -1,0 +1,219 @@
+// The mask that a frame's first packet goes out with, byte by byte: RFC 8285 for the header extension's elements, and Appendix A of RTP
+// Payload Format For AV1 for the descriptors, whose structures have one target, and two targets of which target 1 is the lower layer alone.
+ghost use Rattle.std.specs.Prelude.{◌≤◌, length};
+
+use super::{HIGHEST, LAYERED, LOWEST, join, publish, scratch, take};
+use crate::{KeepNone, Room};
+use sfu_base::{PacketBuf, Refusal, Reply, Wish};
+use std::process::Abort;
+
+const PAYLOAD: [u8; 3] = [0x10, 0x30, 0x00];
+
+// A packet, by the byte with its marker: its number, its SSRC and its header extension.
+fn laid(marker: u8, seq: u16, ssrc: u8, extension: &[u8]) -> PacketBuf
+    requires { length extension.now ≤ 100 }
+{
+    let [high, low] = seq.to_be_bytes();
+    let mut packet = PacketBuf::new();
+    packet.fill(&[0x90, marker, high, low, 0, 0, 0, 0, ssrc, ssrc, ssrc, ssrc]);
+    packet.append(extension);
+    packet.append(&PAYLOAD);
+    packet
+}
+
+// A packet that comes in, and what it goes out as: the byte with the marker, and the header extension.
+type Row<'a> = (u8, &'a [u8], u8, &'a [u8]);
+
+// Each packet goes out so to a subscriber of the wish, with the numbers from 7 on, and so it is resent.
+fn check(rt: &impl Abort, room: &mut Room<KeepNone>, wish: Wish, row: &[Row<'_>]) {
+    let mut scratch = scratch();
+    assert_eq!(rt;
+        room.serve(0, &publish(1, LAYERED), &mut scratch),
+        Reply::Done
+    );
+    assert_eq!(rt; room.serve(0, &join(1, 1, wish), &mut scratch), Reply::Done);
+    for (place, (marker, extension, _, _)) in row.iter().enumerate() {
+        if extension.len() <= 100 {
+            let bytes = laid(*marker, (place % 100) as u16, 0x11, extension);
+            assert_eq!(rt; room.packet(0, 1, 0, &bytes), Reply::Done);
+        }
+    }
+    for (place, (_, _, marker, extension)) in row.iter().enumerate() {
+        if extension.len() <= 100 {
+            let seq = 7 + (place % 100) as u16;
+            let sent = laid(*marker, seq, 0x22, extension);
+            assert_eq!(rt; room.take(0, 1, &mut scratch), Reply::Packet);
+            assert_eq!(rt; scratch.packet.bytes(), sent.bytes(), "{place}");
+            assert_eq!(rt; room.resend(0, 1, seq, &mut scratch), Reply::Packet);
+            assert_eq!(rt; scratch.packet.bytes(), sent.bytes(), "{place}");
+        }
+    }
+    let empty = Reply::Refused(Refusal::Empty);
+    assert_eq!(rt; room.serve(0, &take(1), &mut scratch), empty);
+}
+
+#[test]
+fn a_frames_first_packet_tells_the_targets(rt: HostRuntime) {
+    let rows: [(Wish, &[Row<'_>]); 7] = [
+        // A key frame, and one that tells nothing.
+        (
+            LOWEST,
+            &[
+                (
+                    0xe0,
+                    &[
+                        0xbe, 0xde, 0x00, 0x03, 0x48, 0xc0, 0x00, 0x01, 0x80, 0x00, 0x3a, 0x41,
+                        0x01, 0x00, 0x00, 0x00,
+                    ],
+                    0xe0,
+                    &[
+                        0xbe, 0xde, 0x00, 0x03, 0x48, 0xc0, 0x00, 0x01, 0xc0, 0x00, 0x3a, 0x41,
+                        0x01, 0x40, 0x00, 0x00,
+                    ],
+                ),
+                (
+                    0xe0,
+                    &[0xbe, 0xde, 0x00, 0x01, 0x42, 0xc1, 0x00, 0x02],
+                    0xe0,
+                    &[0xbe, 0xde, 0x00, 0x01, 0x42, 0xc1, 0x00, 0x02],
+                ),
+            ],
+        ),
+        // Both layers, and the higher layer of the same temporal unit.
+        (
+            HIGHEST,
+            &[
+                (
+                    0x60,
+                    &[
+                        0xbe, 0xde, 0x00, 0x05, 0x4f, 0xc0, 0x00, 0x01, 0x80, 0x01, 0x23, 0xee,
+                        0x88, 0x45, 0x04, 0x22, 0xe0, 0x02, 0x11, 0x11, 0x10, 0x00, 0x00, 0x00,
+                    ],
+                    0x60,
+                    &[
+                        0xbe, 0xde, 0x00, 0x05, 0x4f, 0xc0, 0x00, 0x01, 0xc0, 0x01, 0x23, 0xee,
+                        0x88, 0x45, 0x04, 0x22, 0xe0, 0x02, 0x11, 0x11, 0x16, 0x00, 0x00, 0x00,
+                    ],
+                ),
+                (
+                    0xe0,
+                    &[0xbe, 0xde, 0x00, 0x01, 0x42, 0xc2, 0x00, 0x02],
+                    0xe0,
+                    &[0xbe, 0xde, 0x00, 0x01, 0x42, 0xc2, 0x00, 0x02],
+                ),
+            ],
+        ),
+        // The lower layer alone, target 1; and a mask of the publisher with both targets.
+        (
+            LOWEST,
+            &[
+                (
+                    0x60,
+                    &[
+                        0xbe, 0xde, 0x00, 0x05, 0x4f, 0xc0, 0x00, 0x01, 0x80, 0x01, 0x23, 0xee,
+                        0x88, 0x45, 0x04, 0x22, 0xe0, 0x02, 0x11, 0x11, 0x10, 0x00, 0x00, 0x00,
+                    ],
+                    0xe0,
+                    &[
+                        0xbe, 0xde, 0x00, 0x05, 0x4f, 0xc0, 0x00, 0x01, 0xc0, 0x01, 0x23, 0xee,
+                        0x88, 0x45, 0x04, 0x22, 0xe0, 0x02, 0x11, 0x11, 0x14, 0x00, 0x00, 0x00,
+                    ],
+                ),
+                (
+                    0x60,
+                    &[
+                        0xbe, 0xde, 0x00, 0x02, 0x43, 0xc1, 0x00, 0x03, 0x46, 0x00, 0x00, 0x00,
+                    ],
+                    0xe0,
+                    &[
+                        0xbe, 0xde, 0x00, 0x02, 0x43, 0xc1, 0x00, 0x03, 0x44, 0x00, 0x00, 0x00,
+                    ],
+                ),
+            ],
+        ),
+        // Of a frame of two packets the first alone, though the other carries a mask too.
+        (
+            LOWEST,
+            &[
+                (
+                    0x60,
+                    &[
+                        0xbe, 0xde, 0x00, 0x03, 0x48, 0x80, 0x00, 0x01, 0x80, 0x00, 0x3a, 0x41,
+                        0x01, 0x00, 0x00, 0x00,
+                    ],
+                    0x60,
+                    &[
+                        0xbe, 0xde, 0x00, 0x03, 0x48, 0x80, 0x00, 0x01, 0xc0, 0x00, 0x3a, 0x41,
+                        0x01, 0x40, 0x00, 0x00,
+                    ],
+                ),
+                (
+                    0xe0,
+                    &[
+                        0xbe, 0xde, 0x00, 0x02, 0x43, 0x40, 0x00, 0x01, 0x44, 0x00, 0x00, 0x00,
+                    ],
+                    0xe0,
+                    &[
+                        0xbe, 0xde, 0x00, 0x02, 0x43, 0x40, 0x00, 0x01, 0x44, 0x00, 0x00, 0x00,
+                    ],
+                ),
+            ],
+        ),
+        // Elements before and behind, and a byte of padding between them.
+        (
+            LOWEST,
+            &[(
+                0xe0,
+                &[
+                    0xbe, 0xde, 0x00, 0x04, 0x31, 0xaa, 0xbb, 0x00, 0x48, 0xc0, 0x00, 0x01, 0x80,
+                    0x00, 0x3a, 0x41, 0x01, 0x00, 0x50, 0xcc,
+                ],
+                0xe0,
+                &[
+                    0xbe, 0xde, 0x00, 0x04, 0x31, 0xaa, 0xbb, 0x48, 0xc0, 0x00, 0x01, 0xc0, 0x00,
+                    0x3a, 0x41, 0x01, 0x40, 0x50, 0xcc, 0x00,
+                ],
+            )],
+        ),
+        // A two-byte block with elements before and behind, which keeps its profile.
+        (
+            HIGHEST,
+            &[(
+                0x60,
+                &[
+                    0x10, 0x07, 0x00, 0x09, 0x01, 0x02, 0xaa, 0xbb, 0x04, 0x18, 0xc0, 0x00, 0x01,
+                    0x80, 0x01, 0x23, 0xee, 0x88, 0x45, 0x04, 0x22, 0xe0, 0x02, 0x11, 0x11, 0x18,
+                    0x13, 0xf8, 0x0b, 0x38, 0x27, 0xf8, 0x16, 0x78, 0x05, 0x01, 0xcc, 0x00, 0x00,
+                    0x00,
+                ],
+                0x60,
+                &[
+                    0x10, 0x07, 0x00, 0x09, 0x01, 0x02, 0xaa, 0xbb, 0x04, 0x18, 0xc0, 0x00, 0x01,
+                    0xc0, 0x01, 0x23, 0xee, 0x88, 0x45, 0x04, 0x22, 0xe0, 0x02, 0x11, 0x11, 0x18,
+                    0x13, 0xf8, 0x0b, 0x38, 0x27, 0xf8, 0x16, 0x7e, 0x05, 0x01, 0xcc, 0x00, 0x00,
+                    0x00,
+                ],
+            )],
+        ),
+        // A descriptor that grows to 17 bytes: the elements get two-byte headers.
+        (
+            HIGHEST,
+            &[(
+                0x60,
+                &[
+                    0xbe, 0xde, 0x00, 0x05, 0x4f, 0xc0, 0x00, 0x01, 0x90, 0x01, 0x23, 0xee, 0x88,
+                    0x45, 0x04, 0x22, 0xe0, 0x02, 0x11, 0x11, 0x10, 0x00, 0x00, 0x00,
+                ],
+                0x60,
+                &[
+                    0x10, 0x00, 0x00, 0x05, 0x04, 0x11, 0xc0, 0x00, 0x01, 0xd0, 0x01, 0x23, 0xee,
+                    0x88, 0x45, 0x04, 0x22, 0xe0, 0x02, 0x11, 0x11, 0x16, 0x00, 0x00,
+                ],
+            )],
+        ),
+    ];
+    for (wish, row) in rows {
+        let mut room = Room::new(rt.alloc(), KeepNone::new());
+        check(&rt, &mut room, wish, row);
+    }
+}
