@@ -94,7 +94,8 @@ fn pass_packet(subscriber: &mut LiveSubscriber, number: u32, packet: &[u8])
     }
 }
 
-// The frame that a layered track made last goes to each of its subscribers.
+// The frame that a layered track made last goes to each of its subscribers. Apart, so that the loop has the registers for itself.
+#[inline(never)]
 fn pass_frame_to_all(
     subscribers: &mut IndexMap<u32, LiveSubscriber>,
     number: u32,

@@ -59,7 +59,8 @@ impl Maker {
         }
     }
 
-    /// The next event. A packet fills the buffer; a tick and the end leave it as it is.
+    /// The next event. A packet fills the buffer; a tick and the end leave it as it is. Apart, so that the state stays in memory.
+    #[inline(never)]
     pub fn next_event(&mut self, out: &mut PacketBuf) -> Event
         ensures { Gives self.old self.new result out.old out.new }
     {
