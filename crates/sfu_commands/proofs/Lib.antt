@@ -1,4 +1,8 @@
+pub mod Alike
+pub mod RecordScans
 pub mod Replies
+pub mod Converting
+pub mod ConvertLaws
 pub mod Histories
 pub mod Checking
 pub mod CheckWords

@@ -38,8 +38,7 @@ starved_at_once whole part left w g f none = record {
     consumed = Consumes-nil left;
     small = omega arith;
     goes = ap (λ (d : Due). d.end) none;
-    more = [];
-    wrote = subst (λ (text : List ℕ). Appends w w (text ++ [])) (sym (ap (λ (d : Due). d.text) none)) (Appends-nil w);
+    wrote = λ some. absurd (omega arith);
   });
   begun = if_some left _ (λ bytes. ([], full_text (whole bytes), Appends-nil w, refl));
   only = inr (inr (inr (inl refl)));

@@ -1,5 +1,7 @@
+pub mod Records
 pub mod Script
 pub mod Run
+pub mod Convert
 pub mod PacketScript
 pub mod Check
 pub mod Promise

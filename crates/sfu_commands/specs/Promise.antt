@@ -3,7 +3,10 @@
 use Rattle.std.specs.Prelude.{◌≡◌, ℕ, List, ◌++◌, map, Option, IfSome}
 use Rattle.room_core.specs.History.{Entry, accepted}
 use Rattle.room_core.specs.Headline.{Headline}
-use Rattle.sfu_commands.specs.Script.{Script, entry_of, script_of, script_so_far}
+use Rattle.sfu_base.specs.Bytes.{AreBytes}
+use Rattle.sfu_commands.specs.declared.form.Form.{Form}
+use Rattle.sfu_commands.specs.declared.form.Form.TheVariants.{Lines, Records}
+use Rattle.sfu_commands.specs.Script.{Script, entry_of, form_of, script_of, script_so_far}
 
 -- the history of a script's calls
 abbrev pub history_of : Script → List Entry
@@ -14,6 +17,11 @@ pub record IsServed (bytes : List ℕ) : Type 0 where
   pub whole : Headline (accepted (history_of (script_of bytes)))
   pub so_far : (front rest : List ℕ) → front ++ rest ≡ bytes → Headline (accepted (history_of (script_so_far front)))
 
+-- In a script of records each item is a byte: a number there is as great as its bytes say. In one of lines the digits say how great it is.
+abbrev pub IsOfBytes : Form → List ℕ → Type 0
+IsOfBytes Lines bytes = Unit {0}
+IsOfBytes Records bytes = AreBytes bytes
+
 -- the same of the bytes that a source still has, where it tells them
 abbrev pub AreServed : Option (List ℕ) → Type 0
-AreServed left = IfSome left IsServed
+AreServed left = IfSome left (λ bytes. IsOfBytes (form_of bytes) bytes → IsServed bytes)

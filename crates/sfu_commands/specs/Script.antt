@@ -1,52 +1,96 @@
 -- What the bytes of a script say, and which texts are due for it. Own rule. The code never has a whole script in its hands: it reads
--- pieces of any size, and serves the lines one after another.
-use Rattle.std.specs.Prelude.{ℕ, ◌+◌, nat_le, if◌then◌else◌, List, [], ◌∷◌, ◌++◌, false, Option, Some, None}
+-- pieces of any size, and serves the lines or records one after another.
+use Rattle.std.specs.Prelude.{ℕ, ◌+◌, ◌==◌, Bool, nat_le, if◌then◌else◌, List, [], ◌∷◌, ◌++◌, map, false, Option, Some, None}
 use Rattle.sfu_base.specs.declared.call.Call.{Call}
 use Rattle.room_core.specs.History.{Entry, reply_of}
-use Rattle.sfu_driver.specs.Input.{Line, judged_lines, lines_of, said}
+use Rattle.sfu_driver.specs.Input.{judged_lines, judged_units, lines_of, said, units_of}
 use Rattle.sfu_driver.specs.Scan.{Scan, More, Whole, NoUnit}
 use Rattle.sfu_script.specs.ReadLines.{call_of}
-use Rattle.sfu_script.specs.Replies.{answer_text, line_fault_text}
+use Rattle.sfu_script.specs.Replies.{answer_text, line_fault_text, record_fault_text}
 use Rattle.sfu_script.specs.Skipped.{is_skipped}
+use Rattle.script_records.specs.ReadRecords as records
+use Rattle.sfu_commands.specs.declared.form.Form.{Form}
+use Rattle.sfu_commands.specs.declared.form.Form.TheVariants.{Lines, Records}
+use Rattle.sfu_commands.specs.Records.{record_scan, record_scan_end}
+
+-- ---- the two forms
+
+-- a script of records begins with the byte 0
+abbrev pub form_of : List ℕ → Form
+form_of [] = Lines
+form_of (b ∷ bytes) = if b == 0 then Records else Lines
+
+-- the lines, or the header and the records, of a whole script
+abbrev pub units_in : Form → List ℕ → List Scan
+units_in Lines bytes = map said (lines_of bytes)
+units_in Records bytes = units_of record_scan record_scan_end 0 [] bytes
+
+-- those that are judged before the end of the script is seen
+abbrev pub units_so_far : Form → List ℕ → List Scan
+units_so_far Lines bytes = map said (judged_lines (lines_of bytes))
+units_so_far Records bytes = judged_units record_scan 0 [] bytes
+
+-- the number of the first: the header counts as record 0
+abbrev pub first_number : Form → ℕ
+first_number Lines = 1
+first_number Records = 0
+
+-- whether one says nothing: an empty line, a comment, the header
+abbrev pub is_silent : Form → ℕ → List ℕ → Bool
+is_silent Lines number line = is_skipped line
+is_silent Records number body = number == 0
+
+-- the call that one says
+abbrev pub call_in : Form → List ℕ → Option Call
+call_in Lines line = call_of line
+call_in Records body = records.call_of body
 
 -- ---- calls
 
--- the calls of the lines before the first that is outside the grammar, and that line's number, if there is one
+-- the calls before the first line or record that is outside the grammar, and its number, if there is one
 pub record Script : Type 0 where
   pub calls : List Call
   pub fault : Option ℕ
 
--- the line with this number is outside the grammar
+-- the line or record with this number is outside the grammar
 abbrev pub stops_at : ℕ → Script
 stops_at number = record { calls = []; fault = Some number }
 
--- a call before the others, or a line that says none
+-- a call before the others, or a line or record that says none
 abbrev pub with_call : Option Call → ℕ → Script → Script
 with_call None number others = stops_at number
 with_call (Some call) number others = record { calls = call ∷ others.calls; fault = others.fault }
 
--- a line with this text: a skipped one is counted, and says nothing
-abbrev pub with_text : List ℕ → ℕ → Script → Script
-with_text text number others = if is_skipped text then others else with_call (call_of text) number others
+-- one that says nothing is counted
+abbrev pub with_text : Form → List ℕ → ℕ → Script → Script
+with_text form text number others = if is_silent form number text then others else with_call (call_in form text) number others
 
--- a line before the others; there are at most 4,294,967,295
-abbrev pub with_line : Scan → ℕ → Script → Script
-with_line More number others = others
-with_line (Whole text) number others = if nat_le number 4294967295 then with_text text number others else stops_at number
-with_line NoUnit number others = stops_at number
+-- a line or record before the others; there are at most 4,294,967,295
+abbrev pub with_unit : Form → Scan → ℕ → Script → Script
+with_unit form More number others = others
+with_unit form (Whole text) number others = if nat_le number 4294967295 then with_text form text number others else stops_at number
+with_unit form NoUnit number others = stops_at number
 
--- what lines say of which the first has this number
-abbrev pub calls_of : List Line → ℕ → Script
-calls_of [] number = record { calls = []; fault = None }
-calls_of (line ∷ lines) number = with_line (said line) number (calls_of lines (number + 1))
+-- what lines or records say of which the first has this number
+abbrev pub calls_of : Form → List Scan → ℕ → Script
+calls_of form [] number = record { calls = []; fault = None }
+calls_of form (unit ∷ units) number = with_unit form unit number (calls_of form units (number + 1))
+
+-- what a whole script of this form says
+abbrev pub script_in : Form → List ℕ → Script
+script_in form bytes = calls_of form (units_in form bytes) (first_number form)
+
+-- what is judged of it before its end is seen
+abbrev pub judged_in : Form → List ℕ → Script
+judged_in form bytes = calls_of form (units_so_far form bytes) (first_number form)
 
 -- what a whole script says
 abbrev pub script_of : List ℕ → Script
-script_of bytes = calls_of (lines_of bytes) 1
+script_of bytes = script_in (form_of bytes) bytes
 
--- what the lines say that are judged before the end of the script is seen
+-- what the lines or records say that are judged before the end of the script is seen
 abbrev pub script_so_far : List ℕ → Script
-script_so_far bytes = calls_of (judged_lines (lines_of bytes)) 1
+script_so_far bytes = judged_in (form_of bytes) bytes
 
 -- ---- texts
 
@@ -66,3 +110,11 @@ run_text (call ∷ calls) history = reply_line history call ++ run_text calls (h
 -- the line that says which line is outside the grammar
 abbrev pub fault_line : ℕ → List ℕ
 fault_line number = line_fault_text number ++ 10 ∷ []
+
+-- the line that says which record is
+abbrev pub record_fault_line : ℕ → List ℕ
+record_fault_line number = record_fault_text number ++ 10 ∷ []
+
+abbrev pub fault_in : Form → ℕ → List ℕ
+fault_in Lines number = fault_line number
+fault_in Records number = record_fault_line number

@@ -1,8 +1,9 @@
 -- The words after the program's name, and which command they are. Own rule.
 use Rattle.std.specs.Prelude.{◌≡◌, ◌⊎◌, ℕ, List, [], ◌∷◌, Option, Some, None}
 use Rattle.sfu_commands.specs.declared.words.Command.{Command}
-use Rattle.sfu_commands.specs.declared.words.Command.TheVariants.{Run, Help, Check, Trial}
+use Rattle.sfu_commands.specs.declared.words.Command.TheVariants.{Run, Convert, Help, Check, Trial}
 use Rattle.sfu_commands.specs.Run.{IsRun}
+use Rattle.sfu_commands.specs.Convert.{IsConvert}
 use Rattle.sfu_commands.specs.Check.{IsCheck}
 use Rattle.sfu_commands.specs.Help.{IsHelp}
 use Rattle.sfu_commands.specs.Trial.{IsTrial}
@@ -10,6 +11,7 @@ use Rattle.sfu_commands.specs.Trial.{IsTrial}
 -- the words are this command
 abbrev pub Says : List (List ℕ) → Command → Type 0
 Says words Run = IsRun words
+Says words Convert = IsConvert words
 Says words Help = IsHelp words
 Says words (Check id) = IsCheck words id
 Says words (Trial frames start loss) = IsTrial words (record { frames = frames; start = start; loss = loss })

@@ -2,6 +2,7 @@
 ghost use Rattle.std.specs.Prelude.{◌≡◌, ◌↔◌, ℕ, map};
 ghost use Rattle.std.specs.String.{string_bytes};
 ghost use Rattle.sfu_commands.specs.Check.{Checks, IsCheck};
+ghost use Rattle.sfu_commands.specs.Convert.{Converts, IsConvert};
 ghost use Rattle.stream_maker.specs.Stream.{Stream};
 ghost use Rattle.sfu_commands.specs.Help.{Helps, IsHelp, Refuses};
 ghost use Rattle.sfu_commands.specs.Promise.{AreServed};
@@ -10,6 +11,7 @@ ghost use Rattle.sfu_commands.specs.Trial.{IsTrial, Tries};
 ghost use Rattle.sfu_commands.specs.Words.{IsForm, IsStatus};
 
 use crate::check::check;
+use crate::convert::convert;
 use crate::run::run;
 use crate::trial::trial;
 use crate::usage::{help, refuse};
@@ -21,7 +23,7 @@ use std::alloc::Global;
 ///
 /// Status 0: the source was read to its end, where the command reads it, and all that is due was written. 2: the words are no command;
 /// nothing was read, and the usage line was written. 3 and 4: the source or the sink failed. 5: a line is outside the grammar; what is due
-/// before it and `line N` were written. 6: want of memory. 8: the strict receiver of `check` complains; `line N` and the complaint were
+/// before it and `line N` were written, or `record N` in a script of records; `convert` doesn't write which it is. 6: want of memory. 8: the strict receiver of `check` complains; `line N` and the complaint were
 /// written. The first that is met ends the call; 2, 5 and 8 stay where the sink fails in their own text.
 pub fn sfu_alone<S: Source, K: Sink>(
     alloc: Global,
@@ -36,6 +38,9 @@ pub fn sfu_alone<S: Source, K: Sink>(
     ensures check { (id : ℕ) → IsCheck (map string_bytes words.now) id
         → Checks id (S.left source.old) (S.left source.new) (K.written sink.old) (K.written sink.new) (S.faults source.old) (S.faults source.new)
         (K.faults sink.old) (K.faults sink.new) result }
+    ensures convert { IsConvert (map string_bytes words.now)
+        → Converts (S.left source.old) (S.left source.new) (K.written sink.old) (K.written sink.new) (S.faults source.old) (S.faults source.new)
+        (K.faults sink.old) (K.faults sink.new) result }
     ensures help { IsHelp (map string_bytes words.now) → Helps source.old source.new (K.written sink.old) (K.written sink.new) (K.faults sink.old) (K.faults sink.new) result }
     ensures trial { (s : Stream) → IsTrial (map string_bytes words.now) s
         → Tries source.old source.new s (K.written sink.old) (K.written sink.new) (K.faults sink.old) (K.faults sink.new) result }
@@ -46,6 +51,7 @@ pub fn sfu_alone<S: Source, K: Sink>(
 {
     match read_words(words) {
         Some(Command::Run) => run(alloc, source, sink),
+        Some(Command::Convert) => convert(alloc, source, sink),
         Some(Command::Help) => help(sink),
         Some(Command::Check(id)) => check(alloc, id, source, sink),
         Some(

@@ -2,11 +2,19 @@
 #![tactic(auto)]
 
 mod alone;
+mod call_reader;
 mod check;
 #[cfg(test)]
 mod check_tests;
 mod check_words;
+mod convert;
+mod form;
+mod laws;
+mod record_cut;
+#[cfg(test)]
+mod record_tests;
 mod run;
+mod script_server;
 #[cfg(test)]
 mod tests;
 mod texts;
@@ -15,4 +23,5 @@ mod usage;
 mod words;
 
 pub use alone::sfu_alone;
+pub use laws::converted_scripts_run_alike;
 pub use texts::add_fault;

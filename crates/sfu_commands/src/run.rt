@@ -1,93 +1,86 @@
 // The command `run`.
-ghost use Rattle.std.specs.Prelude.{◌≡◌, [], List};
-ghost use Rattle.sfu_base.specs.Answer.{is_starved};
-ghost use Rattle.room_core.specs.History.{Entry};
-ghost use Rattle.room_core.specs.Serves.{Stands};
+ghost use Rattle.std.specs.Prelude.{◌≡◌, ◌≤◌, ℕ, List, Option, take};
+ghost use Rattle.std.specs.Io.KnownBytes.{Consumes, IsAtEnd};
+ghost use Rattle.sfu_driver.specs.Statuses.{Statuses};
 ghost use Rattle.sfu_commands.specs.Promise.{AreServed};
-ghost use Rattle.sfu_commands.specs.Run.{IsRunStatus, Runs, served, untold};
-ghost use Rattle.sfu_commands.specs.Script.{fault_line};
+ghost use Rattle.sfu_commands.specs.Run.{IsRunStatus, Runs, due_in, part_in};
+ghost use Rattle.sfu_commands.specs.Script.{form_of};
 
-use crate::texts::{add_fault, add_reply};
-use room_core::{KeepNone, Room};
-use sfu_base::{Blob, NoMemory, PacketBuf, Refusal, Reply, Scratch, SeqList, Sink, Source};
-use sfu_driver::{Ending, Halt, Judge, Lines, Units, answer};
-use sfu_script::{LineReader, is_skipped};
+use crate::form::Form;
+use crate::record_cut::Records;
+use crate::script_server::{CallServer, LineServer, RecordServer};
+use sfu_base::{Sink, Source};
+use sfu_driver::{Lines, MOST_PIECE, Stop, Units, answer_behind, status};
 use std::alloc::Global;
 
-/// Serves the call of each line by seat 0 on a room that keeps nothing.
-#[derive(Drop)]
-pub struct LineServer {
-    pub reader: LineReader,
-    pub room: Room<KeepNone>,
-    pub scratch: Scratch,
-}
-
-// Whether a reply is want of memory.
-fn wants_memory(reply: &Reply) -> bool
-    ensures { result ≡ is_starved reply.now }
+// The form of a script that begins with these bytes.
+fn form_by(first: &[u8]) -> Form
+    ensures { result ≡ form_of first.now }
 {
-    matches!(reply, Reply::Refused(Refusal::NoMemory))
-}
-
-impl LineServer {
-    /// A server that has served nothing.
-    pub fn new(alloc: Global) -> LineServer
-        ensures { Stands untold result.room [] }
-    {
-        LineServer {
-            reader: LineReader::new(),
-            room: Room::new(alloc, KeepNone::new()),
-            scratch: Scratch {
-                packet: PacketBuf::new(),
-                names: SeqList::new(),
-            },
-        }
+    match first {
+        [0, ..] => Form::Records,
+        _ => Form::Lines,
     }
 }
 
-impl Judge for LineServer {
-    ghost State = { List Entry };
-
-    ghost stands = { λ server history. Stands untold server.room history };
-
-    ghost step = { served };
-
-    ghost outside = { fault_line };
-
-    ghost closing = { λ _. [] };
-
-    fn judge(&mut self, number: u32, line: &[u8], ready: &mut Blob) -> Result<(), Halt> {
-        if is_skipped(line) {
-            return Ok(());
-        }
-        let Ok(call) = self.reader.read(line) else {
-            add_fault(u64::from(number), ready)?;
-            return Err(Halt::Ended(Ending::Outside));
-        };
-        let reply = self.room.serve(0, call, &mut self.scratch);
-        if wants_memory(&reply) {
-            return Err(Halt::Starved);
-        }
-        add_reply(&reply, &self.scratch, ready)?;
-        Ok(())
-    }
-
-    fn refuse(&self, number: u64, ready: &mut Blob) -> Result<(), NoMemory> {
-        add_fault(number, ready)
-    }
-
-    fn close(&mut self, _ready: &mut Blob) -> Result<(), NoMemory> {
-        Ok(())
-    }
+// Runs a script of lines, of which a piece was read.
+#[inline(never)]
+fn run_lines<S: Source, K: Sink>(
+    alloc: Global,
+    piece: &mut [u8; MOST_PIECE],
+    first: usize,
+    source: &mut S,
+    sink: &mut K,
+) -> u8
+    requires within { first ≤ MOST_PIECE }
+    requires end { first ≡ 0 → IsAtEnd (S.left source.old) }
+    ensures { (left : Option (List ℕ)) (reads : ℕ) → Consumes left (S.left source.old) (take first piece.old) → reads ≤ S.faults source.old
+        → Statuses (due_in Form.Lines) (part_in Form.Lines) left (S.left source.new) (K.written sink.old) (K.written sink.new) reads (S.faults source.new)
+        (K.faults sink.old) (K.faults sink.new) result }
+{
+    let judge = LineServer {
+        server: CallServer::new(alloc),
+    };
+    let mut units = Units::new(Lines, judge, 1);
+    answer_behind(alloc, &mut units, piece, first, source, sink)
 }
 
-/// Runs a script: serves the calls of the source's lines, writes a line for each reply, and answers the status.
+// Runs a script of records, of which a piece was read.
+#[inline(never)]
+fn run_records<S: Source, K: Sink>(
+    alloc: Global,
+    piece: &mut [u8; MOST_PIECE],
+    first: usize,
+    source: &mut S,
+    sink: &mut K,
+) -> u8
+    requires within { first ≤ MOST_PIECE }
+    requires end { first ≡ 0 → IsAtEnd (S.left source.old) }
+    ensures { (left : Option (List ℕ)) (reads : ℕ) → Consumes left (S.left source.old) (take first piece.old) → reads ≤ S.faults source.old
+        → Statuses (due_in Form.Records) (part_in Form.Records) left (S.left source.new) (K.written sink.old) (K.written sink.new) reads (S.faults source.new)
+        (K.faults sink.old) (K.faults sink.new) result }
+{
+    let judge = RecordServer {
+        server: CallServer::new(alloc),
+    };
+    let mut units = Units::new(Records, judge, 0);
+    answer_behind(alloc, &mut units, piece, first, source, sink)
+}
+
+/// Runs a script: serves the calls of the source's lines, or of its records where its first byte is 0, writes a line for each reply, and
+/// answers the status.
 pub fn run<S: Source, K: Sink>(alloc: Global, source: &mut S, sink: &mut K) -> u8
     ensures runs { Runs (S.left source.old) (S.left source.new) (K.written sink.old) (K.written sink.new) (S.faults source.old) (S.faults source.new)
         (K.faults sink.old) (K.faults sink.new) result }
     ensures headline { AreServed (S.left source.old) }
     ensures only { IsRunStatus result }
 {
-    let mut units = Units::new(Lines, LineServer::new(alloc), 1);
-    answer(alloc, &mut units, source, sink)
+    let mut piece = [0u8; MOST_PIECE];
+    let Ok(first) = source.read(&mut piece) else {
+        return status(Err(Stop::SourceFault));
+    };
+    match form_by(&piece[..first]) {
+        Form::Lines => run_lines(alloc, &mut piece, first, source, sink),
+        Form::Records => run_records(alloc, &mut piece, first, source, sink),
+    }
 }

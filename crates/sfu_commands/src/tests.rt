@@ -12,7 +12,7 @@ const FIRST_REPLIES: &str = "ok\nok\nempty\nok\n";
 // The texts of `FIRST`, one for each line, and the last text where its next line is outside the grammar.
 const TEXTS: [&str; 5] = ["ok\n", "ok\n", "empty\n", "ok\n", "line 5\n"];
 
-const USAGE: &str = "usage: run, together, trial, check, serve, help\n";
+const USAGE: &str = "usage: run, together, trial, check, serve, convert, help\n";
 
 /// Gives a script byte by byte.
 #[derive(Drop)]
@@ -223,11 +223,17 @@ fn other_words_get_the_usage_line(rt: HostRuntime) -> Result<(), Fail> {
         let words = words(alloc, texts)?;
         let mut source = MemSource::new(FIRST.as_bytes().to_vec(alloc)?, [0u64].to_vec(alloc)?);
         let mut sink = MemSink::new(alloc, Vec::new(alloc));
-        assert_eq!(rt; sfu_alone(alloc, words.as_slice(), &mut source, &mut sink), 2);
+        assert_eq!(rt;
+            sfu_alone(alloc, words.as_slice(), &mut source, &mut sink),
+            2
+        );
         assert_eq!(rt; sink.written(), USAGE.as_bytes());
         // The number stays where the sink fails.
         let mut sink = MemSink::new(alloc, [0u64].to_vec(alloc)?);
-        assert_eq!(rt; sfu_alone(alloc, words.as_slice(), &mut source, &mut sink), 2);
+        assert_eq!(rt;
+            sfu_alone(alloc, words.as_slice(), &mut source, &mut sink),
+            2
+        );
         assert_eq!(rt; sink.written(), b"".as_slice());
         // Nothing was read: the first read is still to come, and fails.
         let mut buf = [0u8; 8];
@@ -337,13 +343,19 @@ fn pieces_of_any_size_make_the_same_lines(rt: HostRuntime) -> Result<(), Fail> {
         inner: MemSource::new(text.as_bytes().to_vec(alloc)?, Vec::new(alloc)),
     };
     let mut sink = MemSink::new(alloc, Vec::new(alloc));
-    assert_eq!(rt; sfu_alone(alloc, run_word.as_slice(), &mut source, &mut sink), 5);
+    assert_eq!(rt;
+        sfu_alone(alloc, run_word.as_slice(), &mut source, &mut sink),
+        5
+    );
     let wanted = format!(in alloc; "{FIRST_REPLIES}packet 806000070000000022222222aabb\nline 7\n")?;
     assert_eq!(rt; sink.written(), wanted.as_bytes());
     // The calm forms never fail.
     let mut source = CalmSource::new(text.as_bytes().to_vec(alloc)?);
     let mut sink = CalmSink::new();
-    assert_eq!(rt; sfu_alone(alloc, run_word.as_slice(), &mut source, &mut sink), 5);
+    assert_eq!(rt;
+        sfu_alone(alloc, run_word.as_slice(), &mut source, &mut sink),
+        5
+    );
     // A comment has at most 4,200 bytes too.
     let mut line = [b'#'].to_vec(alloc)?;
     for _ in 1..4200 {

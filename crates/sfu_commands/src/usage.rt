@@ -6,7 +6,7 @@ ghost use Rattle.sfu_commands.specs.Help.{ShowsUsage, usage_text};
 use sfu_base::Sink;
 use sfu_driver::write_all;
 
-const USAGE: &[u8] = b"usage: run, together, trial, check, serve, help\n";
+const USAGE: &[u8] = b"usage: run, together, trial, check, serve, convert, help\n";
 
 /// The command `help`: writes the usage line, and answers the status.
 pub fn help<K: Sink>(sink: &mut K) -> u8

@@ -13,6 +13,8 @@ pub enum Command {
     Run,
     /// Writes the usage line.
     Help,
+    /// Writes a script of lines as one of records.
+    Convert,
     /// Judges packets as a strict receiver with this id of the descriptors' header extension does.
     Check(u8),
     /// Writes what strict receivers find in what three subscribers take of a stream: so many frames, made from the number `start`, of which
@@ -26,6 +28,7 @@ fn read_word(word: &str) -> Option<Command>
 {
     match word {
         "run" => Some(Command::Run),
+        "convert" => Some(Command::Convert),
         "help" => Some(Command::Help),
         _ => None,
     }

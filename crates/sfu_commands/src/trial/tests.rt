@@ -14,7 +14,7 @@ const ONE_UNIT: &str = "made 2 frames 5 packets\nlost 0 repeated 0 swapped 0\n\
     subscriber 1 frames 2 packets 5 complaints 0\nsubscriber 2 frames 2 packets 5 complaints 0\n\
     subscriber 3 frames 1 packets 3 complaints 0\n";
 
-const USAGE: &str = "usage: run, together, trial, check, serve, help\n";
+const USAGE: &str = "usage: run, together, trial, check, serve, convert, help\n";
 
 // Takes a text byte by byte.
 #[derive(Drop)]
@@ -51,7 +51,10 @@ fn a_trial_writes_its_summary_and_reads_nothing(rt: HostRuntime) -> Result<(), F
     for (frames, text) in [("1000", THOUSAND), ("2", ONE_UNIT)] {
         let (words, mut source) = at_words(alloc, &["trial", frames, "7", "0"])?;
         let mut sink = MemSink::new(alloc, Vec::new(alloc));
-        assert_eq!(rt; sfu_alone(alloc, words.as_slice(), &mut source, &mut sink), 0);
+        assert_eq!(rt;
+            sfu_alone(alloc, words.as_slice(), &mut source, &mut sink),
+            0
+        );
         assert_eq!(rt; sink.written(), text.as_bytes());
         // The first read is still to come, and fails.
         assert_eq!(rt; source.read(&mut [0u8; 8]), Err(Failed));
@@ -91,7 +94,10 @@ fn words_out_of_range_are_no_trial(rt: HostRuntime) -> Result<(), Fail> {
     // The greatest numbers: of one frame three packets are made.
     let (words, mut source) = at_words(alloc, &["trial", "1", "18446744073709551615", "50"])?;
     let mut sink = MemSink::new(alloc, Vec::new(alloc));
-    assert_eq!(rt; sfu_alone(alloc, words.as_slice(), &mut source, &mut sink), 0);
+    assert_eq!(rt;
+        sfu_alone(alloc, words.as_slice(), &mut source, &mut sink),
+        0
+    );
     assert!(rt; sink.written().starts_with(b"made 1 frames 3 packets\n"));
     Ok(())
 }

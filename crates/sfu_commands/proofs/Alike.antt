@@ -1,0 +1,177 @@
+-- What is due may be said in other words of the bytes that are there, and a text may stand before all that is due.
+use Rattle.std.proofs.Common.{◌≡◌, ◌⊎◌, ◌≤◌, ◌<◌, inl, inr, ℕ, List, [], ◌++◌, refl, sym, ap, ◌∙◌, subst, arith, Option, Some, None, append_assoc, append-nil}
+use Rattle.std.specs.Prelude.{IfSome}
+use Rattle.std.specs.Io.KnownBytes.{Appends, Consumes, IsAtEnd, Keeps}
+use Rattle.std.proofs.KnownBytes.{Appends-nil, Appends-trans, Consumes-kept, Consumes-nil}
+use Rattle.sfu_base.specs.Faults.{Rose}
+use Rattle.sfu_driver.specs.declared.halt.Ending.{Ending}
+use Rattle.sfu_driver.specs.declared.halt.Ending.TheVariants as ending
+use Rattle.sfu_driver.specs.Outcome.{End}
+use Rattle.sfu_driver.specs.Drive.{WritesEnd, WritesFront, WritesPart, end_by}
+use Rattle.sfu_driver.specs.Statuses.{Completes, Decides, Due, IsPrompt, Statuses, full_text, last_text, status_of, text_before}
+use Rattle.sfu_driver.proofs.Fronts.{end_after, front_longer, part_after, part_front, part_longer, rose_since}
+
+if_some : (left : Option (List ℕ)) (P Q : List ℕ → Type 0) → ((b : List ℕ) → P b → Q b) → IfSome left P → IfSome left Q
+if_some None P Q f p = tt
+if_some (Some b) P Q f p = f b p
+
+if_told : (left : Option (List ℕ)) (P : List ℕ → Type 0) → ((b : List ℕ) → P b) → IfSome left P
+if_told None P all = tt
+if_told (Some b) P all = all b
+
+no_ending : (n : ℕ) (why : Ending) → (n < 5) ⊎ (n ≡ 6) → n ≡ status_of why → ⊥
+no_ending n ending.Outside other is = omega arith
+no_ending n ending.Complaint other is = omega arith
+
+-- the statuses that come where this is due
+abbrev pub IsDue : (List ℕ → Due) → ℕ → Type 0
+IsDue whole status = (status ≡ 0) ⊎ (status ≡ 3) ⊎ (status ≡ 4) ⊎ (status ≡ 6) ⊎ ((bytes : List ℕ) × (end : End) × ((whole bytes).end ≡ Some end) × (status ≡ status_of end.why))
+
+-- ---- other words
+
+-- the bytes that were taken are a front of those that were there
+front_of : (bytes : List ℕ) (left' : Option (List ℕ)) (taken : List ℕ) → Consumes (Some bytes) left' taken → (rest : List ℕ) × (bytes ≡ taken ++ rest)
+front_of bytes None taken from = absurd from
+front_of bytes (Some rest) taken from = (rest, from)
+
+-- what is due of these bytes, and of each front of them
+pub statuses_alike : (whole part whole' part' : List ℕ → Due) (left left' w w' : Option (List ℕ)) (g g' f f' status : ℕ) → ((bytes : List ℕ) → left ≡ Some bytes → whole bytes ≡ whole' bytes)
+    → ((bytes front rest : List ℕ) → left ≡ Some bytes → bytes ≡ front ++ rest → part front ≡ part' front) → IsDue whole' status
+    → Statuses whole part left left' w w' g g' f f' status → Statuses whole' part' left left' w w' g g' f f' status
+statuses_alike whole part whole' part' None left' w w' g g' f f' status same same_part only s = record {
+  done = λ e. tt;
+  source = s.source;
+  judged = λ e. tt;
+  sink = s.sink;
+  unwritten = λ e. tt;
+  ended = λ why e. tt;
+  decided = λ why e. tt;
+  memory = λ e. tt;
+  prompt = tt;
+  begun = tt;
+  only = only;
+  complete = λ a c. tt;
+}
+statuses_alike whole part whole' part' (Some bytes) left' w w' g g' f f' status same same_part only s = record {
+  done = λ e. subst (λ (d : Due). IsAtEnd left' × (d.end ≡ None) × Appends w w' d.text) all (s.done e);
+  source = s.source;
+  judged = λ e.
+      let x = s.judged e in
+      let y = subst (λ (d : Due). (d.end ≡ None) × Appends w w' d.text) (of_taken x.0 x.1) (x.2, x.3) in
+      (x.0, x.1, y.0, y.1);
+  sink = s.sink;
+  unwritten = λ e. subst (λ (d : Due). WritesPart w w' d.text) all (s.unwritten e);
+  ended = λ why e. subst (λ (d : Due). (last : List ℕ) × (d.end ≡ Some (end_by why last)) × WritesEnd w w' f f' d.text last) all (s.ended why e);
+  decided = λ why e. let x = s.decided why e in (x.0, x.1, decided_also why x.0 (of_taken x.0 x.1) x.2);
+  memory = λ e.
+      let x = s.memory e in
+      let y = subst (λ (d : Due). (d.end ≡ None) × Appends w w' d.text) (of_front x.0 x.1 x.2) (x.3, x.4) in
+      (x.0, x.1, x.2, y.0, y.1);
+  prompt =
+      let x = s.prompt in
+      let e = of_front x.earlier x.piece x.consumed in record {
+        earlier = x.earlier;
+        piece = x.piece;
+        consumed = x.consumed;
+        small = x.small;
+        goes = sym (ap (λ (d : Due). d.end) e) ∙ x.goes;
+        wrote = λ some. let y = x.wrote some in (y.0, subst (λ (d : Due). Appends w w' (d.text ++ y.0)) e y.1);
+      };
+  begun = subst (λ (d : Due). WritesFront w w' (full_text d)) all s.begun;
+  only = only;
+  complete = λ a c. subst (λ (d : Due). Completes d.end status) all (s.complete a c);
+}
+  where
+    all : whole bytes ≡ whole' bytes
+    all = same bytes refl
+
+    of_taken : (taken : List ℕ) → Consumes (Some bytes) left' taken → part taken ≡ part' taken
+    of_taken taken from = let x = front_of bytes left' taken from in same_part bytes taken x.0 refl x.1
+
+    of_front : (front more : List ℕ) → Consumes (Some bytes) left' (front ++ more) → part front ≡ part' front
+    of_front front more from = let x = front_of bytes left' (front ++ more) from in same_part bytes front (more ++ x.0) refl (x.1 ∙ append_assoc front more x.0)
+
+    decided_also : (why : Ending) (taken : List ℕ) → part taken ≡ part' taken → Decides part why left' taken → Decides part' why left' taken
+    decided_also why taken e (inl d) = inl (d.0, sym (ap (λ (x : Due). x.end) e) ∙ d.1)
+    decided_also why taken e (inr end) = inr end
+
+-- ---- the first read fails
+
+pub failed_at_once : (whole part : List ℕ → Due) (left left' w : Option (List ℕ)) (g g' f : ℕ) → part [] ≡ record { text = []; end = None } → Rose g g' → Keeps left left'
+    → Statuses whole part left left' w w g g' f f 3
+failed_at_once whole part left left' w g g' f none rose keeps = record {
+  done = λ e. absurd (omega arith);
+  source = λ e. rose;
+  judged = λ e. if_told left _ (λ b. ([], from, goes, wrote));
+  sink = λ e. absurd (omega arith);
+  unwritten = λ e. absurd (omega arith);
+  ended = λ why e. absurd (no_ending 3 why (inl (omega arith)) e);
+  decided = λ why e. absurd (no_ending 3 why (inl (omega arith)) e);
+  memory = λ e. absurd (omega arith);
+  prompt = if_told left _ (λ b. record { earlier = []; piece = []; consumed = from; small = omega arith; goes = goes; wrote = λ some. absurd (omega arith) });
+  begun = if_told left _ (λ b. ([], full_text (whole b), Appends-nil w, refl));
+  only = inr (inl refl);
+  complete = λ a c. absurd (a rose);
+}
+  where
+    from : Consumes left left' []
+    from = Consumes-kept left left left' [] (Consumes-nil left) keeps
+
+    goes : (part []).end ≡ None
+    goes = ap (λ (d : Due). d.end) none
+
+    wrote : Appends w w (part []).text
+    wrote = subst (λ (text : List ℕ). Appends w w text) (sym (ap (λ (d : Due). d.text) none)) (Appends-nil w)
+
+-- ---- a text before all that is due
+
+module _ (head : List ℕ) (whole part : List ℕ → Due) where
+  -- it was written first
+  pub statuses_behind : (left left' w0 w1 w' : Option (List ℕ)) (g g' f0 f1 f' status : ℕ) → f0 ≤ f1 → Appends w0 w1 head
+      → Statuses whole part left left' w1 w' g g' f1 f' status
+      → Statuses (λ bytes. text_before head (whole bytes)) (λ bytes. text_before head (part bytes)) left left' w0 w' g g' f0 f' status
+  statuses_behind left left' w0 w1 w' g g' f0 f1 f' status le first s = record {
+    done = λ e. if_some left _ _ (λ b x. (x.0, x.1, Appends-trans w0 w1 w' head (whole b).text first x.2)) (s.done e);
+    source = s.source;
+    judged = λ e. if_some left _ _ (λ b x. (x.0, x.1, x.2, Appends-trans w0 w1 w' head (part x.0).text first x.3)) (s.judged e);
+    sink = λ e. rose_since f0 f1 f' le (s.sink e);
+    unwritten = λ e. if_some left _ _ (λ b x. part_after w0 w1 w' head (whole b).text first x) (s.unwritten e);
+    ended = λ why e. if_some left _ _ (λ b x. (x.0, x.1, end_after w0 w1 w' f0 f1 f' head (whole b).text x.0 le first x.2)) (s.ended why e);
+    decided = s.decided;
+    memory = λ e. if_some left _ _ (λ b x. (x.0, x.1, x.2, x.3, Appends-trans w0 w1 w' head (part x.0).text first x.4)) (s.memory e);
+    prompt = if_some left _ _ (λ b x. record {
+      earlier = x.earlier;
+      piece = x.piece;
+      consumed = x.consumed;
+      small = x.small;
+      goes = x.goes;
+      wrote = λ some.
+          let y = x.wrote some in
+          let text = (part x.earlier).text in
+          (y.0, subst (Appends w0 w') (sym (append_assoc head text y.0)) (Appends-trans w0 w1 w' head (text ++ y.0) first y.1));
+    }) s.prompt;
+    begun = if_some left _ _ (λ b x.
+        let text = (whole b).text in
+        let last = last_text (whole b).end in
+        (head ++ x.0, x.1, Appends-trans w0 w1 w' head x.0 first x.2, append_assoc head text last ∙ ap (λ (xs : List ℕ). head ++ xs) x.3 ∙ sym (append_assoc head x.0 x.1))) s.begun;
+    only = s.only;
+    complete = λ a c. s.complete a (λ rose. c (rose_since f0 f1 f' le rose));
+  }
+
+  -- the sink failed before all of it was written
+  pub failed_before : (left w w' : Option (List ℕ)) (g f f' : ℕ) → (part []).end ≡ None → Rose f f' → WritesPart w w' head
+      → Statuses (λ bytes. text_before head (whole bytes)) (λ bytes. text_before head (part bytes)) left left w w' g g f f' 4
+  failed_before left w w' g f f' goes rose wrote = record {
+    done = λ e. absurd (omega arith);
+    source = λ e. absurd (omega arith);
+    judged = λ e. absurd (omega arith);
+    sink = λ e. rose;
+    unwritten = λ e. if_told left _ (λ b. part_longer w w' head (whole b).text wrote);
+    ended = λ why e. absurd (no_ending 4 why (inl (omega arith)) e);
+    decided = λ why e. absurd (no_ending 4 why (inl (omega arith)) e);
+    memory = λ e. absurd (omega arith);
+    prompt = if_told left _ (λ b. record { earlier = []; piece = []; consumed = Consumes-nil left; small = omega arith; goes = goes; wrote = λ some. absurd (omega arith) });
+    begun = if_told left _ (λ b. front_longer w w' (head ++ (whole b).text) (last_text (whole b).end) (part_front w w' (head ++ (whole b).text) (part_longer w w' head (whole b).text wrote)));
+    only = inr (inr (inl refl));
+    complete = λ a c. absurd (c rose);
+  }

@@ -1,0 +1,135 @@
+// Serving the calls of a script.
+ghost use Rattle.std.specs.Prelude.{◌≡◌, ◌≤◌, [], List, length};
+ghost use Rattle.sfu_base.specs.Answer.{is_starved};
+ghost use Rattle.sfu_driver.specs.Drive.{Judges};
+ghost use Rattle.room_core.specs.History.{Entry};
+ghost use Rattle.room_core.specs.Serves.{Stands};
+ghost use Rattle.sfu_commands.specs.declared.form.Form.TheVariants.{Lines, Records};
+ghost use Rattle.sfu_commands.specs.Run.{reply_to, served, untold};
+ghost use Rattle.sfu_commands.specs.Script.{call_in, fault_line, record_fault_line};
+
+use crate::call_reader::CallReader;
+use crate::form::Form;
+use crate::texts::{add_fault, add_record_fault, add_reply, add_unit_fault};
+use room_core::{KeepNone, Room};
+use sfu_base::{Blob, NoMemory, PacketBuf, Refusal, Reply, Scratch, SeqList};
+use sfu_driver::{Ending, Halt, Judge};
+use sfu_script::is_skipped;
+use std::alloc::Global;
+
+/// Serves each call of a script by seat 0 on a room that keeps nothing.
+#[derive(Drop)]
+pub struct CallServer {
+    pub reader: CallReader,
+    pub room: Room<KeepNone>,
+    pub scratch: Scratch,
+}
+
+// Whether a reply is want of memory.
+fn wants_memory(reply: &Reply) -> bool
+    ensures { result ≡ is_starved reply.now }
+{
+    matches!(reply, Reply::Refused(Refusal::NoMemory))
+}
+
+impl CallServer {
+    /// A server that has served nothing.
+    pub fn new(alloc: Global) -> CallServer
+        ensures { Stands untold result.room [] }
+    {
+        CallServer {
+            reader: CallReader::new(),
+            room: Room::new(alloc, KeepNone::new()),
+            scratch: Scratch {
+                packet: PacketBuf::new(),
+                names: SeqList::new(),
+            },
+        }
+    }
+
+    // One function for both forms, so that a room's call is compiled once.
+    // Serves the call of a line or record.
+    #[inline(never)]
+    fn serve(&mut self, form: Form, number: u32, unit: &[u8], ready: &mut Blob) -> Result<(), Halt>
+        ensures judges { (history : List Entry) → Stands untold self.old.room history
+            → Judges (λ (server : CallServer) (later : List Entry). Stands untold server.room later) (reply_to form (call_in form unit.now) number history) self.new ready.old ready.new result }
+        ensures grows { length ready.old ≤ length ready.new }
+    {
+        let Some(call) = self.reader.read(form, unit) else {
+            add_unit_fault(form, u64::from(number), ready)?;
+            return Err(Halt::Ended(Ending::Outside));
+        };
+        let reply = self.room.serve(0, call, &mut self.scratch);
+        if wants_memory(&reply) {
+            return Err(Halt::Starved);
+        }
+        add_reply(&reply, &self.scratch, ready)?;
+        Ok(())
+    }
+}
+
+/// Serves the calls of a script of lines.
+#[derive(Drop)]
+pub struct LineServer {
+    pub server: CallServer,
+}
+
+impl Judge for LineServer {
+    ghost State = { List Entry };
+
+    ghost stands = { λ lines history. Stands untold lines.server.room history };
+
+    ghost step = { served Lines };
+
+    ghost outside = { fault_line };
+
+    ghost closing = { λ _. [] };
+
+    fn judge(&mut self, number: u32, line: &[u8], ready: &mut Blob) -> Result<(), Halt> {
+        if is_skipped(line) {
+            return Ok(());
+        }
+        self.server.serve(Form::Lines, number, line, ready)
+    }
+
+    fn refuse(&self, number: u64, ready: &mut Blob) -> Result<(), NoMemory> {
+        add_fault(number, ready)
+    }
+
+    fn close(&mut self, _ready: &mut Blob) -> Result<(), NoMemory> {
+        Ok(())
+    }
+}
+
+/// Serves the calls of a script of records, of which the first unit is the header.
+#[derive(Drop)]
+pub struct RecordServer {
+    pub server: CallServer,
+}
+
+impl Judge for RecordServer {
+    ghost State = { List Entry };
+
+    ghost stands = { λ records history. Stands untold records.server.room history };
+
+    ghost step = { served Records };
+
+    ghost outside = { record_fault_line };
+
+    ghost closing = { λ _. [] };
+
+    fn judge(&mut self, number: u32, body: &[u8], ready: &mut Blob) -> Result<(), Halt> {
+        if number == 0 {
+            return Ok(());
+        }
+        self.server.serve(Form::Records, number, body, ready)
+    }
+
+    fn refuse(&self, number: u64, ready: &mut Blob) -> Result<(), NoMemory> {
+        add_record_fault(number, ready)
+    }
+
+    fn close(&mut self, _ready: &mut Blob) -> Result<(), NoMemory> {
+        Ok(())
+    }
+}
