@@ -39,7 +39,7 @@ fn command_by_bytes(alloc: Global, word: &str, input: &[u8]) -> Result<(u8, Vec<
 // A script of records that ends behind the kind of its first, where so many bytes are said.
 fn begun(alloc: Global, kind: u8, length: u16) -> Result<Vec<u8>, AllocError> {
     let [high, low] = length.to_be_bytes();
-    vec![in alloc; 0, 83, 70, 50, high, low, kind]
+    [0, 83, 70, 50, high, low, kind].to_vec(alloc)
 }
 
 #[test]
