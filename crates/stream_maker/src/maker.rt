@@ -59,8 +59,7 @@ impl Maker {
         }
     }
 
-    /// The next event. A packet fills the buffer; a tick and the end leave it as it is. Apart, so that the state stays in memory.
-    #[inline(never)]
+    /// The next event. A packet fills the buffer; a tick and the end leave it as it is.
     pub fn next_event(&mut self, out: &mut PacketBuf) -> Event
         ensures { Gives self.old self.new result out.old out.new }
     {
