@@ -2,6 +2,7 @@
 ghost use Rattle.std.specs.Prelude.{◌≡◌, ◌↔◌, ℕ, map};
 ghost use Rattle.std.specs.String.{string_bytes};
 ghost use Rattle.sfu_commands.specs.Check.{Checks, IsCheck};
+ghost use Rattle.sfu_commands.specs.Convert.{Converts, IsConvert};
 ghost use Rattle.stream_maker.specs.Stream.{Stream};
 ghost use Rattle.sfu_commands.specs.Help.{Helps, IsHelp, Refuses};
 ghost use Rattle.sfu_commands.specs.Promise.{AreServed};
@@ -17,7 +18,7 @@ use std::alloc::Global;
 ///
 /// Status 0: the source was read to its end, where the command reads it, and all that is due was written. 2: the words are no command;
 /// nothing was read, and the usage line was written. 3 and 4: the source or the sink failed. 5: a line is outside the grammar; what is due
-/// before it and `line N` were written. 6: want of memory. 8: the strict receiver of `check` complains; `line N` and the complaint were
+/// before it and `line N` were written, or `record N` in a script of records; `convert` doesn't write which it is. 6: want of memory. 8: the strict receiver of `check` complains; `line N` and the complaint were
 /// written. The first that is met ends the call; 2, 5 and 8 stay where the sink fails in their own text.
 pub fn sfu<S: Source, K: Sink>(alloc: Global, words: &[String], source: &mut S, sink: &mut K) -> u8
     ensures run { IsRun (map string_bytes words.now)
@@ -26,6 +27,9 @@ pub fn sfu<S: Source, K: Sink>(alloc: Global, words: &[String], source: &mut S, 
     ensures headline { IsRun (map string_bytes words.now) → AreServed (S.left source.old) }
     ensures check { (id : ℕ) → IsCheck (map string_bytes words.now) id
         → Checks id (S.left source.old) (S.left source.new) (K.written sink.old) (K.written sink.new) (S.faults source.old) (S.faults source.new)
+        (K.faults sink.old) (K.faults sink.new) result }
+    ensures convert { IsConvert (map string_bytes words.now)
+        → Converts (S.left source.old) (S.left source.new) (K.written sink.old) (K.written sink.new) (S.faults source.old) (S.faults source.new)
         (K.faults sink.old) (K.faults sink.new) result }
     ensures help { IsHelp (map string_bytes words.now) → Helps source.old source.new (K.written sink.old) (K.written sink.new) (K.faults sink.old) (K.faults sink.new) result }
     ensures trial { (s : Stream) → IsTrial (map string_bytes words.now) s
