@@ -1,17 +1,23 @@
 -- What is converted is read back as the calls of the lines.
-use Rattle.std.proofs.Common.{suc, ◌≡◌, ◌≤◌, ◌<◌, ℕ, ◌+◌, Bool, true, false, cond, leb, eqb, List, [], ◌∷◌, ◌++◌, length, take, drop, map, refl, sym, ap, ◌∙◌, subst, arith, Option, Some, None, append_assoc, append-nil, length-append}
-use Rattle.std.specs.Prelude.{slice_index}
+use Rattle.std.proofs.Common.{suc, ◌≡◌, ◌≤◌, ◌<◌, ℕ, ◌+◌, ◌-◌, Bool, true, false, cond, leb, eqb, List, [], ◌∷◌, ◌++◌, length, take, drop, map, refl, sym, ap, ◌∙◌, subst, arith, Option, Some, None, append_assoc, append-nil, length-append}
+use Rattle.std.specs.Prelude.{codes, slice_index}
 use Rattle.std.specs.List.{AllByRecursion}
+use Rattle.std.proofs.lemmas.Bool.{eqb-true}
 use Rattle.std.proofs.lemmas.Bool.Decides.{nat_tests}
 use Rattle.std.proofs.Math.Seq.{take-length}
 use Rattle.byteorder.specs.Endian.{big_bytes, big_number}
 use Rattle.byteorder.specs.Numbers.{length-bytes_high_first}
 use Rattle.sfu_base.specs.declared.call.Call.{Call}
-use Rattle.sfu_driver.specs.Input.{last_unit, lines_of, said, units_of, with_unit}
+use Rattle.sfu_base.specs.declared.call.Call.TheVariants as call
+use Rattle.sfu_base.specs.declared.call.Kind.TheVariants.{Plain, Layered}
+use Rattle.sfu_driver.specs.declared.halt.Ending.TheVariants.{Outside}
+use Rattle.sfu_driver.specs.Drive.{end_by}
+use Rattle.sfu_driver.specs.Input.{Line, last_unit, lines_of, onto_line, said, units_of, with_unit}
+use Rattle.sfu_driver.specs.Lines.{ends_in_cr, without_cr}
 use Rattle.sfu_driver.specs.Outcome.{End}
 use Rattle.sfu_driver.specs.Scan.{AllMore, EndsAt, Scan, More, NoUnit, Whole}
 use Rattle.sfu_driver.specs.Statuses.{Due}
-use Rattle.sfu_script.specs.Lines.{HasLine}
+use Rattle.sfu_script.specs.Lines.{HasLine, IsLine}
 use Rattle.sfu_script.specs.ReadLines.{call_of}
 use Rattle.sfu_script.specs.Skipped.{is_skipped}
 use Rattle.sfu_script.proofs.LineLaws.{call_found}
@@ -126,6 +132,78 @@ lines_fine : (units : List Scan) (n : ℕ) → AllHaveLines (calls_of Lines unit
 lines_fine [] n = (tt, λ some. absurd (omega arith))
 lines_fine (unit ∷ units) n = let rest = lines_fine units (n + 1) in by_unit unit n (calls_of Lines units (n + 1)) rest.0 rest.1
 
+-- ---- a script of records as lines
+
+abbrev first_of : List ℕ → ℕ
+first_of [] = 0
+first_of (b ∷ bytes) = b
+
+worded : (word after text more : List ℕ) → word ≡ text → 0 < first_of text → 0 ∷ more ≡ word ++ 32 ∷ after → ⊥
+worded word after [] more is some e = omega arith
+worded word after (b ∷ bytes) more is some e =
+    let same : 0 ∷ more ≡ b ∷ (bytes ++ 32 ∷ after) = e ∙ ap (λ (xs : List ℕ). xs ++ 32 ∷ after) is in
+    let first : 0 ≡ b = cc in omega arith
+
+-- no line begins with a zero byte
+no_line : (c : Call) (more : List ℕ) → IsLine c (0 ∷ more) → ⊥
+no_line (call.Publish track Plain ssrc hold) more says = worded says.0 says.1 (codes "publish") more says.2 (omega arith) says.4
+no_line (call.Publish track (Layered id) ssrc hold) more says = worded says.0 says.1 (codes "publish") more says.2 (omega arith) says.4
+no_line (call.Unpublish track) more says = worded says.0 says.1 (codes "unpublish") more says.2 (omega arith) says.4
+no_line (call.Packet track moment bytes) more says = worded says.0 says.1 (codes "packet") more says.2 (omega arith) says.4
+no_line (call.Tick track moment) more says = worded says.0 says.1 (codes "tick") more says.2 (omega arith) says.4
+no_line (call.Join subscriber track ssrc first wish) more says = worded says.0 says.1 (codes "join") more says.2 (omega arith) says.4
+no_line (call.Leave subscriber) more says = worded says.0 says.1 (codes "leave") more says.2 (omega arith) says.4
+no_line (call.Aim subscriber wish) more says = worded says.0 says.1 (codes "aim") more says.2 (omega arith) says.4
+no_line (call.Take subscriber) more says = worded says.0 says.1 (codes "take") more says.2 (omega arith) says.4
+no_line (call.Resend subscriber sequence) more says = worded says.0 says.1 (codes "resend") more says.2 (omega arith) says.4
+no_line (call.Missing track) more says = worded says.0 says.1 (codes "missing") more says.2 (omega arith) says.4
+no_line (call.KeyWanted track) more says = worded says.0 says.1 (codes "key") more says.2 (omega arith) says.4
+no_line (call.Plead subscriber) more says = worded says.0 says.1 (codes "plead") more says.2 (omega arith) says.4
+no_line (call.Why subscriber number) more says = worded says.0 says.1 (codes "why") more says.2 (omega arith) says.4
+
+no_call : (more : List ℕ) → call_of (0 ∷ more) ≡ None
+no_call more = go (call_of (0 ∷ more)) refl
+  where
+    go : (c : Option Call) → call_of (0 ∷ more) ≡ c → c ≡ None
+    go None e = refl
+    go (Some c) e = absurd (no_line c more (call_found (0 ∷ more) c e))
+
+-- what a line says that begins with one begins with it too
+begins : (l : List ℕ) (ended : Bool) → (more : List ℕ) × (cond ended (without_cr (0 ∷ l)) (0 ∷ l) ≡ 0 ∷ more)
+begins l false = (l, refl)
+begins [] true = ([], refl)
+begins (y ∷ l) true = by_cr (ends_in_cr (y ∷ l))
+  where
+    by_cr : (cr : Bool) → (more : List ℕ) × (cond cr (take (length (0 ∷ y ∷ l) - 1) (0 ∷ y ∷ l)) (0 ∷ y ∷ l) ≡ 0 ∷ more)
+    by_cr true = let e : length (0 ∷ y ∷ l) - 1 ≡ suc (length l) = omega arith in (take (length l) (y ∷ l), ap (λ (n : ℕ). take n (0 ∷ y ∷ l)) e)
+    by_cr false = (y ∷ l, refl)
+
+breaks : (text : List ℕ) (others : Script) → (more : List ℕ) × (text ≡ 0 ∷ more) → script.with_unit Lines (Whole text) 1 others ≡ stops_at 1
+breaks text others is =
+    ap (λ (xs : List ℕ). script.with_unit Lines (Whole xs) 1 others) is.1 ∙ ap (λ (c : Option Call). with_call c 1 others) (no_call is.0)
+
+first_breaks : (l : List ℕ) (ended : Bool) (others : Script) → script.with_unit Lines (said (record { bytes = 0 ∷ l; ended = ended })) 1 others ≡ stops_at 1
+first_breaks l ended others = by_length (leb (length (0 ∷ l)) 4200)
+  where
+    text : List ℕ
+    text = cond ended (without_cr (0 ∷ l)) (0 ∷ l)
+
+    by_length : (t : Bool) → script.with_unit Lines (cond t (Whole text) NoUnit) 1 others ≡ stops_at 1
+    by_length true = breaks text others (begins l ended)
+    by_length false = refl
+
+zero_breaks : (lines : List Line) → calls_of Lines (map said (onto_line 0 lines)) 1 ≡ stops_at 1
+zero_breaks [] = first_breaks [] false _
+zero_breaks (l ∷ lines) = first_breaks l.bytes l.ended _
+
+pub records_no_lines : (bytes : List ℕ) → form_of bytes ≡ Records → script_in Lines bytes ≡ stops_at 1
+records_no_lines [] is = absurd cc
+records_no_lines (b ∷ bytes) is = ap (λ (x : ℕ). script_in Lines (x ∷ bytes)) (zero_is (eqb b 0) refl is) ∙ zero_breaks (lines_of bytes)
+  where
+    zero_is : (t : Bool) → eqb b 0 ≡ t → cond t Records Lines ≡ Records → b ≡ 0
+    zero_is true e same = eqb-true b 0 e
+    zero_is false e same = absurd cc
+
 -- ---- both
 
 no_fault : (fault : Option ℕ) → silent_end fault ≡ None → fault ≡ None
@@ -135,19 +213,27 @@ no_fault (Some number) is = absurd cc
 with_fault : (s : Script) → s.fault ≡ None → s ≡ record { calls = s.calls; fault = None }
 with_fault s is = ap (λ (f : Option ℕ). let r : Script = record { calls = s.calls; fault = f } in r) is
 
-pub calls_alike : (bytes : List ℕ) → (convert_due bytes).end ≡ None → script_of (convert_due bytes).text ≡ script_in Lines bytes
+-- a script of records is none of lines
+line_form : (bytes : List ℕ) (form : Form) → form_of bytes ≡ form → (convert_due bytes).end ≡ None → form_of bytes ≡ Lines
+line_form bytes Lines is calm = is
+line_form bytes Records is calm =
+    let bad : Some (end_by Outside []) ≡ None = sym (ap (λ (s : Script). silent_end s.fault) (records_no_lines bytes is)) ∙ calm in absurd cc
+
+pub calls_alike : (bytes : List ℕ) → (convert_due bytes).end ≡ None → script_of (convert_due bytes).text ≡ script_of bytes
 calls_alike bytes calm =
     let s = script_in Lines bytes in
     let fine = lines_fine (map said (lines_of bytes)) 1 in
     read_back s.calls 1 (omega arith) fine.0 fine.1 ∙ sym (with_fault s (no_fault s.fault calm))
+    ∙ sym (ap (λ (form : Form). script_in form bytes) (line_form bytes (form_of bytes) refl calm))
 
 same_form : (form : Form) (s : Script) → s.fault ≡ None → due_for form s [] ≡ due_for Lines s []
 same_form Lines s is = refl
 same_form Records s is = ap (λ (q : Script). due_for Records q []) (with_fault s is) ∙ sym (ap (λ (q : Script). due_for Lines q []) (with_fault s is))
 
-pub replies_alike : (bytes : List ℕ) → form_of bytes ≡ Lines → (convert_due bytes).end ≡ None → run_due (convert_due bytes).text ≡ run_due bytes
-replies_alike bytes lines calm =
+pub replies_alike : (bytes : List ℕ) → (convert_due bytes).end ≡ None → run_due (convert_due bytes).text ≡ run_due bytes
+replies_alike bytes calm =
     let s = script_in Lines bytes in
-    ap (λ (q : Script). due_for Records q []) (calls_alike bytes calm)
+    let lines = line_form bytes (form_of bytes) refl calm in
+    ap (λ (q : Script). due_for Records q []) (calls_alike bytes calm ∙ ap (λ (form : Form). script_in form bytes) lines)
     ∙ same_form Records s (no_fault s.fault calm)
     ∙ sym (ap (λ (form : Form). due_in form bytes) lines)

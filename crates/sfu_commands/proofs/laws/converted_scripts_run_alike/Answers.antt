@@ -1,4 +1,9 @@
-use Rattle.sfu_commands.proofs.ConvertLaws.{calls_alike, replies_alike}
+use Rattle.std.proofs.Common.{ap}
+use Rattle.sfu_driver.specs.Statuses.{text_before}
+use Rattle.sfu_commands.specs.Convert.{records_due}
+use Rattle.sfu_commands.specs.Records.{header}
+use Rattle.sfu_commands.specs.Script.{Script}
+use Rattle.sfu_commands.proofs.ConvertLaws.{calls_alike, records_no_lines, replies_alike}
 use Rattle.sfu_commands.proofs.laws.converted_scripts_run_alike.Goals as goal
 
 pub returns-clause-calls : goal.returns-clause-calls
@@ -6,3 +11,8 @@ returns-clause-calls c = calls_alike
 
 pub returns-clause-replies : goal.returns-clause-replies
 returns-clause-replies c = replies_alike
+
+pub returns-clause-records : goal.returns-clause-records
+returns-clause-records c = λ bytes is.
+    let stops = records_no_lines bytes is in
+    (stops, ap (λ (s : Script). text_before header (records_due s)) stops)
