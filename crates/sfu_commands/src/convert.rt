@@ -6,14 +6,12 @@ use crate::record_cut::HEADER;
 use script_records::write_record;
 use sfu_base::{Blob, NoMemory, Sink, Source};
 use sfu_driver::{Ending, Halt, Judge, Lines, Stop, Units, answer, status, write_all};
-use sfu_script::{LineReader, is_skipped};
+use sfu_script::{is_skipped, read_call};
 use std::alloc::Global;
 
 /// Writes the call of each line as a record.
 #[derive(Drop)]
-pub struct Converter {
-    pub reader: LineReader,
-}
+pub struct Converter;
 
 impl Judge for Converter {
     ghost State = { Unit {0} };
@@ -30,10 +28,11 @@ impl Judge for Converter {
         if is_skipped(line) {
             return Ok(());
         }
-        let Ok(call) = self.reader.read(line) else {
+        // Not by the reader of `run`, which LLVM inlines there as long as nothing else calls it.
+        let Ok(call) = read_call(line) else {
             return Err(Halt::Ended(Ending::Outside));
         };
-        write_record(call, ready)?;
+        write_record(&call, ready)?;
         Ok(())
     }
 
@@ -54,10 +53,7 @@ pub fn convert<S: Source, K: Sink>(alloc: Global, source: &mut S, sink: &mut K) 
 {
     match write_all(sink, HEADER) {
         Ok(()) => {
-            let judge = Converter {
-                reader: LineReader::new(),
-            };
-            let mut units = Units::new(Lines, judge, 1);
+            let mut units = Units::new(Lines, Converter, 1);
             answer(alloc, &mut units, source, sink)
         }
         Err(_) => status(Err(Stop::SinkFault)),
