@@ -193,8 +193,8 @@ first_breaks l ended others = by_length (leb (length (0 ∷ l)) 4200)
     by_length false = refl
 
 zero_breaks : (lines : List Line) → calls_of Lines (map said (onto_line 0 lines)) 1 ≡ stops_at 1
-zero_breaks [] = first_breaks [] false _
-zero_breaks (l ∷ lines) = first_breaks l.bytes l.ended _
+zero_breaks [] = first_breaks [] false (calls_of Lines [] 2)
+zero_breaks (l ∷ lines) = first_breaks l.bytes l.ended (calls_of Lines (map said lines) 2)
 
 pub records_no_lines : (bytes : List ℕ) → form_of bytes ≡ Records → script_in Lines bytes ≡ stops_at 1
 records_no_lines [] is = absurd cc
