@@ -10,7 +10,7 @@ use Rattle.forwarding_model.specs.declared.target.CurrentTarget.{CurrentTarget}
 use Rattle.forwarding_model.specs.declared.target.CurrentTarget.TheVariants.{Open, Closed}
 use Rattle.forwarding_model.specs.forwarding.Targets.{is_allowed, layers}
 use Rattle.forwarding_model.specs.forwarding.Selection.{open_target}
-use Rattle.forwarding_model.specs.forwarding.Timeline.{Frame, Packet}
+use Rattle.forwarding_model.specs.forwarding.Timeline.{Packet}
 use Rattle.forwarding_model.specs.forwarding.Outgoing.{Sender, send_marked}
 use Rattle.dd_structure.specs.TemplateStructure.{TemplateStructure}
 use Rattle.packet_format.specs.Remasked.{remasked_packet}

@@ -1,5 +1,5 @@
 -- What is due may be said in other words of the bytes that are there, and a text may stand before all that is due.
-use Rattle.std.proofs.Common.{◌≡◌, ◌⊎◌, ◌≤◌, ◌<◌, inl, inr, ℕ, List, [], ◌++◌, refl, sym, ap, ◌∙◌, subst, arith, Option, Some, None, append_assoc, append-nil}
+use Rattle.std.proofs.Common.{◌≡◌, ◌⊎◌, ◌≤◌, ◌<◌, inl, inr, ℕ, List, [], ◌++◌, refl, sym, ap, ◌∙◌, subst, arith, Option, Some, None, append_assoc}
 use Rattle.std.specs.Prelude.{IfSome}
 use Rattle.std.specs.Io.KnownBytes.{Appends, Consumes, IsAtEnd, Keeps}
 use Rattle.std.proofs.KnownBytes.{Appends-nil, Appends-trans, Consumes-kept, Consumes-nil}
@@ -8,7 +8,7 @@ use Rattle.sfu_driver.specs.declared.halt.Ending.{Ending}
 use Rattle.sfu_driver.specs.declared.halt.Ending.TheVariants as ending
 use Rattle.sfu_driver.specs.Outcome.{End}
 use Rattle.sfu_driver.specs.Drive.{WritesEnd, WritesFront, WritesPart, end_by}
-use Rattle.sfu_driver.specs.Statuses.{Completes, Decides, Due, IsPrompt, Statuses, full_text, last_text, status_of, text_before}
+use Rattle.sfu_driver.specs.Statuses.{Completes, Decides, Due, Statuses, full_text, last_text, status_of, text_before}
 use Rattle.sfu_driver.proofs.Fronts.{end_after, front_longer, part_after, part_front, part_longer, rose_since}
 
 if_some : (left : Option (List ℕ)) (P Q : List ℕ → Type 0) → ((b : List ℕ) → P b → Q b) → IfSome left P → IfSome left Q

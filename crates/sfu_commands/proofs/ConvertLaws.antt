@@ -1,6 +1,6 @@
 -- What is converted is read back as the calls of the lines.
-use Rattle.std.proofs.Common.{suc, ◌≡◌, ◌≤◌, ◌<◌, ℕ, ◌+◌, ◌-◌, Bool, true, false, cond, leb, eqb, List, [], ◌∷◌, ◌++◌, length, take, drop, map, refl, sym, ap, ◌∙◌, subst, arith, Option, Some, None, append_assoc, append-nil, length-append}
-use Rattle.std.specs.Prelude.{codes, slice_index}
+use Rattle.std.proofs.Common.{suc, ◌≡◌, ◌≤◌, ◌<◌, ℕ, ◌+◌, ◌-◌, Bool, true, false, cond, leb, eqb, List, [], ◌∷◌, ◌++◌, length, take, drop, map, refl, sym, ap, ◌∙◌, subst, arith, Option, Some, None, append_assoc, append-nil}
+use Rattle.std.specs.Prelude.{codes}
 use Rattle.std.specs.List.{AllByRecursion}
 use Rattle.std.proofs.lemmas.Bool.{eqb-true}
 use Rattle.std.proofs.lemmas.Bool.Decides.{nat_tests}
@@ -14,9 +14,7 @@ use Rattle.sfu_driver.specs.declared.halt.Ending.TheVariants.{Outside}
 use Rattle.sfu_driver.specs.Drive.{end_by}
 use Rattle.sfu_driver.specs.Input.{Line, last_unit, lines_of, onto_line, said, units_of, with_unit}
 use Rattle.sfu_driver.specs.Lines.{ends_in_cr, without_cr}
-use Rattle.sfu_driver.specs.Outcome.{End}
 use Rattle.sfu_driver.specs.Scan.{AllMore, EndsAt, Scan, More, NoUnit, Whole}
-use Rattle.sfu_driver.specs.Statuses.{Due}
 use Rattle.sfu_script.specs.Lines.{HasLine, IsLine}
 use Rattle.sfu_script.specs.ReadLines.{call_of}
 use Rattle.sfu_script.specs.Skipped.{is_skipped}
@@ -27,11 +25,11 @@ use Rattle.script_records.specs.Records.{body_of, record_of}
 use Rattle.script_records.proofs.RecordLaws.{again, converted, in_table, length_back}
 use Rattle.sfu_commands.specs.declared.form.Form.{Form}
 use Rattle.sfu_commands.specs.declared.form.Form.TheVariants.{Lines, Records}
-use Rattle.sfu_commands.specs.Records.{header, record_scan, record_scan_end, record_so_far}
+use Rattle.sfu_commands.specs.Records.{record_scan, record_scan_end, record_so_far}
 use Rattle.sfu_commands.specs.Script.{Script, calls_of, form_of, script_in, script_of, stops_at, with_call}
 use Rattle.sfu_commands.specs.Script as script
 use Rattle.sfu_commands.specs.Run.{due_for, due_in, run_due}
-use Rattle.sfu_commands.specs.Convert.{convert_due, convert_text, records_of, silent_end}
+use Rattle.sfu_commands.specs.Convert.{convert_due, records_of, silent_end}
 use Rattle.sfu_commands.proofs.RecordScans.{by_newest, ends_by, kind_goes, record_is_whole, records_scan}
 use Rattle.sfu_commands.proofs.RecordScans as scans
 

@@ -1,5 +1,5 @@
 -- What is due for lines, one after another, is a record for each of their calls.
-use Rattle.std.proofs.Common.{◌≡◌, ◌⊎◌, inl, inr, ℕ, ◌+◌, Bool, true, false, cond, leb, List, [], ◌∷◌, map, refl, sym, ap, ◌∙◌, arith, Option, Some, None}
+use Rattle.std.proofs.Common.{◌≡◌, inl, inr, ℕ, ◌+◌, Bool, true, false, cond, leb, List, [], ◌∷◌, map, refl, sym, ap, ◌∙◌, arith, Option, Some, None}
 use Rattle.sfu_base.specs.declared.call.Call.{Call}
 use Rattle.sfu_driver.specs.declared.halt.Ending.TheVariants.{Outside}
 use Rattle.sfu_driver.specs.Outcome.{End, Outcome, goes_on, takes, then_due}

@@ -1,10 +1,10 @@
 -- What is due for bytes, one after another, is what is due for their units, however they are cut.
 use Rattle.std.proofs.Common.{◌≡◌, ℕ, ◌+◌, List, [], ◌∷◌, ◌++◌, refl, ap, ◌∙◌}
-use Rattle.sfu_driver.specs.Outcome.{Outcome, takes, then_due}
+use Rattle.sfu_driver.specs.Outcome.{takes, then_due}
 use Rattle.sfu_driver.specs.Scan.{Scan, More, NoUnit, Whole}
 use Rattle.sfu_driver.specs.Point.{Rule, behind, byte, closed, due, judged}
 use Rattle.sfu_driver.specs.Input.{due_all, judged_all, judged_units, last_unit, units_of, with_unit}
-use Rattle.sfu_driver.specs.Statuses.{Due, due_of}
+use Rattle.sfu_driver.specs.Statuses.{due_of}
 use Rattle.sfu_driver.proofs.Cutting.{at}
 use Rattle.sfu_driver.proofs.LineInputs.{due_end, due_more, due_same, takes_end, takes_more, then_same}
 

@@ -1,5 +1,4 @@
-use Rattle.std.proofs.Common.{◌≡◌, ◌+◌, ◌^◌, ◌<◌, ℕ, subst, ap₂, sym, arith, suc}
-use Rattle.std.specs.Prelude.{if◌then◌else◌}
+use Rattle.std.proofs.Common.{arith}
 use Rattle.room_core.proofs.Masks.{next_fits}
 use Rattle.room_core.proofs.mask.targets_within.Goals as goal
 

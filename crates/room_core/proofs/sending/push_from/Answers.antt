@@ -1,9 +1,7 @@
-use Rattle.std.proofs.Common.{◌≡◌, ◌+◌, ◌-◌, ℕ, Bool, ◌∙◌, ◌&&◌, ◌||◌, List, sym, ap, take, arith, eqb}
+use Rattle.std.proofs.Common.{◌+◌, ℕ, Bool, ◌∙◌, ◌&&◌, ◌||◌, ap, arith, eqb}
 use Rattle.rtp_packet.specs.Fields.{marker_of}
 use Rattle.rtp_packet.proofs.Faultless.{header_there}
-use Rattle.forwarding_model.specs.forwarding.Timeline.{Packet}
 use Rattle.out_ring.specs.Ring.{pushed}
-use Rattle.room_core.specs.Follows.{pushed_all}
 use Rattle.room_core.proofs.Pushing.{push_begins, push_ends, push_next, push_room}
 use Rattle.room_core.proofs.sending.push_from.Goals as goal
 

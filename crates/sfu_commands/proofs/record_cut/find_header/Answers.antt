@@ -1,5 +1,5 @@
-use Rattle.std.proofs.Common.{◌≡◌, ◌≤◌, ◌+◌, ◌++◌, ℕ, List, true, false, length, take, sym, ap, ◌∙◌, subst, arith, rules, length-append}
-use Rattle.sfu_driver.specs.Scan.{AllMore, EndsAt, NoUnit, Scan, Whole, between}
+use Rattle.std.proofs.Common.{◌≡◌, ◌≤◌, ◌+◌, ◌++◌, ℕ, true, false, length, take, sym, ap, ◌∙◌, arith, rules, length-append}
+use Rattle.sfu_driver.specs.Scan.{NoUnit, Whole, between}
 use Rattle.sfu_commands.specs.Records.{header_so_far}
 use Rattle.sfu_commands.proofs.RecordScans.{all_more_by, begins_well, between_all, ends_by, header_ends, header_goes, header_is_whole}
 use Rattle.sfu_commands.proofs.record_cut.find_header.Goals as goal

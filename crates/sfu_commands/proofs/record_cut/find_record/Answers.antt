@@ -1,4 +1,4 @@
-use Rattle.std.proofs.Common.{◌≡◌, ◌≤◌, ◌+◌, ◌++◌, ℕ, List, true, false, length, take, drop, sym, ap, ◌∙◌, subst, arith, rules, length-append}
+use Rattle.std.proofs.Common.{◌≡◌, ◌≤◌, ◌+◌, ◌++◌, ℕ, List, true, false, length, take, sym, ap, ◌∙◌, subst, arith, rules, length-append}
 use Rattle.sfu_driver.specs.Scan.{AllMore, EndsAt, NoUnit, Scan, Whole, between}
 use Rattle.script_records.specs.Kinds.{may_have}
 use Rattle.sfu_commands.specs.Records.{is_length, record_so_far}

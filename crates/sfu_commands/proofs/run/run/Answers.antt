@@ -1,4 +1,4 @@
-use Rattle.std.proofs.Common.{◌≡◌, ◌∙◌, ℕ, List, Some, refl, sym, subst, take, rules, arith}
+use Rattle.std.proofs.Common.{◌≡◌, ℕ, refl, sym, subst, take, rules, arith}
 use Rattle.sfu_commands.specs.declared.form.Form.TheVariants.{Lines, Records}
 use Rattle.sfu_commands.specs.Run.{Runs, run_due, run_part}
 use Rattle.sfu_commands.specs.Script.{form_of}

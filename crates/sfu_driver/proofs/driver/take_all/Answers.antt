@@ -1,4 +1,4 @@
-use Rattle.std.proofs.Common.{◌≡◌, ◌≤◌, ℕ, length, length-take, take, subst, sym, rules, arith, Result, Ok, Err}
+use Rattle.std.proofs.Common.{◌≡◌, ℕ, length-take, take, subst, sym, rules, arith, Result, Ok, Err}
 use Rattle.std.specs.Io.KnownBytes.{Consumes}
 use Rattle.sfu_driver.specs.declared.halt.Stop.{Stop}
 use Rattle.sfu_driver.specs.Point.{byte}

@@ -1,4 +1,4 @@
-use Rattle.std.proofs.Common.{◌≡◌, ◌∙◌, ℕ, List, subst}
+use Rattle.std.proofs.Common.{◌∙◌, ℕ, List, subst}
 use Rattle.sfu_base.specs.declared.call.Call.TheVariants as call
 use Rattle.room_core.specs.Noted.{Notes}
 use Rattle.room_core.proofs.Served.{served, stands_headline}
