@@ -1,1 +1,7 @@
 pub mod Refusing
+pub mod Replying
+pub mod Rising
+pub mod Texts
+pub mod Choosing
+pub mod Parting
+pub mod Ending

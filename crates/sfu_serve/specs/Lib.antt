@@ -1,2 +1,6 @@
 pub mod History
 pub mod Replies
+pub mod Ends
+pub mod Datagrams
+pub mod Sessions
+pub mod Parts

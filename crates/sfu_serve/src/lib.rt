@@ -1,9 +1,23 @@
-//! A room that threads share: behind the lock of `turn_lock`, whose turns form one history, the room stands for that history.
+//! A room that threads share, and the sessions that publishers, subscribers and controllers have with it over links.
+//!
+//! The room lies behind the lock of `turn_lock`, whose turns form one history, and stands for that history.
 #![tactic(auto)]
 
+mod control;
+mod ends;
+mod publisher;
+mod rtcp;
 mod shared_room;
+mod speaking;
+mod subscriber;
 
+pub use control::control_session;
+pub use ends::SessionEnd;
+pub use publisher::publisher_session;
 pub use shared_room::SharedRoom;
+pub use subscriber::subscriber_session;
 
+#[cfg(test)]
+mod session_tests;
 #[cfg(test)]
 mod tests;

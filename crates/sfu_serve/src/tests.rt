@@ -10,14 +10,14 @@ use std::test::Fail;
 use std::thread;
 use turn_lock::{Held, Seat, Turns};
 
-type Shared = SharedRoom<KeepNone>;
+pub(crate) type Shared = SharedRoom<KeepNone>;
 
 const SSRC: u32 = 0x1111_1111;
 
 const PACKETS: u16 = 500;
 
 // A room on which no call was made.
-fn empty_room(alloc: Global) -> Shared
+pub(crate) fn empty_room(alloc: Global) -> Shared
     ensures { ⟦<SharedRoom<KeepNone> as Held>⟧.stands result [] }
 {
     SharedRoom {
@@ -25,14 +25,14 @@ fn empty_room(alloc: Global) -> Shared
     }
 }
 
-fn empty_scratch() -> Scratch {
+pub(crate) fn empty_scratch() -> Scratch {
     Scratch {
         packet: PacketBuf::new(),
         names: SeqList::new(),
     }
 }
 
-fn publish() -> Call {
+pub(crate) fn publish() -> Call {
     Call::Publish {
         track: 1,
         kind: Kind::Plain,
@@ -42,7 +42,7 @@ fn publish() -> Call {
 }
 
 // What goes out to subscriber 1 is numbered from 0 on.
-fn join() -> Call {
+pub(crate) fn join() -> Call {
     Call::Join {
         subscriber: 1,
         track: 1,
@@ -56,7 +56,7 @@ fn join() -> Call {
 }
 
 // A packet of track 1: payload type 96, this sequence number, SSRC 11111111, payload aabb (RFC 3550, section 5.1).
-fn packet(number: u16) -> Call {
+pub(crate) fn packet(number: u16) -> Call {
     let [high, low] = number.to_be_bytes();
     let mut bytes = PacketBuf::new();
     bytes.fill(&[

@@ -1,0 +1,6 @@
+use Rattle.std.proofs.Common.{◌≡◌}
+use Rattle.turn_lock.specs.Known.{Fits}
+use Rattle.sfu_serve.proofs.session_tests.room_after.Given as goal
+
+abbrev pub invariant-loop-call : goal.invariant-loop-call
+invariant-loop-call l = (l.seat.lock ≡ l.turns) × Fits l.seat

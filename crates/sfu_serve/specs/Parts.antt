@@ -1,0 +1,62 @@
+-- How far a session has come, and how it ends.
+use Rattle.std.specs.Prelude.{◌≡◌, ℕ, ◌+◌, ◌^◌, ◌<◌, ◌≤◌, Bool, List, Option, Result, Ok, Err}
+use Rattle.sfu_base.specs.Answer.{Answer, Refused}
+use Rattle.sfu_base.specs.Faults.{Rose}
+use Rattle.sfu_base.specs.Links.{Traffic}
+use Rattle.sfu_base.specs.declared.call.Call.{Call}
+use Rattle.sfu_base.specs.declared.call.Refusal.TheVariants.{NoMemory}
+use Rattle.turn_lock.specs.declared.history.Entry.{Entry}
+use Rattle.turn_lock.specs.Known.{Known}
+use Rattle.room_core.specs.History.{reply_of}
+use Rattle.deeds.specs.Deeds.{Deed, Listen, Ask, Post, Over, Word}
+use Rattle.deeds.specs.Deeds as deeds
+use Rattle.deeds.specs.Doing.{IsDone}
+use Rattle.sfu_serve.specs.declared.ends.SessionEnd.{SessionEnd}
+use Rattle.sfu_serve.specs.declared.ends.SessionEnd.TheVariants.{AllTurns, LinkFault, Worn}
+use Rattle.sfu_serve.specs.declared.ends.Stop.{Stop}
+use Rattle.sfu_serve.specs.declared.ends.Stop.TheVariants.{Lost, Closed}
+use Rattle.sfu_serve.specs.History.{entries_of}
+use Rattle.sfu_serve.specs.Datagrams.{Datagram, IsOne}
+use Rattle.sfu_serve.specs.Sessions.{Doing}
+
+-- what the room answers to a call after these turns
+abbrev pub reply_after : List (Entry Call) → Call → Answer
+reply_after history call = reply_of (entries_of history) call
+
+-- the calls of the seat n with their answers: those of the history before each, or want of memory where the entry found none
+abbrev pub words_of : ℕ → List (Entry Call) → List (Word Call Answer)
+words_of n history = deeds.words_of reply_after (Refused NoMemory) n history
+
+-- so much of a session is done that the rest is left, after so many receives; a seat and a link went from old to new
+abbrev pub Done : Doing → Doing → Known Call → Known Call → Option Traffic → Option Traffic → ℕ → ℕ → ℕ → Type 0
+Done whole rest old new told told' before after turns = IsDone reply_after (Refused NoMemory) IsOne whole rest old new told told' before after turns
+
+-- A part of a turn stopped where a datagram wasn't sent, since the count of faults rose; or where a call wasn't made, since all tickets of
+-- the lock are drawn.
+abbrev pub Stops : Doing → Known Call → Known Call → Option Traffic → Option Traffic → ℕ → ℕ → Stop → Type 0
+Stops part old new told told' before after Lost =
+    (what : Datagram) × (rest : Doing) × Done part (Post what rest) old new told told' before after 0 × Rose before after
+Stops part old new told told' before after Closed =
+    (call : Call) × (f : Answer → Doing) × Done part (Ask call f) old new told told' before after 0 × (new.found ≡ 2 ^ 63)
+
+-- A part of a turn is done and `next` is left, or it stopped.
+abbrev pub IsPart : {T : Type 0} → Doing → Doing → Known Call → Known Call → Option Traffic → Option Traffic → ℕ → ℕ → Result T Stop → Type 0
+IsPart part next old new told told' before after (Ok value) = Done part next old new told told' before after 0
+IsPart part next old new told told' before after (Err stop) = Stops part old new told told' before after stop
+
+-- How a session of `limit` turns ends, by where it stands then and after how many receives. `AllTurns`: it is over, and that was after
+-- `limit` receives. `LinkFault`: in this turn its receive failed, or a send; the count of faults rose. `Worn`: a call wasn't made, and
+-- the seat found all tickets drawn.
+abbrev pub MeetsEnd : ℕ → ℕ → ℕ → ℕ → Doing → ℕ → SessionEnd → Type 0
+MeetsEnd before after found limit Over turns AllTurns = turns ≡ limit
+MeetsEnd before after found limit (Listen f) turns (LinkFault turn) = Rose before after × (turn < limit) × (turns ≡ turn)
+MeetsEnd before after found limit (Post what next) turns (LinkFault turn) = Rose before after × (turn < limit) × (turns ≡ turn + 1)
+MeetsEnd before after found limit (Ask call f) turns Worn = (found ≡ 2 ^ 63) × (turns ≤ limit)
+MeetsEnd before after found limit rest turns end = ⊥
+
+-- what a session of `limit` turns makes of its seat and its link
+pub record Keeps (whole : Doing) (limit : ℕ) (old new : Known Call) (told told' : Option Traffic) (before after : ℕ) (end : SessionEnd) : Type 0 where
+  pub rest : Doing
+  pub turns : ℕ
+  pub done : Done whole rest old new told told' before after turns
+  pub ends : MeetsEnd before after new.found limit rest turns end

@@ -1,0 +1,33 @@
+// How sessions and the parts of their turns end.
+ghost use Rattle.std.specs.Prelude.{◌≡◌};
+ghost use Rattle.sfu_serve.specs.Ends.{ended};
+
+/// How a session ended.
+#[derive(Clone, Copy, Debug, PartialEq, Eq)]
+pub enum SessionEnd {
+    /// All its turns were made.
+    AllTurns,
+    /// A call on its link failed in this turn, counted from 0.
+    LinkFault { turn: u64 },
+    /// The lock made no more turns.
+    Worn,
+}
+
+/// Why a turn stopped.
+#[derive(Clone, Copy, Debug)]
+pub enum Stop {
+    /// A datagram wasn't sent.
+    Lost,
+    /// The lock makes no more turns.
+    Closed,
+}
+
+/// How a session ends that stopped in this turn.
+pub fn end_at(turn: u64, stop: Stop) -> SessionEnd
+    ensures { result ≡ ended turn stop }
+{
+    match stop {
+        Stop::Lost => SessionEnd::LinkFault { turn },
+        Stop::Closed => SessionEnd::Worn,
+    }
+}

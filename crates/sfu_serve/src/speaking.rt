@@ -1,0 +1,48 @@
+// One call on the room, and one datagram.
+ghost use Rattle.std.specs.Prelude.{◌≡◌, ℕ, false, List, Option, IfOk, IfErr};
+ghost use Rattle.sfu_base.specs.Answer.{Answer, answer_of, is_starved};
+ghost use Rattle.sfu_base.specs.Links.{Traffic};
+ghost use Rattle.sfu_base.specs.declared.call.Call.{Call as CallData};
+ghost use Rattle.turn_lock.specs.Known.{Known, Fits};
+ghost use Rattle.room_core.specs.History.{Entry, reply_of};
+ghost use Rattle.deeds.specs.Deeds.{Ask, Post};
+ghost use Rattle.sfu_serve.specs.Datagrams.{Datagram, IsOne};
+ghost use Rattle.sfu_serve.specs.Sessions.{Doing};
+ghost use Rattle.sfu_serve.specs.Parts.{Done, IsPart, Stops};
+
+use crate::ends::Stop;
+use crate::shared_room::SharedRoom;
+use room_core::Recorder;
+use sfu_base::{Call, Link, PacketBuf, Reply, Scratch};
+use std::sync::Wait;
+use turn_lock::{Seat, Turns};
+
+/// Makes a call in a turn of the lock.
+pub fn say<R: Recorder, W: Wait + Sync>(
+    rt: &W,
+    turns: &Turns<SharedRoom<R>>,
+    seat: &mut Seat<SharedRoom<R>>,
+    call: &Call,
+    scratch: &mut Scratch,
+) -> Result<Reply, Stop>
+    requires lock { seat.old.lock ≡ turns.now }
+    requires fits { Fits seat.old }
+    ensures said { IfOk result (λ reply. (f : Answer → Doing) (told : Option Traffic) (faults : ℕ) → Done (Ask call.now f) (f (answer_of reply scratch.new.packet scratch.new.names)) seat.old seat.new told told faults faults 0) }
+    ensures stopped { IfErr result (λ stop. (f : Answer → Doing) (told : Option Traffic) (faults : ℕ) → Stops (Ask call.now f) seat.old seat.new told told faults faults stop) }
+    ensures replied { IfOk result (λ reply. is_starved reply ≡ false → (history : List Entry) × (answer_of reply scratch.new.packet scratch.new.names ≡ reply_of history call.now)) }
+{
+    match turns.turn(rt, seat, call, scratch) {
+        Ok(turn) => Ok(turn.reply),
+        Err(_worn) => Err(Stop::Closed),
+    }
+}
+
+/// Sends a datagram.
+pub fn post<L: Link>(link: &mut L, packet: &PacketBuf) -> Result<(), Stop>
+    ensures part { (what : Datagram) (next : Doing) (seat : Known CallData) → Fits seat → IsOne what packet.now → IsPart (Post what next) next seat seat (L.told link.old) (L.told link.new) (L.faults link.old) (L.faults link.new) result }
+{
+    match link.send(packet) {
+        Ok(()) => Ok(()),
+        Err(_failed) => Err(Stop::Lost),
+    }
+}

@@ -1,0 +1,254 @@
+// The session of a subscriber.
+ghost use Rattle.std.specs.Prelude.{◌≡◌, ℕ, ◌≤◌, length, if◌then◌else◌, IfOk, IfErr};
+ghost use Rattle.sfu_base.specs.Links.{datagram};
+ghost use Rattle.turn_lock.specs.Known.{Fits};
+ghost use Rattle.rtcp_feedback.specs.declared.feedback.Feedback.{Feedback as FeedbackData};
+ghost use Rattle.deeds.specs.Deeds.{Ask};
+ghost use Rattle.sfu_serve.specs.Datagrams.{media_of, feedback_in};
+ghost use Rattle.sfu_serve.specs.Sessions.{Doing, call_for, sends_on, serves_one, serves, takes, hears_feedback, subscriber_deed};
+ghost use Rattle.sfu_serve.specs.Parts.{Done, IsPart, Keeps, Stops};
+
+use crate::ends::{SessionEnd, Stop, end_at};
+use crate::rtcp::is_rtcp;
+use crate::shared_room::SharedRoom;
+use crate::speaking::{post, say};
+use room_core::Recorder;
+use rtcp_feedback::{Feedback, Feedbacks, read};
+use sfu_base::{Call, Clock, Link, PacketBuf, Reply, Scratch};
+use std::sync::Wait;
+use turn_lock::{Seat, Turns};
+
+/// At most so many packets are taken in a turn.
+const MOST_TAKES: u32 = 32;
+
+/// Makes a call, and sends the packet that it gives. Answers whether it gave one.
+fn give<R: Recorder, L: Link, W: Wait + Sync>(
+    rt: &W,
+    turns: &Turns<SharedRoom<R>>,
+    seat: &mut Seat<SharedRoom<R>>,
+    call: &Call,
+    link: &mut L,
+    scratch: &mut Scratch,
+) -> Result<bool, Stop>
+    requires lock { seat.old.lock ≡ turns.now }
+    requires fits { Fits seat.old }
+    ensures given { IfOk result (λ gave. (more next : Doing) → Done (Ask call.now (λ answer. sends_on answer more next)) (if gave then more else next) seat.old seat.new (L.told link.old) (L.told link.new) (L.faults link.old) (L.faults link.new) 0) }
+    ensures stopped { IfErr result (λ stop. (more next : Doing) → Stops (Ask call.now (λ answer. sends_on answer more next)) seat.old seat.new (L.told link.old) (L.told link.new) (L.faults link.old) (L.faults link.new) stop) }
+{
+    match say(rt, turns, seat, call, scratch) {
+        Ok(reply) => match reply {
+            Reply::Packet => match post(link, &scratch.packet) {
+                Ok(()) => Ok(true),
+                Err(stop) => Err(stop),
+            },
+            _ => Ok(false),
+        },
+        Err(stop) => Err(stop),
+    }
+}
+
+/// Takes packets and sends them, until none is given or so many takes were made.
+fn take_all<R: Recorder, L: Link, W: Wait + Sync>(
+    rt: &W,
+    turns: &Turns<SharedRoom<R>>,
+    seat: &mut Seat<SharedRoom<R>>,
+    subscriber: u32,
+    most: u32,
+    link: &mut L,
+    scratch: &mut Scratch,
+) -> Result<(), Stop>
+    requires lock { seat.old.lock ≡ turns.now }
+    requires fits { Fits seat.old }
+    ensures part { (next : Doing) → IsPart (takes subscriber most next) next seat.old seat.new (L.told link.old) (L.told link.new) (L.faults link.old) (L.faults link.new) result }
+{
+    let call = Call::Take { subscriber };
+    for made in 0..most {
+        match give(rt, turns, seat, &call, link, scratch) {
+            Ok(gave) => {
+                if !gave {
+                    return Ok(());
+                }
+            }
+            Err(stop) => return Err(stop),
+        }
+    }
+    Ok(())
+}
+
+/// The call that an item of feedback asks for.
+fn call_of(subscriber: u32, item: Feedback) -> Call
+    ensures { result ≡ call_for subscriber item }
+{
+    match item {
+        Feedback::Nack { media: _, seq } => Call::Resend { subscriber, seq },
+        Feedback::Pli { media: _ } => Call::Plead { subscriber },
+    }
+}
+
+/// The media source of an item.
+fn media(item: Feedback) -> u32
+    ensures { result ≡ media_of item }
+{
+    match item {
+        Feedback::Nack { media, seq: _ } => media,
+        Feedback::Pli { media } => media,
+    }
+}
+
+/// Works off an item of feedback, if it is on this SSRC.
+fn serve_item<R: Recorder, L: Link, W: Wait + Sync>(
+    rt: &W,
+    turns: &Turns<SharedRoom<R>>,
+    seat: &mut Seat<SharedRoom<R>>,
+    subscriber: u32,
+    ssrc: u32,
+    item: Feedback,
+    link: &mut L,
+    scratch: &mut Scratch,
+) -> Result<(), Stop>
+    requires lock { seat.old.lock ≡ turns.now }
+    requires fits { Fits seat.old }
+    ensures part { (next : Doing) → IsPart (serves_one subscriber ssrc item next) next seat.old seat.new (L.told link.old) (L.told link.new) (L.faults link.old) (L.faults link.new) result }
+{
+    if media(item) != ssrc {
+        return Ok(());
+    }
+    match give(rt, turns, seat, &call_of(subscriber, item), link, scratch) {
+        Ok(_gave) => Ok(()),
+        Err(stop) => Err(stop),
+    }
+}
+
+/// Works off items of feedback, one by one.
+fn serve_items<R: Recorder, L: Link, W: Wait + Sync>(
+    rt: &W,
+    turns: &Turns<SharedRoom<R>>,
+    seat: &mut Seat<SharedRoom<R>>,
+    subscriber: u32,
+    ssrc: u32,
+    items: Feedbacks<'_>,
+    link: &mut L,
+    scratch: &mut Scratch,
+) -> Result<(), Stop>
+    requires lock { seat.old.lock ≡ turns.now }
+    requires fits { Fits seat.old }
+    ensures part { (next : Doing) → IsPart (serves subscriber ssrc items.entry next) next seat.old seat.new (L.told link.old) (L.told link.new) (L.faults link.old) (L.faults link.new) result }
+{
+    let mut left = items;
+    while let Some(item) = left.next() {
+        match serve_item(rt, turns, seat, subscriber, ssrc, item, link, scratch) {
+            Ok(()) => (),
+            Err(stop) => return Err(stop),
+        }
+    }
+    Ok(())
+}
+
+/// Works off the feedback of a datagram.
+fn serve_all<R: Recorder, L: Link, W: Wait + Sync>(
+    rt: &W,
+    turns: &Turns<SharedRoom<R>>,
+    seat: &mut Seat<SharedRoom<R>>,
+    subscriber: u32,
+    ssrc: u32,
+    bytes: &[u8],
+    link: &mut L,
+    scratch: &mut Scratch,
+) -> Result<(), Stop>
+    requires lock { seat.old.lock ≡ turns.now }
+    requires fits { Fits seat.old }
+    ensures part { (next : Doing) → IsPart (serves subscriber ssrc (feedback_in bytes.now) next) next seat.old seat.new (L.told link.old) (L.told link.new) (L.faults link.old) (L.faults link.new) result }
+{
+    if !is_rtcp(bytes) {
+        return Ok(());
+    }
+    match read(bytes) {
+        Ok(items) => serve_items(rt, turns, seat, subscriber, ssrc, items, link, scratch),
+        Err(_fault) => Ok(()),
+    }
+}
+
+/// Works off what a receive brought, if it is feedback.
+fn hear_feedback<R: Recorder, L: Link, W: Wait + Sync>(
+    rt: &W,
+    turns: &Turns<SharedRoom<R>>,
+    seat: &mut Seat<SharedRoom<R>>,
+    subscriber: u32,
+    ssrc: u32,
+    came: bool,
+    bytes: &PacketBuf,
+    link: &mut L,
+    scratch: &mut Scratch,
+) -> Result<(), Stop>
+    requires lock { seat.old.lock ≡ turns.now }
+    requires fits { Fits seat.old }
+    ensures part { (next : Doing) → IsPart (hears_feedback subscriber ssrc (datagram came bytes.now) next) next seat.old seat.new (L.told link.old) (L.told link.new) (L.faults link.old) (L.faults link.new) result }
+    ensures bounded { length bytes.now ≤ 2048 }
+{
+    let bytes = bytes.bytes();
+    if came {
+        serve_all(rt, turns, seat, subscriber, ssrc, bytes, link, scratch)
+    } else {
+        Ok(())
+    }
+}
+
+/// Works off what a receive brought, and then takes packets.
+fn subscriber_turn<R: Recorder, L: Link, W: Wait + Sync>(
+    rt: &W,
+    turns: &Turns<SharedRoom<R>>,
+    seat: &mut Seat<SharedRoom<R>>,
+    subscriber: u32,
+    ssrc: u32,
+    most: u32,
+    came: bool,
+    bytes: &PacketBuf,
+    link: &mut L,
+    scratch: &mut Scratch,
+) -> Result<(), Stop>
+    requires lock { seat.old.lock ≡ turns.now }
+    requires fits { Fits seat.old }
+    ensures part { (next : Doing) → IsPart (hears_feedback subscriber ssrc (datagram came bytes.now) (takes subscriber most next)) next seat.old seat.new (L.told link.old) (L.told link.new) (L.faults link.old) (L.faults link.new) result }
+    ensures bounded { length bytes.now ≤ 2048 }
+{
+    match hear_feedback(
+        rt, turns, seat, subscriber, ssrc, came, bytes, link, scratch,
+    ) {
+        Ok(()) => take_all(rt, turns, seat, subscriber, most, link, scratch),
+        Err(stop) => Err(stop),
+    }
+}
+
+/// A subscriber's session of `limit` turns. In each, RTCP feedback that came is worked off item by item: a NACK whose media source is `ssrc`
+/// (RFC 4585, section 6.2.1) is a resend, whose packet is sent; a picture loss indication (section 6.3.1) a plea for a key frame. Then
+/// packets are taken and sent, at most 32. Ends early where a call on the link failed or the lock is worn.
+pub fn subscriber_session<R: Recorder, L: Link, C: Clock, W: Wait + Sync>(
+    rt: &W,
+    turns: &Turns<SharedRoom<R>>,
+    seat: &mut Seat<SharedRoom<R>>,
+    subscriber: u32,
+    ssrc: u32,
+    link: &mut L,
+    clock: &C,
+    limit: u64,
+    scratch: &mut Scratch,
+) -> SessionEnd
+    requires lock { seat.old.lock ≡ turns.now }
+    requires fits { Fits seat.old }
+    ensures keeps { Keeps (subscriber_deed subscriber ssrc limit) limit seat.old seat.new (L.told link.old) (L.told link.new) (L.faults link.old) (L.faults link.new) result }
+{
+    let mut bytes = PacketBuf::new();
+    for turn in 0..limit {
+        let Ok(came) = link.receive(&mut bytes) else {
+            return SessionEnd::LinkFault { turn };
+        };
+        let _moment = clock.now();
+        let worked = subscriber_turn(
+            rt, turns, seat, subscriber, ssrc, MOST_TAKES, came, &bytes, link, scratch,
+        );
+        if let Err(stop) = worked {
+            return end_at(turn, stop);
+        }
+    }
+    SessionEnd::AllTurns
+}
