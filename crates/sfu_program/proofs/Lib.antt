@@ -3,3 +3,14 @@ pub mod TogetherJudging
 pub mod TogetherDue
 pub mod ServeJudging
 pub mod ServeDue
+pub mod TogetherPlacing
+pub mod TogetherSorting
+pub mod TogetherCounting
+pub mod TogetherHistories
+pub mod TogetherEnding
+pub mod TogetherCalls
+pub mod TogetherTurning
+pub mod TogetherSeating
+pub mod TogetherStatuses
+pub mod TogetherBytes
+pub mod TogetherForms

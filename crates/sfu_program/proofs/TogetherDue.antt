@@ -139,3 +139,7 @@ read_only stands new left left' w w' f f' (Err (Halted (Ended why))) is d =
     let e = d.by_result.1 in
     inr (inl (outside_of l.said l.fault why e.0 (sym (ap (λ (o : Outcome (List Said)). o.result) (read_outcome taken)) ∙ e.1)))
 read_only stands new left left' w w' f f' (Err (Halted Starved)) is d = inr (inr refl)
+
+pub ok_status : (result : Result (Unit {0}) Stop) → is_err result ≡ false → status_for result ≡ 0
+ok_status (Ok _) is = refl
+ok_status (Err stop) is = absurd (false≢true (sym is))

@@ -4,3 +4,7 @@ pub mod TogetherReading
 pub mod ServeScript
 pub mod ServeReader
 pub mod ServeReading
+pub mod TogetherHistory
+pub mod TogetherActing
+pub mod Together
+pub mod Forms

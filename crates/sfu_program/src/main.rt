@@ -28,5 +28,5 @@ fn main(rt: HostRuntime) -> ExitCode {
     };
     let mut source = StdSource::new(rt.stdin());
     let mut sink = StdSink::new(rt.stdout());
-    ExitCode::from(sfu::sfu(rt.alloc(), words.as_slice(), &mut source, &mut sink))
+    ExitCode::from(sfu::sfu(&rt, rt.alloc(), words.as_slice(), &mut source, &mut sink))
 }

@@ -1,5 +1,5 @@
 // The top call.
-ghost use Rattle.std.specs.Prelude.{◌≡◌, ◌↔◌, ℕ, map};
+ghost use Rattle.std.specs.Prelude.{◌≡◌, ◌↔◌, ◌∷◌, [], ℕ, IsTrue, map};
 ghost use Rattle.std.specs.String.{string_bytes};
 ghost use Rattle.sfu_commands.specs.Check.{Checks, IsCheck};
 ghost use Rattle.sfu_commands.specs.Convert.{Converts, IsConvert};
@@ -8,19 +8,51 @@ ghost use Rattle.sfu_commands.specs.Help.{Helps, IsHelp, Refuses};
 ghost use Rattle.sfu_commands.specs.Promise.{AreServed};
 ghost use Rattle.sfu_commands.specs.Run.{IsRun, Runs};
 ghost use Rattle.sfu_commands.specs.Trial.{IsTrial, Tries};
-ghost use Rattle.sfu_commands.specs.Words.{IsForm, IsStatus};
+ghost use Rattle.sfu_commands.specs.Words.{IsStatus};
+ghost use Rattle.sfu_program.specs.Forms.{IsCommand};
+ghost use Rattle.sfu_program.specs.Together.{IsTogether, Plays};
 
+use crate::together::play_script;
 use sfu_base::{Sink, Source};
 use sfu_commands::sfu_alone;
 use std::alloc::Global;
+use std::sync::Wait;
+use std::thread::Threads;
+
+// Whether a word is `together`.
+fn is_together(word: &str) -> bool
+    ensures { IsTrue result ↔ IsTogether (word.now ∷ []) }
+{
+    match word {
+        "together" => true,
+        _ => false,
+    }
+}
+
+// Whether the words are `together`.
+fn are_together(words: &[String]) -> bool
+    ensures { IsTrue result ↔ IsTogether (map string_bytes words.now) }
+{
+    match words {
+        [word] => is_together(word.as_str()),
+        _ => false,
+    }
+}
 
 /// Does what the words say, and answers the program's status.
 ///
 /// Status 0: the source was read to its end, where the command reads it, and all that is due was written. 2: the words are no command;
 /// nothing was read, and the usage line was written. 3 and 4: the source or the sink failed. 5: a line is outside the grammar; what is due
-/// before it and `line N` were written, or `record N` in a script of records; `convert` doesn't write which it is. 6: want of memory. 8: the strict receiver of `check` complains; `line N` and the complaint were
-/// written. The first that is met ends the call; 2, 5 and 8 stay where the sink fails in their own text.
-pub fn sfu<S: Source, K: Sink>(alloc: Global, words: &[String], source: &mut S, sink: &mut K) -> u8
+/// before it and `line N` were written, or `record N` in a script of records; `convert` doesn't write which it is. 6: want of memory. 8: the
+/// strict receiver of `check` complains; `line N` and the complaint were written. The first that is met ends the call; 2, 5 and 8 stay where
+/// the sink fails in their own text.
+pub fn sfu<W: Threads + Wait + Sync, S: Source, K: Sink>(
+    rt: &W,
+    alloc: Global,
+    words: &[String],
+    source: &mut S,
+    sink: &mut K,
+) -> u8
     ensures run { IsRun (map string_bytes words.now)
         → Runs (S.left source.old) (S.left source.new) (K.written sink.old) (K.written sink.new) (S.faults source.old) (S.faults source.new)
         (K.faults sink.old) (K.faults sink.new) result }
@@ -34,10 +66,16 @@ pub fn sfu<S: Source, K: Sink>(alloc: Global, words: &[String], source: &mut S, 
     ensures help { IsHelp (map string_bytes words.now) → Helps source.old source.new (K.written sink.old) (K.written sink.new) (K.faults sink.old) (K.faults sink.new) result }
     ensures trial { (s : Stream) → IsTrial (map string_bytes words.now) s
         → Tries source.old source.new s (K.written sink.old) (K.written sink.new) (K.faults sink.old) (K.faults sink.new) result }
-    ensures other { ¬ (IsForm (map string_bytes words.now))
+    ensures together { IsTogether (map string_bytes words.now)
+        → Plays (S.left source.old) (S.left source.new) (K.written sink.old) (K.written sink.new) (S.faults source.old) (S.faults source.new)
+        (K.faults sink.old) (K.faults sink.new) result }
+    ensures other { ¬ (IsCommand (map string_bytes words.now))
         → Refuses source.old source.new (K.written sink.old) (K.written sink.new) (K.faults sink.old) (K.faults sink.new) result }
-    ensures form { (result ≡ 2) ↔ ¬ (IsForm (map string_bytes words.now)) }
+    ensures form { (result ≡ 2) ↔ ¬ (IsCommand (map string_bytes words.now)) }
     ensures only { IsStatus result }
 {
+    if are_together(words) {
+        return play_script(rt, alloc, source, sink);
+    }
     sfu_alone(alloc, words, source, sink)
 }

@@ -1,5 +1,5 @@
 // The script of `together`, read to its end.
-ghost use Rattle.std.specs.Prelude.{IfErr, IfOk};
+ghost use Rattle.std.specs.Prelude.{◌≤◌, IfErr, IfOk};
 ghost use Rattle.sfu_program.specs.TogetherReading.{ReadsActors, ReadsNone};
 
 use super::reader::ActorsReader;
@@ -15,9 +15,11 @@ pub fn read_actors<S: Source, K: Sink>(
     source: &mut S,
     sink: &mut K,
 ) -> Result<Actors, u8>
-    ensures ok { IfOk result (λ actors. ReadsActors (S.left source.old) (S.left source.new) (K.written sink.old) (K.written sink.new) actors) }
+    ensures ok { IfOk result (λ actors. ReadsActors (S.left source.old) (S.left source.new) (K.written sink.old) (K.written sink.new) (S.faults source.old) (S.faults source.new)
+        (K.faults sink.old) (K.faults sink.new) actors) }
     ensures err { IfErr result (λ status. ReadsNone (S.left source.old) (S.left source.new) (K.written sink.old) (K.written sink.new) (S.faults source.old) (S.faults source.new)
         (K.faults sink.old) (K.faults sink.new) status) }
+    ensures never_falls { K.faults sink.old ≤ K.faults sink.new }
 {
     let mut units = Units::new(Lines, ActorsReader::new(alloc), 1);
     let came_out = drive(alloc, &mut units, source, sink);

@@ -1,0 +1,63 @@
+-- The history of a script for `together`, and its journal. Own rule.
+use Rattle.std.specs.Prelude.{◌≡◌, ℕ, ◌+◌, ◌<◌, ◌≤◌, ◌==◌, if◌then◌else◌, false, List, [], ◌∷◌, ◌++◌, length, map, sum_by}
+use Rattle.std.specs.List.{All, AllByRecursion}
+use mathlib.Core.Option.{some}
+use lib.ListN.{get_elem?}
+use Rattle.sfu_base.specs.declared.call.Call.{Call}
+use Rattle.room_core.specs.Headline.{Headline}
+use Rattle.room_core.specs.History.{Entry, accepted, reply_of}
+use Rattle.sfu_script.specs.declared.journal.Actors.{Actors}
+use Rattle.sfu_script.specs.declared.journal.Entry as journal
+use Rattle.sfu_script.specs.Lines.{HasBytes}
+use Rattle.sfu_script.specs.Replies.{answer_text}
+
+-- how many calls a script has
+abbrev pub count_of : Actors → ℕ
+count_of script = length script.opening + (sum_by length script.actors + length script.closing)
+
+-- Each call can be written: a packet has a byte at least.
+pub record HaveBytes (script : Actors) : Type 0 where
+  pub opening : AllByRecursion HasBytes script.opening
+  pub acts : AllByRecursion (AllByRecursion HasBytes) script.actors
+  pub closing : AllByRecursion HasBytes script.closing
+
+-- ---- the history
+
+-- the entry of a call of a seat that found its memory
+abbrev pub made_by : ℕ → Call → Entry
+made_by seat call = record { seat = seat; call = call; starved = false }
+
+-- the entries of a seat, in order
+abbrev pub own : ℕ → List Entry → List Entry
+own seat [] = []
+own seat (e ∷ es) = if e.seat == seat then e ∷ own seat es else own seat es
+
+-- The history has the opening part's calls by seat 0, then a list in which each actor has its own calls, in order, and nobody else has one,
+-- then the closing part's calls by seat 0. The first actor has seat 1.
+pub record IsMadeBy (script : Actors) (history : List Entry) : Type 0 where
+  pub middle : List Entry
+  pub parts : history ≡ map (made_by 0) script.opening ++ (middle ++ map (made_by 0) script.closing)
+  pub acts : (i : ℕ) → i < 8 → (calls : List Call) → get_elem? script.actors i ≡ some calls → own (i + 1) middle ≡ map (made_by (i + 1)) calls
+  pub actors : All (λ e. (0 < e.seat) × (e.seat ≤ 8)) middle
+
+-- ---- the journal
+
+-- the journal's entry of a call after this history
+abbrev pub told_of : List Entry → ℕ → Call → journal.Entry
+told_of past actor call = record { actor = actor; call = call; reply = answer_text (reply_of past call) }
+
+-- the journal's entries of what comes after this history
+abbrev pub journal_from : List Entry → List Entry → List journal.Entry
+journal_from past [] = []
+journal_from past (e ∷ es) = told_of past e.seat e.call ∷ journal_from (past ++ e ∷ []) es
+
+-- the journal of a whole history
+abbrev pub journal_of : List Entry → List journal.Entry
+journal_of history = journal_from [] history
+
+-- The journal is that of one history that the script's actors made, and each subscriber in it was sent what it should be.
+pub record IsJournal (script : Actors) (entries : List journal.Entry) : Type 0 where
+  pub history : List Entry
+  pub made : IsMadeBy script history
+  pub told : entries ≡ journal_of history
+  pub headline : Headline (accepted history)

@@ -1,0 +1,24 @@
+// Lists that grow, or want memory.
+ghost use Rattle.std.specs.Prelude.{◌≡◌, ◌++◌, ◌∷◌, [], OnOk};
+
+use sfu_base::NoMemory;
+
+/// Puts an item behind the others.
+pub fn put_last<T: Drop>(list: &mut Vec<T>, item: T) -> Result<(), NoMemory>
+    ensures { OnOk result (list.new.items ≡ list.old.items ++ item ∷ []) }
+{
+    match list.push(item) {
+        Ok(()) => Ok(()),
+        Err(_) => Err(NoMemory),
+    }
+}
+
+/// Puts all items behind the others.
+pub fn put_all<T: Drop>(list: &mut Vec<T>, mut items: Vec<T>) -> Result<(), NoMemory>
+    ensures { OnOk result (list.new.items ≡ list.old.items ++ items.items) }
+{
+    match list.append(&mut items) {
+        Ok(()) => Ok(()),
+        Err(_) => Err(NoMemory),
+    }
+}

@@ -1,0 +1,107 @@
+// A script's calls, and their journal.
+ghost use Rattle.std.specs.Prelude.{◌≡◌, ◌≤◌, IfOk, List, map, IsPermutation};
+ghost use Rattle.sfu_program.specs.declared.together.acting.Placed.{Placed};
+ghost use Rattle.sfu_program.specs.TogetherActing.{AtPlaces};
+ghost use Rattle.sfu_program.specs.TogetherHistory.{IsJournal, count_of};
+
+use super::acting::{Placed, act};
+use super::cast::{gather, play};
+use super::gate::{Gate, OpenGate};
+use super::lists::{put_all, put_last};
+use room_core::{KeepNone, Room};
+use sfu_base::NoMemory;
+use sfu_script::{Actors, Entry, Journal};
+use sfu_serve::SharedRoom;
+use std::alloc::Global;
+use std::sync::Wait;
+use std::thread::Threads;
+use thiserror::Error;
+use turn_lock::Turns;
+
+/// Why a script of actors has no journal.
+#[derive(Clone, Copy, Debug, PartialEq, Eq, Error)]
+pub enum TogetherFault {
+    #[error("want of memory")]
+    NoMemory,
+}
+
+// What the journal says of turns.
+fn entries(alloc: Global, kept: Vec<Placed>) -> Result<Vec<Entry>, NoMemory>
+    ensures { IfOk result (λ entries. entries.items ≡ map (λ turn. turn.entry) kept.items) }
+{
+    let mut entries = Vec::new(alloc);
+    for turn in kept {
+        let Placed { place: _, entry } = turn;
+        put_last(&mut entries, entry)?;
+    }
+    Ok(entries)
+}
+
+// The journal of turns that were kept, in the order of their places.
+fn in_order(alloc: Global, mut kept: Vec<Placed>) -> Result<Journal, NoMemory>
+    ensures { IfOk result (λ journal. (all : List Placed) → IsPermutation all kept.items → AtPlaces 0 all → journal ≡ map (λ turn. turn.entry) all) }
+{
+    let Ok(()) = kept.sort_by_key(|turn| turn.place) else {
+        return Err(NoMemory);
+    };
+    let entries = entries(alloc, kept)?;
+    Ok(Journal::of(entries))
+}
+
+// Makes a script's calls on a room that keeps nothing: the opening part's by seat 0, then those of the actors, each by a seat of its own,
+// then the closing part's by seat 0.
+fn make<W: Threads + Wait + Sync, G: Gate>(
+    rt: &W,
+    alloc: Global,
+    script: &Actors,
+    gate: &G,
+) -> Result<Journal, NoMemory>
+    requires { count_of script.now ≤ 100000 }
+    ensures { IfOk result (λ journal. IsJournal script.now journal) }
+{
+    let room = SharedRoom {
+        room: Room::new(alloc, KeepNone::new()),
+    };
+    let opened = Turns::new(alloc, room, 0)?;
+    let (turns, mut seat) = opened;
+    let mut kept = act(
+        rt,
+        alloc,
+        &turns,
+        &OpenGate,
+        &mut seat,
+        0,
+        script.opening.calls(),
+    )?;
+    let dones = play(rt, alloc, &turns, gate, script, &mut seat)?;
+    gather(&turns, &mut seat, dones, &mut kept)?;
+    let last = act(
+        rt,
+        alloc,
+        &turns,
+        &OpenGate,
+        &mut seat,
+        0,
+        script.closing.calls(),
+    )?;
+    put_all(&mut kept, last)?;
+    drop(turns.close(seat));
+    in_order(alloc, kept)
+}
+
+/// Makes a script's calls, of which there are at most 100,000, its actors at the same time, each on a thread of its own, and answers the
+/// journal. The gate hears of each actor's call. At `NoMemory` nothing is left.
+pub fn run_together<W: Threads + Wait + Sync, G: Gate>(
+    rt: &W,
+    alloc: Global,
+    script: &Actors,
+    gate: &G,
+) -> Result<Journal, TogetherFault>
+    requires { count_of script.now ≤ 100000 }
+    ensures { IfOk result (λ journal. IsJournal script.now journal) }
+{
+    match make(rt, alloc, script, gate) {
+        Ok(journal) => Ok(journal),
+        Err(NoMemory) => Err(TogetherFault::NoMemory),
+    }
+}
