@@ -1,10 +1,10 @@
 -- A deed goes on: by another part of it, and by one step.
-use Rattle.std.proofs.Common.{◌≡◌, ℕ, ◌+◌, ◌≤◌, ◌^◌, Bool, if◌then◌else◌, List, [], ◌∷◌, ◌++◌, length, refl, ap, sym, subst, ◌∙◌, arith, append-nil, append_assoc, length-append, Option}
+use Rattle.std.proofs.Common.{◌≡◌, ℕ, ◌+◌, ◌≤◌, Bool, if◌then◌else◌, List, [], ◌∷◌, ◌++◌, length, refl, ap, sym, subst, ◌∙◌, arith, append-nil, append_assoc, length-append, Option}
 use Rattle.sfu_base.specs.Links.{Traffic, with_more}
 use Rattle.turn_lock.specs.declared.history.Entry.{Entry}
 use Rattle.turn_lock.specs.History.{own_of, entry}
 use Rattle.turn_lock.specs.Known.{Known, KeepsSeat, Fits, MakesTurn, FindsWorn}
-use Rattle.deeds.specs.Deeds.{Deed, Listen, Ask, Post, Step, Heard, Said, Posted, Word, received_of, said_of, sent_of, word_at, words_of}
+use Rattle.deeds.specs.Deeds.{Deed, Listen, Ask, Post, Heard, Said, Posted, Word, received_of, said_of, sent_of, word_at, words_of}
 use Rattle.deeds.specs.Doing.{AllFitBuffers, FitsBuffer, IsDone}
 use Rattle.deeds.proofs.Words.{words_turn}
 use Rattle.deeds.proofs.Steps.{more_twice, more_none, all_fit, leads_on, leads_by, received_append, said_append, sent_append}

@@ -1,5 +1,5 @@
 -- Steps one after another, and what they tell of a link.
-use Rattle.std.proofs.Common.{◌≡◌, ℕ, List, [], ◌∷◌, ◌++◌, length, refl, ap, sym, subst, ◌∙◌, append-nil, append_assoc, Option, Some, None}
+use Rattle.std.proofs.Common.{◌≡◌, ℕ, List, [], ◌∷◌, ◌++◌, refl, ap, sym, subst, append-nil, append_assoc, Option, Some, None}
 use Rattle.sfu_base.specs.Links.{Traffic, with_more}
 use Rattle.deeds.specs.Deeds.{Deed, Step, Heard, Said, Posted, Word, Does, Leads, received_of, said_of, sent_of}
 use Rattle.deeds.specs.Doing.{AllFitBuffers}

@@ -1,9 +1,9 @@
 -- The words of a seat in a history that grows.
-use Rattle.std.proofs.Common.{◌≡◌, ◌≢◌, ℕ, zero, suc, ◌+◌, ◌<◌, ◌≤◌, Bool, true, false, cond, eqb, List, [], ◌∷◌, ◌++◌, length, refl, ap, sym, subst, ◌∙◌, arith, append-nil, eq-eqb, ne_eqb, append_assoc}
+use Rattle.std.proofs.Common.{◌≡◌, ℕ, Bool, true, false, cond, eqb, List, [], ◌∷◌, ◌++◌, refl, ap, sym, ◌∙◌, append-nil, eq-eqb, append_assoc}
 use Rattle.std.proofs.lemmas.List.{append_cancel_right}
 use mathlib.Core.List.{IsPrefix}
 use Rattle.turn_lock.specs.declared.history.Entry.{Entry}
-use Rattle.turn_lock.specs.History.{own_of, entry}
+use Rattle.turn_lock.specs.History.{own_of}
 use Rattle.turn_lock.proofs.Histories.{own_append, own_here}
 use Rattle.deeds.specs.Deeds.{Word, word_at, words_from}
 

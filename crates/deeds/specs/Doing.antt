@@ -3,7 +3,7 @@ use Rattle.std.specs.Prelude.{◌≡◌, ℕ, ◌≤◌, List, [], ◌∷◌, �
 use Rattle.sfu_base.specs.Links.{Traffic, with_more}
 use Rattle.turn_lock.specs.declared.history.Entry.{Entry}
 use Rattle.turn_lock.specs.Known.{Known, KeepsSeat, Fits}
-use Rattle.deeds.specs.Deeds.{Deed, Step, Word, Leads, received_of, said_of, sent_of, words_of}
+use Rattle.deeds.specs.Deeds.{Deed, Step, Leads, received_of, said_of, sent_of, words_of}
 
 -- a datagram fits a buffer
 abbrev pub FitsBuffer : Option (List ℕ) → Type 0

@@ -1,10 +1,9 @@
 -- How a deed goes on by what a call replied, and by what is due.
-use Rattle.std.proofs.Common.{◌≡◌, ◌≢◌, ℕ, ◌+◌, ◌<◌, ◌≤◌, Bool, true, false, cond, if◌then◌else◌, ◌==◌, ◌&&◌, List, [], ◌∷◌, length, Option, refl, ap, sym, ◌∙◌, arith, eq-eqb, ne_eqb}
+use Rattle.std.proofs.Common.{◌≡◌, ◌≢◌, ℕ, Bool, true, false, if◌then◌else◌, ◌==◌, ◌&&◌, List, [], ◌∷◌, length, Option, refl, ap, ◌∙◌, arith, eq-eqb, ne_eqb}
 use Rattle.std.specs.Prelude.{None, Some}
 use Rattle.std.proofs.lemmas.Bool.{cond-true, cond-false}
-use Rattle.sfu_base.specs.Answer.{Answer, Named, KeyIs, answer_of}
+use Rattle.sfu_base.specs.Answer.{Named, KeyIs, answer_of}
 use Rattle.sfu_base.specs.Links.{datagram}
-use Rattle.sfu_base.specs.declared.call.Call.{Call}
 use Rattle.sfu_base.specs.declared.call.Call.TheVariants.{Missing, KeyWanted, Packet}
 use Rattle.sfu_base.specs.declared.call.Reply.{Reply}
 use Rattle.sfu_base.specs.declared.call.Reply.TheVariants as reply
@@ -14,7 +13,7 @@ use Rattle.rtcp_feedback.specs.Faults.{first_fault}
 use Rattle.rtcp_feedback.specs.Reading.{feedback_of}
 use Rattle.deeds.specs.Deeds.{Ask, Post}
 use Rattle.sfu_serve.specs.Datagrams.{Bytes, NackFor, PliFor, is_rtcp, feedback_in, unless_fault, media_of, control_call}
-use Rattle.sfu_serve.specs.Sessions.{Doing, answers, controls, call_for, sends_on, sends, serves_one, serves, hears_feedback, brings, nacks, is_due, wants_key, pleads, asks}
+use Rattle.sfu_serve.specs.Sessions.{Doing, answers, controls, call_for, sends_on, sends, serves_one, serves, hears_feedback, brings, nacks, is_due, pleads, asks}
 
 -- ---- a packet was given, or not
 

@@ -1,6 +1,6 @@
 -- The turns of a session, and how it ends.
-use Rattle.std.proofs.Common.{◌≡◌, ℕ, zero, suc, ◌+◌, ◌-◌, ◌^◌, ◌<◌, ◌≤◌, Bool, true, false, List, [], ◌∷◌, length, Option, Result, Ok, Err, refl, ap, sym, subst, arith}
-use Rattle.sfu_base.specs.Answer.{Answer, Refused}
+use Rattle.std.proofs.Common.{◌≡◌, ℕ, suc, ◌+◌, ◌-◌, ◌<◌, ◌≤◌, Bool, true, false, List, [], ◌∷◌, length, Option, Result, Ok, Err, refl, sym, subst, arith}
+use Rattle.sfu_base.specs.Answer.{Refused}
 use Rattle.sfu_base.specs.Faults.{Rose, HasCause}
 use Rattle.sfu_base.specs.Links.{Traffic, with_more, datagram, after_receive}
 use Rattle.sfu_base.specs.declared.call.Call.{Call}

@@ -1,13 +1,13 @@
 -- Parts of a turn, one after another.
-use Rattle.std.proofs.Common.{◌≡◌, ℕ, ◌+◌, ◌-◌, ◌^◌, ◌<◌, ◌≤◌, suc, Bool, true, false, if◌then◌else◌, List, Option, Result, Ok, Err, IfOk, IfErr, refl, ap, sym, subst, arith}
-use Rattle.sfu_base.specs.Answer.{Answer, Refused}
+use Rattle.std.proofs.Common.{◌≡◌, ℕ, ◌+◌, ◌-◌, ◌<◌, ◌≤◌, suc, Bool, true, false, if◌then◌else◌, Option, Result, Ok, Err, IfOk, IfErr, refl, subst, arith}
+use Rattle.sfu_base.specs.Answer.{Refused}
 use Rattle.sfu_base.specs.Faults.{Rose}
 use Rattle.sfu_base.specs.Links.{Traffic}
 use Rattle.sfu_base.specs.declared.call.Call.{Call}
 use Rattle.sfu_base.specs.declared.call.Call.TheVariants.{Take}
 use Rattle.sfu_base.specs.declared.call.Refusal.TheVariants.{NoMemory}
 use Rattle.turn_lock.specs.Known.{Known, Fits}
-use Rattle.deeds.specs.Deeds.{Ask, Post}
+use Rattle.deeds.specs.Deeds.{Ask}
 use Rattle.deeds.proofs.Doing as doing
 use Rattle.sfu_serve.specs.declared.ends.Stop.{Stop}
 use Rattle.sfu_serve.specs.declared.ends.Stop.TheVariants.{Lost, Closed}

@@ -1,7 +1,7 @@
 -- A control line's call is answered by a text.
 use Rattle.std.proofs.Common.{◌≡◌, ℕ, Bool, true, false, cond, List, refl, ap, sym, ◌∙◌}
 use Rattle.std.specs.Prelude.{Option, None, Some, Result, Ok, Err}
-use Rattle.sfu_base.specs.Answer.{Answer, Done, Sent, Named, KeyIs, Told, Refused, answer_of, is_starved}
+use Rattle.sfu_base.specs.Answer.{Answer, Done, Sent, Named, KeyIs, answer_of, is_starved}
 use Rattle.sfu_base.specs.declared.call.Call.{Call}
 use Rattle.sfu_base.specs.declared.call.Call.TheVariants as call
 use Rattle.sfu_base.specs.declared.call.Kind.{Kind}

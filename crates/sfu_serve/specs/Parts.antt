@@ -1,5 +1,5 @@
 -- How far a session has come, and how it ends.
-use Rattle.std.specs.Prelude.{◌≡◌, ℕ, ◌+◌, ◌^◌, ◌<◌, ◌≤◌, Bool, List, Option, Result, Ok, Err}
+use Rattle.std.specs.Prelude.{◌≡◌, ℕ, ◌+◌, ◌^◌, ◌<◌, ◌≤◌, List, Option, Result, Ok, Err}
 use Rattle.sfu_base.specs.Answer.{Answer, Refused}
 use Rattle.sfu_base.specs.Faults.{Rose}
 use Rattle.sfu_base.specs.Links.{Traffic}

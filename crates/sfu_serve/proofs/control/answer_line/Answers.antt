@@ -1,10 +1,9 @@
-use Rattle.std.proofs.Common.{◌≡◌, ◌∙◌, ℕ, Option, Some, None, refl, sym, ap}
+use Rattle.std.proofs.Common.{◌∙◌, Option, sym, ap}
 use Rattle.sfu_base.specs.Answer.{Answer, answer_of}
 use Rattle.sfu_base.specs.declared.call.Call.{Call}
 use Rattle.deeds.specs.Deeds.{Ask, Post}
 use Rattle.sfu_serve.specs.Datagrams.{control_call, fault_line, text_for}
 use Rattle.sfu_serve.specs.Sessions.{Doing, answers}
-use Rattle.sfu_serve.specs.Parts.{Done, IsPart}
 use Rattle.sfu_script.specs.ReadLines.{call_of}
 use Rattle.sfu_serve.proofs.Texts.{has_text, controls_only}
 use Rattle.sfu_serve.proofs.Parting.{part_after, as_part, as_stops}

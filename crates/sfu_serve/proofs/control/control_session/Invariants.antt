@@ -1,4 +1,4 @@
-use Rattle.std.proofs.Common.{◌≡◌, ◌≤◌, ◌-◌, ℕ}
+use Rattle.std.proofs.Common.{◌≤◌, ◌-◌}
 use Rattle.sfu_serve.specs.Sessions.{control_deed}
 use Rattle.sfu_serve.specs.Parts.{Done}
 use Rattle.sfu_serve.proofs.control.control_session.Given as goal

@@ -1,7 +1,7 @@
-use Rattle.std.proofs.Common.{◌≡◌, ◌∙◌, ℕ, List, refl, sym, ap}
+use Rattle.std.proofs.Common.{◌∙◌, ℕ, List, sym, ap}
 use Rattle.sfu_base.specs.Links.{datagram}
 use Rattle.sfu_serve.specs.Datagrams.{control_call}
-use Rattle.sfu_serve.specs.Sessions.{Doing, answers, controls}
+use Rattle.sfu_serve.specs.Sessions.{answers, controls}
 use Rattle.sfu_serve.proofs.Choosing.{controls_line}
 use Rattle.sfu_serve.proofs.Parting.{as_part}
 use Rattle.sfu_serve.proofs.control.control_turn.Goals as goal

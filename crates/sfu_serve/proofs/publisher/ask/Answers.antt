@@ -1,4 +1,4 @@
-use Rattle.std.proofs.Common.{◌≡◌, ◌∙◌, ℕ, ap, sym}
+use Rattle.std.proofs.Common.{◌∙◌, ℕ, sym}
 use Rattle.std.specs.Prelude.{Option, Some}
 use Rattle.sfu_base.specs.Answer.{Answer}
 use Rattle.sfu_base.specs.declared.call.Call.TheVariants.{Missing, KeyWanted}

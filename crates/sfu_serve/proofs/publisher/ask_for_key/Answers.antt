@@ -1,4 +1,3 @@
-use Rattle.std.proofs.Common.{◌≡◌, ◌∙◌, ℕ, ap, sym}
 use Rattle.sfu_base.specs.Answer.{Answer, KeyIs, answer_of}
 use Rattle.sfu_serve.specs.Sessions.{Doing, pleads}
 use Rattle.sfu_serve.proofs.Choosing.{pleads_key, pleads_other}

@@ -1,4 +1,4 @@
-use Rattle.std.proofs.Common.{◌≡◌, ◌∙◌, ℕ, ap, sym}
+use Rattle.std.proofs.Common.{◌∙◌, ap, sym}
 use Rattle.sfu_base.specs.Answer.{Answer, Named, answer_of, is_starved}
 use Rattle.sfu_base.specs.declared.call.Reply.{Reply}
 use Rattle.sfu_serve.specs.Sessions.{Doing, nacks}

@@ -1,4 +1,4 @@
-use Rattle.std.proofs.Common.{◌≡◌, ◌∙◌, ℕ, List, ap, sym}
+use Rattle.std.proofs.Common.{◌∙◌, ℕ, List, ap, sym}
 use Rattle.sfu_base.specs.Answer.{Answer}
 use Rattle.sfu_base.specs.Links.{datagram}
 use Rattle.sfu_base.specs.declared.call.Call.TheVariants.{Packet}

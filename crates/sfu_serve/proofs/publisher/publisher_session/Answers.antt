@@ -1,9 +1,9 @@
-use Rattle.std.proofs.Common.{◌≡◌, ◌+◌, ◌-◌, ◌<◌, ◌≤◌, ℕ, List, refl, arith}
+use Rattle.std.proofs.Common.{◌+◌, ◌-◌, ◌<◌, ℕ, List, refl, arith}
 use Rattle.std.specs.Prelude.{Option, None}
 use Rattle.sfu_base.specs.Answer.{Answer}
 use Rattle.sfu_base.specs.declared.call.Call.TheVariants.{Tick}
 use Rattle.deeds.specs.Deeds.{Ask}
-use Rattle.sfu_serve.specs.Sessions.{Doing, brings, asks, publisher_deed}
+use Rattle.sfu_serve.specs.Sessions.{brings, asks, publisher_deed}
 use Rattle.sfu_serve.proofs.Parting.{after}
 use Rattle.sfu_serve.proofs.Ending.{starts, heard, unheard, stopped, all_turns, failed_told, failed_rose}
 use Rattle.sfu_serve.proofs.publisher.publisher_session.Goals as goal

@@ -1,8 +1,8 @@
-use Rattle.std.proofs.Common.{rules, ◌≡◌, ◌≢◌, ◌∙◌, ℕ, length, sym, arith}
+use Rattle.std.proofs.Common.{rules, ◌≢◌, length, sym}
 use Rattle.sfu_base.specs.Answer.{Named}
 use Rattle.deeds.specs.Deeds.{Post}
 use Rattle.sfu_serve.specs.Datagrams.{NackFor}
-use Rattle.sfu_serve.specs.Sessions.{Doing, nacks}
+use Rattle.sfu_serve.specs.Sessions.{nacks}
 use Rattle.sfu_serve.proofs.Choosing.{nacks_some}
 use Rattle.sfu_serve.proofs.Parting.{as_part}
 use Rattle.sfu_serve.proofs.publisher.send_nack.Goals as goal

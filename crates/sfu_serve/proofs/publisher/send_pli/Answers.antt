@@ -1,9 +1,9 @@
-use Rattle.std.proofs.Common.{◌≡◌, ◌∙◌, ℕ, sym}
+use Rattle.std.proofs.Common.{◌∙◌, sym}
 use Rattle.std.specs.Prelude.{Some}
 use Rattle.sfu_base.specs.Answer.{KeyIs}
 use Rattle.deeds.specs.Deeds.{Post}
 use Rattle.sfu_serve.specs.Datagrams.{PliFor}
-use Rattle.sfu_serve.specs.Sessions.{Doing, pleads}
+use Rattle.sfu_serve.specs.Sessions.{pleads}
 use Rattle.sfu_serve.proofs.Choosing.{pleads_now}
 use Rattle.sfu_serve.proofs.Parting.{as_stops}
 use Rattle.sfu_serve.proofs.publisher.send_pli.Goals as goal

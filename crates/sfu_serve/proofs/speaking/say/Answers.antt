@@ -1,4 +1,4 @@
-use Rattle.std.proofs.Common.{ap, ◌≡◌}
+use Rattle.std.proofs.Common.{ap}
 use Rattle.sfu_base.specs.Answer.{Refused, answer_of, is_starved}
 use Rattle.sfu_base.specs.declared.call.Call.{Call}
 use Rattle.sfu_base.specs.declared.call.Refusal.TheVariants.{NoMemory}

@@ -1,4 +1,4 @@
-use Rattle.std.proofs.Common.{◌≡◌, ℕ, refl}
+use Rattle.std.proofs.Common.{refl}
 use Rattle.sfu_base.specs.Answer.{Answer}
 use Rattle.deeds.specs.Deeds.{Post}
 use Rattle.sfu_serve.specs.Datagrams.{Bytes}

@@ -1,7 +1,7 @@
-use Rattle.std.proofs.Common.{◌≡◌, ◌∙◌, ℕ, List, ap, sym}
+use Rattle.std.proofs.Common.{◌∙◌, ℕ, List, ap, sym}
 use Rattle.sfu_base.specs.Links.{datagram}
 use Rattle.sfu_serve.specs.Datagrams.{feedback_in}
-use Rattle.sfu_serve.specs.Sessions.{Doing, serves, hears_feedback}
+use Rattle.sfu_serve.specs.Sessions.{serves, hears_feedback}
 use Rattle.sfu_serve.proofs.Choosing.{hears_bytes}
 use Rattle.sfu_serve.proofs.Parting.{as_part}
 use Rattle.sfu_serve.proofs.subscriber.hear_feedback.Goals as goal

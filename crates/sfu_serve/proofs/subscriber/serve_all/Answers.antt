@@ -1,7 +1,7 @@
-use Rattle.std.proofs.Common.{◌≡◌, ◌∙◌, ℕ, List, ap, sym}
+use Rattle.std.proofs.Common.{◌∙◌, List, ap, sym}
 use Rattle.rtcp_feedback.specs.declared.feedback.Feedback.{Feedback}
 use Rattle.sfu_serve.specs.Datagrams.{feedback_in}
-use Rattle.sfu_serve.specs.Sessions.{Doing, serves}
+use Rattle.sfu_serve.specs.Sessions.{serves}
 use Rattle.sfu_serve.proofs.Choosing.{feedback_rtp, feedback_fault, feedback_read}
 use Rattle.sfu_serve.proofs.Parting.{as_done, as_part, begins}
 use Rattle.sfu_serve.proofs.subscriber.serve_all.Goals as goal

@@ -1,4 +1,4 @@
-use Rattle.std.proofs.Common.{◌≡◌, ◌∙◌, ℕ, if◌then◌else◌, ap, sym}
+use Rattle.std.proofs.Common.{◌∙◌, if◌then◌else◌, ap, sym}
 use Rattle.sfu_base.specs.Answer.{Answer}
 use Rattle.sfu_base.specs.declared.call.Call.{Call}
 use Rattle.deeds.specs.Deeds.{Ask}

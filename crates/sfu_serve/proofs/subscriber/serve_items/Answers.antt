@@ -1,4 +1,4 @@
-use Rattle.std.proofs.Common.{◌≡◌, ◌∙◌, ℕ, List, ap}
+use Rattle.std.proofs.Common.{◌∙◌, List, ap}
 use Rattle.rtcp_feedback.specs.declared.feedback.Feedback.{Feedback}
 use Rattle.deeds.specs.Deeds.{Over}
 use Rattle.sfu_serve.specs.Sessions.{Doing, serves, serves_one}

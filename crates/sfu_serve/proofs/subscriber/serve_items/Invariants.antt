@@ -1,4 +1,4 @@
-use Rattle.std.proofs.Common.{ℕ, length}
+use Rattle.std.proofs.Common.{length}
 use Rattle.sfu_serve.specs.Sessions.{Doing, serves}
 use Rattle.sfu_serve.specs.Parts.{Done}
 use Rattle.sfu_serve.proofs.subscriber.serve_items.Given as goal

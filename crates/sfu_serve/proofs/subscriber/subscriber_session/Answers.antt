@@ -1,7 +1,6 @@
-use Rattle.std.proofs.Common.{◌≡◌, ◌+◌, ◌-◌, ◌<◌, ◌≤◌, ℕ, List, Option, refl, sym, ap, arith}
+use Rattle.std.proofs.Common.{◌+◌, ◌-◌, ◌<◌, ℕ, List, Option, refl, arith}
 use Rattle.sfu_base.specs.Links.{datagram}
 use Rattle.sfu_serve.specs.Sessions.{Doing, hears_feedback, takes, subscriber_deed}
-use Rattle.sfu_serve.specs.Parts.{Done, IsPart, Keeps}
 use Rattle.sfu_serve.proofs.Parting.{after}
 use Rattle.sfu_serve.proofs.Ending.{starts, heard, unheard, stopped, all_turns, failed_told, failed_rose, part_done}
 use Rattle.sfu_serve.proofs.subscriber.subscriber_session.Goals as goal

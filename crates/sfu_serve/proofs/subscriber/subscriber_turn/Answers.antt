@@ -1,6 +1,6 @@
-use Rattle.std.proofs.Common.{◌≡◌, ◌∙◌}
+use Rattle.std.proofs.Common.{◌∙◌}
 use Rattle.deeds.specs.Deeds.{Over}
-use Rattle.sfu_serve.specs.Sessions.{Doing, takes}
+use Rattle.sfu_serve.specs.Sessions.{takes}
 use Rattle.sfu_serve.proofs.Parting.{part_after}
 use Rattle.sfu_serve.proofs.subscriber.subscriber_turn.Goals as goal
 

@@ -1,4 +1,4 @@
-use Rattle.std.proofs.Common.{◌≡◌, ◌∙◌, ◌+◌, ◌-◌, ◌<◌, ℕ, Bool, if◌then◌else◌, ap, arith}
+use Rattle.std.proofs.Common.{◌∙◌, ◌+◌, ◌-◌, ◌<◌, ℕ, Bool, if◌then◌else◌, ap, arith}
 use Rattle.deeds.specs.Deeds.{Over}
 use Rattle.sfu_serve.specs.Sessions.{Doing, takes}
 use Rattle.sfu_serve.proofs.Parting.{after, leaves, stops_after, take_next}

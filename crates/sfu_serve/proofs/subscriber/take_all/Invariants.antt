@@ -1,4 +1,4 @@
-use Rattle.std.proofs.Common.{◌≡◌, ◌≤◌, ◌-◌, ℕ}
+use Rattle.std.proofs.Common.{◌≤◌, ◌-◌}
 use Rattle.sfu_serve.specs.Sessions.{Doing, takes}
 use Rattle.sfu_serve.specs.Parts.{Done}
 use Rattle.sfu_serve.proofs.subscriber.take_all.Given as goal
