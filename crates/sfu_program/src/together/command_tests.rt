@@ -1,17 +1,19 @@
 // Scripts of actors with their journals and statuses.
 use crate::sfu::sfu;
 use sfu_base::{MemSink, MemSource};
-use std::alloc::AllocError;
+use std::alloc::{AllocError, Global};
+use std::sync::Wait;
 use std::test::Fail;
+use std::thread::Threads;
 
 // The status and what was written for a script, where these reads and writes fail.
-fn played(
-    rt: &HostRuntime,
+fn played<W: Threads + Wait + Sync>(
+    rt: &W,
+    alloc: Global,
     script: &[u8],
     reads: &[u64],
     writes: &[u64],
 ) -> Result<(u8, Vec<u8>), AllocError> {
-    let alloc = rt.alloc();
     let words = [String::from_str(alloc, "together")?];
     let mut source = MemSource::new(script.to_vec(alloc)?, reads.to_vec(alloc)?);
     let mut sink = MemSink::new(alloc, writes.to_vec(alloc)?);
@@ -34,7 +36,7 @@ fn a_journal_is_that_of_one_history(rt: HostRuntime) -> Result<(), Fail> {
         "{OPENED}@1 {PACKET}ok\n@2 take 1\npacket 90e0ffff0000000022222222bede000348c0000180003a4101000000183000\n"
     )?;
     let take_first = format!(in alloc; "{OPENED}@2 take 1\nempty\n@1 {PACKET}ok\n")?;
-    let (status, written) = played(&rt, script.as_bytes(), &[], &[])?;
+    let (status, written) = played(&rt, rt.alloc(), script.as_bytes(), &[], &[])?;
     assert_eq!(rt; status, 0);
     let one = written.as_slice() == packet_first.as_bytes();
     let other = written.as_slice() == take_first.as_bytes();
@@ -53,7 +55,7 @@ fn a_journal_has_its_parts_in_order(rt: HostRuntime) -> Result<(), Fail> {
         ),
     ];
     for (script, journal) in rows {
-        let (status, written) = played(&rt, script.as_bytes(), &[], &[])?;
+        let (status, written) = played(&rt, rt.alloc(), script.as_bytes(), &[], &[])?;
         assert_eq!(rt; status, 0, "{script}");
         assert_eq!(rt; written.as_slice(), journal.as_bytes(), "{script}");
     }
@@ -63,15 +65,15 @@ fn a_journal_has_its_parts_in_order(rt: HostRuntime) -> Result<(), Fail> {
 #[test]
 fn a_failing_read_and_a_failing_write_end_the_command(rt: HostRuntime) -> Result<(), Fail> {
     let script = b"take 1\n@1 take 2\n";
-    let (status, written) = played(&rt, script, &[0], &[])?;
+    let (status, written) = played(&rt, rt.alloc(), script, &[0], &[])?;
     assert_eq!(rt; (status, written.len()), (3, 0));
-    let (status, written) = played(&rt, script, &[1], &[])?;
+    let (status, written) = played(&rt, rt.alloc(), script, &[1], &[])?;
     assert_eq!(rt; (status, written.len()), (3, 0));
-    let (status, written) = played(&rt, script, &[], &[0])?;
+    let (status, written) = played(&rt, rt.alloc(), script, &[], &[0])?;
     assert_eq!(rt; (status, written.len()), (4, 0));
-    let (status, written) = played(&rt, b"take 1\ntake\n", &[], &[0])?;
+    let (status, written) = played(&rt, rt.alloc(), b"take 1\ntake\n", &[], &[0])?;
     assert_eq!(rt; (status, written.len()), (5, 0));
-    let (status, written) = played(&rt, b"take 1\ntake\n", &[], &[])?;
+    let (status, written) = played(&rt, rt.alloc(), b"take 1\ntake\n", &[], &[])?;
     assert_eq!(rt; (status, written.as_slice()), (5, b"line 2\n".as_slice()));
     Ok(())
 }

@@ -12,6 +12,7 @@ use std::time::{Clock, Duration};
 const MOST_LOOKS: u32 = 10_000;
 
 // A flag of each of two actors.
+#[derive(Drop)]
 struct Flags {
     one: AtomicBool,
     two: AtomicBool,
@@ -44,6 +45,7 @@ impl Flags {
 }
 
 // Holds each of two actors up, before its call and after it, until the other one is there too.
+#[derive(Drop)]
 struct Meeting<'a, R> {
     clock: &'a R,
     before: Flags,
