@@ -1,5 +1,5 @@
 -- Each call of a journal can be written.
-use Rattle.std.proofs.Common.{◌≡◌, ℕ, zero, suc, ◌+◌, ◌<◌, ◌≤◌, Bool, true, false, cond, eqb, List, [], ◌∷◌, ◌++◌, length, map, get_or, refl, sym, ap, ◌∙◌, subst, arith, eq-eqb}
+use Rattle.std.proofs.Common.{◌≡◌, ℕ, zero, suc, ◌+◌, ◌<◌, ◌≤◌, Bool, true, false, cond, eqb, List, [], ◌∷◌, ◌++◌, length, map, get_or, refl, sym, subst, arith, eq-eqb}
 use Rattle.std.specs.List.{All, AllByRecursion}
 use mathlib.Core.Option.{some, some-injective, some-ne-none}
 use lib.ListN.{get_elem?}
@@ -9,7 +9,7 @@ use Rattle.sfu_script.specs.declared.journal.Entry as journal
 use Rattle.sfu_script.specs.Lines.{HasBytes}
 use Rattle.room_core.specs.History.{Entry}
 use Rattle.turn_lock.proofs.Lists.{there}
-use Rattle.sfu_program.specs.TogetherHistory.{HaveBytes, IsJournal, journal_from, made_by, own, told_of}
+use Rattle.sfu_program.specs.TogetherHistory.{HaveBytes, IsJournal, journal_from, made_by, own}
 
 abbrev Written : List Entry → Type 0
 Written h = AllByRecursion (λ e. HasBytes e.call) h

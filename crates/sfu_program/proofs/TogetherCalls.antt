@@ -1,8 +1,7 @@
 -- The calls of a script for `together`: how many there are, and that each can be written.
-use Rattle.std.proofs.Common.{◌≡◌, ℕ, zero, suc, ◌+◌, ◌<◌, ◌≤◌, Bool, true, false, cond, eqb, leb, ltb, List, [], ◌∷◌, ◌++◌, length, map, refl, sym, ap, ◌∙◌, subst, arith, Option, Some, None, length-append, eq-eqb, ne_eqb, lt-ltb, le-ltb, leb-true}
+use Rattle.std.proofs.Common.{◌≡◌, ℕ, zero, suc, ◌+◌, ◌<◌, ◌≤◌, Bool, true, false, cond, eqb, leb, ltb, List, [], ◌∷◌, ◌++◌, length, refl, sym, ap, subst, arith, Option, Some, None, length-append, eq-eqb, ne_eqb, lt-ltb, le-ltb, leb-true}
 use Rattle.std.specs.Prelude.{sum_by}
 use Rattle.std.specs.List.{AllByRecursion}
-use Rattle.std.proofs.lemmas.Bool.{false≢true}
 use mathlib.Core.Logic.{dite}
 use native.Mathlib.Decide.{ℕ_discrete, dec_le}
 use Rattle.sfu_base.specs.declared.call.Call.{Call}
@@ -16,7 +15,7 @@ use Rattle.sfu_script.specs.ReadLines.{call_of}
 use Rattle.sfu_script.specs.Skipped.{is_skipped}
 use Rattle.sfu_script.proofs.ActorLaws.{actor_call_found}
 use Rattle.sfu_script.proofs.LineLaws.{call_found}
-use Rattle.sfu_program.specs.TogetherScript.{AreActors, Said, acts_of, calls_by, closing_of, is_plain, may_follow, of_actor, opening_of, or_actor, said_behind, said_by, stops_at, together_script, with_line, with_said, Lines}
+use Rattle.sfu_program.specs.TogetherScript.{AreActors, Said, acts_of, calls_by, closing_of, is_plain, may_follow, opening_of, or_actor, said_behind, said_by, stops_at, together_script, with_line, with_said, Lines}
 use Rattle.sfu_program.specs.TogetherHistory.{HaveBytes, count_of}
 
 -- ---- how many calls there are

@@ -1,11 +1,10 @@
 -- From the seats' own promises to the one history of a script, and to its journal.
-use Rattle.std.proofs.Common.{◌≡◌, ◌⊎◌, ℕ, zero, suc, ◌+◌, ◌-◌, ◌*◌, ◌^◌, ◌<◌, ◌≤◌, List, [], ◌∷◌, ◌++◌, length, map, refl, ap, sym, subst, ◌∙◌, ⊎_elim, arith, append-nil, append_assoc, length-append}
-use Rattle.std.specs.List.{flat_map}
+use Rattle.std.proofs.Common.{◌≡◌, ℕ, zero, suc, ◌+◌, ◌-◌, ◌*◌, ◌^◌, ◌<◌, ◌≤◌, List, [], ◌∷◌, ◌++◌, length, map, refl, ap, sym, subst, ◌∙◌, ⊎_elim, arith, append-nil, append_assoc}
 use Rattle.std.specs.Prelude.{IsPermutation, sum_by}
 use Rattle.std.proofs.lemmas.List.{append_cancel_left, map-append}
 use Rattle.std.proofs.lemmas.List.Sorted.{IsPermutation-append_comm, IsPermutation-append_right, IsPermutation-trans}
 use mathlib.Core.List.{IsPrefix}
-use mathlib.Core.Option.{some, some-injective, some-ne-none}
+use mathlib.Core.Option.{some, some-injective}
 use lib.ListN.{get_elem?}
 use Rattle.atomic_table.specs.Seated.{TableId}
 use Rattle.atomic_table.proofs.Lists.{at_map}
@@ -20,7 +19,7 @@ use Rattle.turn_lock.specs.declared.history.Joined.{Joined}
 use Rattle.turn_lock.specs.History.{AllBelow, own_of}
 use Rattle.turn_lock.specs.Known.{AllJoinedIn, Fits, Known, opened}
 use Rattle.turn_lock.proofs.Lists.{prefix_trans, there}
-use Rattle.turn_lock.proofs.Histories.{below_left, below_more, below_prefix, own_above, own_append}
+use Rattle.turn_lock.proofs.Histories.{below_left, below_more, own_above, own_append}
 use Rattle.sfu_serve.specs.History.{entries_of, entry_of}
 use Rattle.sfu_program.specs.declared.together.acting.Placed.{Placed}
 use Rattle.sfu_program.specs.declared.together.cast.Done.{Done}

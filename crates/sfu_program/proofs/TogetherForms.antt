@@ -1,6 +1,5 @@
 -- The words `together` are no other command.
 use Rattle.std.proofs.Common.{◌≡◌, ◌⊎◌, inl, inr, ℕ, List, [], ◌∷◌, length, ap, sym, ◌∙◌, ◌<◌, arith}
-use Rattle.std.specs.Prelude.{codes}
 use Rattle.sfu_commands.specs.declared.words.Command.{Command}
 use Rattle.sfu_commands.specs.declared.words.Command.TheVariants.{Run, Convert, Help, Check, Trial}
 use Rattle.sfu_commands.specs.Run.{IsRun}

@@ -1,5 +1,5 @@
 -- What is kept of a seat's turns, as the history grows.
-use Rattle.std.proofs.Common.{◌≡◌, ℕ, ◌+◌, Bool, true, false, cond, eqb, List, [], ◌∷◌, ◌++◌, length, map, refl, ap, sym, subst, ◌∙◌, arith, append-nil, append_assoc, eq-eqb, length-append}
+use Rattle.std.proofs.Common.{◌≡◌, ℕ, ◌+◌, Bool, true, false, cond, eqb, List, [], ◌∷◌, ◌++◌, length, map, refl, ap, sym, ◌∙◌, arith, append-nil, append_assoc, eq-eqb, length-append}
 use Rattle.std.proofs.lemmas.List.{append_cancel_right, map-append}
 use mathlib.Core.List.{IsPrefix}
 use Rattle.sfu_base.specs.declared.call.Call.{Call}
@@ -10,7 +10,7 @@ use Rattle.turn_lock.specs.History.{AllBelow, own_of}
 use Rattle.turn_lock.proofs.Histories.{own_append, own_here}
 use Rattle.sfu_serve.specs.History.{entries_of, entry_of}
 use Rattle.sfu_program.specs.declared.together.acting.Placed.{Placed}
-use Rattle.sfu_program.specs.TogetherHistory.{journal_from, journal_of, told_of}
+use Rattle.sfu_program.specs.TogetherHistory.{journal_from, told_of}
 use Rattle.sfu_program.proofs.TogetherSorting.{AreBelow}
 use Rattle.sfu_program.specs.TogetherActing.{AtPlaces, mine, placed, placed_at, placed_from}
 

@@ -1,13 +1,13 @@
 -- What each status of `together` says, once its script was read or wasn't.
-use Rattle.std.proofs.Common.{◌≡◌, ◌⊎◌, inl, inr, ⊎_elim, ℕ, ◌+◌, ◌≤◌, List, [], ◌∷◌, ◌++◌, length, refl, sym, ap, ◌∙◌, subst, arith, append-nil, Option, Some, None}
+use Rattle.std.proofs.Common.{◌≡◌, ◌⊎◌, inl, inr, ⊎_elim, ℕ, ◌≤◌, List, [], refl, sym, ap, ◌∙◌, subst, arith, append-nil, Option, Some, None}
 use Rattle.std.specs.Prelude.{IfSome}
-use Rattle.std.specs.Io.KnownBytes.{Appends, Consumes, IsAtEnd}
+use Rattle.std.specs.Io.KnownBytes.{Appends, IsAtEnd}
 use Rattle.std.proofs.KnownBytes.{Appends-trans, Consumes-whole}
 use Rattle.sfu_base.specs.Faults.{Rose}
 use Rattle.sfu_driver.specs.declared.halt.Ending.{Ending}
 use Rattle.sfu_driver.specs.declared.halt.Ending.TheVariants as ending
 use Rattle.sfu_driver.specs.Drive.{WritesPart}
-use Rattle.sfu_driver.specs.Statuses.{Completes, Due, Statuses, full_text, status_of}
+use Rattle.sfu_driver.specs.Statuses.{Completes, Due, full_text, status_of}
 use Rattle.sfu_driver.proofs.Meanings.{statuses_same}
 use Rattle.sfu_script.specs.declared.journal.Actors.{Actors}
 use Rattle.room_core.specs.History.{Entry, accepted}
@@ -16,7 +16,7 @@ use Rattle.room_core.proofs.Promising.{headline}
 use Rattle.sfu_commands.specs.Run.{fault_end}
 use Rattle.sfu_program.specs.TogetherHistory.{IsMadeBy}
 use Rattle.sfu_program.specs.TogetherReading.{ReadsActors, ReadsNone, read_due, read_part}
-use Rattle.sfu_program.specs.TogetherScript.{AreActors, together_script}
+use Rattle.sfu_program.specs.TogetherScript.{together_script}
 use Rattle.sfu_program.specs.Together.{IsPlayed, Plays, journal_text, text_unless, together_due}
 
 if_some : (left : Option (List ℕ)) (P Q : List ℕ → Type 0) → ((b : List ℕ) → P b → Q b) → IfSome left P → IfSome left Q

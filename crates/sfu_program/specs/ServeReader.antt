@@ -1,6 +1,5 @@
 -- How the lines of a configuration for `serve` are judged, and what its reader holds.
 use Rattle.std.specs.Prelude.{◌≡◌, ℕ, if◌then◌else◌, List, Option, Some, None}
-use Rattle.std.specs.Prelude.{MatchResult, Result}
 use Rattle.sfu_driver.specs.declared.halt.Ending.TheVariants.{Outside}
 use Rattle.sfu_driver.specs.Outcome.{Outcome, ends_with, goes_on}
 use Rattle.sfu_script.specs.Skipped.{is_skipped}

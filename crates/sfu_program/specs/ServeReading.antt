@@ -1,5 +1,5 @@
 -- What the reading of a configuration for `serve` comes to. Nothing is written but the line that says which line is outside the grammar.
-use Rattle.std.specs.Prelude.{◌≡◌, ◌⊎◌, ℕ, ◌≤◌, List, [], Option, None, length}
+use Rattle.std.specs.Prelude.{◌≡◌, ◌⊎◌, ℕ, List, [], Option, None}
 use Rattle.std.specs.Io.KnownBytes.{Appends, Consumes, IsAtEnd}
 use Rattle.sfu_driver.specs.Statuses.{Due, Statuses}
 use Rattle.sfu_commands.specs.Run.{fault_end}

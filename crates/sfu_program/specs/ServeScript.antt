@@ -1,6 +1,6 @@
 -- What the bytes of a configuration for `serve` say: calls that are made before any session starts, and the ports that are served. Own
 -- rule. The code never has a whole configuration in its hands: it reads pieces of any size, and puts what lines say into lists.
-use Rattle.std.specs.Prelude.{ℕ, ◌+◌, nat_lt, nat_le, if◌then◌else◌, Bool, true, false, List, [], ◌∷◌, ◌++◌, length, Option, Some, None}
+use Rattle.std.specs.Prelude.{ℕ, ◌+◌, nat_lt, nat_le, if◌then◌else◌, Bool, true, List, [], ◌∷◌, ◌++◌, length, Option, Some, None}
 use Rattle.sfu_base.specs.declared.call.Call.{Call}
 use Rattle.sfu_base.specs.declared.call.Call.TheVariants.{Publish, Join}
 use Rattle.sfu_driver.specs.Input.{Line, judged_lines, lines_of, said}

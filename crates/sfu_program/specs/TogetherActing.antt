@@ -11,7 +11,6 @@ use Rattle.turn_lock.specs.declared.history.Joined.{Joined}
 use Rattle.turn_lock.specs.History.{entry}
 use Rattle.turn_lock.specs.Known.{Fits, KeepsSeat, Known, another}
 use Rattle.sfu_serve.specs.History.{entries_of}
-use Rattle.sfu_script.specs.declared.journal.Actors.{Actors}
 use Rattle.sfu_program.specs.declared.together.acting.Placed.{Placed}
 use Rattle.sfu_program.specs.declared.together.cast.Done.{Done}
 use Rattle.sfu_program.specs.declared.together.cast.Job.{Job}

@@ -1,7 +1,6 @@
-use Rattle.std.proofs.Common.{ℕ, List, ◌∙◌, sym, ap, refl, arith}
-use Rattle.sfu_base.specs.Answer.{answer_of, is_starved}
+use Rattle.std.proofs.Common.{◌∙◌, sym, refl, arith}
+use Rattle.sfu_base.specs.Answer.{is_starved}
 use Rattle.sfu_script.specs.Replies.{answer_text}
-use Rattle.sfu_script.specs.declared.journal.Entry as journal
 use Rattle.sfu_program.proofs.TogetherTurning.{all_turned, none_turned, one_turned, worn_turned}
 use Rattle.sfu_program.proofs.together.acting.act.Goals as goal
 

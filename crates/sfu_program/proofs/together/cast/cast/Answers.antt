@@ -1,6 +1,5 @@
-use Rattle.std.proofs.Common.{◌≡◌, ◌∙◌, ◌∷◌, ◌++◌, ◌+◌, [], sym, ap, subst, refl, arith, List, ℕ, length, length-append}
-use Rattle.turn_lock.specs.Known.{Known, another, counted}
-use Rattle.sfu_base.specs.declared.call.Call.{Call}
+use Rattle.std.proofs.Common.{◌∙◌, ◌∷◌, [], ap, arith, length, length-append}
+use Rattle.turn_lock.specs.Known.{another, counted}
 use Rattle.sfu_program.specs.TogetherActing.{counting}
 use Rattle.sfu_program.proofs.TogetherSeating.{all_ready, no_jobs, one_job}
 use Rattle.sfu_program.proofs.together.cast.cast.Goals as goal

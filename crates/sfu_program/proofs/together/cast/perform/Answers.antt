@@ -1,4 +1,4 @@
-use Rattle.std.proofs.Common.{◌≡◌, ◌-◌, ◌<◌, ◌∙◌, sym, ap, length, arith, rules, subst, ℕ, List}
+use Rattle.std.proofs.Common.{◌≡◌, ◌-◌, ◌<◌, ◌∙◌, sym, ap, length, arith, rules, List}
 use mathlib.Core.Option.{some}
 use lib.ListN.{get_elem?}
 use Rattle.sfu_base.specs.declared.call.Call.{Call}

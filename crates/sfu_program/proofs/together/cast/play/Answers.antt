@@ -1,5 +1,4 @@
-use Rattle.std.proofs.Common.{◌≡◌, ◌∙◌, sym, ap, length, map, Ok}
-use Rattle.sfu_program.specs.declared.together.cast.Done.{Done}
+use Rattle.std.proofs.Common.{◌≡◌, ◌∙◌, sym, length, map, Ok}
 use Rattle.sfu_program.specs.TogetherActing.{AreDone}
 use Rattle.sfu_program.proofs.TogetherSeating.{all_came, if_ok}
 use Rattle.sfu_program.proofs.together.cast.play.Goals as goal

@@ -1,4 +1,4 @@
-use Rattle.std.proofs.Common.{◌∙◌, ◌≡◌, ap, length, subst, sym, List, ℕ}
+use Rattle.std.proofs.Common.{◌∙◌, ◌≡◌, ap, length, subst, List, ℕ}
 use Rattle.std.specs.Io.KnownBytes.{Appends}
 use Rattle.std.specs.List.{flat_map}
 use Rattle.sfu_driver.specs.Drive.{WritesPart}

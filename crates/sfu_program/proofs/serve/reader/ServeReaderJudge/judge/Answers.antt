@@ -1,9 +1,8 @@
-use Rattle.std.proofs.Common.{◌≡◌, ◌++◌, [], ap, sym, ◌∙◌, append-nil}
+use Rattle.std.proofs.Common.{◌++◌, ap, sym, ◌∙◌, append-nil}
 use Rattle.sfu_driver.specs.Outcome.{Outcome}
-use Rattle.sfu_commands.specs.Script.{fault_line}
-use Rattle.sfu_program.specs.ServeReader.{fault_at, judged_line, meaning_of}
+use Rattle.sfu_program.specs.ServeReader.{meaning_of}
 use Rattle.sfu_program.specs.ServeScript.{Setup, and_said}
-use Rattle.sfu_program.proofs.ServeJudging.{line_goes_on, line_of_a_port_too_many, line_says_nothing}
+use Rattle.sfu_program.proofs.ServeJudging.{line_goes_on}
 use Rattle.sfu_program.proofs.serve.reader.ServeReaderJudge.judge.Goals as goal
 
 pub returns-then-may_follow-clause-judges : goal.returns-then-may_follow-clause-judges
