@@ -33,7 +33,7 @@ fn a_journal_is_that_of_one_history(rt: HostRuntime) -> Result<(), Fail> {
         "publish 1 layered 11111111 100 4\njoin 1 1 22222222 65535 0 0\n@1 {PACKET}@2 take 1\n"
     )?;
     let packet_first = format!(in alloc;
-        "{OPENED}@1 {PACKET}ok\n@2 take 1\npacket 90e0ffff0000000022222222bede000348c0000180003a4101000000183000\n"
+        "{OPENED}@1 {PACKET}ok\n@2 take 1\npacket 90e0ffff0000000022222222bede000348c00001c0003a4101400000183000\n"
     )?;
     let take_first = format!(in alloc; "{OPENED}@2 take 1\nempty\n@1 {PACKET}ok\n")?;
     let (status, written) = played(&rt, rt.alloc(), script.as_bytes(), &[], &[])?;
