@@ -5,6 +5,7 @@ mod fields;
 mod kind;
 mod laws;
 mod reader;
+mod record_reader;
 #[cfg(test)]
 mod tests;
 mod values;
@@ -16,4 +17,5 @@ pub use laws::{
     records_are_in_the_table, records_read_back, records_say_one_call,
 };
 pub use reader::{NoRecord, read_record};
+pub use record_reader::RecordReader;
 pub use writer::write_record;

@@ -18,8 +18,8 @@ use thiserror::Error;
 #[error("the record is outside the grammar")]
 pub struct NoRecord;
 
-// How many bytes stand between a record's kind and its packet.
-const PACKET_HEAD: usize = 12;
+/// How many bytes stand between a record's kind and its packet.
+pub const PACKET_HEAD: usize = 12;
 
 // The readers of single kinds are inlined: each function that hands a call on would clear and copy its 2 KB once more.
 #[inline(always)]
@@ -137,8 +137,8 @@ fn why(bytes: &[u8]) -> Call
     }
 }
 
-// The track or the subscriber of a kind that has no other number.
-fn number(bytes: &[u8]) -> u32
+/// The track or the subscriber of a kind that has no other number.
+pub fn number(bytes: &[u8]) -> u32
     requires { length bytes.now ≡ 4 }
     ensures { numbers_at (Field.Number32 ∷ []) bytes.now ≡ result ∷ [] }
 {

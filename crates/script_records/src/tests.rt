@@ -2,7 +2,7 @@
 ghost use Rattle.std.specs.Prelude.{◌≡◌, true};
 ghost use Rattle.sfu_script.specs.Lines.{HasBytes};
 
-use crate::{NoRecord, may_have_length, read_record, write_record};
+use crate::{NoRecord, RecordReader, may_have_length, read_record, write_record};
 use sfu_base::{Blob, Call, PacketBuf};
 use sfu_script::{read_call, write_call};
 use std::test::Fail;
@@ -118,6 +118,26 @@ fn lines_are_converted_to_records_and_back(rt: HostRuntime) -> Result<(), Fail> 
         line.clear();
         write_call(&call, &mut line)?;
         assert_eq!(rt; line.bytes(), *text);
+    }
+    Ok(())
+}
+
+// The table in another order, and in front of each record the longest packet and a body that says none.
+#[test]
+fn a_reader_keeps_nothing_of_the_record_before(rt: HostRuntime) -> Result<(), Fail> {
+    let mut longest = [0xa5; 2061];
+    longest[0] = 4;
+    let mut reader = RecordReader::new();
+    let mut record = Blob::new(rt.alloc());
+    for i in 0..RECORDS.len() {
+        let (_, bytes) = RECORDS[i * 12 % RECORDS.len()];
+        assert!(rt; reader.read(&longest).is_ok());
+        assert!(rt; reader.read(&bytes[2..6]).is_err());
+        let call = reader.read(&bytes[2..])?;
+        assert!(rt; has_bytes(call));
+        record.clear();
+        write_record(call, &mut record)?;
+        assert_eq!(rt; record.bytes(), bytes);
     }
     Ok(())
 }
