@@ -1,10 +1,9 @@
 // The calls that the units of a script say.
-ghost use Rattle.std.specs.Prelude.{◌≡◌, MatchOption, MatchResult, None, Some};
-ghost use Rattle.script_records.specs.ReadRecords.{call_of};
+ghost use Rattle.std.specs.Prelude.{◌≡◌, MatchOption, None, Some};
 ghost use Rattle.sfu_commands.specs.Script.{call_in};
 
 use crate::form::Form;
-use script_records::{NoRecord, read_record};
+use script_records::RecordReader;
 use sfu_base::Call;
 use sfu_script::LineReader;
 
@@ -12,7 +11,7 @@ use sfu_script::LineReader;
 #[derive(Drop)]
 pub struct CallReader {
     pub lines: LineReader,
-    pub said: Call,
+    pub records: RecordReader,
 }
 
 impl CallReader {
@@ -20,17 +19,8 @@ impl CallReader {
     pub fn new() -> CallReader {
         CallReader {
             lines: LineReader::new(),
-            said: Call::Take { subscriber: 0 },
+            records: RecordReader::new(),
         }
-    }
-
-    // Apart, so that lines need no room for a call that is handed on.
-    #[inline(never)]
-    fn read_record(&mut self, body: &[u8]) -> Result<(), NoRecord>
-        ensures { MatchResult result (λ _. call_of body.now ≡ Some self.new.said) (λ _. call_of body.now ≡ None) }
-    {
-        self.said = read_record(body)?;
-        Ok(())
     }
 
     /// The call that a line or the body of a record says; `None` exactly where it says none.
@@ -40,10 +30,7 @@ impl CallReader {
     {
         match form {
             Form::Lines => self.lines.read(unit).ok(),
-            Form::Records => {
-                self.read_record(unit).ok()?;
-                Some(&self.said)
-            }
+            Form::Records => self.records.read(unit).ok(),
         }
     }
 }
