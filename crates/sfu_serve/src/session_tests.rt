@@ -94,11 +94,12 @@ const PLI: [u8; 12] = [0x81, 0xce, 0, 2, 0, 0, 0, 1, 0x11, 0x11, 0x11, 0x11];
 // Each receive and each send of a publisher's link fails in turn.
 #[test]
 fn a_publisher_is_asked_for_what_is_missing(rt: HostRuntime) -> Result<(), Fail> {
-    let cases: [(&[u64], &[u64], SessionEnd, &[&[u8]]); 4] = [
-        (&[], &[], SessionEnd::AllTurns, &[&NACK]),
-        (&[0], &[], SessionEnd::LinkFault { turn: 0 }, &[]),
-        (&[1], &[], SessionEnd::LinkFault { turn: 1 }, &[]),
-        (&[], &[0], SessionEnd::LinkFault { turn: 1 }, &[]),
+    // The places of failing receives and sends, the end, and how many NACKs were sent.
+    let cases: [(&[u64], &[u64], SessionEnd, usize); 4] = [
+        (&[], &[], SessionEnd::AllTurns, 1),
+        (&[0], &[], SessionEnd::LinkFault { turn: 0 }, 0),
+        (&[1], &[], SessionEnd::LinkFault { turn: 1 }, 0),
+        (&[], &[0], SessionEnd::LinkFault { turn: 1 }, 0),
     ];
     for (receive_fails, send_fails, wanted, sent) in cases {
         let (turns, mut seat) = room_after(&rt, rt.alloc(), &[publish()])?;
@@ -122,7 +123,10 @@ fn a_publisher_is_asked_for_what_is_missing(rt: HostRuntime) -> Result<(), Fail>
             &mut scratch,
         );
         assert_eq!(rt; end, wanted);
-        assert!(rt; has_sent(&link, sent));
+        assert_eq!(rt; link.sent().len(), sent);
+        for nack in link.sent() {
+            assert_eq!(rt; nack.bytes(), NACK.as_slice());
+        }
     }
     Ok(())
 }
@@ -170,54 +174,47 @@ const OTHER: [u8; 16] = [
     0x81, 0xcd, 0, 3, 0, 0, 0, 9, 0x33, 0x33, 0x33, 0x33, 0, 0, 0, 0,
 ];
 
+// A link that brings a packet and then this feedback, or nothing where there is none.
+fn subscriber_link(
+    alloc: Global,
+    feedback: &[u8],
+    receive_fails: &[u64],
+    send_fails: &[u64],
+) -> Result<MemLink, AllocError> {
+    if feedback.is_empty() {
+        return link(alloc, &[], receive_fails, send_fails);
+    }
+    let brought = rtp(0);
+    link(alloc, &[&brought, feedback], receive_fails, send_fails)
+}
+
 // Each receive and each send of a subscriber's link fails in turn.
 #[test]
 fn a_subscriber_is_sent_what_waits_for_it(rt: HostRuntime) -> Result<(), Fail> {
-    let (first, second) = (outgoing(0), outgoing(1));
-    let cases: [(&[&[u8]], u64, &[u64], &[u64], SessionEnd, &[&[u8]]); 7] = [
-        (&[], 1, &[], &[], SessionEnd::AllTurns, &[&first, &second]),
+    // The feedback that comes behind a packet, if any comes; turns; the places of failing receives and sends; the end, and the numbers sent.
+    let cases: [(&[u8], u64, &[u64], &[u64], SessionEnd, &[u16]); 7] = [
+        (&[], 1, &[], &[], SessionEnd::AllTurns, &[0, 1]),
         (&[], 1, &[0], &[], SessionEnd::LinkFault { turn: 0 }, &[]),
         (&[], 1, &[], &[0], SessionEnd::LinkFault { turn: 0 }, &[]),
-        (
-            &[],
-            1,
-            &[],
-            &[1],
-            SessionEnd::LinkFault { turn: 0 },
-            &[&first],
-        ),
+        (&[], 1, &[], &[1], SessionEnd::LinkFault { turn: 0 }, &[0]),
         (
             &[],
             2,
             &[1],
             &[],
             SessionEnd::LinkFault { turn: 1 },
-            &[&first, &second],
+            &[0, 1],
         ),
-        (
-            &[&rtp(0), &RESEND],
-            2,
-            &[],
-            &[],
-            SessionEnd::AllTurns,
-            &[&first, &second, &first],
-        ),
-        (
-            &[&rtp(0), &OTHER],
-            2,
-            &[],
-            &[],
-            SessionEnd::AllTurns,
-            &[&first, &second],
-        ),
+        (&RESEND, 2, &[], &[], SessionEnd::AllTurns, &[0, 1, 0]),
+        (&OTHER, 2, &[], &[], SessionEnd::AllTurns, &[0, 1]),
     ];
-    for (datagrams, limit, receive_fails, send_fails, wanted, sent) in cases {
+    for (feedback, limit, receive_fails, send_fails, wanted, sent) in cases {
         let (turns, mut seat) = room_after(
             &rt,
             rt.alloc(),
             &[publish(), join(), packet(7), packet(8)],
         )?;
-        let mut link = link(rt.alloc(), datagrams, receive_fails, send_fails)?;
+        let mut link = subscriber_link(rt.alloc(), feedback, receive_fails, send_fails)?;
         let clock = StepClock::new(0, 1);
         let mut scratch = empty_scratch();
         let end = subscriber_session(
@@ -232,7 +229,10 @@ fn a_subscriber_is_sent_what_waits_for_it(rt: HostRuntime) -> Result<(), Fail> {
             &mut scratch,
         );
         assert_eq!(rt; end, wanted);
-        assert!(rt; has_sent(&link, sent));
+        assert_eq!(rt; link.sent().len(), sent.len());
+        for (datagram, number) in link.sent().iter().zip(sent) {
+            assert_eq!(rt; datagram.bytes(), outgoing(*number).as_slice());
+        }
     }
     Ok(())
 }
@@ -262,10 +262,11 @@ fn a_controller_is_answered(rt: HostRuntime) -> Result<(), Fail> {
 // Each receive and the send of a controller's link fails in turn.
 #[test]
 fn a_controllers_link_fails(rt: HostRuntime) -> Result<(), Fail> {
-    let cases: [(&[u64], &[u64], u64, &[&[u8]]); 3] = [
-        (&[0], &[], 0, &[]),
-        (&[1], &[], 1, &[b"ok"]),
-        (&[], &[0], 0, &[]),
+    // The places of failing receives and sends, the turn that they end, and how many answers were sent.
+    let cases: [(&[u64], &[u64], u64, usize); 3] = [
+        (&[0], &[], 0, 0),
+        (&[1], &[], 1, 1),
+        (&[], &[0], 0, 0),
     ];
     for (receive_fails, send_fails, turn, sent) in cases {
         let (turns, mut seat) = room_after(&rt, rt.alloc(), &[publish()])?;
@@ -274,7 +275,10 @@ fn a_controllers_link_fails(rt: HostRuntime) -> Result<(), Fail> {
         let mut scratch = empty_scratch();
         let end = control_session(&rt, &turns, &mut seat, &mut link, &clock, 2, &mut scratch);
         assert_eq!(rt; end, SessionEnd::LinkFault { turn });
-        assert!(rt; has_sent(&link, sent));
+        assert_eq!(rt; link.sent().len(), sent);
+        for answer in link.sent() {
+            assert_eq!(rt; answer.bytes(), b"ok".as_slice());
+        }
     }
     Ok(())
 }
