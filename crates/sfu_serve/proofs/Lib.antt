@@ -5,3 +5,6 @@ pub mod Texts
 pub mod Choosing
 pub mod Parting
 pub mod Ending
+pub mod Later
+pub mod Casting
+pub mod Running

@@ -4,3 +4,5 @@ pub mod Ends
 pub mod Datagrams
 pub mod Sessions
 pub mod Parts
+pub mod Runs
+pub mod Playing

@@ -5,8 +5,10 @@
 
 mod control;
 mod ends;
+mod playing;
 mod publisher;
 mod rtcp;
+mod run;
 mod shared_room;
 mod speaking;
 mod subscriber;
@@ -14,9 +16,12 @@ mod subscriber;
 pub use control::control_session;
 pub use ends::SessionEnd;
 pub use publisher::publisher_session;
+pub use run::{Ended, Job, Role, run_sessions};
 pub use shared_room::SharedRoom;
 pub use subscriber::subscriber_session;
 
+#[cfg(test)]
+mod run_tests;
 #[cfg(test)]
 mod session_tests;
 #[cfg(test)]

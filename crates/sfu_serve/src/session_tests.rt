@@ -10,17 +10,18 @@ use std::sync::Wait;
 use std::test::Fail;
 use turn_lock::{Seat, Turns};
 
-const SSRC: u32 = 0x1111_1111;
+pub const SSRC: u32 = 0x1111_1111;
 
 const OUT_SSRC: u32 = 0x2222_2222;
 
 // The lock of a room on which these calls were made, with its first seat.
-fn room_after<W: Wait + Sync>(
+pub fn room_after<W: Wait + Sync>(
     rt: &W,
     alloc: Global,
     calls: &[Call],
 ) -> Result<(Turns<Shared>, Seat<Shared>), Fail>
     ensures lock { IfOk result (λ made. made.1.lock ≡ made.0) }
+    ensures first { IfOk result (λ made. (made.1.number ≡ 0) × (made.1.count ≡ 1)) }
     ensures fits { IfOk result (λ made. Fits made.1) }
 {
     let mut scratch = empty_scratch();
@@ -32,7 +33,7 @@ fn room_after<W: Wait + Sync>(
 }
 
 // A link that brings these datagrams, and fails at these places.
-fn link(
+pub fn link(
     alloc: Global,
     datagrams: &[&[u8]],
     receive_fails: &[u64],
@@ -55,7 +56,7 @@ fn link(
 }
 
 // An RTP packet with this number, SSRC 11111111 and the payload aabb (RFC 3550, section 5.1).
-fn rtp(number: u16) -> [u8; 14] {
+pub fn rtp(number: u16) -> [u8; 14] {
     let [high, low] = number.to_be_bytes();
     [
         0x80, 0x60, high, low, 0, 0, 0, 0, 0x11, 0x11, 0x11, 0x11, 0xaa, 0xbb,
@@ -71,7 +72,7 @@ fn outgoing(number: u16) -> [u8; 14] {
 }
 
 // Whether exactly these datagrams were sent.
-fn has_sent(link: &MemLink, wanted: &[&[u8]]) -> bool {
+pub fn has_sent(link: &MemLink, wanted: &[&[u8]]) -> bool {
     if link.sent().len() != wanted.len() {
         return false;
     }
@@ -84,7 +85,7 @@ fn has_sent(link: &MemLink, wanted: &[&[u8]]) -> bool {
 }
 
 // One generic NACK of 1001 (RFC 4585, section 6.2.1).
-const NACK: [u8; 16] = [
+pub const NACK: [u8; 16] = [
     0x81, 0xcd, 0, 3, 0, 0, 0, 1, 0x11, 0x11, 0x11, 0x11, 0x03, 0xe9, 0, 0,
 ];
 

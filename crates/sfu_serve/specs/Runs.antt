@@ -1,0 +1,71 @@
+-- What sessions that ran at once did together.
+use Rattle.std.specs.Prelude.{◌≡◌, ℕ, ◌+◌, ◌≤◌, List, [], ◌∷◌, ◌++◌, length, Option, None}
+use Rattle.sfu_base.specs.Links.{Traffic, with_more}
+use Rattle.sfu_base.specs.Answer.{Answer}
+use Rattle.sfu_base.specs.declared.call.Call.{Call}
+use Rattle.turn_lock.specs.declared.history.Entry.{Entry}
+use Rattle.turn_lock.specs.History.{own_of, AllBelow}
+use Rattle.turn_lock.specs.Known.{Known, Fits, AllJoinedIn}
+use Rattle.deeds.specs.Deeds.{Step, Leads, received_of, said_of, sent_of}
+use Rattle.sfu_serve.specs.declared.ends.SessionEnd.{SessionEnd}
+use Rattle.sfu_serve.specs.declared.run.Role.{Role}
+use Rattle.sfu_serve.specs.declared.run.Role.TheVariants.{Publisher, Subscriber, Control}
+use Rattle.sfu_serve.specs.Datagrams.{IsOne}
+use Rattle.sfu_serve.specs.Sessions.{Doing, publisher_deed, subscriber_deed, control_deed}
+use Rattle.sfu_serve.specs.Parts.{MeetsEnd, words_of}
+
+-- what a session of this role does in so many turns
+abbrev pub deed_of : Role → ℕ → Doing
+deed_of (Publisher track ssrc) limit = publisher_deed track ssrc limit None None
+deed_of (Subscriber subscriber ssrc) limit = subscriber_deed subscriber ssrc limit
+deed_of Control limit = control_deed limit
+
+-- A session of the seat with this number, which began with no entries, read in any later history: `found` is the greatest number of a
+-- ticket that was found there.
+pub record IsSession (whole : Doing) (limit number found : ℕ) (history : List (Entry Call)) (told told' : Option Traffic) (before after : ℕ) (end : SessionEnd) : Type 0 where
+  pub steps : List (Step Call Answer)
+  pub rest : Doing
+  pub leads : Leads IsOne whole steps rest
+  -- the seat's entries are the calls of the steps, with the answers that the history gives them
+  pub words : words_of number history ≡ said_of steps
+  -- the link tells the receives and the datagrams of the steps more
+  pub link : told' ≡ with_more (received_of steps) (sent_of steps) told
+  pub faults : before ≤ after
+  pub ends : MeetsEnd before after found limit rest (length (received_of steps)) end
+
+-- a job before its session: its role, what its link tells and the link's count of faults
+pub record Before : Type 0 where
+  pub role : Role
+  pub told : Option Traffic
+  pub faults : ℕ
+
+-- a job after its session
+pub record After : Type 0 where
+  pub end : SessionEnd
+  pub told : Option Traffic
+  pub faults : ℕ
+
+abbrev pub job_before : Role → Option Traffic → ℕ → Before
+job_before role told faults = record { role = role; told = told; faults = faults }
+
+abbrev pub job_after : SessionEnd → Option Traffic → ℕ → After
+job_after end told faults = record { end = end; told = told; faults = faults }
+
+-- each job and its end have a session; the first is that of the seat with this number, and each other that of the next one
+abbrev pub AreSessions : ℕ → ℕ → List (Entry Call) → ℕ → List Before → List After → Type 0
+AreSessions limit found history number [] [] = Unit {0}
+AreSessions limit found history number (job ∷ jobs) (ended ∷ others) =
+    IsSession (deed_of job.role limit) limit number found history job.told ended.told job.faults ended.faults ended.end × AreSessions limit found history (number + 1) jobs others
+AreSessions limit found history number _ _ = ⊥
+
+-- The first seat has seen more of the history: entries of the jobs' seats alone, in which each job's session stands.
+pub record HaveRun (limit : ℕ) (old new : Known Call) (jobs : List Before) (ends : List After) : Type 0 where
+  pub kept : (new.lock ≡ old.lock) × (new.first ≡ old.first) × (new.number ≡ 0)
+  pub fits : Fits new
+  -- each seat that was made is joined, so that the lock can be closed
+  pub came : AllJoinedIn new
+  pub added : List (Entry Call)
+  pub seen : new.seen ≡ old.seen ++ added
+  pub no_other : own_of 0 added ≡ []
+  pub below : AllBelow (length jobs + 1) added
+  pub each : AreSessions limit new.found new.seen 1 jobs ends

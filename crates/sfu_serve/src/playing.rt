@@ -1,0 +1,182 @@
+// Jobs that are played at the same time, each on a seat of its own.
+ghost use Rattle.std.specs.Prelude.{◌≡◌, ◌++◌, ◌∷◌, [], ◌≤◌, ◌<◌, ◌+◌, IfOk, OnOk, length, map};
+ghost use Rattle.std.specs.List.{All};
+ghost use Rattle.turn_lock.specs.Known.{Fits};
+ghost use Rattle.sfu_serve.specs.Parts.{Keeps};
+ghost use Rattle.sfu_serve.specs.Runs.{deed_of, job_after, job_before};
+ghost use Rattle.sfu_serve.specs.Playing.{ArePlayed, HaveJoined, counting, played_job, seated_from, seated_job};
+
+use crate::control::control_session;
+use crate::ends::SessionEnd;
+use crate::publisher::publisher_session;
+use crate::run::{Ended, Job, Role};
+use crate::shared_room::SharedRoom;
+use crate::subscriber::subscriber_session;
+use room_core::Recorder;
+use sfu_base::{Clock, Link, NoMemory, PacketBuf, Scratch, SeqList};
+use std::alloc::Global;
+use std::sync::Wait;
+use std::thread;
+use std::thread::Threads;
+use turn_lock::{Seat, Turns};
+
+/// A job with its seat.
+#[derive(Drop)]
+pub struct Seated<R: Recorder, L> {
+    pub seat: Seat<SharedRoom<R>>,
+    pub job: Job<L>,
+}
+
+/// The seat and the link of a job whose session has ended, and how it ended.
+#[derive(Drop)]
+pub struct Played<R: Recorder, L> {
+    pub seat: Seat<SharedRoom<R>>,
+    pub end: SessionEnd,
+    pub link: L,
+}
+
+/// Puts an item behind the others.
+fn put_last<T: Drop>(list: &mut Vec<T>, item: T) -> Result<(), NoMemory>
+    ensures { OnOk result (list.new.items ≡ list.old.items ++ item ∷ []) }
+{
+    match list.push(item) {
+        Ok(()) => Ok(()),
+        Err(_) => Err(NoMemory),
+    }
+}
+
+/// Gives each job a seat, in order.
+pub fn cast<R: Recorder, L: Link + Drop>(
+    alloc: Global,
+    turns: &Turns<SharedRoom<R>>,
+    seat: &mut Seat<SharedRoom<R>>,
+    jobs: Vec<Job<L>>,
+) -> Result<Vec<Seated<R, L>>, NoMemory>
+    requires lock { seat.old.lock ≡ turns.now }
+    requires fits { Fits seat.old }
+    requires number { seat.old.number ≡ 0 }
+    requires alone { seat.old.count ≡ 1 }
+    requires few { length jobs.items ≤ 64 }
+    ensures split { IfOk result (λ seated. seat.new ≡ counting seat.old (1 + length jobs.items)) }
+    ensures fits { IfOk result (λ seated. Fits seat.new) }
+    ensures seated { IfOk result (λ seated. map (λ s. seated_job s.seat (job_before s.job.role (L.told s.job.link) (L.faults s.job.link))) seated.items ≡ seated_from seat.old 1 (map (λ j. job_before j.role (L.told j.link) (L.faults j.link)) jobs.items)) }
+{
+    let mut seated = Vec::new(alloc);
+    for job in jobs {
+        let own = turns.split(seat);
+        put_last(&mut seated, Seated { seat: own, job })?;
+    }
+    Ok(seated)
+}
+
+/// Runs the session of a role.
+fn session<R: Recorder, L: Link, C: Clock, W: Wait + Sync>(
+    rt: &W,
+    turns: &Turns<SharedRoom<R>>,
+    seat: &mut Seat<SharedRoom<R>>,
+    role: Role,
+    link: &mut L,
+    clock: &C,
+    limit: u64,
+    scratch: &mut Scratch,
+) -> SessionEnd
+    requires lock { seat.old.lock ≡ turns.now }
+    requires fits { Fits seat.old }
+    ensures keeps { Keeps (deed_of role limit) limit seat.old seat.new (L.told link.old) (L.told link.new) (L.faults link.old) (L.faults link.new) result }
+{
+    match role {
+        Role::Publisher { track, ssrc } => {
+            publisher_session(rt, turns, seat, track, ssrc, link, clock, limit, scratch)
+        }
+        Role::Subscriber { subscriber, ssrc } => subscriber_session(
+            rt, turns, seat, subscriber, ssrc, link, clock, limit, scratch,
+        ),
+        Role::Control => control_session(rt, turns, seat, link, clock, limit, scratch),
+    }
+}
+
+/// Runs a job's session, with a scratch of its own.
+fn perform<R: Recorder, L: Link, C: Clock, W: Wait + Sync>(
+    rt: &W,
+    turns: &Turns<SharedRoom<R>>,
+    clock: &C,
+    limit: u64,
+    seated: Seated<R, L>,
+) -> Played<R, L>
+    requires lock { seated.seat.lock ≡ turns.now }
+    requires fits { Fits seated.seat }
+    ensures keeps { Keeps (deed_of seated.job.role limit) limit seated.seat result.seat (L.told seated.job.link) (L.told result.link) (L.faults seated.job.link) (L.faults result.link) result.end }
+{
+    let mut scratch = Scratch {
+        packet: PacketBuf::new(),
+        names: SeqList::new(),
+    };
+    let Seated { mut seat, job } = seated;
+    let Job { role, mut link } = job;
+    let end = session(
+        rt,
+        turns,
+        &mut seat,
+        role,
+        &mut link,
+        clock,
+        limit,
+        &mut scratch,
+    );
+    Played { seat, end, link }
+}
+
+/// Runs the jobs' sessions at the same time, each on a thread of its own.
+pub fn play<R: Recorder + Send, L: Link + Send + Drop, C: Clock + Sync, W: Threads + Wait + Sync>(
+    rt: &W,
+    turns: &Turns<SharedRoom<R>>,
+    clock: &C,
+    limit: u64,
+    seated: Vec<Seated<R, L>>,
+) -> Result<Vec<Played<R, L>>, NoMemory>
+    requires locks { All (λ s. s.seat.lock ≡ turns.now) seated.items }
+    requires fits { All (λ s. Fits s.seat) seated.items }
+    ensures { IfOk result (λ played. ArePlayed limit (map (λ s. seated_job s.seat (job_before s.job.role (L.told s.job.link) (L.faults s.job.link))) seated.items) (map (λ p. played_job p.seat (job_after p.end (L.told p.link) (L.faults p.link))) played.items)) }
+{
+    let Ok(played) = thread::map_vec(
+        rt,
+        seated,
+        &move |one: Seated<R, L>| -> Played<R, L>
+            requires lock { one.seat.lock ≡ turns.now }
+            requires fits { Fits one.seat }
+            ensures { Keeps (deed_of one.job.role limit) limit one.seat result.seat (L.told one.job.link) (L.told result.link) (L.faults one.job.link) (L.faults result.link) result.end }
+        { perform(rt, turns, clock, limit, one) },
+    ) else {
+        return Err(NoMemory);
+    };
+    Ok(played)
+}
+
+/// Joins the seats into the first one, in order, and gives back the links with the sessions' ends.
+pub fn gather<R: Recorder, L: Link + Drop>(
+    alloc: Global,
+    turns: &Turns<SharedRoom<R>>,
+    seat: &mut Seat<SharedRoom<R>>,
+    played: Vec<Played<R, L>>,
+) -> Result<Vec<Ended<L>>, NoMemory>
+    requires lock { seat.old.lock ≡ turns.now }
+    requires fits { Fits seat.old }
+    requires first { seat.old.number ≡ 0 }
+    requires locks { All (λ p. p.seat.lock ≡ turns.now) played.items }
+    requires others { All (λ p. 0 < p.seat.number) played.items }
+    ensures fits { IfOk result (λ ended. Fits seat.new) }
+    ensures joined { IfOk result (λ ended. HaveJoined seat.old (map (λ p. p.seat) played.items) seat.new) }
+    ensures ended { IfOk result (λ ended. map (λ e. job_after e.end (L.told e.link) (L.faults e.link)) ended.items ≡ map (λ p. job_after p.end (L.told p.link) (L.faults p.link)) played.items) }
+{
+    let mut ended = Vec::new(alloc);
+    for one in played {
+        let Played {
+            seat: from,
+            end,
+            link,
+        } = one;
+        turns.join(seat, from);
+        put_last(&mut ended, Ended { end, link })?;
+    }
+    Ok(ended)
+}
