@@ -112,7 +112,12 @@ fn a_kind_has_its_own_length(rt: HostRuntime) -> Result<(), Fail> {
     ];
     // Behind the kind a further read fails, which comes first only where the record goes on.
     for (kind, least, most) in kinds {
-        for (length, status) in [(least - 1, 5), (least, 3), (most, 3), (most + 1, 5)] {
+        for (length, status) in [
+            (least.wrapping_sub(1), 5),
+            (least, 3),
+            (most, 3),
+            (most.wrapping_add(1), 5),
+        ] {
             let input = begun(alloc, kind, length)?;
             assert_eq!(rt;
                 command(alloc, "run", input.as_slice(), &[1])?.0,
