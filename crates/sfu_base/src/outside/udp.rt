@@ -10,8 +10,12 @@ use std::net::{Ipv4Addr, Net, SocketAddr, SocketAddrV4, UdpSocket};
 use std::time::Duration;
 use std::{io, thread, time};
 
-/// How long a receive waits for a datagram, and a send for room in the system's buffer before it tries again, in milliseconds.
-const WAIT: u64 = 1;
+/// How long a receive waits for a datagram, in microseconds. A packet waits for its subscriber's receive as for its publisher's, so twice this
+/// stays below a millisecond.
+const RECEIVE_WAIT: u64 = 400;
+
+/// How long a send waits for room in the system's buffer before it tries again, in milliseconds.
+const SEND_WAIT: u64 = 1;
 
 /// How many datagrams of strangers a receive passes over in a row.
 const STRANGER_LIMIT: u32 = 64;
@@ -57,7 +61,7 @@ impl<'a, R: Net + time::Clock> UdpLink<'a, R> {
         if let Some(count) = poll(&self.socket, self.peer, &mut self.room)? {
             return Ok(Some(count));
         }
-        thread::sleep(self.system, Duration::from_millis(WAIT));
+        thread::sleep(self.system, Duration::from_micros(RECEIVE_WAIT));
         poll(&self.socket, self.peer, &mut self.room)
     }
 
@@ -69,7 +73,7 @@ impl<'a, R: Net + time::Clock> UdpLink<'a, R> {
                 Err(error) => match error.kind() {
                     ErrorKind::WouldBlock => thread::sleep(
                         self.system,
-                        Duration::from_millis(WAIT),
+                        Duration::from_millis(SEND_WAIT),
                     ),
                     ErrorKind::Interrupted => {}
                     _ => return Err(error),
@@ -112,7 +116,7 @@ impl<'a, R: Net + time::Clock> Link for UdpLink<'a, R> {
 
     ghost faults = { λ s. s.faults };
 
-    /// Waits about a millisecond, and at most 5, where no datagram of the peer's is there.
+    /// Waits about half a millisecond, and at most 5, where no datagram of the peer's is there.
     fn receive(&mut self, buf: &mut PacketBuf) -> Result<bool, Failed>
         ensures buffer { FillsOnlyWhere result buf.old buf.new }
         ensures told { None ≡ after_receive result buf.new None }
