@@ -23,12 +23,12 @@ use Rattle.dd_descriptor.proofs.LaidFound.{head_laid, content_from, length-flag_
 -- ---- where there are enough bits
 
 -- something is read that takes n of the bits
-record Reads {A : Type 0} (n : ℕ) (bits : List Bool) (r : Result (A × List Bool) DdFault) : Type 0 where
-  found : A × List Bool
-  is : r ≡ Ok found
-  left : length found.1 + n ≡ length bits
+pub record Reads {A : Type 0} (n : ℕ) (bits : List Bool) (r : Result (A × List Bool) DdFault) : Type 0 where
+  pub found : A × List Bool
+  pub is : r ≡ Ok found
+  pub left : length found.1 + n ≡ length bits
 
-number_reads : (n : ℕ) (bits : List Bool) → n ≤ length bits → Reads n bits (number_at n bits)
+pub number_reads : (n : ℕ) (bits : List Bool) → n ≤ length bits → Reads n bits (number_at n bits)
 number_reads n bits enough = record {
   found = (value (take n bits), drop n bits);
   is = ap (or_fault faults.Short) (fixed_some n bits enough);
@@ -55,7 +55,7 @@ head_reads bits enough =
           bind_is (number_at 16 template.found.1) _ _ _ number.is refl))),
     )
 
-never : {A B E : Type 0} (r : Result A E) (x : A) (e : E) → r ≡ Ok x → r ≡ Err e → B
+pub never : {A B E : Type 0} (r : Result A E) (x : A) (e : E) → r ≡ Ok x → r ≡ Err e → B
 never r x e given fault = absurd cc
 
 pub front_short : (bytes : List ℕ) (e : DdFault) → head_at (bits_of_bytes bytes) ≡ Err e → length bytes < 3

@@ -31,10 +31,10 @@ use Rattle.dd_descriptor.proofs.Found.{inside_ok, carried_found, descriptor_foun
 
 -- ---- numbers and flags
 
-number_laid : (n : ℕ) (bits : List Bool) (x : ℕ × List Bool) → number_at n bits ≡ Ok x → Takes (λ v. v < 2 ^ n) (bits_of n) bits x
+pub number_laid : (n : ℕ) (bits : List Bool) (x : ℕ × List Bool) → number_at n bits ≡ Ok x → Takes (λ v. v < 2 ^ n) (bits_of n) bits x
 number_laid n bits x e = let f = fixed_found n x.0 bits x.1 (or_fault_ok faults.Short (fixed n bits) x e) in (f.small, f.spelled)
 
-one_bit : (v : ℕ) → v < 2 ^ 1 → bits_of 1 v ≡ flag_bits (eqb v 1)
+pub one_bit : (v : ℕ) → v < 2 ^ 1 → bits_of 1 v ≡ flag_bits (eqb v 1)
 one_bit v small =
     elim (cases_lt v 1) [
       | inl lt ↦ let is : v ≡ 0 = omega arith in rw is refl

@@ -7,3 +7,4 @@ pub mod Found
 pub mod LaidFound
 pub mod Remasked
 pub mod FirstBytes
+pub mod Fields

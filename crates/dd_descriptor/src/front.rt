@@ -8,7 +8,7 @@ ghost use Rattle.dd_descriptor.specs.Reading.{descriptor_at};
 
 use crate::descriptor::Edges;
 use crate::reading::fields::head;
-use dd_bits::{BitReader, Short};
+use dd_bits::Short;
 
 /// What the first three bytes of a descriptor say, whatever follows them; `Short` comes where there are fewer.
 pub fn edges(bytes: &[u8]) -> Result<Edges, Short>
@@ -16,9 +16,8 @@ pub fn edges(bytes: &[u8]) -> Result<Edges, Short>
     ensures front { IfOk result (BeginsWith bytes.now) }
     ensures read { (force : Option TemplateStructure) (c : Content) → descriptor_at bytes.now force ≡ Ok c → result ≡ Ok (edges_of c) }
 {
-    let mut bits = BitReader::new(bytes);
-    match head(&mut bits) {
-        Ok(head) => Ok(Edges {
+    match head(bytes) {
+        Ok((head, _)) => Ok(Edges {
             start: head.start,
             end: head.end,
             number: head.number,

@@ -18,11 +18,12 @@ ghost use Rattle.dd_descriptor.specs.Spelling.{IsWritableBy};
 use crate::descriptor::{Custom, Descriptor};
 use crate::fault::DdFault;
 use crate::mask::all_active;
-use crate::parts::{Flags, Frame, NO_FRAME};
+use crate::parts::{Flags, FrameHead};
 use crate::reading::fields::{flags, head, number};
 use crate::reading::frame::{fill_frame, index};
 use dd_bits::BitReader;
 use dd_structure::Structure;
+use sfu_base::Dti;
 
 /// The structure that is carried, in place of what was there. It has a frame of its own, since a function clears its long locals
 /// whenever it is entered.
@@ -80,7 +81,7 @@ pub fn mask(
     }
 }
 
-/// What follows the structure: the mask, which is answered, and the frame's definition.
+/// What follows the structure: the mask and the frame's definition.
 #[tactic(auto, unfolding(crate::specs::Reading::body_at))]
 fn body(
     bits: &mut BitReader<'_>,
@@ -88,16 +89,18 @@ fn body(
     flags: Flags,
     carries: bool,
     structure: &Structure,
-    out: &mut Frame,
-) -> Result<Option<u32>, DdFault>
+    dtis: &mut [Dti; 32],
+    refs: &mut [u16; 16],
+    links: &mut [u8; 32],
+) -> Result<(Option<u32>, FrameHead), DdFault>
     requires { template < 64 }
-    ensures { Gives (λ m. (m, frame_of structure.now.target_count structure.now.chain_count out.new)) result bits.new
+    ensures { Gives (λ x. (x.0, frame_of structure.now.target_count structure.now.chain_count x.1 dtis.new refs.new links.new)) result bits.new
         (body_at template flags carries structure.now (bits_left bits.old)) }
 {
     let mask = mask(bits, flags.mask, carries, structure.target_count())?;
     let index = index(template, structure)?;
-    fill_frame(bits, flags, structure, index, out)?;
-    Ok(mask)
+    let frame = fill_frame(bits, flags, structure, index, dtis, refs, links)?;
+    Ok((mask, frame))
 }
 
 /// The same by the structure that is carried, or else the one in force.
@@ -108,16 +111,18 @@ fn held_body(
     flags: Flags,
     carried: &Option<Structure>,
     force: Option<&Structure>,
-    out: &mut Frame,
-) -> Result<Option<u32>, DdFault>
+    dtis: &mut [Dti; 32],
+    refs: &mut [u16; 16],
+    links: &mut [u8; 32],
+) -> Result<(Option<u32>, FrameHead), DdFault>
     requires { template < 64 }
-    ensures { Gives (λ m. (m, frame_of (targets_in (holding carried.now (option_copied force.entry))) (chains_in (holding carried.now (option_copied force.entry))) out.new)) result bits.new
-        (held_body_at template flags carried.now (option_copied force.entry) (bits_left bits.old)) }
+    ensures { Gives (λ x. (x.0, frame_of (targets_in (holding carried.now (option_copied force.entry))) (chains_in (holding carried.now (option_copied force.entry))) x.1 dtis.new refs.new links.new))
+        result bits.new (held_body_at template flags carried.now (option_copied force.entry) (bits_left bits.old)) }
 {
     match carried {
-        Some(structure) => body(bits, template, flags, true, structure, out),
+        Some(structure) => body(bits, template, flags, true, structure, dtis, refs, links),
         None => match force {
-            Some(structure) => body(bits, template, flags, false, structure, out),
+            Some(structure) => body(bits, template, flags, false, structure, dtis, refs, links),
             None => Err(DdFault::NoStructure),
         },
     }
@@ -138,18 +143,18 @@ fn fill(bytes: &[u8], force: Option<&Structure>, out: &mut Descriptor) -> Result
     ensures read { AnswersIn (option_copied force.entry) out.new result (descriptor_at bytes.now (option_copied force.entry)) }
     ensures few { OnOk result (out.new.ref_count ≤ 16) }
 {
-    let mut bits = BitReader::new(bytes);
-    let head = head(&mut bits)?;
+    let (head, mut bits) = head(bytes)?;
     let flags = flags(&mut bits, bytes.len())?;
     put_carried(&mut bits, flags.structure, &mut out.structure)?;
-    let mut frame = NO_FRAME;
-    let mask = held_body(
+    let (mask, frame) = held_body(
         &mut bits,
         head.template,
         flags,
         &out.structure,
         force,
-        &mut frame,
+        &mut out.dtis,
+        &mut out.refs,
+        &mut out.links,
     )?;
     out.start = head.start;
     out.end = head.end;
@@ -163,10 +168,7 @@ fn fill(bytes: &[u8], force: Option<&Structure>, out: &mut Descriptor) -> Result
         fdiffs: flags.fdiffs,
         chains: flags.chains,
     };
-    out.dtis = frame.dtis;
-    out.ref_count = frame.refs.count;
-    out.refs = frame.refs.items;
-    out.links = frame.links;
+    out.ref_count = frame.ref_count;
     Ok(())
 }
 

@@ -13,7 +13,7 @@ ghost use Rattle.dd_descriptor.specs.Remasking.{remasked, with_new_mask, TakesMa
 
 use crate::descriptor::Custom;
 use crate::fault::DdFault;
-use crate::parts::{Flags, NO_FRAME};
+use crate::parts::Flags;
 use crate::reading::fields::{flags, head};
 use crate::reading::frame::{fill_frame, index};
 use crate::reading::{force_is_well_formed, mask, put_carried};
@@ -21,7 +21,7 @@ use crate::writing::MOST;
 use crate::writing::fields::put_flags;
 use dd_bits::{BitReader, BitWriter, NoRoom};
 use dd_structure::Structure;
-use sfu_base::{NoFit, PacketBuf};
+use sfu_base::{Dti, NoFit, PacketBuf};
 
 /// The bits between two places.
 #[derive(Clone, Copy)]
@@ -55,8 +55,12 @@ fn body_parts<'a>(
     mask(bits, flags.mask, carries, structure.target_count())?;
     let from = *bits;
     let index = index(template, structure)?;
-    let mut frame = NO_FRAME;
-    fill_frame(bits, flags, structure, index, &mut frame)?;
+    let mut dtis = [Dti::NotPresent; 32];
+    let mut refs = [0; 16];
+    let mut links = [0; 32];
+    fill_frame(
+        bits, flags, structure, index, &mut dtis, &mut refs, &mut links,
+    )?;
     Ok((structure.target_count(), Part { from, to: *bits }))
 }
 
@@ -86,11 +90,9 @@ fn held_parts<'a>(
 fn parts_in<'a>(bytes: &'a [u8], force: Option<&Structure>) -> Result<Parts<'a>, DdFault>
     ensures { GivesParts result (parts_at bytes.now (option_copied force.entry)) }
 {
-    let mut bits = BitReader::new(bytes);
-    let begin = bits;
-    let fields = head(&mut bits)?;
+    let (fields, mut bits) = head(bytes)?;
     let head = Part {
-        from: begin,
+        from: BitReader::new(bytes),
         to: bits,
     };
     let flags = flags(&mut bits, bytes.len())?;

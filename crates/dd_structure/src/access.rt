@@ -1,6 +1,6 @@
 //! The parts of a structure.
 
-ghost use Rattle.std.specs.Prelude.{◌≡◌, ◌<◌, ◌≤◌, length, All};
+ghost use Rattle.std.specs.Prelude.{◌≡◌, ◌<◌, ◌≤◌, take, length, All};
 ghost use Rattle.dd_structure.specs.Reading.{guard_count};
 ghost use Rattle.dd_structure.specs.Spelling.{IsDistance};
 ghost use Rattle.dd_structure.specs.TemplateStructure.{template_at};
@@ -64,6 +64,14 @@ impl Structure {
         &columns.indications[template as usize][..columns.target_count as usize]
     }
 
+    /// The same at the front of an array, which is copied faster; what stands behind doesn't count.
+    pub fn indication_row(&self, template: u8) -> &[Dti; 32]
+        requires { template < length self.now.templates }
+        ensures value { take self.now.target_count result.now ≡ (template_at self.now template).indications }
+    {
+        &self.columns.indications[template as usize]
+    }
+
     /// How many frames back each frame is that a template refers to.
     pub fn distances(&self, template: u8) -> &[u8]
         requires { template < length self.now.templates }
@@ -72,6 +80,16 @@ impl Structure {
     {
         let distances = &self.columns.distances[template as usize];
         &distances.items[..distances.count as usize]
+    }
+
+    /// How many they are, at most 16, and the same at the front of an array; what stands behind doesn't count.
+    pub fn distance_row(&self, template: u8) -> (u8, &[u8; 16])
+        requires { template < length self.now.templates }
+        ensures value { take result.0 result.1.now ≡ (template_at self.now template).distances }
+        ensures few { result.0 ≤ 16 }
+    {
+        let distances = &self.columns.distances[template as usize];
+        (distances.count, &distances.items)
     }
 
     /// How many frames back a template's previous frame in each chain is, 0 where none is needed.
@@ -83,6 +101,14 @@ impl Structure {
     {
         let columns = &self.columns;
         &columns.links[template as usize][..columns.chain_count as usize]
+    }
+
+    /// The same at the front of an array; what stands behind doesn't count.
+    pub fn link_row(&self, template: u8) -> &[u8; 32]
+        requires { template < length self.now.templates }
+        ensures value { take self.now.chain_count result.now ≡ (template_at self.now template).links }
+    {
+        &self.columns.links[template as usize]
     }
 
     /// The chain that protects each decode target; none where there are no chains.
