@@ -5,7 +5,7 @@ pub mod fields;
 pub mod frame;
 mod template;
 
-ghost use Rattle.std.specs.Prelude.{◌<◌, ◌≤◌, true, IfOk, IfSome, OnOk};
+ghost use Rattle.std.specs.Prelude.{◌≡◌, ◌<◌, ◌≤◌, true, IfOk, IfSome, OnOk};
 ghost use Rattle.std.specs.Option.{option_copied};
 ghost use Rattle.dd_bits.specs.Reader.{bits_left};
 ghost use Rattle.dd_bits.specs.Sequences.{Gives};
@@ -103,6 +103,16 @@ fn body(
     Ok((mask, frame))
 }
 
+/// The structure that is carried, or else the one in force.
+fn held<'a>(carried: &'a Option<Structure>, force: Option<&'a Structure>) -> Option<&'a Structure>
+    ensures { option_copied result ≡ holding carried.now (option_copied force.entry) }
+{
+    match carried {
+        Some(structure) => Some(structure),
+        None => force,
+    }
+}
+
 /// The same by the structure that is carried, or else the one in force.
 #[tactic(auto, unfolding(crate::specs::Reading::held_body_at))]
 fn held_body(
@@ -119,12 +129,18 @@ fn held_body(
     ensures { Gives (λ x. (x.0, frame_of (targets_in (holding carried.now (option_copied force.entry))) (chains_in (holding carried.now (option_copied force.entry))) x.1 dtis.new refs.new links.new))
         result bits.new (held_body_at template flags carried.now (option_copied force.entry) (bits_left bits.old)) }
 {
-    match carried {
-        Some(structure) => body(bits, template, flags, true, structure, dtis, refs, links),
-        None => match force {
-            Some(structure) => body(bits, template, flags, false, structure, dtis, refs, links),
-            None => Err(DdFault::NoStructure),
-        },
+    match held(carried, force) {
+        Some(structure) => body(
+            bits,
+            template,
+            flags,
+            carried.is_some(),
+            structure,
+            dtis,
+            refs,
+            links,
+        ),
+        None => Err(DdFault::NoStructure),
     }
 }
 
