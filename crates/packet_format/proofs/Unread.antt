@@ -9,10 +9,8 @@ use Rattle.dd_structure.specs.Spelling.{IsWellFormed}
 use Rattle.dd_structure.specs.TemplateStructure.{TemplateStructure}
 use Rattle.dd_descriptor.specs.declared.fault.DdFault.{DdFault}
 use Rattle.dd_descriptor.specs.declared.parts.Flags.{Flags}
-use Rattle.dd_descriptor.specs.declared.parts.Head.{Head}
-use Rattle.dd_descriptor.specs.Content.{Content, FrameContent, holding}
-use Rattle.dd_descriptor.specs.Parts.{PartBits, body_parts_at, held_parts_at, parts_at, with_mask}
-use Rattle.dd_descriptor.specs.Reading.{body_at, carried_at, descriptor_at, flags_in, frame_at, head_at, held, held_body_at, index_at, index_of, mask_at}
+use Rattle.dd_descriptor.specs.Parts.{PartBits, body_parts_at, held_parts_at, parts_at}
+use Rattle.dd_descriptor.specs.Reading.{body_at, carried_at, descriptor_at, flags_in, frame_at, head_at, held, held_body_at, index_at, mask_at}
 use Rattle.dd_descriptor.specs.Remasking.{TakesMask}
 use Rattle.dd_descriptor.specs.Spelling.{flag_bits}
 use Rattle.dd_descriptor.proofs.LaidFound.{descriptor_laid}

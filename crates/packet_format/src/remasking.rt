@@ -26,55 +26,87 @@ const EXTENSION_HEADER: usize = 4;
 /// The bytes that a remasked packet has at most.
 const MOST: usize = 1536;
 
-/// Fills `out` with the packet as it tells another mask in its dependency descriptor (AV1 RTP payload format, Appendix A): bit i of the
-/// mask, the lowest first, says whether decode target i is active, and bits past the last decode target are left out. The descriptor is the
-/// value of the first header extension element with the id (RFC 8285); the elements stand in their order, and a descriptor of more than 16
-/// bytes turns the one-byte form into the two-byte form. Fixed header, CSRC identifiers, payload and padding (RFC 3550, section 5.1) stay
-/// bit by bit. `NoFit` comes where the packet can't be remasked: it has no descriptor, or one that doesn't read with the structure in force,
-/// or the descriptor would have more than 255 bytes or the packet more than 1,536; `out` is then as it was.
-///
-/// RTP reads the packet.
-pub fn remask(
-    packet: &[u8],
-    id: u8,
-    force: Option<&Structure>,
-    mask: u32,
-    out: &mut PacketBuf,
-) -> Result<(), NoFit>
-    requires { first_fault packet.now ≡ None }
-    ensures ok { OnOk result (remasked id (option_copied force.entry) mask packet.now ≡ Some out.new) }
-    ensures err { OnErr result (remasked id (option_copied force.entry) mask packet.now ≡ None) }
-    ensures unchanged { OnErr result (out.new ≡ out.old) }
-{
-    let Ok(parts) = rtp_packet::read(packet) else {
-        unreachable!()
-    };
-    let Some(profile) = parts.profile else {
-        return Err(NoFit);
-    };
-    let Some(descriptor) = descriptor_bytes(&parts, id) else {
-        return Err(NoFit);
-    };
-    let mut value = PacketBuf::new();
-    fill_value(descriptor, force, mask, &mut value)?;
-    let mut extension = PacketBuf::new();
-    rtp_extension::reblock(profile, parts.block, id, value.bytes(), &mut extension)?;
-    let old = EXTENSION_HEADER + parts.block.len();
-    fill_packet(packet, old, extension.bytes(), out)
+/// Gives packets another mask. It keeps what it works in, some 5 KB, so that no packet has to clear it.
+#[derive(Drop)]
+pub struct Remasker {
+    newest: Descriptor,
+    value: PacketBuf,
+    extension: PacketBuf,
 }
 
-/// Fills `out` with the descriptor as it tells this mask.
+impl Remasker {
+    ghost use Rattle.std.specs.Prelude.{◌≡◌, None, OnErr, OnOk, Some};
+    ghost use Rattle.std.specs.Option.{option_copied};
+    ghost use Rattle.rtp_packet.specs.Faults.{first_fault};
+    ghost use Rattle.packet_format.specs.Remasked.{remasked};
+
+    /// One for all packets, whatever they tell.
+    pub fn new() -> Remasker {
+        Remasker {
+            newest: Descriptor::new(),
+            value: PacketBuf::new(),
+            extension: PacketBuf::new(),
+        }
+    }
+
+    /// Fills `out` with the packet as it tells another mask in its dependency descriptor (AV1 RTP payload format, Appendix A): bit i of the
+    /// mask, the lowest first, says whether decode target i is active, and bits past the last decode target are left out. The descriptor is
+    /// the value of the first header extension element with the id (RFC 8285); the elements stand in their order, and a descriptor of more
+    /// than 16 bytes turns the one-byte form into the two-byte form. Fixed header, CSRC identifiers, payload and padding (RFC 3550, section
+    /// 5.1) stay bit by bit. `NoFit` comes where the packet can't be remasked: it has no descriptor, or one that doesn't read with the
+    /// structure in force, or the descriptor would have more than 255 bytes or the packet more than 1,536; `out` is then as it was.
+    ///
+    /// RTP reads the packet.
+    pub fn remask(
+        &mut self,
+        packet: &[u8],
+        id: u8,
+        force: Option<&Structure>,
+        mask: u32,
+        out: &mut PacketBuf,
+    ) -> Result<(), NoFit>
+        requires { first_fault packet.now ≡ None }
+        ensures ok { OnOk result (remasked id (option_copied force.entry) mask packet.now ≡ Some out.new) }
+        ensures err { OnErr result (remasked id (option_copied force.entry) mask packet.now ≡ None) }
+        ensures unchanged { OnErr result (out.new ≡ out.old) }
+    {
+        let Ok(parts) = rtp_packet::read(packet) else {
+            unreachable!()
+        };
+        let Some(profile) = parts.profile else {
+            return Err(NoFit);
+        };
+        let Some(descriptor) = descriptor_bytes(&parts, id) else {
+            return Err(NoFit);
+        };
+        fill_value(descriptor, force, mask, &mut self.newest, &mut self.value)?;
+        let value = self.value.bytes();
+        self.extension.fill(&[]);
+        rtp_extension::reblock(profile, parts.block, id, value, &mut self.extension)?;
+        let old = EXTENSION_HEADER + parts.block.len();
+        fill_packet(packet, old, self.extension.bytes(), out)
+    }
+}
+
+impl Default for Remasker {
+    fn default() -> Remasker {
+        Remasker::new()
+    }
+}
+
+/// Fills `out` with the descriptor as it tells this mask. It is read into `newest`.
 fn fill_value(
     descriptor: &[u8],
     force: Option<&Structure>,
     mask: u32,
+    newest: &mut Descriptor,
     out: &mut PacketBuf,
 ) -> Result<(), NoFit>
     ensures ok { OnOk result (at_most 255 (new_value (option_copied force.entry) mask (Some descriptor.now)) ≡ Some out.new) }
     ensures err { OnErr result (at_most 255 (new_value (option_copied force.entry) mask (Some descriptor.now)) ≡ None) }
 {
     force_is_well_formed(force);
-    let Some(targets) = target_count(descriptor, force) else {
+    let Some(targets) = target_count(descriptor, force, newest) else {
         return Err(NoFit);
     };
     let result = dd_descriptor::remask(descriptor, force, lowest(mask, targets), out);
@@ -82,18 +114,15 @@ fn fill_value(
     result
 }
 
-/// How many decode targets the structure has by which the descriptor is read, or `None` where it doesn't read. It has a frame of its own,
-/// since a descriptor is long.
-#[inline(never)]
-fn target_count(descriptor: &[u8], force: Option<&Structure>) -> Option<u8>
+/// How many decode targets the structure has by which the descriptor is read, or `None` where it doesn't read. It is read into `newest`.
+fn target_count(descriptor: &[u8], force: Option<&Structure>, newest: &mut Descriptor) -> Option<u8>
     ensures read { IsReadBy descriptor.now (option_copied force.entry) result }
     ensures few { IfSome result (λ n. n ≤ 32) }
 {
-    let mut read = Descriptor::new();
-    if read_into(descriptor, force, &mut read).is_err() {
+    if read_into(descriptor, force, newest).is_err() {
         return None;
     }
-    match &read.structure {
+    match &newest.structure {
         Some(structure) => Some(structure.target_count()),
         None => match force {
             Some(structure) => Some(structure.target_count()),

@@ -9,7 +9,7 @@ ghost use Rattle.room_core.specs.Follows.{PushesBehind, PushesFrame, pushed_all,
 
 use dd_structure::Structure;
 use out_ring::OutRing;
-use packet_format::{remask, tells};
+use packet_format::{Remasker, tells};
 use sfu_base::PacketBuf;
 use track_core::Track;
 
@@ -85,7 +85,7 @@ fn push_told(
     ensures { ring.new ≡ pushed_all (remasked_packet id (option_copied force.entry) mask (record (packet_of packet.now) { marker = marker }) ∷ []) ring.old }
 {
     let mut told = PacketBuf::new();
-    match remask(packet, id, force, mask, &mut told) {
+    match Remasker::new().remask(packet, id, force, mask, &mut told) {
         Ok(()) => ring.push(told.bytes(), marker),
         Err(_) => ring.push(packet, marker),
     }

@@ -2,7 +2,7 @@
 
 ghost use Rattle.std.specs.Prelude.{◌≤◌, ◌+◌, length};
 
-use crate::remask;
+use crate::Remasker;
 use dd_structure::Structure;
 use sfu_base::PacketBuf;
 use std::test::Fail;
@@ -65,7 +65,7 @@ fn remasked(
     }
     let mut out = PacketBuf::new();
     out.fill(&[7]);
-    match remask(packet, 4, force, mask, &mut out) {
+    match Remasker::new().remask(packet, 4, force, mask, &mut out) {
         Ok(()) => Ok(Some(out)),
         Err(_) if out.bytes() == [7].as_slice() => Ok(None),
         Err(_) => Err(Fail::from("the buffer isn't as it was")),

@@ -1,4 +1,4 @@
-use Rattle.std.proofs.Common.{◌≡◌, ◌∙◌, ◌%◌, ◌^◌, ℕ, List, Option, Some, None, ap, subst, sym}
+use Rattle.std.proofs.Common.{◌≡◌, ◌∙◌, ℕ, List, Option, Some, None, ap, subst}
 use Rattle.std.specs.Prelude.{OnErr, OnOk}
 use Rattle.std.specs.Option.{option_copied}
 use Rattle.sfu_base.specs.Bytes.{AreBytes}
