@@ -1,3 +1,4 @@
 pub mod Words
 pub mod Steps
 pub mod Doing
+pub mod Counting

@@ -1,5 +1,5 @@
 -- The words of a seat in a history that grows.
-use Rattle.std.proofs.Common.{◌≡◌, ℕ, Bool, true, false, cond, eqb, List, [], ◌∷◌, ◌++◌, refl, ap, sym, ◌∙◌, append-nil, eq-eqb, append_assoc}
+use Rattle.std.proofs.Common.{◌≡◌, ℕ, suc, length, Bool, true, false, cond, eqb, List, [], ◌∷◌, ◌++◌, refl, ap, sym, ◌∙◌, append-nil, eq-eqb, append_assoc}
 use Rattle.std.proofs.lemmas.List.{append_cancel_right}
 use mathlib.Core.List.{IsPrefix}
 use Rattle.turn_lock.specs.declared.history.Entry.{Entry}
@@ -50,3 +50,14 @@ module _ {C A : Type 0} where
   words_same reply starved n seen seen' own pre had has =
       let none : own_of n pre.0 ≡ [] = nothing own (own_of n pre.0) (ap (λ (l : List (Entry C)). l ++ own_of n pre.0) (sym had) ∙ (sym (own_append n seen pre.0) ∙ (ap (own_of n) pre.1 ∙ has))) in
       ap (words_from reply starved [] n) (sym pre.1) ∙ (words_append reply starved [] n seen pre.0 ∙ (ap (λ (l : List (Word C A)). words_from reply starved [] n seen ++ l) (words_none reply starved seen n pre.0 none) ∙ append-nil (words_from reply starved [] n seen)))
+
+module _ {C A : Type 0} where
+  as_long : (b : Bool) (w : Word C A) (e : Entry C) (ws : List (Word C A)) (os : List (Entry C)) → length ws ≡ length os → length (cond b (w ∷ ws) ws) ≡ length (cond b (e ∷ os) os)
+  as_long true w e ws os same = ap suc same
+  as_long false w e ws os same = same
+
+  -- a seat has as many words as entries
+  pub words_length : (reply : List (Entry C) → C → A) (starved : A) (before : List (Entry C)) (n : ℕ) (h : List (Entry C)) → length (words_from reply starved before n h) ≡ length (own_of n h)
+  words_length reply starved before n [] = refl
+  words_length reply starved before n (e ∷ h) =
+      as_long (eqb e.seat n) (word_at reply starved before e) e (words_from reply starved (before ++ e ∷ []) n h) (own_of n h) (words_length reply starved (before ++ e ∷ []) n h)

@@ -1,5 +1,5 @@
 -- A session's contract, read in a later history.
-use Rattle.std.proofs.Common.{◌≡◌, ℕ, ◌<◌, ◌≤◌, ◌+◌, ◌^◌, List, [], ◌++◌, ap, sym, subst, ◌∙◌, Option}
+use Rattle.std.proofs.Common.{◌≡◌, ℕ, ◌*◌, ◌^◌, List, [], ◌++◌, ap, sym, subst, ◌∙◌, Option}
 use mathlib.Core.List.{IsPrefix}
 use Rattle.sfu_base.specs.Answer.{Answer, Refused}
 use Rattle.sfu_base.specs.Links.{Traffic}
@@ -8,10 +8,12 @@ use Rattle.sfu_base.specs.declared.call.Refusal.TheVariants.{NoMemory}
 use Rattle.turn_lock.specs.declared.history.Entry.{Entry}
 use Rattle.turn_lock.specs.History.{own_of}
 use Rattle.turn_lock.specs.Known.{Known}
-use Rattle.deeds.specs.Deeds.{Listen, Ask, Post, Over, Word, received_of, said_of}
+use Rattle.deeds.specs.Deeds.{Listen, Ask, Post, Over, Word, said_of}
 use Rattle.deeds.proofs.Words.{words_none, words_same}
+use Rattle.deeds.proofs.Counting.{AsksAtMost, few_said}
 use Rattle.sfu_serve.specs.declared.ends.SessionEnd.{SessionEnd}
 use Rattle.sfu_serve.specs.declared.ends.SessionEnd.TheVariants.{AllTurns, LinkFault, Worn}
+use Rattle.sfu_serve.specs.Datagrams.{IsOne}
 use Rattle.sfu_serve.specs.Sessions.{Doing}
 use Rattle.sfu_serve.specs.Parts.{Keeps, MeetsEnd, reply_after, words_of}
 use Rattle.sfu_serve.specs.Runs.{IsSession}
@@ -34,8 +36,8 @@ ends_later before after found found' limit (Ask call f) turns Worn p e = (p e.0,
 -- a session of a seat with no entries stands in each later history in which the seat has no more
 pub is_session : (whole : Doing) (limit found : ℕ) (old new : Known Call) (history : List (Entry Call)) (told told' : Option Traffic) (before after : ℕ) (end : SessionEnd)
     → Keeps whole limit old new told told' before after end → own_of old.number old.seen ≡ [] → IsPrefix new.seen history → own_of old.number history ≡ new.own → (new.found ≡ 2 ^ 63 → found ≡ 2 ^ 63)
-    → IsSession whole limit old.number found history told told' before after end
-is_session whole limit found old new history told told' before after end k none pre own worn =
+    → AsksAtMost whole (10000 * limit) → IsSession whole limit old.number found history told told' before after end
+is_session whole limit found old new history told told' before after end k none pre own worn few =
     let d = k.done in
     let n : new.number ≡ old.number = d.seat.2 in
     let had : own_of old.number new.seen ≡ new.own = ap (λ (m : ℕ). own_of m new.seen) (sym n) ∙ d.fits.own in
@@ -47,6 +49,8 @@ is_session whole limit found old new history told told' before after end k none 
       leads = d.leads;
       words = same ∙ (ap (λ (m : ℕ). words_of m new.seen) (sym n) ∙ (d.words ∙ ap (λ (l : List (Word Call Answer)). l ++ said_of d.steps) start));
       link = d.link;
+      short = d.short;
+      most = few_said IsOne whole d.steps k.rest (10000 * limit) d.leads d.short few;
       faults = d.faults;
       ends = subst (λ (t : ℕ). MeetsEnd before after found limit k.rest t end) (sym d.count) (ends_later before after new.found found limit k.rest k.turns end worn k.ends);
     }

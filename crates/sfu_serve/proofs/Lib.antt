@@ -8,3 +8,6 @@ pub mod Ending
 pub mod Later
 pub mod Casting
 pub mod Running
+pub mod FewItems
+pub mod FewCalls
+pub mod FewEntries

@@ -1,6 +1,5 @@
 -- From the seats' own promises to what sessions that ran at once did together.
 use Rattle.std.proofs.Common.{◌≡◌, ℕ, zero, suc, ◌+◌, ◌-◌, ◌^◌, ◌<◌, ◌≤◌, List, [], ◌∷◌, ◌++◌, length, map, refl, ap, sym, subst, ◌∙◌, arith}
-use mathlib.Core.List.{IsPrefix}
 use mathlib.Core.Option.{some}
 use lib.ListN.{get_elem?}
 use Rattle.sfu_base.specs.declared.call.Call.{Call}
@@ -11,6 +10,8 @@ use Rattle.turn_lock.specs.Known.{AllJoinedIn, Fits, Known, another}
 use Rattle.turn_lock.proofs.Histories.{below_more, own_above, own_append}
 use Rattle.sfu_serve.specs.Runs.{After, AreSessions, Before, HaveRun, deed_of}
 use Rattle.sfu_serve.specs.Playing.{AllKnown, ArePlayed, HaveJoined, PlayedJob, counting, joined_as, seated_from}
+use Rattle.sfu_serve.proofs.FewCalls.{deed_few}
+use Rattle.sfu_serve.proofs.FewEntries.{entries_few}
 use Rattle.sfu_serve.proofs.Later.{is_session}
 use Rattle.sfu_serve.proofs.Casting.{Numbered, as_many, numbered}
 
@@ -63,7 +64,7 @@ sessions limit root new n (job ∷ jobs) (p ∷ ps) low above most are known all
     let own : own_of n new.seen ≡ p.seat.own = subst (λ (m : ℕ). own_of m new.seen ≡ p.seat.own) number (all 0 (joined_as p.seat) refl).1 in
     let found : p.seat.found ≤ new.found = known.0.1 in (
       is_session (deed_of job.role limit) limit new.found (another (counting root n)) p.seat new.seen job.told p.ended.told job.faults p.ended.faults p.ended.end are.0
-          (own_above n root.seen (below_more 1 n root.seen above low)) known.0.0 own (λ worn. omega (arith, worn, found, most)),
+          (own_above n root.seen (below_more 1 n root.seen above low)) known.0.0 own (λ worn. omega (arith, worn, found, most)) (deed_few job.role limit),
       sessions limit root new (n + 1) jobs ps low (omega arith) most are.1 known.1 (λ i x at. all (suc i) x at),
     )
 
@@ -85,13 +86,17 @@ have_run limit old new jobs played ends fits number count are joins fits' ended 
     joined_right new.seen old.joined (map joined_as (map (λ p. p.seat) played)) (subst (λ (l : List (Joined Call)). AllJoined new.seen l) joins.joined (fits'.joined number')) in
     let counts' : new.count ≡ length jobs + 1 = omega (arith, counts) in
     let each : AreSessions limit new.found new.seen 1 jobs (map (λ p. p.ended) played) = sessions limit old new 1 jobs played low (omega arith) fits'.found are joins.known all in
+    let none : own_of 0 added ≡ [] = nothing (own_of 0 old.seen) (own_of 0 added) (sym (own_append 0 old.seen added) ∙ (ap (own_of 0) seen ∙ own)) in
+    let low' : AllBelow (length jobs + 1) added = subst (λ (n : ℕ). AllBelow n added) counts' (below_right new.count old.seen added below) in
+    let each' : AreSessions limit new.found new.seen 1 jobs ends = subst (λ (l : List After). AreSessions limit new.found new.seen 1 jobs l) (sym ended) each in
     record {
       kept = (joins.lock, joins.first, number');
       fits = fits';
       came = all_joined_in new old.joined played (numbered limit old 1 jobs played are) joins.joined (omega (arith, counts, long));
       added = added;
       seen = sym seen;
-      no_other = nothing (own_of 0 old.seen) (own_of 0 added) (sym (own_append 0 old.seen added) ∙ (ap (own_of 0) seen ∙ own));
-      below = subst (λ (n : ℕ). AllBelow n added) counts' (below_right new.count old.seen added below);
-      each = subst (λ (l : List After). AreSessions limit new.found new.seen 1 jobs l) (sym ended) each;
+      no_other = none;
+      below = low';
+      few = entries_few limit new.found old.seen added new.seen jobs ends (sym seen) none low' each';
+      each = each';
     }

@@ -1,5 +1,5 @@
 -- What sessions that ran at once did together.
-use Rattle.std.specs.Prelude.{◌≡◌, ℕ, ◌+◌, ◌≤◌, List, [], ◌∷◌, ◌++◌, length, Option, None}
+use Rattle.std.specs.Prelude.{◌≡◌, ℕ, ◌+◌, ◌*◌, ◌≤◌, List, [], ◌∷◌, ◌++◌, length, Option, None}
 use Rattle.sfu_base.specs.Links.{Traffic, with_more}
 use Rattle.sfu_base.specs.Answer.{Answer}
 use Rattle.sfu_base.specs.declared.call.Call.{Call}
@@ -7,6 +7,7 @@ use Rattle.turn_lock.specs.declared.history.Entry.{Entry}
 use Rattle.turn_lock.specs.History.{own_of, AllBelow}
 use Rattle.turn_lock.specs.Known.{Known, Fits, AllJoinedIn}
 use Rattle.deeds.specs.Deeds.{Step, Leads, received_of, said_of, sent_of}
+use Rattle.deeds.specs.Doing.{AllFitBuffers}
 use Rattle.sfu_serve.specs.declared.ends.SessionEnd.{SessionEnd}
 use Rattle.sfu_serve.specs.declared.run.Role.{Role}
 use Rattle.sfu_serve.specs.declared.run.Role.TheVariants.{Publisher, Subscriber, Control}
@@ -30,6 +31,9 @@ pub record IsSession (whole : Doing) (limit number found : ℕ) (history : List 
   pub words : words_of number history ≡ said_of steps
   -- the link tells the receives and the datagrams of the steps more
   pub link : told' ≡ with_more (received_of steps) (sent_of steps) told
+  pub short : AllFitBuffers (received_of steps)
+  -- at most 10,000 calls a turn: feedback of 2,048 bytes has at most 8,704 items, and at most 32 takes follow
+  pub most : length (said_of steps) ≤ 10000 * limit
   pub faults : before ≤ after
   pub ends : MeetsEnd before after found limit rest (length (received_of steps)) end
 
@@ -68,4 +72,5 @@ pub record HaveRun (limit : ℕ) (old new : Known Call) (jobs : List Before) (en
   pub seen : new.seen ≡ old.seen ++ added
   pub no_other : own_of 0 added ≡ []
   pub below : AllBelow (length jobs + 1) added
+  pub few : length added ≤ length jobs * (10000 * limit)
   pub each : AreSessions limit new.found new.seen 1 jobs ends

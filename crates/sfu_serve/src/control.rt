@@ -54,7 +54,8 @@ fn answer_line<R: Recorder, L: Link, W: Wait + Sync>(
 ) -> Result<(), Stop>
     requires lock { seat.old.lock ≡ turns.now }
     requires fits { Fits seat.old }
-    ensures part { (next : Doing) → IsPart (answers (control_call line.now) next) next seat.old seat.new (L.told link.old) (L.told link.new) (L.faults link.old) (L.faults link.new) result }
+    ensures part { (next : Doing) → IsPart (answers (control_call line.now) next) next
+        seat.old seat.new (L.told link.old) (L.told link.new) (L.faults link.old) (L.faults link.new) result }
 {
     match read_control(line) {
         Some(call) => match say(rt, turns, seat, &call, scratch) {
@@ -84,7 +85,8 @@ fn control_turn<R: Recorder, L: Link, W: Wait + Sync>(
 ) -> Result<(), Stop>
     requires lock { seat.old.lock ≡ turns.now }
     requires fits { Fits seat.old }
-    ensures part { (next : Doing) → IsPart (controls (datagram came line.now) next) next seat.old seat.new (L.told link.old) (L.told link.new) (L.faults link.old) (L.faults link.new) result }
+    ensures part { (next : Doing) → IsPart (controls (datagram came line.now) next) next
+        seat.old seat.new (L.told link.old) (L.told link.new) (L.faults link.old) (L.faults link.new) result }
     ensures bounded { length line.now ≤ 2048 }
 {
     let line = line.bytes();

@@ -59,7 +59,8 @@ pub fn cast<R: Recorder, L: Link + Drop>(
     requires few { length jobs.items ≤ 64 }
     ensures split { IfOk result (λ seated. seat.new ≡ counting seat.old (1 + length jobs.items)) }
     ensures fits { IfOk result (λ seated. Fits seat.new) }
-    ensures seated { IfOk result (λ seated. map (λ s. seated_job s.seat (job_before s.job.role (L.told s.job.link) (L.faults s.job.link))) seated.items ≡ seated_from seat.old 1 (map (λ j. job_before j.role (L.told j.link) (L.faults j.link)) jobs.items)) }
+    ensures seated { IfOk result (λ seated. map (λ s. seated_job s.seat (job_before s.job.role (L.told s.job.link) (L.faults s.job.link))) seated.items
+        ≡ seated_from seat.old 1 (map (λ j. job_before j.role (L.told j.link) (L.faults j.link)) jobs.items)) }
 {
     let mut seated = Vec::new(alloc);
     for job in jobs {
@@ -105,7 +106,8 @@ fn perform<R: Recorder, L: Link, C: Clock, W: Wait + Sync>(
 ) -> Played<R, L>
     requires lock { seated.seat.lock ≡ turns.now }
     requires fits { Fits seated.seat }
-    ensures keeps { Keeps (deed_of seated.job.role limit) limit seated.seat result.seat (L.told seated.job.link) (L.told result.link) (L.faults seated.job.link) (L.faults result.link) result.end }
+    ensures keeps { Keeps (deed_of seated.job.role limit) limit
+        seated.seat result.seat (L.told seated.job.link) (L.told result.link) (L.faults seated.job.link) (L.faults result.link) result.end }
 {
     let mut scratch = Scratch {
         packet: PacketBuf::new(),
@@ -136,7 +138,9 @@ pub fn play<R: Recorder + Send, L: Link + Send + Drop, C: Clock + Sync, W: Threa
 ) -> Result<Vec<Played<R, L>>, NoMemory>
     requires locks { All (λ s. s.seat.lock ≡ turns.now) seated.items }
     requires fits { All (λ s. Fits s.seat) seated.items }
-    ensures { IfOk result (λ played. ArePlayed limit (map (λ s. seated_job s.seat (job_before s.job.role (L.told s.job.link) (L.faults s.job.link))) seated.items) (map (λ p. played_job p.seat (job_after p.end (L.told p.link) (L.faults p.link))) played.items)) }
+    ensures { IfOk result (λ played. ArePlayed limit
+        (map (λ s. seated_job s.seat (job_before s.job.role (L.told s.job.link) (L.faults s.job.link))) seated.items)
+        (map (λ p. played_job p.seat (job_after p.end (L.told p.link) (L.faults p.link))) played.items)) }
 {
     let Ok(played) = thread::map_vec(
         rt,
@@ -144,7 +148,8 @@ pub fn play<R: Recorder + Send, L: Link + Send + Drop, C: Clock + Sync, W: Threa
         &move |one: Seated<R, L>| -> Played<R, L>
             requires lock { one.seat.lock ≡ turns.now }
             requires fits { Fits one.seat }
-            ensures { Keeps (deed_of one.job.role limit) limit one.seat result.seat (L.told one.job.link) (L.told result.link) (L.faults one.job.link) (L.faults result.link) result.end }
+            ensures { Keeps (deed_of one.job.role limit) limit
+                one.seat result.seat (L.told one.job.link) (L.told result.link) (L.faults one.job.link) (L.faults result.link) result.end }
         { perform(rt, turns, clock, limit, one) },
     ) else {
         return Err(NoMemory);
@@ -166,7 +171,8 @@ pub fn gather<R: Recorder, L: Link + Drop>(
     requires others { All (λ p. 0 < p.seat.number) played.items }
     ensures fits { IfOk result (λ ended. Fits seat.new) }
     ensures joined { IfOk result (λ ended. HaveJoined seat.old (map (λ p. p.seat) played.items) seat.new) }
-    ensures ended { IfOk result (λ ended. map (λ e. job_after e.end (L.told e.link) (L.faults e.link)) ended.items ≡ map (λ p. job_after p.end (L.told p.link) (L.faults p.link)) played.items) }
+    ensures ended { IfOk result (λ ended. map (λ e. job_after e.end (L.told e.link) (L.faults e.link)) ended.items
+        ≡ map (λ p. job_after p.end (L.told p.link) (L.faults p.link)) played.items) }
 {
     let mut ended = Vec::new(alloc);
     for one in played {

@@ -59,7 +59,8 @@ fn bring<R: Recorder, W: Wait + Sync>(
 ) -> Result<(), Stop>
     requires lock { seat.old.lock ≡ turns.now }
     requires fits { Fits seat.old }
-    ensures part { (next : Doing) (told : Option Traffic) (faults : ℕ) → IsPart (brings track moment (datagram came packet.now) next) next seat.old seat.new told told faults faults result }
+    ensures part { (next : Doing) (told : Option Traffic) (faults : ℕ) → IsPart (brings track moment (datagram came packet.now) next) next
+        seat.old seat.new told told faults faults result }
     ensures bounded { length packet.now ≤ 2048 }
 {
     let packet = packet.bytes();
@@ -90,7 +91,8 @@ fn send_nack<L: Link>(
     out: &mut PacketBuf,
 ) -> Result<(), Stop>
     requires rise { 0 < length names.now → Rise 1023 names.now }
-    ensures part { (next : Doing) (seat : Known CallData) → Fits seat → IsPart (nacks ssrc (Named names.now) next) next seat seat (L.told link.old) (L.told link.new) (L.faults link.old) (L.faults link.new) result }
+    ensures part { (next : Doing) (seat : Known CallData) → Fits seat → IsPart (nacks ssrc (Named names.now) next) next
+        seat seat (L.told link.old) (L.told link.new) (L.faults link.old) (L.faults link.new) result }
 {
     if names.numbers().is_empty() {
         return Ok(());
@@ -112,7 +114,8 @@ fn ask_for_packets<R: Recorder, L: Link, W: Wait + Sync>(
 ) -> Result<(), Stop>
     requires lock { seat.old.lock ≡ turns.now }
     requires fits { Fits seat.old }
-    ensures part { (next : Doing) → IsPart (Ask (call.Missing track) (λ names. nacks ssrc names next)) next seat.old seat.new (L.told link.old) (L.told link.new) (L.faults link.old) (L.faults link.new) result }
+    ensures part { (next : Doing) → IsPart (Ask (call.Missing track) (λ names. nacks ssrc names next)) next
+        seat.old seat.new (L.told link.old) (L.told link.new) (L.faults link.old) (L.faults link.new) result }
 {
     match say(rt, turns, seat, &Call::Missing { track }, scratch) {
         Ok(reply) => match reply {
@@ -132,8 +135,12 @@ fn send_pli<L: Link>(
     link: &mut L,
     out: &mut PacketBuf,
 ) -> Result<Option<u64>, Stop>
-    ensures done { IfOk result (λ last. (next : Option ℕ → Doing) (seat : Known CallData) → Fits seat → Done (pleads ssrc moment pleaded (KeyIs wanted) next) (next last) seat seat (L.told link.old) (L.told link.new) (L.faults link.old) (L.faults link.new) 0) }
-    ensures stopped { IfErr result (λ stop. (next : Option ℕ → Doing) (seat : Known CallData) → Fits seat → Stops (pleads ssrc moment pleaded (KeyIs wanted) next) seat seat (L.told link.old) (L.told link.new) (L.faults link.old) (L.faults link.new) stop) }
+    ensures done { IfOk result (λ last. (next : Option ℕ → Doing) (seat : Known CallData) → Fits seat → Done
+        (pleads ssrc moment pleaded (KeyIs wanted) next) (next last)
+        seat seat (L.told link.old) (L.told link.new) (L.faults link.old) (L.faults link.new) 0) }
+    ensures stopped { IfErr result (λ stop. (next : Option ℕ → Doing) (seat : Known CallData) → Fits seat → Stops
+        (pleads ssrc moment pleaded (KeyIs wanted) next)
+        seat seat (L.told link.old) (L.told link.new) (L.faults link.old) (L.faults link.new) stop) }
 {
     if !wanted {
         return Ok(pleaded);
@@ -163,8 +170,12 @@ fn ask_for_key<R: Recorder, L: Link, W: Wait + Sync>(
 ) -> Result<Option<u64>, Stop>
     requires lock { seat.old.lock ≡ turns.now }
     requires fits { Fits seat.old }
-    ensures done { IfOk result (λ last. (next : Option ℕ → Doing) → Done (Ask (call.KeyWanted track) (λ key. pleads ssrc moment pleaded key next)) (next last) seat.old seat.new (L.told link.old) (L.told link.new) (L.faults link.old) (L.faults link.new) 0) }
-    ensures stopped { IfErr result (λ stop. (next : Option ℕ → Doing) → Stops (Ask (call.KeyWanted track) (λ key. pleads ssrc moment pleaded key next)) seat.old seat.new (L.told link.old) (L.told link.new) (L.faults link.old) (L.faults link.new) stop) }
+    ensures done { IfOk result (λ last. (next : Option ℕ → Doing) → Done
+        (Ask (call.KeyWanted track) (λ key. pleads ssrc moment pleaded key next)) (next last)
+        seat.old seat.new (L.told link.old) (L.told link.new) (L.faults link.old) (L.faults link.new) 0) }
+    ensures stopped { IfErr result (λ stop. (next : Option ℕ → Doing) → Stops
+        (Ask (call.KeyWanted track) (λ key. pleads ssrc moment pleaded key next))
+        seat.old seat.new (L.told link.old) (L.told link.new) (L.faults link.old) (L.faults link.new) stop) }
 {
     match say(rt, turns, seat, &Call::KeyWanted { track }, scratch) {
         Ok(reply) => match reply {
@@ -190,8 +201,11 @@ fn ask<R: Recorder, L: Link, W: Wait + Sync>(
 ) -> Result<Last, Stop>
     requires lock { seat.old.lock ≡ turns.now }
     requires fits { Fits seat.old }
-    ensures done { IfOk result (λ now. (next : Option ℕ → Option ℕ → Doing) → Done (asks track ssrc moment last.asked last.pleaded next) (next now.asked now.pleaded) seat.old seat.new (L.told link.old) (L.told link.new) (L.faults link.old) (L.faults link.new) 0) }
-    ensures stopped { IfErr result (λ stop. (next : Option ℕ → Option ℕ → Doing) → Stops (asks track ssrc moment last.asked last.pleaded next) seat.old seat.new (L.told link.old) (L.told link.new) (L.faults link.old) (L.faults link.new) stop) }
+    ensures done { IfOk result (λ now. (next : Option ℕ → Option ℕ → Doing) → Done (asks track ssrc moment last.asked last.pleaded next)
+        (next now.asked now.pleaded) seat.old seat.new (L.told link.old) (L.told link.new) (L.faults link.old) (L.faults link.new) 0) }
+    ensures stopped { IfErr result (λ stop. (next : Option ℕ → Option ℕ → Doing) → Stops
+        (asks track ssrc moment last.asked last.pleaded next)
+        seat.old seat.new (L.told link.old) (L.told link.new) (L.faults link.old) (L.faults link.new) stop) }
 {
     if !is_due(ASKING_APART, moment, last.asked) {
         return Ok(last);
@@ -230,8 +244,14 @@ fn publisher_turn<R: Recorder, L: Link, W: Wait + Sync>(
 ) -> Result<Last, Stop>
     requires lock { seat.old.lock ≡ turns.now }
     requires fits { Fits seat.old }
-    ensures done { IfOk result (λ now. (next : Option ℕ → Option ℕ → Doing) → Done (brings track moment (datagram came packet.now) (Ask (call.Tick track moment) (λ ticked. asks track ssrc moment last.asked last.pleaded next))) (next now.asked now.pleaded) seat.old seat.new (L.told link.old) (L.told link.new) (L.faults link.old) (L.faults link.new) 0) }
-    ensures stopped { IfErr result (λ stop. (next : Option ℕ → Option ℕ → Doing) → Stops (brings track moment (datagram came packet.now) (Ask (call.Tick track moment) (λ ticked. asks track ssrc moment last.asked last.pleaded next))) seat.old seat.new (L.told link.old) (L.told link.new) (L.faults link.old) (L.faults link.new) stop) }
+    ensures done { IfOk result (λ now. (next : Option ℕ → Option ℕ → Doing) → Done
+        (brings track moment (datagram came packet.now)
+        (Ask (call.Tick track moment) (λ ticked. asks track ssrc moment last.asked last.pleaded next)))
+        (next now.asked now.pleaded) seat.old seat.new (L.told link.old) (L.told link.new) (L.faults link.old) (L.faults link.new) 0) }
+    ensures stopped { IfErr result (λ stop. (next : Option ℕ → Option ℕ → Doing) → Stops
+        (brings track moment (datagram came packet.now)
+        (Ask (call.Tick track moment) (λ ticked. asks track ssrc moment last.asked last.pleaded next)))
+        seat.old seat.new (L.told link.old) (L.told link.new) (L.faults link.old) (L.faults link.new) stop) }
     ensures bounded { length packet.now ≤ 2048 }
 {
     let tick = Call::Tick { track, moment };
@@ -263,7 +283,8 @@ pub fn publisher_session<R: Recorder, L: Link, C: Clock, W: Wait + Sync>(
 ) -> SessionEnd
     requires lock { seat.old.lock ≡ turns.now }
     requires fits { Fits seat.old }
-    ensures keeps { Keeps (publisher_deed track ssrc limit None None) limit seat.old seat.new (L.told link.old) (L.told link.new) (L.faults link.old) (L.faults link.new) result }
+    ensures keeps { Keeps (publisher_deed track ssrc limit None None) limit
+        seat.old seat.new (L.told link.old) (L.told link.new) (L.faults link.old) (L.faults link.new) result }
 {
     let mut packet = PacketBuf::new();
     let mut out = PacketBuf::new();

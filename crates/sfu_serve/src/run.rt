@@ -59,7 +59,9 @@ pub fn run_sessions<
     requires fits { Fits seat.old }
     requires first { (seat.old.number ≡ 0) × (seat.old.count ≡ 1) }
     requires jobs { vec_len jobs ≤ 64 }
-    ensures run { IfOk result (λ ended. HaveRun limit seat.old seat.new (map (λ j. job_before j.role (L.told j.link) (L.faults j.link)) jobs.items) (map (λ e. job_after e.end (L.told e.link) (L.faults e.link)) ended.items)) }
+    ensures run { IfOk result (λ ended. HaveRun limit seat.old seat.new
+        (map (λ j. job_before j.role (L.told j.link) (L.faults j.link)) jobs.items)
+        (map (λ e. job_after e.end (L.told e.link) (L.faults e.link)) ended.items)) }
 {
     let seated = cast(alloc, turns, seat, jobs)?;
     let played = play(rt, turns, clock, limit, seated)?;

@@ -27,9 +27,12 @@ pub fn say<R: Recorder, W: Wait + Sync>(
 ) -> Result<Reply, Stop>
     requires lock { seat.old.lock ≡ turns.now }
     requires fits { Fits seat.old }
-    ensures said { IfOk result (λ reply. (f : Answer → Doing) (told : Option Traffic) (faults : ℕ) → Done (Ask call.now f) (f (answer_of reply scratch.new.packet scratch.new.names)) seat.old seat.new told told faults faults 0) }
-    ensures stopped { IfErr result (λ stop. (f : Answer → Doing) (told : Option Traffic) (faults : ℕ) → Stops (Ask call.now f) seat.old seat.new told told faults faults stop) }
-    ensures replied { IfOk result (λ reply. is_starved reply ≡ false → (history : List Entry) × (answer_of reply scratch.new.packet scratch.new.names ≡ reply_of history call.now)) }
+    ensures said { IfOk result (λ reply. (f : Answer → Doing) (told : Option Traffic) (faults : ℕ) → Done (Ask call.now f)
+        (f (answer_of reply scratch.new.packet scratch.new.names)) seat.old seat.new told told faults faults 0) }
+    ensures stopped { IfErr result (λ stop. (f : Answer → Doing) (told : Option Traffic) (faults : ℕ) → Stops (Ask call.now f)
+        seat.old seat.new told told faults faults stop) }
+    ensures replied { IfOk result (λ reply. is_starved reply ≡ false → (history : List Entry)
+        × (answer_of reply scratch.new.packet scratch.new.names ≡ reply_of history call.now)) }
 {
     match turns.turn(rt, seat, call, scratch) {
         Ok(turn) => Ok(turn.reply),
@@ -39,7 +42,8 @@ pub fn say<R: Recorder, W: Wait + Sync>(
 
 /// Sends a datagram.
 pub fn post<L: Link>(link: &mut L, packet: &PacketBuf) -> Result<(), Stop>
-    ensures part { (what : Datagram) (next : Doing) (seat : Known CallData) → Fits seat → IsOne what packet.now → IsPart (Post what next) next seat seat (L.told link.old) (L.told link.new) (L.faults link.old) (L.faults link.new) result }
+    ensures part { (what : Datagram) (next : Doing) (seat : Known CallData) → Fits seat → IsOne what packet.now → IsPart (Post what next)
+        next seat seat (L.told link.old) (L.told link.new) (L.faults link.old) (L.faults link.new) result }
 {
     match link.send(packet) {
         Ok(()) => Ok(()),

@@ -32,8 +32,10 @@ fn give<R: Recorder, L: Link, W: Wait + Sync>(
 ) -> Result<bool, Stop>
     requires lock { seat.old.lock ≡ turns.now }
     requires fits { Fits seat.old }
-    ensures given { IfOk result (λ gave. (more next : Doing) → Done (Ask call.now (λ answer. sends_on answer more next)) (if gave then more else next) seat.old seat.new (L.told link.old) (L.told link.new) (L.faults link.old) (L.faults link.new) 0) }
-    ensures stopped { IfErr result (λ stop. (more next : Doing) → Stops (Ask call.now (λ answer. sends_on answer more next)) seat.old seat.new (L.told link.old) (L.told link.new) (L.faults link.old) (L.faults link.new) stop) }
+    ensures given { IfOk result (λ gave. (more next : Doing) → Done (Ask call.now (λ answer. sends_on answer more next))
+        (if gave then more else next) seat.old seat.new (L.told link.old) (L.told link.new) (L.faults link.old) (L.faults link.new) 0) }
+    ensures stopped { IfErr result (λ stop. (more next : Doing) → Stops (Ask call.now (λ answer. sends_on answer more next))
+        seat.old seat.new (L.told link.old) (L.told link.new) (L.faults link.old) (L.faults link.new) stop) }
 {
     match say(rt, turns, seat, call, scratch) {
         Ok(reply) => match reply {
@@ -59,7 +61,8 @@ fn take_all<R: Recorder, L: Link, W: Wait + Sync>(
 ) -> Result<(), Stop>
     requires lock { seat.old.lock ≡ turns.now }
     requires fits { Fits seat.old }
-    ensures part { (next : Doing) → IsPart (takes subscriber most next) next seat.old seat.new (L.told link.old) (L.told link.new) (L.faults link.old) (L.faults link.new) result }
+    ensures part { (next : Doing) → IsPart (takes subscriber most next) next
+        seat.old seat.new (L.told link.old) (L.told link.new) (L.faults link.old) (L.faults link.new) result }
 {
     let call = Call::Take { subscriber };
     for made in 0..most {
@@ -108,7 +111,8 @@ fn serve_item<R: Recorder, L: Link, W: Wait + Sync>(
 ) -> Result<(), Stop>
     requires lock { seat.old.lock ≡ turns.now }
     requires fits { Fits seat.old }
-    ensures part { (next : Doing) → IsPart (serves_one subscriber ssrc item next) next seat.old seat.new (L.told link.old) (L.told link.new) (L.faults link.old) (L.faults link.new) result }
+    ensures part { (next : Doing) → IsPart (serves_one subscriber ssrc item next) next
+        seat.old seat.new (L.told link.old) (L.told link.new) (L.faults link.old) (L.faults link.new) result }
 {
     if media(item) != ssrc {
         return Ok(());
@@ -132,7 +136,8 @@ fn serve_items<R: Recorder, L: Link, W: Wait + Sync>(
 ) -> Result<(), Stop>
     requires lock { seat.old.lock ≡ turns.now }
     requires fits { Fits seat.old }
-    ensures part { (next : Doing) → IsPart (serves subscriber ssrc items.entry next) next seat.old seat.new (L.told link.old) (L.told link.new) (L.faults link.old) (L.faults link.new) result }
+    ensures part { (next : Doing) → IsPart (serves subscriber ssrc items.entry next) next
+        seat.old seat.new (L.told link.old) (L.told link.new) (L.faults link.old) (L.faults link.new) result }
 {
     let mut left = items;
     while let Some(item) = left.next() {
@@ -157,7 +162,8 @@ fn serve_all<R: Recorder, L: Link, W: Wait + Sync>(
 ) -> Result<(), Stop>
     requires lock { seat.old.lock ≡ turns.now }
     requires fits { Fits seat.old }
-    ensures part { (next : Doing) → IsPart (serves subscriber ssrc (feedback_in bytes.now) next) next seat.old seat.new (L.told link.old) (L.told link.new) (L.faults link.old) (L.faults link.new) result }
+    ensures part { (next : Doing) → IsPart (serves subscriber ssrc (feedback_in bytes.now) next) next
+        seat.old seat.new (L.told link.old) (L.told link.new) (L.faults link.old) (L.faults link.new) result }
 {
     if !is_rtcp(bytes) {
         return Ok(());
@@ -182,7 +188,8 @@ fn hear_feedback<R: Recorder, L: Link, W: Wait + Sync>(
 ) -> Result<(), Stop>
     requires lock { seat.old.lock ≡ turns.now }
     requires fits { Fits seat.old }
-    ensures part { (next : Doing) → IsPart (hears_feedback subscriber ssrc (datagram came bytes.now) next) next seat.old seat.new (L.told link.old) (L.told link.new) (L.faults link.old) (L.faults link.new) result }
+    ensures part { (next : Doing) → IsPart (hears_feedback subscriber ssrc (datagram came bytes.now) next) next
+        seat.old seat.new (L.told link.old) (L.told link.new) (L.faults link.old) (L.faults link.new) result }
     ensures bounded { length bytes.now ≤ 2048 }
 {
     let bytes = bytes.bytes();
@@ -208,7 +215,8 @@ fn subscriber_turn<R: Recorder, L: Link, W: Wait + Sync>(
 ) -> Result<(), Stop>
     requires lock { seat.old.lock ≡ turns.now }
     requires fits { Fits seat.old }
-    ensures part { (next : Doing) → IsPart (hears_feedback subscriber ssrc (datagram came bytes.now) (takes subscriber most next)) next seat.old seat.new (L.told link.old) (L.told link.new) (L.faults link.old) (L.faults link.new) result }
+    ensures part { (next : Doing) → IsPart (hears_feedback subscriber ssrc (datagram came bytes.now) (takes subscriber most next)) next
+        seat.old seat.new (L.told link.old) (L.told link.new) (L.faults link.old) (L.faults link.new) result }
     ensures bounded { length bytes.now ≤ 2048 }
 {
     match hear_feedback(
@@ -235,7 +243,8 @@ pub fn subscriber_session<R: Recorder, L: Link, C: Clock, W: Wait + Sync>(
 ) -> SessionEnd
     requires lock { seat.old.lock ≡ turns.now }
     requires fits { Fits seat.old }
-    ensures keeps { Keeps (subscriber_deed subscriber ssrc limit) limit seat.old seat.new (L.told link.old) (L.told link.new) (L.faults link.old) (L.faults link.new) result }
+    ensures keeps { Keeps (subscriber_deed subscriber ssrc limit) limit
+        seat.old seat.new (L.told link.old) (L.told link.new) (L.faults link.old) (L.faults link.new) result }
 {
     let mut bytes = PacketBuf::new();
     for turn in 0..limit {

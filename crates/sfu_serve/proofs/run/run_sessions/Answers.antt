@@ -1,4 +1,4 @@
-use Rattle.std.proofs.Common.{◌≡◌, ◌<◌, ◌+◌, ◌∙◌, ap, sym, subst, arith, refl, ℕ, List, length, map}
+use Rattle.std.proofs.Common.{◌≡◌, ◌<◌, ◌+◌, ◌∙◌, ap, sym, subst, arith, ℕ, List, length, map}
 use Rattle.std.proofs.lemmas.List.{length-map}
 use Rattle.sfu_base.specs.declared.call.Call.{Call}
 use Rattle.turn_lock.specs.Known.{Fits, Known}
