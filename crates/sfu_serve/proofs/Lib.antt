@@ -11,3 +11,4 @@ pub mod Running
 pub mod FewItems
 pub mod FewCalls
 pub mod FewEntries
+pub mod SentPackets

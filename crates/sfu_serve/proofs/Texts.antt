@@ -18,17 +18,18 @@ use Rattle.room_core.specs.Views.{key_wanted_on}
 use Rattle.std.specs.Prelude.{is_some}
 use Rattle.sfu_serve.specs.Datagrams.{is_control, if_control}
 
-is_short : Answer → Bool
+-- an answer that is neither a packet nor names
+unfoldable pub is_short : Answer → Bool
 is_short (Sent bytes) = false
 is_short (Named numbers) = false
 is_short other = true
 
-done_short : (o : Option Refusal) → is_short (done_or o) ≡ true
+pub done_short : (o : Option Refusal) → is_short (done_or o) ≡ true
 unfolding is_short
 done_short None = refl
 done_short (Some why) = refl
 
-track_short : (o : Option Published) (f : Published → Answer) → ((p : Published) → is_short (f p) ≡ true) → is_short (of_track o f) ≡ true
+pub track_short : (o : Option Published) (f : Published → Answer) → ((p : Published) → is_short (f p) ≡ true) → is_short (of_track o f) ≡ true
 unfolding is_short
 track_short None f all = refl
 track_short (Some p) f all = all p
@@ -53,7 +54,7 @@ unfolding is_short
 told_short (Ok verdict) = refl
 told_short (Err why) = refl
 
-control_short : (past : List Call) (said : Call) → is_control said ≡ true → is_short (answer past said) ≡ true
+pub control_short : (past : List Call) (said : Call) → is_control said ≡ true → is_short (answer past said) ≡ true
 unfolding is_short
 control_short past (call.Publish track kind ssrc hold) e = done_short (publish_refusal (highest_track past) (live_tracks past) track kind)
 control_short past (call.Unpublish track) e = track_short (published track past) (λ p. Done) (λ p. refl)

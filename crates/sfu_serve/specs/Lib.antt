@@ -6,3 +6,4 @@ pub mod Sessions
 pub mod Parts
 pub mod Runs
 pub mod Playing
+pub mod Packets
