@@ -1,5 +1,5 @@
 -- A deed goes on: by another part of it, and by one step.
-use Rattle.std.proofs.Common.{◌≡◌, ℕ, ◌+◌, ◌≤◌, Bool, if◌then◌else◌, List, [], ◌∷◌, ◌++◌, length, refl, ap, sym, subst, ◌∙◌, arith, append-nil, append_assoc, length-append, Option}
+use Rattle.std.proofs.Common.{◌≡◌, ◌⊎◌, inl, inr, ℕ, ◌+◌, ◌≤◌, Bool, if◌then◌else◌, List, [], ◌∷◌, ◌++◌, length, refl, ap, sym, subst, ◌∙◌, arith, append-nil, append_assoc, length-append, Option}
 use Rattle.sfu_base.specs.Links.{Traffic, with_more}
 use Rattle.turn_lock.specs.declared.history.Entry.{Entry}
 use Rattle.turn_lock.specs.History.{own_of, entry}
@@ -12,9 +12,14 @@ use Rattle.deeds.proofs.Steps.{more_twice, more_none, all_fit, leads_on, leads_b
 pub keeps_on : {C : Type 0} (j k l : Known C) → KeepsSeat j k → KeepsSeat k l → KeepsSeat j l
 keeps_on j k l p q = (q.0 ∙ p.0, q.1 ∙ p.1, q.2 ∙ p.2, q.3 ∙ p.3, q.4 ∙ p.4, (let a = p.5 in let b = q.5 in omega (arith, a, b)))
 
-module _ {C A D : Type 0} (reply : List (Entry C) → C → A) (starved : A) (IsOne : D → List ℕ → Type 0) where
+module _ {C A D : Type 0} (reply : List (Entry C) → C → A) (starved : A) (IsOne : D → List ℕ → Type 0) (Holds : List (Entry C) → Type 0) where
   abbrev Done : Deed C A D → Deed C A D → Known C → Known C → Option Traffic → Option Traffic → ℕ → ℕ → ℕ → Type 0
-  Done whole rest old new told told' before after turns = IsDone reply starved IsOne whole rest old new told told' before after turns
+  Done whole rest old new told told' before after turns = IsDone reply starved IsOne Holds whole rest old new told told' before after turns
+
+  still_holds : (a b c : List (Entry C)) → (b ≡ a) ⊎ Holds b → (c ≡ b) ⊎ Holds c → (c ≡ a) ⊎ Holds c
+  still_holds a b c before (inr holds) = inr holds
+  still_holds a b c (inl same) (inl again) = inl (again ∙ same)
+  still_holds a b c (inr holds) (inl again) = inr (subst Holds (sym again) holds)
 
   -- nothing is done yet
   pub begins : (whole : Deed C A D) (old : Known C) (told : Option Traffic) (faults : ℕ) → Fits old → Done whole whole old old told told faults faults 0
@@ -22,6 +27,7 @@ module _ {C A D : Type 0} (reply : List (Entry C) → C → A) (starved : A) (Is
     steps = [];
     leads = refl;
     words = sym (append-nil (words_of reply starved old.number old.seen));
+    holds = inl refl;
     link = more_none told;
     short = tt;
     count = refl;
@@ -38,6 +44,7 @@ module _ {C A D : Type 0} (reply : List (Entry C) → C → A) (starved : A) (Is
     leads = leads_on IsOne whole p.steps mid q.steps rest p.leads q.leads;
     words = q.words ∙ (ap (λ (l : List (Word C A)). l ++ said_of q.steps) p.words ∙ (append_assoc (words_of reply starved a.number a.seen) (said_of p.steps) (said_of q.steps)
         ∙ ap (λ (l : List (Word C A)). words_of reply starved a.number a.seen ++ l) (sym (said_append p.steps q.steps))));
+    holds = still_holds a.seen b.seen c.seen p.holds q.holds;
     link = q.link ∙ (ap (with_more (received_of q.steps) (sent_of q.steps)) p.link ∙ (more_twice (received_of p.steps) (received_of q.steps) (sent_of p.steps) (sent_of q.steps) told
         ∙ (λ i. with_more (sym (received_append p.steps q.steps) i) (sym (sent_append p.steps q.steps) i) told)));
     short = subst AllFitBuffers (sym (received_append p.steps q.steps)) (all_fit (received_of p.steps) (received_of q.steps) p.short q.short);
@@ -54,6 +61,7 @@ module _ {C A D : Type 0} (reply : List (Entry C) → C → A) (starved : A) (Is
     steps = Heard got moment ∷ [];
     leads = leads_by IsOne (Listen f) (Heard got moment) (f got moment) refl;
     words = sym (append-nil (words_of reply starved now.number now.seen));
+    holds = inl refl;
     link = link;
     short = (short, tt);
     count = refl;
@@ -69,6 +77,7 @@ module _ {C A D : Type 0} (reply : List (Entry C) → C → A) (starved : A) (Is
     steps = Posted packet ∷ [];
     leads = leads_by IsOne (Post what next) (Posted packet) next (is, refl);
     words = sym (append-nil (words_of reply starved now.number now.seen));
+    holds = inl refl;
     link = link;
     short = tt;
     count = refl;
@@ -79,9 +88,10 @@ module _ {C A D : Type 0} (reply : List (Entry C) → C → A) (starved : A) (Is
 
   -- one call: its entry stands after a history, and the answer is the one of that history
   pub says : (call : C) (f : A → Deed C A D) (answer : A) (is_starved : Bool) (gives : List (Entry C) → Type 0) (place : ℕ) (old new : Known C) (told : Option Traffic) (faults : ℕ)
-      → Fits old → MakesTurn old new (entry old.number call is_starved) place gives → ((h : List (Entry C)) → gives h → (if is_starved then starved else reply h call) ≡ answer) → Fits new
+      → Fits old → MakesTurn old new (entry old.number call is_starved) place gives → ((h : List (Entry C)) → gives h → (if is_starved then starved else reply h call) ≡ answer)
+      → ((h : List (Entry C)) → gives h → Holds (h ++ entry old.number call is_starved ∷ [])) → Fits new
       → Done (Ask call f) (f answer) old new told told faults faults 0
-  says call f answer is_starved gives place old new told faults fits t told_by fits' =
+  says call f answer is_starved gives place old new told faults fits t told_by holds_by fits' =
       let h : List (Entry C) = t.1.0 in
       let e : Entry C = entry old.number call is_starved in
       let w : Word C A = record { call = call; answer = answer } in
@@ -94,6 +104,7 @@ module _ {C A D : Type 0} (reply : List (Entry C) → C → A) (starved : A) (Is
         steps = Said call answer ∷ [];
         leads = leads_by IsOne (Ask call f) (Said call answer) (f answer) (refl, refl);
         words = ap (λ (m : ℕ). words_of reply starved m new.seen) t.0.2 ∙ all;
+        holds = inr (subst Holds (sym t.1.2) (holds_by h t.1.3));
         link = more_none told;
         short = tt;
         count = refl;
@@ -109,6 +120,7 @@ module _ {C A D : Type 0} (reply : List (Entry C) → C → A) (starved : A) (Is
     steps = d.steps;
     leads = d.leads;
     words = d.words;
+    holds = d.holds;
     link = same ∙ d.link;
     short = d.short;
     count = d.count;
@@ -133,6 +145,7 @@ module _ {C A D : Type 0} (reply : List (Entry C) → C → A) (starved : A) (Is
         steps = d.steps;
         leads = d.leads;
         words = ap (λ (k : Known C). words_of reply starved k.number k.seen) w.0 ∙ d.words;
+        holds = still_holds old.seen new.seen new'.seen d.holds (inl (ap (λ (k : Known C). k.seen) w.0));
         link = d.link;
         short = d.short;
         count = d.count;

@@ -1,5 +1,5 @@
 -- How far a deed is done, by what a seat of a lock and a link tell.
-use Rattle.std.specs.Prelude.{◌≡◌, ℕ, ◌≤◌, List, [], ◌∷◌, ◌++◌, length, Option, Some, None}
+use Rattle.std.specs.Prelude.{◌≡◌, ◌⊎◌, ℕ, ◌≤◌, List, [], ◌∷◌, ◌++◌, length, Option, Some, None}
 use Rattle.sfu_base.specs.Links.{Traffic, with_more}
 use Rattle.turn_lock.specs.declared.history.Entry.{Entry}
 use Rattle.turn_lock.specs.Known.{Known, KeepsSeat, Fits}
@@ -16,12 +16,15 @@ AllFitBuffers (got ∷ others) = FitsBuffer got × AllFitBuffers others
 
 -- So much of the deed `whole` is done that `rest` is left, after so many receives: there are steps that lead from the one to the other,
 -- and meanwhile a seat, what a link tells and its count of faults went from old to new. What a call is answered is told by `reply`, of
--- the history before it, and by `starved`, where its entry found no memory; which bytes are a datagram that is to be sent, by `IsOne`.
-pub record IsDone {C A D : Type 0} (reply : List (Entry C) → C → A) (starved : A) (IsOne : D → List ℕ → Type 0) (whole rest : Deed C A D) (old new : Known C) (told told' : Option Traffic) (before after turns : ℕ) : Type 0 where
+-- the history before it, and by `starved`, where its entry found no memory; which bytes are a datagram that is to be sent, by `IsOne`; what
+-- is so of the history that the seat has seen once it made a call, by `Holds`.
+pub record IsDone {C A D : Type 0} (reply : List (Entry C) → C → A) (starved : A) (IsOne : D → List ℕ → Type 0) (Holds : List (Entry C) → Type 0) (whole rest : Deed C A D) (old new : Known C) (told told' : Option Traffic) (before after turns : ℕ) : Type 0 where
   pub steps : List (Step C A)
   pub leads : Leads IsOne whole steps rest
   -- the seat's calls became more by those of the steps, with these answers
   pub words : words_of reply starved new.number new.seen ≡ words_of reply starved old.number old.seen ++ said_of steps
+  -- the seat has seen no more, since it made no call, or this is so of what it has seen
+  pub holds : (new.seen ≡ old.seen) ⊎ Holds new.seen
   -- the link tells the receives and the datagrams of the steps more
   pub link : told' ≡ with_more (received_of steps) (sent_of steps) told
   pub short : AllFitBuffers (received_of steps)

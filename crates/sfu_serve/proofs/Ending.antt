@@ -16,7 +16,7 @@ use Rattle.sfu_serve.specs.declared.ends.SessionEnd.TheVariants.{AllTurns, LinkF
 use Rattle.sfu_serve.specs.Ends.{ended}
 use Rattle.sfu_serve.specs.Datagrams.{IsOne}
 use Rattle.sfu_serve.specs.Sessions.{Doing}
-use Rattle.sfu_serve.specs.Parts.{Done, Stops, IsPart, Keeps, reply_after}
+use Rattle.sfu_serve.specs.Parts.{HasHeadline, Done, Stops, IsPart, Keeps, reply_after}
 use Rattle.sfu_serve.proofs.Parting.{after, rose_later, begins}
 
 fits_buffer : (came : Bool) (bytes : List ℕ) → length bytes ≤ 2048 → FitsBuffer (datagram came bytes)
@@ -60,8 +60,8 @@ module _ (turns_left : ℕ → Doing) (f : Option (List ℕ) → ℕ → Doing) 
       → length bytes ≤ 2048 → told'' ≡ with_more (datagram came bytes ∷ []) [] told' → y ≤ z → Done whole (f (datagram came bytes) moment) old new told told'' x z (turn + 1)
   heard came bytes moment less is d short link rose =
       let e = opens less is d in
-      doing.joins reply_after (Refused NoMemory) IsOne whole (Listen f) (f (datagram came bytes) moment) old new new told told' told'' x y z turn 1 e
-      (doing.hears reply_after (Refused NoMemory) IsOne f (datagram came bytes) moment new told' told'' y z e.fits (fits_buffer came bytes short) link rose)
+      doing.joins reply_after (Refused NoMemory) IsOne HasHeadline whole (Listen f) (f (datagram came bytes) moment) old new new told told' told'' x y z turn 1 e
+      (doing.hears reply_after (Refused NoMemory) IsOne HasHeadline f (datagram came bytes) moment new told' told'' y z e.fits (fits_buffer came bytes short) link rose)
 
   -- its receive failed
   pub unheard : turn < limit → turns_left (suc (limit - (turn + 1))) ≡ Listen f → Done whole (turns_left (limit - turn)) old new told told' x y turn → told'' ≡ told' → y ≤ z → Rose y z
@@ -69,7 +69,7 @@ module _ (turns_left : ℕ → Doing) (f : Option (List ℕ) → ℕ → Doing) 
   unheard less is d same rose up = let e = opens less is d in record {
     rest = Listen f;
     turns = turn;
-    done = doing.still reply_after (Refused NoMemory) IsOne whole (Listen f) old new told told' told'' x y z turn e same rose;
+    done = doing.still reply_after (Refused NoMemory) IsOne HasHeadline whole (Listen f) old new told told' told'' x y z turn e same rose;
     ends = (rose_later x y z e.faults up, less, refl);
   }
 

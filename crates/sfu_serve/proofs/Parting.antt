@@ -13,14 +13,14 @@ use Rattle.sfu_serve.specs.declared.ends.Stop.{Stop}
 use Rattle.sfu_serve.specs.declared.ends.Stop.TheVariants.{Lost, Closed}
 use Rattle.sfu_serve.specs.Datagrams.{IsOne}
 use Rattle.sfu_serve.specs.Sessions.{Doing, takes, sends_on}
-use Rattle.sfu_serve.specs.Parts.{Done, IsPart, Stops, reply_after}
+use Rattle.sfu_serve.specs.Parts.{HasHeadline, Done, IsPart, Stops, reply_after}
 
 pub rose_later : (a b c : ℕ) → a ≤ b → Rose b c → Rose a c
 rose_later a b c p q = omega (arith, p, q)
 
 -- nothing is done yet
 pub begins : (whole : Doing) (seat : Known Call) (told : Option Traffic) (faults : ℕ) → Fits seat → Done whole whole seat seat told told faults faults 0
-begins whole seat told faults fits = doing.begins reply_after (Refused NoMemory) IsOne whole seat told faults fits
+begins whole seat told faults fits = doing.begins reply_after (Refused NoMemory) IsOne HasHeadline whole seat told faults fits
 
 -- what is left is told in another way
 pub leaves : {whole : Doing} {a b : Known Call} {told told' : Option Traffic} {x y n : ℕ} (mid rest : Doing) → mid ≡ rest → Done whole mid a b told told' x y n → Done whole rest a b told told' x y n
@@ -30,7 +30,7 @@ leaves {whole = whole} {a = a} {b = b} {told = told} {told' = told'} {x = x} {y 
 pub after : {whole mid rest : Doing} {a b c : Known Call} {told told' told'' : Option Traffic} {x y z n : ℕ} → Done whole mid a b told told' x y n → Done mid rest b c told' told'' y z 0 → Done whole rest a c told told'' x z n
 after {whole = whole} {mid = mid} {rest = rest} {a = a} {b = b} {c = c} {told = told} {told' = told'} {told'' = told''} {x = x} {y = y} {z = z} {n = n} p q =
     let same : n + 0 ≡ n = omega arith in
-    subst (λ (m : ℕ). Done whole rest a c told told'' x z m) same (doing.joins reply_after (Refused NoMemory) IsOne whole mid rest a b c told told' told'' x y z n 0 p q)
+    subst (λ (m : ℕ). Done whole rest a c told told'' x z m) same (doing.joins reply_after (Refused NoMemory) IsOne HasHeadline whole mid rest a b c told told' told'' x y z n 0 p q)
 
 -- a part that stopped after what came before it
 pub stops_after : {part mid : Doing} {a b : Known Call} {told told' : Option Traffic} {x y : ℕ} (c : Known Call) (told'' : Option Traffic) (z : ℕ) (stop : Stop)

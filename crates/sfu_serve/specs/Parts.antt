@@ -7,7 +7,8 @@ use Rattle.sfu_base.specs.declared.call.Call.{Call}
 use Rattle.sfu_base.specs.declared.call.Refusal.TheVariants.{NoMemory}
 use Rattle.turn_lock.specs.declared.history.Entry.{Entry}
 use Rattle.turn_lock.specs.Known.{Known}
-use Rattle.room_core.specs.History.{reply_of}
+use Rattle.room_core.specs.Headline.{Headline}
+use Rattle.room_core.specs.History.{accepted, reply_of}
 use Rattle.deeds.specs.Deeds.{Deed, Listen, Ask, Post, Over, Word}
 use Rattle.deeds.specs.Deeds as deeds
 use Rattle.deeds.specs.Doing.{IsDone}
@@ -27,9 +28,13 @@ reply_after history call = reply_of (entries_of history) call
 abbrev pub words_of : ℕ → List (Entry Call) → List (Word Call Answer)
 words_of n history = deeds.words_of reply_after (Refused NoMemory) n history
 
+-- Each subscriber was sent what it should be, by this history.
+pub record HasHeadline (history : List (Entry Call)) : Type 0 where
+  pub headline : Headline (accepted (entries_of history))
+
 -- so much of a session is done that the rest is left, after so many receives; a seat and a link went from old to new
 abbrev pub Done : Doing → Doing → Known Call → Known Call → Option Traffic → Option Traffic → ℕ → ℕ → ℕ → Type 0
-Done whole rest old new told told' before after turns = IsDone reply_after (Refused NoMemory) IsOne whole rest old new told told' before after turns
+Done whole rest old new told told' before after turns = IsDone reply_after (Refused NoMemory) IsOne HasHeadline whole rest old new told told' before after turns
 
 -- A part of a turn stopped where a datagram wasn't sent, since the count of faults rose; or where a call wasn't made, since all tickets of
 -- the lock are drawn.

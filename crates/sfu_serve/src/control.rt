@@ -73,6 +73,7 @@ fn answer_line<R: Recorder, L: Link, W: Wait + Sync>(
 }
 
 /// Works off what a receive brought.
+#[tactic(auto, using(crate::proofs::Parting::begins))]
 fn control_turn<R: Recorder, L: Link, W: Wait + Sync>(
     rt: &W,
     turns: &Turns<SharedRoom<R>>,

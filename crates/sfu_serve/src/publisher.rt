@@ -187,6 +187,7 @@ fn ask_for_key<R: Recorder, L: Link, W: Wait + Sync>(
 }
 
 /// Asks for missing packets and a key frame, where an asking is due.
+#[tactic(auto, using(crate::proofs::Parting::begins))]
 fn ask<R: Recorder, L: Link, W: Wait + Sync>(
     rt: &W,
     turns: &Turns<SharedRoom<R>>,

@@ -99,6 +99,7 @@ fn media(item: Feedback) -> u32
 }
 
 /// Works off an item of feedback, if it is on this SSRC.
+#[tactic(auto, using(crate::proofs::Parting::begins))]
 fn serve_item<R: Recorder, L: Link, W: Wait + Sync>(
     rt: &W,
     turns: &Turns<SharedRoom<R>>,
@@ -124,6 +125,7 @@ fn serve_item<R: Recorder, L: Link, W: Wait + Sync>(
 }
 
 /// Works off items of feedback, one by one.
+#[tactic(auto, using(crate::proofs::Parting::begins))]
 fn serve_items<R: Recorder, L: Link, W: Wait + Sync>(
     rt: &W,
     turns: &Turns<SharedRoom<R>>,
@@ -175,6 +177,7 @@ fn serve_all<R: Recorder, L: Link, W: Wait + Sync>(
 }
 
 /// Works off what a receive brought, if it is feedback.
+#[tactic(auto, using(crate::proofs::Parting::begins))]
 fn hear_feedback<R: Recorder, L: Link, W: Wait + Sync>(
     rt: &W,
     turns: &Turns<SharedRoom<R>>,

@@ -5,6 +5,7 @@ use Rattle.room_core.specs.History.{Entry}
 use Rattle.room_core.specs.Serves.{Stands}
 use Rattle.turn_lock.specs.History.{entry}
 use Rattle.sfu_serve.specs.History.{entry_of, entries_of}
+use Rattle.sfu_serve.specs.Replies.{with_entry}
 use Rattle.sfu_serve.proofs.Refusing.{or_some_refuses}
 use Rattle.sfu_serve.proofs.shared_room.SharedRoomHeld.serve.Goals as goal
 
@@ -16,6 +17,7 @@ returns g c = λ history stands.
       record {
         answered = c.serve.ensures.serves.answered before stands;
         memory = λ starved. or_some_refuses g.R.Recorder.may_refuse c.args.self.now.room (c.serve.ensures.memory starved);
+        headline = c.serve.ensures.headline (with_entry before c.args.seat c.args.call.now c.serve.result) (c.serve.ensures.serves.stands before stands);
         last = λ starved. or_some_refuses g.R.Recorder.may_refuse c.args.self.now.room (c.serve.ensures.last before stands starved);
       },
     )
