@@ -1,5 +1,5 @@
 -- The packets of a frame are queued one after another.
-use Rattle.std.proofs.Common.{◌≡◌, ◌≤◌, ◌<◌, ℕ, zero, suc, ◌+◌, ◌-◌, Bool, true, false, ◌&&◌, ◌||◌, List, ◌∷◌, [], ◌++◌, length, map, take, drop, refl, sym, ap, ◌∙◌, arith, Option, None, Some, slice_get, eqb}
+use Rattle.std.proofs.Common.{◌≡◌, ◌≤◌, ◌<◌, ℕ, zero, suc, ◌+◌, ◌-◌, Bool, true, false, ◌&&◌, ◌||◌, List, ◌∷◌, [], ◌++◌, length, map, take, drop, refl, sym, ap, ◌∙◌, arith, Option, None, Some, slice_get, subst, eqb}
 use Rattle.std.proofs.lemmas.Bool.{ne_eqb}
 use Rattle.std.proofs.lemmas.List.{length-drop, length-map, length-take, take_all}
 use Rattle.std.proofs.lemmas.Option.{slice_get-map}
@@ -8,7 +8,7 @@ use Rattle.forwarding_model.specs.forwarding.Timeline.{Packet}
 use Rattle.forwarding_model.specs.forwarding.Outgoing.{marked}
 use Rattle.dd_structure.specs.TemplateStructure.{TemplateStructure}
 use Rattle.packet_format.specs.Packets.{packet_of}
-use Rattle.packet_format.specs.Remasked.{or_same, remasked, remasked_packet}
+use Rattle.packet_format.specs.Remasked.{or_same, remasked, remasked_bytes, remasked_packet}
 use Rattle.packet_format.specs.Telling.{tells}
 use Rattle.packet_format.proofs.Remasked.{packets_remasked}
 use Rattle.packet_format.proofs.RemaskedRests.{rests_remasked, rests_tell}
@@ -16,9 +16,11 @@ use Rattle.rtp_packet.specs.Faults.{first_fault}
 use Rattle.rtp_packet.proofs.Faultless.{header_there}
 use Rattle.out_ring.specs.Ring.{Ring, pushed}
 use Rattle.track_core.specs.declared.layers.Layers.{Layers}
-use Rattle.track_core.specs.Track.{id_of}
+use Rattle.track_core.specs.Track.{id_of, structure_in}
 use Rattle.room_core.specs.Follows.{pushed_all, remasked_by, tells_by}
 use Rattle.room_core.specs.Sent.{remasked_first, tells_first}
+use Rattle.room_core.specs.Told.{TellsFirst, TellsOne}
+use Rattle.room_core.specs.declared.told.Told.{Told}
 use Rattle.room_core.proofs.Rings.{length-pushed, pushed_both, pushed_is, pushed_more, pushed_none, take_next}
 use Rattle.room_core.proofs.SentMarked.{length-marked, marked_at}
 
@@ -157,28 +159,69 @@ tells_said (Some l) id packets bytes is at long = let same : id ≡ l.id = cc in
 
 -- ---- a packet with a mask, where it can be remasked
 
-pub told_reads : (id mask : ℕ) (force : Option TemplateStructure) (bytes new : List ℕ) → remasked id force mask bytes ≡ Some new → first_fault bytes ≡ None → first_fault new ≡ None
-told_reads id mask force bytes new is reads = (packets_remasked id mask force bytes new is).reads reads
+pub telling_reads : (id mask : ℕ) (force : Option TemplateStructure) (bytes : List ℕ) → first_fault bytes ≡ None → first_fault (remasked_bytes id force mask bytes) ≡ None
+telling_reads id mask force bytes reads = by (remasked id force mask bytes) refl
+  where
+    by : (o : Option (List ℕ)) → remasked id force mask bytes ≡ o → first_fault (or_same o bytes) ≡ None
+    by None is = reads
+    by (Some new) is = (packets_remasked id mask force bytes new is).reads reads
 
-told_as : (id mask : ℕ) (force : Option TemplateStructure) (bytes : List ℕ) (o : Option (List ℕ)) (marker : Bool) (ring ring' : Ring) → 12 ≤ length bytes → 12 ≤ length (or_same o bytes)
-    → remasked id force mask bytes ≡ o → ring' ≡ pushed (or_same o bytes) marker ring
-    → ring' ≡ pushed_all (remasked_packet id force mask (record (packet_of bytes) { marker = marker }) ∷ []) ring
-told_as id mask force bytes o marker ring ring' long short is now =
-    now ∙ pushed_is (or_same o bytes) marker ring short
-    ∙ ap (λ (p : Packet). pushed_all (record p { marker = marker } ∷ []) ring)
-    (ap (λ (x : Option (List ℕ)). packet_of (or_same x bytes)) (sym is) ∙ rests_remasked id mask force bytes long)
+pub telling_fits : (id mask : ℕ) (force : Option TemplateStructure) (bytes : List ℕ) → length bytes ≤ 1500 → length (remasked_bytes id force mask bytes) ≤ 1536
+telling_fits id mask force bytes fits = by (remasked id force mask bytes) refl
+  where
+    by : (o : Option (List ℕ)) → remasked id force mask bytes ≡ o → length (or_same o bytes) ≤ 1536
+    by None is = omega (arith, fits)
+    by (Some new) is = (packets_remasked id mask force bytes new is).few
 
-pub told_pushed : (id mask : ℕ) (force : Option TemplateStructure) (bytes new : List ℕ) (marker : Bool) (ring ring' : Ring) → first_fault bytes ≡ None
-    → remasked id force mask bytes ≡ Some new → ring' ≡ pushed new marker ring
+pub telling_pushed : (id mask : ℕ) (force : Option TemplateStructure) (bytes : List ℕ) (marker : Bool) (ring ring' : Ring) → first_fault bytes ≡ None
+    → ring' ≡ pushed (remasked_bytes id force mask bytes) marker ring
     → ring' ≡ pushed_all (remasked_packet id force mask (record (packet_of bytes) { marker = marker }) ∷ []) ring
-told_pushed id mask force bytes new marker ring ring' reads is now =
-    told_as id mask force bytes (Some new) marker ring ring' (header_there bytes reads) (header_there new (told_reads id mask force bytes new is reads)) is now
+telling_pushed id mask force bytes marker ring ring' reads now =
+    now ∙ pushed_is (remasked_bytes id force mask bytes) marker ring (header_there (remasked_bytes id force mask bytes) (telling_reads id mask force bytes reads))
+    ∙ ap (λ (p : Packet). pushed_all (record p { marker = marker } ∷ []) ring) (rests_remasked id mask force bytes (header_there bytes reads))
 
-pub same_pushed : (id mask : ℕ) (force : Option TemplateStructure) (bytes : List ℕ) (marker : Bool) (ring ring' : Ring) → first_fault bytes ≡ None
-    → remasked id force mask bytes ≡ None → ring' ≡ pushed bytes marker ring
-    → ring' ≡ pushed_all (remasked_packet id force mask (record (packet_of bytes) { marker = marker }) ∷ []) ring
-same_pushed id mask force bytes marker ring ring' reads is now =
-    told_as id mask force bytes None marker ring ring' (header_there bytes reads) (header_there bytes reads) is now
+-- what is filled in
+pub filled_new : (id mask : ℕ) (force : Option TemplateStructure) (bytes new : List ℕ) → remasked id force mask bytes ≡ Some new → new ≡ remasked_bytes id force mask bytes
+filled_new id mask force bytes new is = sym (ap (λ (o : Option (List ℕ)). or_same o bytes) is)
+
+pub filled_same : (id mask : ℕ) (force : Option TemplateStructure) (bytes : List ℕ) → remasked id force mask bytes ≡ None → bytes ≡ remasked_bytes id force mask bytes
+filled_same id mask force bytes is = sym (ap (λ (o : Option (List ℕ)). or_same o bytes) is)
+
+-- ---- what is kept of the frame in hand
+
+pub keeps_nothing : (layers : Option Layers) (packets : List (List ℕ)) (told : Told) → told.mask ≡ None → TellsFirst layers packets told
+keeps_nothing None packets told none = tt
+keeps_nothing (Some l) [] told none = tt
+keeps_nothing (Some l) (b ∷ rest) told none = subst (λ (m : Option ℕ). TellsOne l.id l.table.structure b m told.packet) (sym none) tt
+
+pub keeps_one : (layers : Option Layers) (packets : List (List ℕ)) (bytes : List ℕ) (told : Told) → slice_get packets 0 ≡ Some bytes
+    → TellsFirst layers packets told → TellsFirst layers (bytes ∷ []) told
+keeps_one None packets bytes told at kept = tt
+keeps_one (Some l) [] bytes told at kept = absurd cc
+keeps_one (Some l) (b ∷ rest) bytes told at kept = let same : b ≡ bytes = cc in subst (λ (x : List ℕ). TellsOne l.id l.table.structure x told.mask told.packet) same kept
+
+pub keeps_first : (layers : Option Layers) (packets : List (List ℕ)) (bytes : List ℕ) (told : Told) → slice_get packets 0 ≡ Some bytes
+    → TellsFirst layers (bytes ∷ []) told → TellsFirst layers packets told
+keeps_first None packets bytes told at kept = tt
+keeps_first (Some l) [] bytes told at kept = tt
+keeps_first (Some l) (b ∷ rest) bytes told at kept = let same : bytes ≡ b = cc in subst (λ (x : List ℕ). TellsOne l.id l.table.structure x told.mask told.packet) same kept
+
+-- by the id and the structure in force
+pub keeps_by : (layers : Option Layers) (id : ℕ) (force : Option TemplateStructure) (bytes : List ℕ) (told : Told) → Some id ≡ option_map id_of layers → force ≡ structure_in layers
+    → TellsFirst layers (bytes ∷ []) told → TellsOne id force bytes told.mask told.packet
+keeps_by None id force bytes told is force_is kept = absurd cc
+keeps_by (Some l) id force bytes told is force_is kept =
+    let same : id ≡ l.id = cc in
+    subst (λ (f : Option TemplateStructure). TellsOne id f bytes told.mask told.packet) (sym force_is)
+    (subst (λ (n : ℕ). TellsOne n l.table.structure bytes told.mask told.packet) (sym same) kept)
+
+pub keeps_on : (layers : Option Layers) (id : ℕ) (force : Option TemplateStructure) (bytes : List ℕ) (told : Told) → Some id ≡ option_map id_of layers → force ≡ structure_in layers
+    → TellsOne id force bytes told.mask told.packet → TellsFirst layers (bytes ∷ []) told
+keeps_on None id force bytes told is force_is kept = tt
+keeps_on (Some l) id force bytes told is force_is kept =
+    let same : id ≡ l.id = cc in
+    subst (λ (n : ℕ). TellsOne n l.table.structure bytes told.mask told.packet) same
+    (subst (λ (f : Option TemplateStructure). TellsOne id f bytes told.mask told.packet) force_is kept)
 
 -- on a plain track it is as it was
 pub none_told : (layers : Option Layers) (mask : ℕ) (ps : List Packet) → None ≡ option_map id_of layers → remasked_by layers mask ps ≡ ps

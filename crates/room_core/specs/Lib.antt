@@ -16,6 +16,7 @@ pub mod Headline
 pub mod Serves
 pub mod Silent
 pub mod Follows
+pub mod Told
 pub mod Stepping
 pub mod Passing
 pub mod Tables

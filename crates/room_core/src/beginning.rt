@@ -10,6 +10,7 @@ ghost use Rattle.room_core.specs.WellFormed.{IsValue};
 use crate::content::Content;
 use crate::feed::Feed;
 use crate::live::{LiveSubscriber, LiveTrack, Ready};
+use crate::told::Told;
 use indexmap::IndexMap;
 use sfu_base::{Call, Kind, NoMemory, Refusal, Reply, Wish};
 use std::alloc::Global;
@@ -25,6 +26,7 @@ impl Content {
             highest_track: 0,
             subscribers: IndexMap::new(alloc),
             highest_subscriber: 0,
+            told: Told::new(),
         }
     }
 

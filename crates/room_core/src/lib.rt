@@ -18,6 +18,7 @@ mod serving;
 mod subscribers;
 #[cfg(test)]
 mod tests;
+mod told;
 mod tracks;
 
 pub use keep_all::KeepAll;

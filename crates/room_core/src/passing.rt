@@ -7,9 +7,11 @@ ghost use Rattle.track_core.specs.Track.{told_with};
 ghost use Rattle.room_core.specs.Follows.{FollowsFrame, FollowsPacket, tells_by};
 ghost use Rattle.room_core.specs.Passing.{IsPassed, PassedTo, WaitsIn, WaitsOne, WorkedIf, WorkedOff};
 ghost use Rattle.room_core.specs.Stepping.{IsMadeValid, Steps};
+ghost use Rattle.room_core.specs.Told.{TellsFirst};
 
 use crate::live::LiveSubscriber;
 use crate::sending::first_tells;
+use crate::told::Told;
 use indexmap::IndexMap;
 use sfu_base::FrameMeaning;
 use track_core::{Advance, Track};
@@ -20,11 +22,12 @@ pub fn work_off(
     pleaded: &mut bool,
     number: u32,
     subscribers: &mut IndexMap<u32, LiveSubscriber>,
+    told: &mut Told,
 )
     ensures worked { WorkedOff pipeline.old pipeline.new number (get nat_eq subscribers.old) (get nat_eq subscribers.new) pleaded.old pleaded.new }
     ensures count { index_map_len subscribers.new ≡ index_map_len subscribers.old }
 {
-    while work_off_one(pipeline, pleaded, number, subscribers) {}
+    while work_off_one(pipeline, pleaded, number, subscribers, told) {}
 }
 
 // Works off one item, if one waits.
@@ -33,6 +36,7 @@ fn work_off_one(
     pleaded: &mut bool,
     number: u32,
     subscribers: &mut IndexMap<u32, LiveSubscriber>,
+    told: &mut Told,
 ) -> bool
     ensures worked { WorkedIf result pipeline.old pipeline.new number (get nat_eq subscribers.old) (get nat_eq subscribers.new) pleaded.old pleaded.new }
     ensures count { index_map_len subscribers.new ≡ index_map_len subscribers.old }
@@ -47,7 +51,7 @@ fn work_off_one(
         Advance::Frame => {
             let frame = pipeline.meaning();
             *pleaded = still_pleaded(*pleaded, frame.key);
-            pass_frame_to_all(subscribers, number, pipeline, frame);
+            pass_frame_to_all(subscribers, number, pipeline, frame, told);
             true
         }
     }
@@ -101,16 +105,18 @@ fn pass_frame_to_all(
     number: u32,
     track: &Track,
     frame: &FrameMeaning,
+    told: &mut Told,
 )
     requires { IsValid frame.now }
     ensures passed { PassedTo (λ old new. FollowsFrame old new frame.now track.now) number (get nat_eq subscribers.old) (get nat_eq subscribers.new) }
     ensures count { index_map_len subscribers.new ≡ index_map_len subscribers.old }
 {
     let tells = first_tells(track);
+    told.forget();
     let count = subscribers.len();
     for place in 0..count {
         if let Some(subscriber) = subscribers.get_index_mut(place) {
-            pass_frame(subscriber, number, track, frame, tells);
+            pass_frame(subscriber, number, track, frame, tells, told);
         }
     }
 }
@@ -122,13 +128,16 @@ fn pass_frame(
     track: &Track,
     frame: &FrameMeaning,
     tells: bool,
+    told: &mut Told,
 )
     requires valid { IsValid frame.now }
     requires tells { tells ≡ tells_by track.now.layers track.now.packets }
-    ensures { IsPassed (λ old new. FollowsFrame old new frame.now track.now) number subscriber.old subscriber.new }
+    requires told { TellsFirst track.now.layers track.now.packets told.old }
+    ensures passed { IsPassed (λ old new. FollowsFrame old new frame.now track.now) number subscriber.old subscriber.new }
+    ensures told { TellsFirst track.now.layers track.now.packets told.new }
 {
     if subscriber.track == number {
-        subscriber.feed.pass_frame(track, frame, tells);
+        subscriber.feed.pass_frame(track, frame, tells, told);
     }
 }
 

@@ -36,6 +36,7 @@ impl Content {
                         &mut known.pleaded,
                         track,
                         &mut self.subscribers,
+                        &mut self.told,
                     );
                     Reply::Done
                 }
@@ -58,6 +59,7 @@ impl Content {
                     &mut known.pleaded,
                     track,
                     &mut self.subscribers,
+                    &mut self.told,
                 );
                 Reply::Done
             }

@@ -2,16 +2,22 @@ use Rattle.std.proofs.Common.{◌∙◌, ◌&&◌, ◌||◌, ◌∷◌, [], ℕ,
 use Rattle.rtp_packet.specs.Fields.{marker_of}
 use Rattle.packet_format.specs.Packets.{packet_of}
 use Rattle.room_core.specs.Follows.{pushed_all, remasked_by}
-use Rattle.room_core.proofs.Pushing.{push_first_ends}
+use Rattle.room_core.proofs.Pushing.{keeps_first, keeps_one, push_first_ends}
 use Rattle.room_core.proofs.sending.push_remasked.Goals as goal
 
-pub returns : goal.returns
-returns c =
+pub push_first-requires-clause-told : goal.push_first-requires-clause-told
+push_first-requires-clause-told c =
+    keeps_one c.args.track.now.layers c.args.track.now.packets c.packet-packet.result.now c.args.told.now c.packet-packet.ensures.at c.requires.told
+
+pub returns-clause-pushed : goal.returns-clause-pushed
+returns-clause-pushed c =
     let bytes = c.packet-packet.result.now in
-    record {
-      pushed = push_first_ends c.args.track.now.layers c.args.mask c.args.is_top c.args.track.now.packets bytes c.args.ring.now c.push_first.new.ring c.push_from.new.ring
-          c.packet-packet.ensures.at
-          (c.push_first.ensures ∙ ap (λ (m : Bool). pushed_all (remasked_by c.args.track.now.layers c.args.mask (record (packet_of bytes) { marker = m } ∷ [])) c.args.ring.now)
-          (c.sent_marker-marker.ensures ∙ ap (λ (n : ℕ). (c.args.is_top && eqb n 1 || marker_of bytes)) c.count-count.ensures.count))
-          c.push_from.ensures.pushed;
-    }
+    push_first_ends c.args.track.now.layers c.args.mask c.args.is_top c.args.track.now.packets bytes c.args.ring.now c.push_first.new.ring c.push_from.new.ring
+    c.packet-packet.ensures.at
+    (c.push_first.ensures.pushed ∙ ap (λ (m : Bool). pushed_all (remasked_by c.args.track.now.layers c.args.mask (record (packet_of bytes) { marker = m } ∷ [])) c.args.ring.now)
+    (c.sent_marker-marker.ensures ∙ ap (λ (n : ℕ). (c.args.is_top && eqb n 1 || marker_of bytes)) c.count-count.ensures.count))
+    c.push_from.ensures.pushed
+
+pub returns-clause-told : goal.returns-clause-told
+returns-clause-told c =
+    keeps_first c.args.track.now.layers c.args.track.now.packets c.packet-packet.result.now c.push_first.new.told c.packet-packet.ensures.at c.push_first.ensures.told

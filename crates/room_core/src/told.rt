@@ -1,0 +1,81 @@
+// The first packet of the frame in hand with the mask of a subscriber.
+ghost use Rattle.std.specs.Prelude.{◌≡◌, ◌≤◌, None, Some, length, true};
+ghost use Rattle.std.specs.Option.{option_copied};
+ghost use Rattle.rtp_packet.specs.Faults.{first_fault};
+ghost use Rattle.packet_format.specs.Remasked.{remasked_bytes};
+ghost use Rattle.room_core.specs.Told.{TellsOne};
+
+use dd_structure::Structure;
+use packet_format::Remasker;
+use sfu_base::PacketBuf;
+
+/// The first packet of the frame in hand as it tells a mask: the last one that was asked for, since most subscribers of a frame want the
+/// same. It is made in place, so that no frame clears a buffer.
+#[derive(Drop)]
+pub struct Told {
+    pub mask: Option<u32>,
+    pub packet: PacketBuf,
+    pub remasker: Remasker,
+}
+
+impl Told {
+    /// Of no frame yet.
+    pub fn new() -> Told
+        ensures { result.mask ≡ None }
+    {
+        Told {
+            mask: None,
+            packet: PacketBuf::new(),
+            remasker: Remasker::new(),
+        }
+    }
+
+    /// Another frame is in hand.
+    pub fn forget(&mut self)
+        ensures { self.new.mask ≡ None }
+    {
+        self.mask = None;
+    }
+
+    /// What is kept becomes the packet as it tells this mask, or as it is where it can't be remasked. The packet is the one in hand, read by
+    /// this structure.
+    pub fn tell(&mut self, packet: &[u8], id: u8, force: Option<&Structure>, mask: u32)
+        requires reads { first_fault packet.now ≡ None }
+        requires fits { length packet.now ≤ 1500 }
+        requires told { TellsOne id (option_copied force) packet.now self.old.mask self.old.packet }
+        ensures packet { self.new.packet ≡ remasked_bytes id (option_copied force.entry) mask packet.now }
+        ensures told { TellsOne id (option_copied force.entry) packet.now self.new.mask self.new.packet }
+    {
+        if !self.has(mask) {
+            self.make(packet, id, force, mask);
+        }
+    }
+
+    // Whether it tells this mask.
+    fn has(&self, mask: u32) -> bool
+        ensures { result ≡ true → self.now.mask ≡ Some mask }
+    {
+        match self.mask {
+            Some(known) => known == mask,
+            None => false,
+        }
+    }
+
+    // Fills in the packet. Apart, since it is done once a mask.
+    #[inline(never)]
+    fn make(&mut self, packet: &[u8], id: u8, force: Option<&Structure>, mask: u32)
+        requires reads { first_fault packet.now ≡ None }
+        requires fits { length packet.now ≤ 1500 }
+        ensures mask { self.new.mask ≡ Some mask }
+        ensures packet { self.new.packet ≡ remasked_bytes id (option_copied force.entry) mask packet.now }
+    {
+        self.mask = Some(mask);
+        match self
+            .remasker
+            .remask(packet, id, force, mask, &mut self.packet)
+        {
+            Ok(()) => {}
+            Err(_) => self.packet.fill(packet),
+        }
+    }
+}
