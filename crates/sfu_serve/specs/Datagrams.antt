@@ -35,6 +35,11 @@ abbrev pub media_of : Feedback → ℕ
 media_of (Nack media seq) = media
 media_of (Pli media) = media
 
+-- the bytes of a packet's call
+abbrev pub bytes_in : Call → List ℕ
+bytes_in (call.Packet track moment bytes) = bytes
+bytes_in other = []
+
 -- the calls that a control line may say: those of the words publish, unpublish, join, leave, aim, key, plead and why
 abbrev pub is_control : Call → Bool
 is_control (call.Packet track moment bytes) = false

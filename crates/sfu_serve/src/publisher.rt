@@ -1,12 +1,14 @@
 // The session of a publisher.
-ghost use Rattle.std.specs.Prelude.{◌≡◌, ℕ, ◌≤◌, ◌<◌, length, Option, None, IfOk, IfErr};
+ghost use Rattle.std.specs.Prelude.{◌≡◌, ℕ, ◌≤◌, ◌<◌, List, [], ◌∷◌, length, Option, None, IfOk, IfErr};
 ghost use Rattle.sfu_base.specs.Answer.{KeyIs, Named};
-ghost use Rattle.sfu_base.specs.Links.{Traffic, datagram};
+ghost use Rattle.sfu_base.specs.Faults.{HasCause};
+ghost use Rattle.sfu_base.specs.Links.{Traffic, datagram, with_more};
 ghost use Rattle.sfu_base.specs.declared.call.Call.{Call as CallData};
 ghost use Rattle.sfu_base.specs.declared.call.Call.TheVariants as call;
 ghost use Rattle.turn_lock.specs.Known.{Known, Fits};
 ghost use Rattle.rtcp_feedback.specs.Writing.{Rise};
 ghost use Rattle.deeds.specs.Deeds.{Ask};
+ghost use Rattle.sfu_serve.specs.Datagrams.{bytes_in};
 ghost use Rattle.sfu_serve.specs.Sessions.{Doing, asks, brings, is_due, nacks, pleads, publisher_deed};
 ghost use Rattle.sfu_serve.specs.Parts.{Done, IsPart, Keeps, Stops};
 
@@ -16,7 +18,7 @@ use crate::shared_room::SharedRoom;
 use crate::speaking::{post, say};
 use room_core::Recorder;
 use rtcp_feedback::{write_nack, write_pli};
-use sfu_base::{Call, Clock, Link, PacketBuf, Reply, Scratch, SeqList};
+use sfu_base::{Call, Clock, Failed, Link, PacketBuf, Reply, Scratch, SeqList};
 use std::sync::Wait;
 use turn_lock::{Seat, Turns};
 
@@ -46,38 +48,60 @@ fn is_due(apart: u64, moment: u64, last: Option<u64>) -> bool
     }
 }
 
-/// Brings the packet that came, unless it is RTCP.
+/// Receives into the buffer of a packet's call, so that no packet is copied from one buffer to another, and puts the moment behind it into
+/// the call. Answers whether a datagram came, and the moment. A call of another kind receives nothing.
+fn hear<L: Link, C: Clock>(
+    link: &mut L,
+    clock: &C,
+    packet: &mut Call,
+) -> Result<(bool, u64), Failed>
+    ensures heard { (track before : ℕ) (bytes : List ℕ) → packet.old ≡ call.Packet track before bytes → IfOk result (λ heard.
+        (packet.new ≡ call.Packet track heard.1 (bytes_in packet.new))
+        × (L.told link.new ≡ with_more (datagram heard.0 (bytes_in packet.new) ∷ []) [] (L.told link.old))) }
+    ensures unheard { IfErr result (λ failed. L.told link.new ≡ L.told link.old) }
+    ensures cause { HasCause (L.faults link.old) (L.faults link.new) result }
+{
+    let Call::Packet {
+        moment: at,
+        bytes,
+        ..
+    } = packet
+    else {
+        return Ok((false, 0));
+    };
+    let came = link.receive(bytes)?;
+    let moment = clock.now();
+    *at = moment;
+    Ok((came, moment))
+}
+
+/// Makes the call of the packet that came, unless it is RTCP.
 fn bring<R: Recorder, W: Wait + Sync>(
     rt: &W,
     turns: &Turns<SharedRoom<R>>,
     seat: &mut Seat<SharedRoom<R>>,
-    track: u32,
-    moment: u64,
     came: bool,
-    packet: &PacketBuf,
+    packet: &Call,
     scratch: &mut Scratch,
 ) -> Result<(), Stop>
     requires lock { seat.old.lock ≡ turns.now }
     requires fits { Fits seat.old }
-    ensures part { (next : Doing) (told : Option Traffic) (faults : ℕ) → IsPart (brings track moment (datagram came packet.now) next) next
+    ensures part { (track moment : ℕ) (bytes : List ℕ) → packet.now ≡ call.Packet track moment bytes
+        → (next : Doing) (told : Option Traffic) (faults : ℕ) → IsPart (brings track moment (datagram came bytes) next) next
         seat.old seat.new told told faults faults result }
-    ensures bounded { length packet.now ≤ 2048 }
+    ensures bounded { length (bytes_in packet.now) ≤ 2048 }
 {
-    let packet = packet.bytes();
+    let Call::Packet { bytes, .. } = packet else {
+        return Ok(());
+    };
+    let bytes = bytes.bytes();
     if !came {
         return Ok(());
     }
-    if is_rtcp(packet) {
+    if is_rtcp(bytes) {
         return Ok(());
     }
-    let mut bytes = PacketBuf::new();
-    bytes.fill(packet);
-    let call = Call::Packet {
-        track,
-        moment,
-        bytes,
-    };
-    match say(rt, turns, seat, &call, scratch) {
+    match say(rt, turns, seat, packet, scratch) {
         Ok(_reply) => Ok(()),
         Err(stop) => Err(stop),
     }
@@ -238,25 +262,26 @@ fn publisher_turn<R: Recorder, L: Link, W: Wait + Sync>(
     moment: u64,
     last: Last,
     came: bool,
-    packet: &PacketBuf,
+    packet: &Call,
     link: &mut L,
     out: &mut PacketBuf,
     scratch: &mut Scratch,
 ) -> Result<Last, Stop>
     requires lock { seat.old.lock ≡ turns.now }
     requires fits { Fits seat.old }
+    requires packet { packet.now ≡ call.Packet track moment (bytes_in packet.now) }
     ensures done { IfOk result (λ now. (next : Option ℕ → Option ℕ → Doing) → Done
-        (brings track moment (datagram came packet.now)
+        (brings track moment (datagram came (bytes_in packet.now))
         (Ask (call.Tick track moment) (λ ticked. asks track ssrc moment last.asked last.pleaded next)))
         (next now.asked now.pleaded) seat.old seat.new (L.told link.old) (L.told link.new) (L.faults link.old) (L.faults link.new) 0) }
     ensures stopped { IfErr result (λ stop. (next : Option ℕ → Option ℕ → Doing) → Stops
-        (brings track moment (datagram came packet.now)
+        (brings track moment (datagram came (bytes_in packet.now))
         (Ask (call.Tick track moment) (λ ticked. asks track ssrc moment last.asked last.pleaded next)))
         seat.old seat.new (L.told link.old) (L.told link.new) (L.faults link.old) (L.faults link.new) stop) }
-    ensures bounded { length packet.now ≤ 2048 }
+    ensures bounded { length (bytes_in packet.now) ≤ 2048 }
 {
     let tick = Call::Tick { track, moment };
-    match bring(rt, turns, seat, track, moment, came, packet, scratch) {
+    match bring(rt, turns, seat, came, packet, scratch) {
         Ok(()) => match say(rt, turns, seat, &tick, scratch) {
             Ok(_reply) => ask(
                 rt, turns, seat, track, ssrc, moment, last, link, out, scratch,
@@ -287,17 +312,20 @@ pub fn publisher_session<R: Recorder, L: Link, C: Clock, W: Wait + Sync>(
     ensures keeps { Keeps (publisher_deed track ssrc limit None None) limit
         seat.old seat.new (L.told link.old) (L.told link.new) (L.faults link.old) (L.faults link.new) result }
 {
-    let mut packet = PacketBuf::new();
+    let mut packet = Call::Packet {
+        track,
+        moment: 0,
+        bytes: PacketBuf::new(),
+    };
     let mut out = PacketBuf::new();
     let mut last = Last {
         asked: None,
         pleaded: None,
     };
     for turn in 0..limit {
-        let Ok(came) = link.receive(&mut packet) else {
+        let Ok((came, moment)) = hear(link, clock, &mut packet) else {
             return SessionEnd::LinkFault { turn };
         };
-        let moment = clock.now();
         match publisher_turn(
             rt, turns, seat, track, ssrc, moment, last, came, &packet, link, &mut out, scratch,
         ) {

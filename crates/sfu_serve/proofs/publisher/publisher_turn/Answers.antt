@@ -7,13 +7,13 @@ use Rattle.sfu_serve.proofs.Parting.{after, stops_after, map_ok, map_err}
 use Rattle.sfu_serve.proofs.publisher.publisher_turn.Goals as goal
 
 pub say-requires-clause-lock : goal.say-requires-clause-lock
-say-requires-clause-lock g c κs within = (c.in-Ok.ensures.part Over (g.L.Link.told c.args.link.now) 0).seat.0 ∙ c.requires.lock
+say-requires-clause-lock g c κs within = (c.in-Ok.ensures.part c.args.track c.args.moment _ c.requires.packet Over (g.L.Link.told c.args.link.now) 0).seat.0 ∙ c.requires.lock
 
 pub say-requires-clause-fits : goal.say-requires-clause-fits
-say-requires-clause-fits g c κs within = (c.in-Ok.ensures.part Over (g.L.Link.told c.args.link.now) 0).fits
+say-requires-clause-fits g c κs within = (c.in-Ok.ensures.part c.args.track c.args.moment _ c.requires.packet Over (g.L.Link.told c.args.link.now) 0).fits
 
 pub ask-requires-clause-lock : goal.ask-requires-clause-lock
-ask-requires-clause-lock g c κs within = (c.in-Ok-say.ensures.said (λ (a : Answer). Over) (g.L.Link.told c.args.link.now) 0).seat.0 ∙ ((c.in-Ok.ensures.part Over (g.L.Link.told c.args.link.now) 0).seat.0 ∙ c.requires.lock)
+ask-requires-clause-lock g c κs within = (c.in-Ok-say.ensures.said (λ (a : Answer). Over) (g.L.Link.told c.args.link.now) 0).seat.0 ∙ ((c.in-Ok.ensures.part c.args.track c.args.moment _ c.requires.packet Over (g.L.Link.told c.args.link.now) 0).seat.0 ∙ c.requires.lock)
 
 pub ask-requires-clause-fits : goal.ask-requires-clause-fits
 ask-requires-clause-fits g c κs within = (c.in-Ok-say.ensures.said (λ (a : Answer). Over) (g.L.Link.told c.args.link.now) 0).fits
@@ -23,7 +23,7 @@ returns-in-Ok-say-clause-done g c = map_ok c.ask.result _ _ (λ now p next.
     let f : Answer → Doing = λ (a : Answer). asks c.args.track c.args.ssrc c.args.moment c.args.last.asked c.args.last.pleaded next in
     let told = g.L.Link.told c.args.link.now in
     let faults = g.L.Link.faults c.args.link.now in
-    after (after (c.in-Ok.ensures.part (Ask (Tick c.args.track c.args.moment) f) told faults) (c.in-Ok-say.ensures.said f told faults)) (p next)) c.ask.ensures.done
+    after (after (c.in-Ok.ensures.part c.args.track c.args.moment _ c.requires.packet (Ask (Tick c.args.track c.args.moment) f) told faults) (c.in-Ok-say.ensures.said f told faults)) (p next)) c.ask.ensures.done
 
 pub returns-in-Ok-say-clause-stopped : goal.returns-in-Ok-say-clause-stopped
 returns-in-Ok-say-clause-stopped g c = map_err c.ask.result _ _ (λ stop p next.
@@ -31,16 +31,16 @@ returns-in-Ok-say-clause-stopped g c = map_err c.ask.result _ _ (λ stop p next.
     let told = g.L.Link.told c.args.link.now in
     let faults = g.L.Link.faults c.args.link.now in
     stops_after c.ask.new.seat (g.L.Link.told c.ask.new.link) (g.L.Link.faults c.ask.new.link) stop
-    (after (c.in-Ok.ensures.part (Ask (Tick c.args.track c.args.moment) f) told faults) (c.in-Ok-say.ensures.said f told faults)) (p next)) c.ask.ensures.stopped
+    (after (c.in-Ok.ensures.part c.args.track c.args.moment _ c.requires.packet (Ask (Tick c.args.track c.args.moment) f) told faults) (c.in-Ok-say.ensures.said f told faults)) (p next)) c.ask.ensures.stopped
 
 pub returns-in-Err-say-clause-stopped : goal.returns-in-Err-say-clause-stopped
 returns-in-Err-say-clause-stopped g c = λ next.
     let f : Answer → Doing = λ (a : Answer). asks c.args.track c.args.ssrc c.args.moment c.args.last.asked c.args.last.pleaded next in
     let told = g.L.Link.told c.args.link.now in
     let faults = g.L.Link.faults c.args.link.now in
-    stops_after c.say.new.seat told faults c.in-Err-say.stop (c.in-Ok.ensures.part (Ask (Tick c.args.track c.args.moment) f) told faults) (c.in-Err-say.ensures.stopped f told faults)
+    stops_after c.say.new.seat told faults c.in-Err-say.stop (c.in-Ok.ensures.part c.args.track c.args.moment _ c.requires.packet (Ask (Tick c.args.track c.args.moment) f) told faults) (c.in-Err-say.ensures.stopped f told faults)
 
 pub returns-in-Err-clause-stopped : goal.returns-in-Err-clause-stopped
 returns-in-Err-clause-stopped g c = λ next.
     let f : Answer → Doing = λ (a : Answer). asks c.args.track c.args.ssrc c.args.moment c.args.last.asked c.args.last.pleaded next in
-    c.in-Err.ensures.part (Ask (Tick c.args.track c.args.moment) f) (g.L.Link.told c.args.link.now) (g.L.Link.faults c.args.link.now)
+    c.in-Err.ensures.part c.args.track c.args.moment _ c.requires.packet (Ask (Tick c.args.track c.args.moment) f) (g.L.Link.told c.args.link.now) (g.L.Link.faults c.args.link.now)
