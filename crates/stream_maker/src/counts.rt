@@ -17,7 +17,7 @@ pub struct Counts {
     pub lost: u32,
     /// Packets that are sent twice.
     pub repeated: u32,
-    /// Packets that are held back, and so sent behind the next.
+    /// Packets that are held back, until the next that isn't lost is sent or the stream ends.
     pub swapped: u32,
 }
 
