@@ -1,0 +1,402 @@
+#!/usr/bin/env python3
+"""Runs `serve` over real sockets of 127.0.0.1 and prints what came of it: what came out beside what went in, how long it took, and what it cost
+beside a plain relay of the same datagrams. Times and costs depend on whatever else the machine does. It ends with 1 where something was lost that no
+system buffer dropped, came changed or out of order, was answered otherwise than it should be, or where a session ended early. It is no part of the
+gate. Needs gcc; where no program is named it is built first.
+
+usage: bench/serve/run.py [--program FILE] [--seconds N] [--rate N] [PART...]      30 seconds, 10,000 packets a second and all parts if left out
+
+  plain     a plain track at the rate, packets of 1,200 bytes, 1, 2 and 4 subscribers, and a relay beside it that gets the same datagrams
+  layered   the same with a layered track
+  resend    a publisher that loses each 97th packet, and subscribers that lose each 100th: both are asked for and sent again
+  hostile   a track before and while others send rubbish: strangers at each port, a publisher and a controller that send random bytes, a
+            subscriber that sends RTCP that doesn't read or asks for what never was, peers that aren't there or go away
+  control   what a control port answers
+  ports     64 ports for 60 seconds
+"""
+import argparse
+import atexit
+import json
+import os
+import signal
+import socket
+import subprocess
+import sys
+import tempfile
+import time
+from pathlib import Path
+
+TOP = Path(__file__).resolve().parent.parent.parent
+FOLDER = Path(__file__).resolve().parent
+PARTS = ['plain', 'layered', 'resend', 'hostile', 'control', 'ports']
+LOCAL, PEER, RELAY = 21000, 22000, 23000      # below the ports that the system chooses
+SIZE = 1200
+NEVER = 10**12                                # turns: more than can be made while anybody waits
+
+problems = []
+started = []
+
+
+def check(good, text):
+    if not good:
+        problems.append(text)
+        print(f'  WRONG: {text}')
+
+
+def drops(port):
+    """How many datagrams the system dropped at a port of 127.0.0.1 since its socket was opened; none where the port isn't open."""
+    with open('/proc/net/udp') as table:
+        for row in list(table)[1:]:
+            words = row.split()
+            if words[1] == f'0100007F:{port:04X}':
+                return int(words[-1])
+    return None
+
+
+def processor_seconds(pid):
+    words = Path(f'/proc/{pid}/stat').read_text().rsplit(')', 1)[1].split()
+    return (int(words[11]) + int(words[12])) / os.sysconf('SC_CLK_TCK')
+
+
+@atexit.register
+def end_all():
+    for running in started:
+        if running.poll() is None:
+            running.kill()
+
+
+def wait_for(ports):
+    """Waits until each port is open."""
+    end = time.monotonic() + 20
+    while any(drops(port) is None for port in ports):
+        if time.monotonic() > end:
+            sys.exit(f'run.py: no socket at one of the ports {ports}')
+        time.sleep(0.02)
+
+
+class Started:
+    """A program of this folder or sfu, with what it writes."""
+
+    def __init__(self, words, source=''):
+        self.out = tempfile.TemporaryFile('w+')
+        self.running = subprocess.Popen([str(word) for word in words], stdin=subprocess.PIPE, stdout=self.out, text=True)
+        self.pid = self.running.pid
+        started.append(self.running)
+        self.running.stdin.write(source)
+        self.running.stdin.close()
+
+    def stop(self):
+        if self.running.poll() is None:
+            self.running.send_signal(signal.SIGTERM)
+        return self.wait()
+
+    def wait(self, seconds=None):
+        self.running.wait(seconds)
+        self.out.seek(0)
+        return self.out.read()
+
+    def rows(self):
+        return [json.loads(row) for row in self.wait().splitlines()]
+
+    def threads(self):
+        try:
+            return len(os.listdir(f'/proc/{self.pid}/task'))
+        except FileNotFoundError:
+            return 0
+
+
+class Serving:
+    """`serve` on a room: the opening lines, and one port for each role, from LOCAL on, whose peers are from PEER on."""
+
+    def __init__(self, opening, roles, turns=NEVER):
+        lines = opening + [f'port 127.0.0.1:{LOCAL + i} 127.0.0.1:{PEER + i} {role}' for i, role in enumerate(roles)]
+        self.count, self.opening = len(roles), opening
+        self.sfu = Started([program, 'serve', turns], ''.join(line + '\n' for line in lines))
+        wait_for([LOCAL + i for i in range(self.count)])
+        time.sleep(0.2)
+        self.threads = self.sfu.threads()
+        check(self.threads == self.count + 1, f'{self.threads} threads for {self.count} sessions')
+
+    def end(self):
+        """Stops it, where no session has ended before."""
+        check(self.sfu.threads() == self.threads, f'{self.sfu.threads()} of {self.threads} threads are left')
+        out = self.sfu.stop()
+        check(out == 'ok\n' * len(self.opening), f'the opening lines were answered {out!r}')
+
+
+def tool(name, *words):
+    return Started([binaries / name, *words])
+
+
+def sender(place, kind, ssrc, rate, seconds, left_out=0, *beside):
+    return tool('send', PEER + place, LOCAL + place, kind, ssrc, rate, seconds, SIZE, left_out, *beside)
+
+
+def receivers(places, ssrcs, nacked=0, plis=0, dump='-'):
+    taking = tool('receive', nacked, plis, dump, *(f'{PEER + place}:{LOCAL + place}:{ssrc}' for place, ssrc in zip(places, ssrcs)))
+    wait_for([PEER + place for place in places])
+    return taking
+
+
+def sound(row, name):
+    check(row['received'] > 0, f'{name} received nothing')
+    check(row['wrong'] == 0, f'{name} received {row["wrong"]} packets that are none of the stream')
+    check(row['again'] == 0, f'{name} received {row["again"]} packets again')
+
+
+def milliseconds(rows, part):
+    return max(row[part] for row in rows) / 1000
+
+
+def waits(rows):
+    return ' '.join(f'{milliseconds(rows, part):6.2f}' for part in ('p50', 'p99', 'p999', 'worst'))
+
+
+def rates(kind):
+    """A track at the rate with 1, 2 and 4 subscribers, and a relay beside it."""
+    print(f'{kind} track, {options.rate} packets of {SIZE} bytes a second, {options.seconds} s; of each figure the worst subscriber')
+    print('                    dropped by the system     lost    ms from send to receipt      processor, us for')
+    print('  subscribers  sent     at it  behind it   inside     p50    p99  p99.9   worst    an outgoing packet')
+    for count in (1, 2, 4):
+        ssrcs = [f'222222{s:02x}' for s in range(1, count + 1)]
+        head = 'publish 1 plain 11111111 100' if kind == 'plain' else 'publish 1 layered 11111111 100 4'
+        serving = Serving([head] + [f'join {s + 1} 1 {ssrcs[s]} 0 1 1' for s in range(count)],
+                          ['publisher 1 11111111'] + [f'subscriber {s + 1} {ssrcs[s]}' for s in range(count)])
+        places = range(1, count + 1)
+        beside = range(RELAY + 1, RELAY + count + 1)
+        dump = binaries / 'dump'
+        taking = receivers(places, ssrcs, dump=dump if kind == 'layered' else '-')
+        relay = tool('relay', RELAY, *beside)
+        relayed = tool('receive', 0, 0, '-', *(f'{port}:{RELAY}:11111111' for port in beside))
+        wait_for([RELAY, *beside])
+        cost = [processor_seconds(each.pid) for each in (serving.sfu, relay)]
+        sent = sender(0, kind, '11111111', options.rate, options.seconds, 0, RELAY).rows()[0]
+        cost = [processor_seconds(each.pid) - before for each, before in zip((serving.sfu, relay), cost)]
+        time.sleep(0.5)
+        at = [drops(LOCAL), drops(RELAY)]
+        behind = [[drops(PEER + place) for place in places], [drops(port) for port in beside]]
+        rows = [taking.stop() and taking.rows(), relayed.stop() and relayed.rows()]
+        relay.stop()
+        serving.end()
+        micros = []
+        for name, got, dropped, dropped_behind, seconds in zip(('sfu', 'relay'), rows, at, behind, cost):
+            for place, row in enumerate(got):
+                sound(row, f'{name} {place + 1}')
+            inside = [sent['sent'] - dropped - row['received'] - late for row, late in zip(got, dropped_behind)]
+            micros.append(1e6 * seconds / sum(row['received'] for row in got))
+            worst = max(inside, key=abs)
+            if kind == 'plain' or name == 'relay' or dropped == 0:
+                check(worst == 0, f'{name}: {worst} packets were lost inside')
+            ratio = f' (sfu {micros[0] / micros[1]:.2f} times that)' if name == 'relay' else ''
+            print(f'  {name:<7}{count:4} {sent["sent"]:7} {dropped:9} {max(dropped_behind):9} {worst:8}  {waits(got)}    {micros[-1]:6.2f}{ratio}')
+        if sent['latest_us'] > 5000:
+            print(f'    (the sender itself was up to {sent["latest_us"] / 1000:.1f} ms late)')
+        if kind == 'layered' and behind[0][0] == 0 and at[0] == 0:
+            with open(dump) as packets:
+                verdict = subprocess.run([program, 'check', '4'], stdin=packets, capture_output=True, text=True).stdout.strip()
+            check(verdict.startswith('ok '), f'a strict receiver says {verdict!r}')
+            print(f'    a strict receiver of the first packets that subscriber 1 received: {verdict}')
+
+
+def resend():
+    """Losses on both sides, made good by NACKs; and picture loss indications."""
+    for kind, form in (('plain', 'plain 11111111 100'), ('layered', 'layered 11111111 100 4')):
+        ssrcs = ['22222201', '22222202']
+        serving = Serving([f'publish 1 {form}', 'join 1 1 22222201 0 1 1', 'join 2 1 22222202 65000 1 1'],
+                          ['publisher 1 11111111', 'subscriber 1 22222201', 'subscriber 2 22222202'])
+        taking = receivers([1, 2], ssrcs, nacked=100, plis=200)
+        rate, seconds = min(options.rate, 5000), min(options.seconds, 10)
+        sent = sender(0, kind, '11111111', rate, seconds, 97).rows()[0]
+        time.sleep(0.5)
+        lost = [drops(LOCAL), drops(PEER + 1), drops(PEER + 2)]
+        taking.stop()
+        rows = taking.rows()
+        serving.end()
+        print(f'resend, {kind}: {sent["sent"]} packets, {sent["sent"] // 97} of them left out at first; the publisher was asked by {sent["nacks"]} NACKs '
+              f'for {sent["asked"]} packets, and for a key frame {sent["plis"]} times')
+        check(sent['unread'] == 0, f'{sent["unread"]} datagrams to the publisher are no NACK and no PLI')
+        check(sent['plis'] <= 2 * seconds + 2, 'key frames were asked for more than twice a second')
+        check(kind == 'plain' or sent['plis'] > seconds, 'no key frame was asked for although subscribers do so 5 times a second')
+        for place, row in enumerate(rows, 1):
+            sound(row, f'subscriber {place}')
+            print(f'  subscriber {place}: received {row["received"]}, asked for {row["nacked"]} again, got {row["resent"]}, of which {row["changed"]} '
+                  f'changed; the system dropped {lost[0]} and {lost[place]}')
+            check(row['changed'] == 0, 'a resent packet has other bytes')
+            if not any(lost):
+                check(row['received'] == sent['sent'], f'{sent["sent"] - row["received"]} packets never came')
+                check(row['resent'] == row['nacked'] > 0, f'{row["nacked"] - row["resent"]} packets that were asked for never came')
+
+
+HOSTILE = {                                   # role, and its opening line
+    'publisher 1 11111111': 'publish 1 plain 11111111 100',
+    'subscriber 1 22222201': 'join 1 1 22222201 0 1 1',
+    'subscriber 2 22222202': 'join 2 1 22222202 0 1 1',
+    'control': None,
+    'publisher 2 11111112': 'publish 2 plain 11111112 100',          # sends rubbish
+    'subscriber 3 22222203': 'join 3 2 22222203 0 1 1',              # of the rubbish
+    'subscriber 4 22222204': 'join 4 1 22222204 0 1 1',              # sends rubbish
+    'subscriber 5 22222205': 'join 5 1 22222205 0 1 1',              # isn't there
+    'publisher 3 11111113': 'publish 3 layered 11111113 100 4',      # goes away
+    'subscriber 6 22222206': 'join 6 1 22222206 0 1 1',              # goes away
+    'publisher 4 11111114': 'publish 4 layered 11111114 100 4',      # sends rubbish
+}
+
+
+def hostile():
+    """A track before and while others send rubbish or go away."""
+    roles = list(HOSTILE) + ['control']
+    rate, seconds = min(options.rate, 5000), min(options.seconds, 20)
+    opening = sorted((line for line in HOSTILE.values() if line), reverse=True)
+    print(f'hostile: a plain track, {rate} packets a second, {seconds} s, two subscribers that behave; of each figure the worst of them')
+    print('                      dropped    lost    ms from send to receipt      processor')
+    print('              sent  by system  inside     p50    p99  p99.9   worst')
+    serving = Serving(opening, roles)
+    dialled = socket.socket(socket.AF_INET, socket.SOCK_DGRAM)
+    dialled.bind(('127.0.0.1', PEER + 3))
+    for name in ('calm', 'hostile'):
+        taking = receivers([1, 2], ['22222201', '22222202'])
+        begin, cost = time.monotonic(), processor_seconds(serving.sfu.pid)
+        before = [drops(LOCAL + place) for place in range(len(roles))]
+        noises = []
+        if name == 'hostile':
+            all_ports = [LOCAL + place for place in range(len(roles))]
+            noises = [
+                ('strangers', tool('noise', 0, 'forged', '11111111', 1000, seconds, *all_ports)),
+                ('strangers', tool('noise', 0, 'random', '0', 10000, seconds, *all_ports)),
+                ('publisher 2', tool('noise', PEER + 4, 'random', '0', 10000, seconds, LOCAL + 4)),
+                ('publisher 4', tool('noise', PEER + 10, 'mutated', '11111114', 2000, seconds, LOCAL + 10)),
+                ('subscriber 4', tool('noise', PEER + 6, 'rtcp', '22222204', 1000, seconds, LOCAL + 6)),
+                ('controller 2', tool('noise', PEER + 11, 'lines', '0', 500, seconds, LOCAL + 11)),
+            ]
+            leaving = [sender(8, 'layered', '11111113', 1000, seconds), receivers([9], ['22222206'])]
+        going = sender(0, 'plain', '11111111', rate, seconds)
+        if name == 'hostile':
+            time.sleep(seconds / 2)
+            for each in leaving:
+                each.stop()
+            dialled.settimeout(2)
+            dialled.sendto(b'key 3', ('127.0.0.1', LOCAL + 3))
+            try:
+                answer = dialled.recv(2048)
+            except TimeoutError:
+                answer = b'nothing'
+            check(answer in (b'key no', b'key yes'), f'the control port answered {answer!r}')
+        sent = going.rows()[0]
+        took, cost = time.monotonic() - begin, processor_seconds(serving.sfu.pid) - cost
+        time.sleep(0.5)
+        at = drops(LOCAL) - before[0]
+        behind = [drops(PEER + 1), drops(PEER + 2)]
+        taking.stop()
+        rows = taking.rows()
+        # The system drops datagrams of strangers too, so not all that it dropped at the port need be the publisher's.
+        gone = [sent['sent'] - row['received'] - late for row, late in zip(rows, behind)]
+        worst = max(max(0, lost - at) for lost in gone)
+        for place, row in enumerate(rows, 1):
+            sound(row, f'subscriber {place}')
+        check(worst == 0 and min(gone) >= 0, f'{worst} packets were lost inside, {gone} in all')
+        print(f'  {name:<8}{sent["sent"]:8} {at + max(behind):9} {worst:8}  {waits(rows)}    {cost / took:5.2f} processors')
+        for who, noise in noises:
+            row = noise.rows()[0]
+            print(f'    {who}: {row["sent"]} datagrams, {row["answers"]} answered, {row["fault_lines"]} of them by a fault line')
+            check(who != 'strangers' or row['answers'] == 0, 'strangers were answered')
+            check(who != 'controller 2' or row['answers'] == row['fault_lines'] > 0, 'the controller was answered otherwise')
+    serving.end()
+
+
+def dialogue():
+    """Lines to a control port and what they are answered: before any packet, and after a round of 152 packets of frames 0 to 99."""
+    first = [
+        ('key 1', 'key yes'), ('why 1 0', 'refused ahead none'), ('join 9 1 22222209 7 0 0', 'ok'), ('join 9 1 22222209 7 0 0', 'refused numberused 9'),
+        ('aim 9 1 0', 'ok'), ('publish 2 plain 33333333 100', 'ok'), ('publish 2 plain 33333333 100', 'refused numberused 2'),
+        ('publish 3 layered 33333333 100 15', 'refused badextensionid'), ('join 10 5 22222210 0 0 0', 'refused notrack'),
+        ('join 11 2 22222211 0 0 0', 'ok'), ('why 11 0', 'refused plain'), ('plead 1', 'ok'), ('plead 7', 'refused nosubscriber'),
+        ('key 7', 'refused notrack'), ('take 1', 'fault line'), ('resend 1 0', 'fault line'), ('tick 1 5', 'fault line'), ('missing 1', 'fault line'),
+        ('packet 1 0 8060', 'fault line'), ('key 1\n', 'fault line'), ('key 01', 'fault line'), ('', 'fault line'), ('# key 1', 'fault line'),
+    ]
+    second = [
+        ('why 1 0', 'passed'), ('why 1 99', 'passed'), ('why 1 100', 'refused ahead 99'), ('why 9 1', 'passed'), ('why 9 2', 'notoftarget 1'),
+        ('why 9 3', 'notoftarget 1'), ('why 9 4', 'passed'), ('key 1', 'key no'), ('plead 1', 'ok'), ('key 1', 'key yes'), ('leave 9', 'ok'),
+        ('leave 9', 'refused nosubscriber'), ('why 9 4', 'refused nosubscriber'), ('unpublish 2', 'ok'), ('unpublish 2', 'refused notrack'),
+    ]
+    serving = Serving(['publish 1 layered 11111111 100 4', 'join 1 1 22222201 0 1 1'],
+                      ['publisher 1 11111111', 'subscriber 1 22222201', 'subscriber 9 22222209', 'control'])
+    dialled = socket.socket(socket.AF_INET, socket.SOCK_DGRAM)
+    dialled.bind(('127.0.0.1', PEER + 3))
+    dialled.settimeout(2)
+    taking = receivers([1, 2], ['22222201', '22222209'])
+    for part in (first, second):
+        for line, due in part:
+            dialled.sendto(line.encode(), ('127.0.0.1', LOCAL + 3))
+            try:
+                answer = dialled.recv(2048).decode()
+            except TimeoutError:
+                answer = None
+            check(answer == due, f'{line!r} is answered {answer!r}, not {due!r}')
+        if part is first:
+            sender(0, 'layered', '11111111', 152, 1).wait()
+            time.sleep(0.2)
+    taking.stop()
+    counts = [row['received'] for row in taking.rows()]
+    check(counts == [152, 77], f'the subscribers received {counts} packets')
+    serving.end()
+    print(f'control: {len(first) + len(second)} lines; the subscriber that a line joined received {counts[1]} packets, the other {counts[0]}')
+
+
+def ports():
+    """21 publishers, 42 subscribers and a controller."""
+    opening, roles = [], []
+    for track in range(1, 22):
+        opening.append(f'publish {track} plain 111111{track:02x} 100' if track % 2 else f'publish {track} layered 111111{track:02x} 100 4')
+        opening += [f'join {s} {track} 222222{s:02x} 0 1 1' for s in (2 * track - 1, 2 * track)]
+        roles.append(f'publisher {track} 111111{track:02x}')
+    roles += [f'subscriber {s} 222222{s:02x}' for s in range(1, 43)] + ['control']
+    turns, least = 160000, 60      # a turn takes some 0.45 ms
+    serving = Serving(opening, roles, turns)
+    begin = time.monotonic()
+    taking = receivers(range(21, 63), [f'222222{s:02x}' for s in range(1, 43)])
+    sending = [sender(track - 1, 'plain' if track % 2 else 'layered', f'111111{track:02x}', 100, 600) for track in range(1, 22)]
+    while time.monotonic() - begin < least:
+        time.sleep(1)
+        lost = [drops(port) or 0 for port in range(LOCAL, LOCAL + 64)]
+    alive, cost = serving.sfu.threads(), processor_seconds(serving.sfu.pid) / (time.monotonic() - begin)
+    out = serving.sfu.wait(600)
+    took = time.monotonic() - begin
+    for each in sending:
+        each.stop()
+    taking.stop()
+    rows = taking.rows()
+    check(alive == 65, f'after {least} s {alive} of 65 threads are left')
+    check(out == 'ok\n' * len(opening) + ''.join(f'session {k} all\n' for k in range(1, 65)), f'it wrote {out[-200:]!r}')
+    check(serving.sfu.running.returncode == 0, f'status {serving.sfu.running.returncode}')
+    for place, row in enumerate(rows, 1):
+        sound(row, f'subscriber {place}')
+        check(row['first'] == 0 and (row['gaps'] == row['skipped'] == 0 or any(lost)), f'subscriber {place} misses {row["skipped"]} packets')
+    print(f'ports: 64 for {took:.1f} s, {cost:.2f} processors; the system dropped {sum(lost)}; each of 42 subscribers received '
+          f'{min(row["received"] for row in rows)} packets or more, p50 {milliseconds(rows, "p50"):.2f} ms, p99 {milliseconds(rows, "p99"):.2f} ms, '
+          f'worst {milliseconds(rows, "worst"):.2f} ms; {out.count(" all")} sessions made all turns')
+
+
+reader = argparse.ArgumentParser(usage=__doc__)
+reader.add_argument('--program')
+reader.add_argument('--seconds', type=int, default=30)
+reader.add_argument('--rate', type=int, default=10000)
+reader.add_argument('parts', nargs='*')
+options = reader.parse_args()
+if any(part not in PARTS for part in options.parts):
+    reader.error(f'the parts are {", ".join(PARTS)}')
+program = options.program
+if program is None:
+    subprocess.run([TOP / 'sfu', 'help'], stdin=subprocess.DEVNULL, stdout=subprocess.DEVNULL, check=True)
+    program = TOP / 'crates/sfu_program/out/sfu_program'
+with tempfile.TemporaryDirectory() as work:
+    binaries = Path(work)
+    for name in ('send', 'receive', 'relay', 'noise'):
+        subprocess.run(['gcc', '-std=gnu11', '-O2', '-Wall', '-Wextra', '-o', binaries / name, FOLDER / f'{name}.c'], check=True)
+    run = {'plain': lambda: rates('plain'), 'layered': lambda: rates('layered'), 'resend': resend, 'hostile': hostile, 'control': dialogue,
+           'ports': ports}
+    for part in PARTS:
+        if part in (options.parts or PARTS):
+            run[part]()
+            sys.stdout.flush()
+print(f'{len(problems)} things are wrong' if problems else 'nothing is wrong')
+sys.exit(1 if problems else 0)
