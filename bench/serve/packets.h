@@ -108,13 +108,21 @@ static inline void make_plain(uint8_t *packet, size_t count, uint64_t place, uin
   put_body(packet, 12, count, place, moment);
 }
 
+// A layered stream comes round after so many packets: a key unit, and then units of another kind.
+enum { KEY_UNIT = 5, UNIT = 3, UNITS = 50, ROUND = KEY_UNIT + (UNITS - 1) * UNIT };
+
+// How many packets of its temporal unit stand before the one at this place.
+static inline uint64_t within_unit(uint64_t place) {
+  uint64_t at = place % ROUND;
+  return at < KEY_UNIT ? at : (at - KEY_UNIT) % UNIT;
+}
+
 // A packet of a layered track of two spatial and two temporal layers (RTP Payload Format For AV1, Appendix A), in the order of
 // bench/layered_script.py. One temporal unit in 50 is a key unit, of 3 and 2 packets; the others are of 1 and 2.
 static inline void make_layered(uint8_t *packet, size_t count, uint64_t place, uint32_t ssrc, uint64_t moment) {
   // The bits of a key descriptor behind the frame number: the structure.
   static const uint8_t structure[] = {0x80, 0x03, 0x18, 0x7F, 0xAF, 0xAC, 0x4A, 0x0A, 0x04, 0x04, 0xD1,
                                       0x41, 0x09, 0xA1, 0x15, 0x80, 0x08, 0x64, 0x22, 0x22, 0x26, 0x40};
-  enum { KEY_UNIT = 5, UNIT = 3, UNITS = 50, ROUND = KEY_UNIT + (UNITS - 1) * UNIT };
   uint64_t unit = place / ROUND * UNITS;
   unsigned at = (unsigned)(place % ROUND), spatial, step, steps, form;
   if (at < KEY_UNIT) {

@@ -115,7 +115,7 @@ class Serving:
         wait_for([LOCAL + i for i in range(self.count)])
         time.sleep(0.2)
         self.threads = self.sfu.threads()
-        check(self.threads == self.count + 1, f'{self.threads} threads for {self.count} sessions')
+        check(self.threads >= self.count, f'{self.threads} threads for {self.count} sessions')
 
     def end(self):
         """Stops it, where no session has ended before."""
@@ -128,8 +128,8 @@ def tool(name, *words):
     return Started([binaries / name, *words])
 
 
-def sender(place, kind, ssrc, rate, seconds, left_out=0, *beside):
-    return tool('send', PEER + place, LOCAL + place, kind, ssrc, rate, seconds, SIZE, left_out, *beside)
+def sender(place, kind, ssrc, rate, seconds, *beside, first=0, answers=0, left_out=0):
+    return tool('send', PEER + place, LOCAL + place, kind, ssrc, rate, seconds, SIZE, first, answers, left_out, *beside)
 
 
 def receivers(places, ssrcs, nacked=0, plis=0, dump='-'):
@@ -159,7 +159,8 @@ def rates(kind):
     print('  subscribers  sent     at it  behind it   inside     p50    p99  p99.9   worst    an outgoing packet')
     for count in (1, 2, 4):
         ssrcs = [f'222222{s:02x}' for s in range(1, count + 1)]
-        head = 'publish 1 plain 11111111 100' if kind == 'plain' else 'publish 1 layered 11111111 100 4'
+        # Nothing is sent twice, so that the system's counts can be held against what came. What waits behind a gap in 30 ms fits into a queue.
+        head = 'publish 1 plain 11111111 30' if kind == 'plain' else 'publish 1 layered 11111111 30 4'
         serving = Serving([head] + [f'join {s + 1} 1 {ssrcs[s]} 0 1 1' for s in range(count)],
                           ['publisher 1 11111111'] + [f'subscriber {s + 1} {ssrcs[s]}' for s in range(count)])
         places = range(1, count + 1)
@@ -170,7 +171,7 @@ def rates(kind):
         relayed = tool('receive', 0, 0, '-', *(f'{port}:{RELAY}:11111111' for port in beside))
         wait_for([RELAY, *beside])
         cost = [processor_seconds(each.pid) for each in (serving.sfu, relay)]
-        sent = sender(0, kind, '11111111', options.rate, options.seconds, 0, RELAY).rows()[0]
+        sent = sender(0, kind, '11111111', options.rate, options.seconds, RELAY).rows()[0]
         cost = [processor_seconds(each.pid) - before for each, before in zip((serving.sfu, relay), cost)]
         time.sleep(0.5)
         at = [drops(LOCAL), drops(RELAY)]
@@ -206,7 +207,7 @@ def resend():
                           ['publisher 1 11111111', 'subscriber 1 22222201', 'subscriber 2 22222202'])
         taking = receivers([1, 2], ssrcs, nacked=100, plis=200)
         rate, seconds = min(options.rate, 5000), min(options.seconds, 10)
-        sent = sender(0, kind, '11111111', rate, seconds, 97).rows()[0]
+        sent = sender(0, kind, '11111111', rate, seconds, answers=1, left_out=97).rows()[0]
         time.sleep(0.5)
         lost = [drops(LOCAL), drops(PEER + 1), drops(PEER + 2)]
         taking.stop()
@@ -228,7 +229,7 @@ def resend():
 
 
 HOSTILE = {                                   # role, and its opening line
-    'publisher 1 11111111': 'publish 1 plain 11111111 100',
+    'publisher 1 11111111': 'publish 1 plain 11111111 30',
     'subscriber 1 22222201': 'join 1 1 22222201 0 1 1',
     'subscriber 2 22222202': 'join 2 1 22222202 0 1 1',
     'control': None,
@@ -246,7 +247,8 @@ def hostile():
     """A track before and while others send rubbish or go away."""
     roles = list(HOSTILE) + ['control']
     rate, seconds = min(options.rate, 5000), min(options.seconds, 20)
-    opening = sorted((line for line in HOSTILE.values() if line), reverse=True)
+    lines = [line for line in HOSTILE.values() if line]
+    opening = [line for word in ('publish', 'join') for line in lines if line.startswith(word)]
     print(f'hostile: a plain track, {rate} packets a second, {seconds} s, two subscribers that behave; of each figure the worst of them')
     print('                      dropped    lost    ms from send to receipt      processor')
     print('              sent  by system  inside     p50    p99  p99.9   worst')
@@ -269,7 +271,7 @@ def hostile():
                 ('controller 2', tool('noise', PEER + 11, 'lines', '0', 500, seconds, LOCAL + 11)),
             ]
             leaving = [sender(8, 'layered', '11111113', 1000, seconds), receivers([9], ['22222206'])]
-        going = sender(0, 'plain', '11111111', rate, seconds)
+        going = sender(0, 'plain', '11111111', rate, seconds, first=0 if name == 'calm' else rate * seconds)
         if name == 'hostile':
             time.sleep(seconds / 2)
             for each in leaving:
@@ -299,7 +301,7 @@ def hostile():
             row = noise.rows()[0]
             print(f'    {who}: {row["sent"]} datagrams, {row["answers"]} answered, {row["fault_lines"]} of them by a fault line')
             check(who != 'strangers' or row['answers'] == 0, 'strangers were answered')
-            check(who != 'controller 2' or row['answers'] == row['fault_lines'] > 0, 'the controller was answered otherwise')
+            check(who != 'controller 2' or row['answers'] == row['fault_lines'] > 0.9 * row['sent'], 'the controller was answered otherwise')
     serving.end()
 
 
@@ -309,8 +311,9 @@ def dialogue():
         ('key 1', 'key yes'), ('why 1 0', 'refused ahead none'), ('join 9 1 22222209 7 0 0', 'ok'), ('join 9 1 22222209 7 0 0', 'refused numberused 9'),
         ('aim 9 1 0', 'ok'), ('publish 2 plain 33333333 100', 'ok'), ('publish 2 plain 33333333 100', 'refused numberused 2'),
         ('publish 3 layered 33333333 100 15', 'refused badextensionid'), ('join 10 5 22222210 0 0 0', 'refused notrack'),
-        ('join 11 2 22222211 0 0 0', 'ok'), ('why 11 0', 'refused plain'), ('plead 1', 'ok'), ('plead 7', 'refused nosubscriber'),
-        ('key 7', 'refused notrack'), ('take 1', 'fault line'), ('resend 1 0', 'fault line'), ('tick 1 5', 'fault line'), ('missing 1', 'fault line'),
+        ('join 11 2 22222211 0 0 0', 'ok'), ('why 11 0', 'refused ahead none'), ('plead 11', 'refused plain'), ('key 2', 'key no'),
+        ('plead 1', 'ok'), ('plead 7', 'refused nosubscriber'), ('key 7', 'refused notrack'), ('join 10 1 22222210 0 0 0', 'refused numberused 11'),
+        ('take 1', 'fault line'), ('resend 1 0', 'fault line'), ('tick 1 5', 'fault line'), ('missing 1', 'fault line'),
         ('packet 1 0 8060', 'fault line'), ('key 1\n', 'fault line'), ('key 01', 'fault line'), ('', 'fault line'), ('# key 1', 'fault line'),
     ]
     second = [
@@ -350,11 +353,13 @@ def ports():
         opening += [f'join {s} {track} 222222{s:02x} 0 1 1' for s in (2 * track - 1, 2 * track)]
         roles.append(f'publisher {track} 111111{track:02x}')
     roles += [f'subscriber {s} 222222{s:02x}' for s in range(1, 43)] + ['control']
-    turns, least = 160000, 60      # a turn takes some 0.45 ms
+    turns, least = 180000, 65      # a turn takes some 0.45 ms
     serving = Serving(opening, roles, turns)
     begin = time.monotonic()
+    time.sleep(5)
+    rest = processor_seconds(serving.sfu.pid) / (time.monotonic() - begin)
     taking = receivers(range(21, 63), [f'222222{s:02x}' for s in range(1, 43)])
-    sending = [sender(track - 1, 'plain' if track % 2 else 'layered', f'111111{track:02x}', 100, 600) for track in range(1, 22)]
+    sending = [sender(track - 1, 'plain' if track % 2 else 'layered', f'111111{track:02x}', 100, 600, answers=1) for track in range(1, 22)]
     while time.monotonic() - begin < least:
         time.sleep(1)
         lost = [drops(port) or 0 for port in range(LOCAL, LOCAL + 64)]
@@ -365,13 +370,13 @@ def ports():
         each.stop()
     taking.stop()
     rows = taking.rows()
-    check(alive == 65, f'after {least} s {alive} of 65 threads are left')
+    check(alive == serving.threads, f'after {least} s {alive} of {serving.threads} threads are left')
     check(out == 'ok\n' * len(opening) + ''.join(f'session {k} all\n' for k in range(1, 65)), f'it wrote {out[-200:]!r}')
     check(serving.sfu.running.returncode == 0, f'status {serving.sfu.running.returncode}')
     for place, row in enumerate(rows, 1):
         sound(row, f'subscriber {place}')
         check(row['first'] == 0 and (row['gaps'] == row['skipped'] == 0 or any(lost)), f'subscriber {place} misses {row["skipped"]} packets')
-    print(f'ports: 64 for {took:.1f} s, {cost:.2f} processors; the system dropped {sum(lost)}; each of 42 subscribers received '
+    print(f'ports: 64 for {took:.1f} s, {rest:.2f} processors while nothing came, {cost:.2f} in all; the system dropped {sum(lost)}; each of 42 received '
           f'{min(row["received"] for row in rows)} packets or more, p50 {milliseconds(rows, "p50"):.2f} ms, p99 {milliseconds(rows, "p99"):.2f} ms, '
           f'worst {milliseconds(rows, "worst"):.2f} ms; {out.count(" all")} sessions made all turns')
 
