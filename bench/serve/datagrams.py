@@ -28,7 +28,7 @@ def show(port, seconds='3'):
     near = at(port)
     while True:
         try:
-            print(near.recv(2048).hex())
+            print(near.recv(2048).hex(), flush=True)
         except TimeoutError:
             break
         near.settimeout(float(seconds))
