@@ -14,3 +14,10 @@ pub mod TogetherSeating
 pub mod TogetherStatuses
 pub mod TogetherBytes
 pub mod TogetherForms
+pub mod ServeTurns
+pub mod ServeLines
+pub mod ServeBacks
+pub mod ServeRun
+pub mod ServeActing
+pub mod ServeCounts
+pub mod ServeForms

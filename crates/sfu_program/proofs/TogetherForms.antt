@@ -10,7 +10,6 @@ use Rattle.sfu_commands.specs.Trial.{IsTrial}
 use Rattle.stream_maker.specs.Stream.{Stream}
 use Rattle.sfu_commands.specs.Words.{IsForm, IsStatus, Says}
 use Rattle.sfu_program.specs.Together.{IsTogether}
-use Rattle.sfu_program.specs.Forms.{IsCommand}
 
 clash : (a b : ℕ) → a ≡ b → a < b → ⊥
 clash a b e low = omega arith
@@ -40,11 +39,6 @@ not_said words (Trial frames start loss) t is = clash 1 4 (ap length (sym t ∙ 
 
 pub not_form : (words : List (List ℕ)) → IsTogether words → IsForm words → ⊥
 not_form words t is = not_said words is.0 t is.1
-
--- words that are neither are no command
-pub no_command : (words : List (List ℕ)) → (IsTogether words → ⊥) → (IsForm words → ⊥) → IsCommand words → ⊥
-no_command words t f (inl is) = f is
-no_command words t f (inr is) = t is
 
 pub not_trial : (words : List (List ℕ)) (s : Stream) → IsTogether words → IsTrial words s → ⊥
 not_trial words s t is = clash 1 4 (ap length (sym t ∙ is.words_are)) (omega arith)

@@ -1,8 +1,17 @@
--- Which words are a command of the program. Own rule.
-use Rattle.std.specs.Prelude.{◌⊎◌, ℕ, List}
-use Rattle.sfu_commands.specs.Words.{IsForm}
+-- Which words are a command of the program, and the statuses with which it ends. Own rule.
+use Rattle.std.specs.Prelude.{◌≡◌, ◌⊎◌, ℕ, List}
+use Rattle.sfu_commands.specs.Words.{IsForm, IsStatus}
+use Rattle.sfu_program.specs.ServeWords.{IsServe}
 use Rattle.sfu_program.specs.Together.{IsTogether}
 
--- the words are one of the commands: one that a single thread does, or `together`
+-- the words are `serve` and a number of turns
+abbrev pub IsServing : List (List ℕ) → Type 0
+IsServing words = (turns : ℕ) × IsServe words turns
+
+-- the words are one of the commands: one that a single thread does, `together`, or `serve`
 abbrev pub IsCommand : List (List ℕ) → Type 0
-IsCommand words = IsForm words ⊎ IsTogether words
+IsCommand words = IsForm words ⊎ IsTogether words ⊎ IsServing words
+
+-- the statuses of the program: 7 is that of ports alone
+abbrev pub IsEnd : ℕ → Type 0
+IsEnd status = IsStatus status ⊎ (status ≡ 7)

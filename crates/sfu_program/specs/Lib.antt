@@ -8,3 +8,9 @@ pub mod TogetherHistory
 pub mod TogetherActing
 pub mod Together
 pub mod Forms
+pub mod ServeWords
+pub mod ServeOpening
+pub mod ServePorts
+pub mod ServeEnds
+pub mod Serve
+pub mod ServeEnding

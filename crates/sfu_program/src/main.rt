@@ -1,11 +1,12 @@
-//! The program `sfu`: its top call over any source and sink, and a `main` that hands in standard input and output.
+//! The program `sfu`: its top call over any source, sink, ports and clock, and a `main` that hands in standard input and output, UDP ports and the
+//! system's clock.
 #![tactic(auto)]
 
 mod serve;
 mod sfu;
 mod together;
 
-use sfu_base::{StdSink, StdSource};
+use sfu_base::{StdSink, StdSource, SysClock, UdpPorts};
 use std::process::ExitCode;
 use std::{env, io};
 
@@ -28,5 +29,15 @@ fn main(rt: HostRuntime) -> ExitCode {
     };
     let mut source = StdSource::new(rt.stdin());
     let mut sink = StdSink::new(rt.stdout());
-    ExitCode::from(sfu::sfu(&rt, rt.alloc(), words.as_slice(), &mut source, &mut sink))
+    let mut ports = UdpPorts::new(&rt);
+    let clock = SysClock::new(&rt);
+    ExitCode::from(sfu::sfu(
+        &rt,
+        rt.alloc(),
+        words.as_slice(),
+        &mut source,
+        &mut sink,
+        &mut ports,
+        &clock,
+    ))
 }

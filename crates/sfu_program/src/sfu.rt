@@ -8,12 +8,15 @@ ghost use Rattle.sfu_commands.specs.Help.{Helps, IsHelp, Refuses};
 ghost use Rattle.sfu_commands.specs.Promise.{AreServed};
 ghost use Rattle.sfu_commands.specs.Run.{IsRun, Runs};
 ghost use Rattle.sfu_commands.specs.Trial.{IsTrial, Tries};
-ghost use Rattle.sfu_commands.specs.Words.{IsStatus};
-ghost use Rattle.sfu_program.specs.Forms.{IsCommand};
+ghost use Rattle.sfu_program.specs.Forms.{IsCommand, IsEnd, IsServing};
+ghost use Rattle.sfu_program.specs.Serve.{Serves};
+ghost use Rattle.sfu_program.specs.ServePorts.{seen_ports};
+ghost use Rattle.sfu_program.specs.ServeWords.{IsServe};
 ghost use Rattle.sfu_program.specs.Together.{IsTogether, Plays};
 
+use crate::serve::{read_serve, serve};
 use crate::together::play_script;
-use sfu_base::{Sink, Source};
+use sfu_base::{Clock, Ports, Sink, Source};
 use sfu_commands::sfu_alone;
 use std::alloc::Global;
 use std::sync::Wait;
@@ -39,20 +42,26 @@ fn are_together(words: &[String]) -> bool
     }
 }
 
-/// Does what the words say, and answers the program's status.
+/// Does what the words say, and answers the program's status. Only `serve` binds ports and looks at the clock; each port that it bound for a
+/// session comes back.
 ///
-/// Status 0: the source was read to its end, where the command reads it, and all that is due was written. 2: the words are no command;
-/// nothing was read, and the usage line was written. 3 and 4: the source or the sink failed. 5: a line is outside the grammar; what is due
-/// before it and `line N` were written, or `record N` in a script of records; `convert` doesn't write which it is. 6: want of memory. 8: the
-/// strict receiver of `check` complains; `line N` and the complaint were written. The first that is met ends the call; 2, 5 and 8 stay where
-/// the sink fails in their own text.
-pub fn sfu<W: Threads + Wait + Sync, S: Source, K: Sink>(
+/// Status 0: the source was read to its end, where the command reads it, and all that is due was written; in `serve` each session made all its
+/// turns. 2: the words are no command; nothing was read, and the usage line was written. 3 and 4: the source or the sink failed. 5: a line is
+/// outside the grammar; what is due before it and `line N` were written, or `record N` in a script of records; `convert` doesn't write which it
+/// is. 6: want of memory. 7: a port wasn't bound, or one came back with faults of its own, whose session's line was written. 8: the strict
+/// receiver of `check` complains; `line N` and the complaint were written. The first that is met ends the call; 2, 5 and 8 stay where the sink
+/// fails in their own text.
+pub fn sfu<W: Threads + Wait + Sync, S: Source, K: Sink, P: Ports, C: Clock + Sync>(
     rt: &W,
     alloc: Global,
     words: &[String],
     source: &mut S,
     sink: &mut K,
+    ports: &mut P,
+    clock: &C,
 ) -> u8
+    requires unbound { P.bound ports.old ≡ 0 }
+    requires none_back { P.back_count ports.old ≡ 0 }
     ensures run { IsRun (map string_bytes words.now)
         → Runs (S.left source.old) (S.left source.new) (K.written sink.old) (K.written sink.new) (S.faults source.old) (S.faults source.new)
         (K.faults sink.old) (K.faults sink.new) result }
@@ -69,13 +78,22 @@ pub fn sfu<W: Threads + Wait + Sync, S: Source, K: Sink>(
     ensures together { IsTogether (map string_bytes words.now)
         → Plays (S.left source.old) (S.left source.new) (K.written sink.old) (K.written sink.new) (S.faults source.old) (S.faults source.new)
         (K.faults sink.old) (K.faults sink.new) result }
+    ensures serve { (turns : ℕ) → IsServe (map string_bytes words.now) turns
+        → Serves P.Port.told P.Port.faults turns (S.left source.old) (S.left source.new) (K.written sink.old) (K.written sink.new) (S.faults source.old)
+        (S.faults source.new) (K.faults sink.old) (K.faults sink.new)
+        (seen_ports (P.bound ports.old) (P.back_count ports.old) (P.returned ports.old) (P.faults ports.old))
+        (seen_ports (P.bound ports.new) (P.back_count ports.new) (P.returned ports.new) (P.faults ports.new)) result }
+    ensures unserved { ¬ (IsServing (map string_bytes words.now)) → ports.new ≡ ports.old }
     ensures other { ¬ (IsCommand (map string_bytes words.now))
         → Refuses source.old source.new (K.written sink.old) (K.written sink.new) (K.faults sink.old) (K.faults sink.new) result }
     ensures form { (result ≡ 2) ↔ ¬ (IsCommand (map string_bytes words.now)) }
-    ensures only { IsStatus result }
+    ensures only { IsEnd result }
 {
     if are_together(words) {
         return play_script(rt, alloc, source, sink);
+    }
+    if let Some(turns) = read_serve(words) {
+        return serve(rt, alloc, turns, source, sink, ports, clock);
     }
     sfu_alone(alloc, words, source, sink)
 }

@@ -1,5 +1,5 @@
 // The configuration of `serve`, read to its end.
-ghost use Rattle.std.specs.Prelude.{IfErr, IfOk};
+ghost use Rattle.std.specs.Prelude.{◌≤◌, IfErr, IfOk};
 ghost use Rattle.sfu_program.specs.ServeReading.{ReadsNoSetup, ReadsSetup};
 
 use super::reader::{ServeReader, Served};
@@ -17,6 +17,7 @@ pub fn read_served<S: Source, K: Sink>(
     ensures ok { IfOk result (λ served. ReadsSetup (S.left source.old) (S.left source.new) (K.written sink.old) (K.written sink.new) served) }
     ensures err { IfErr result (λ status. ReadsNoSetup (S.left source.old) (S.left source.new) (K.written sink.old) (K.written sink.new) (S.faults source.old) (S.faults source.new)
         (K.faults sink.old) (K.faults sink.new) status) }
+    ensures never_falls { K.faults sink.old ≤ K.faults sink.new }
 {
     let mut units = Units::new(Lines, ServeReader::new(alloc), 1);
     let came_out = drive(alloc, &mut units, source, sink);

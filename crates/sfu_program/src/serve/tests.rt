@@ -1,6 +1,7 @@
 // Configurations for `serve` with the calls and ports that they say, or the line that is outside the grammar.
-use super::read_served;
+use super::read_serve;
 use super::reader::Served;
+use super::reading::read_served;
 use sfu_base::{Call, MemSink, MemSource};
 use sfu_script::{PortLine, PortRole};
 use std::alloc::{AllocError, Global};
@@ -132,5 +133,30 @@ fn the_65th_port_is_outside_the_grammar(rt: HostRuntime) -> Result<(), Fail> {
     let (one_more, written) = read(alloc, configuration.as_slice())?;
     assert!(rt; one_more.is_err());
     assert_eq!(rt; written.as_slice(), b"line 66\n".as_slice());
+    Ok(())
+}
+
+#[test]
+fn the_words_of_serve_say_how_many_turns(rt: HostRuntime) -> Result<(), Fail> {
+    let alloc = rt.alloc();
+    let rows: [(&[&str], Option<u64>); 10] = [
+        (&["serve", "1"], Some(1)),
+        (&["serve", "1000000000000"], Some(1_000_000_000_000)),
+        (&["serve", "1000000000001"], None),
+        (&["serve", "0"], None),
+        (&["serve", "01"], None),
+        (&["serve", "+1"], None),
+        (&["serve", ""], None),
+        (&["serve"], None),
+        (&["serve", "1", "1"], None),
+        (&["served", "1"], None),
+    ];
+    for (texts, turns) in rows {
+        let mut words = Vec::new(alloc);
+        for text in texts {
+            words.push(String::from_str(alloc, text)?)?;
+        }
+        assert_eq!(rt; read_serve(words.as_slice()), turns);
+    }
     Ok(())
 }

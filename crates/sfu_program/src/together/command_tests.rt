@@ -1,6 +1,6 @@
 // Scripts of actors with their journals and statuses.
 use crate::sfu::sfu;
-use sfu_base::{MemSink, MemSource};
+use sfu_base::{CalmPorts, MemSink, MemSource, StepClock};
 use std::alloc::{AllocError, Global};
 use std::sync::Wait;
 use std::test::Fail;
@@ -17,7 +17,17 @@ fn played<W: Threads + Wait + Sync>(
     let words = [String::from_str(alloc, "together")?];
     let mut source = MemSource::new(script.to_vec(alloc)?, reads.to_vec(alloc)?);
     let mut sink = MemSink::new(alloc, writes.to_vec(alloc)?);
-    let status = sfu(rt, alloc, &words, &mut source, &mut sink);
+    let mut ports = CalmPorts::new(alloc).map_err(|_| AllocError)?;
+    let clock = StepClock::new(0, 1);
+    let status = sfu(
+        rt,
+        alloc,
+        &words,
+        &mut source,
+        &mut sink,
+        &mut ports,
+        &clock,
+    );
     Ok((status, sink.written().to_vec(alloc)?))
 }
 

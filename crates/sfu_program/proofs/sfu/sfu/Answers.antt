@@ -1,6 +1,9 @@
-use Rattle.std.proofs.Common.{inl, inr, refl}
+use Rattle.std.proofs.Common.{ℕ, inl, inr, refl, subst}
+use Rattle.sfu_program.specs.Serve.{Serves}
+use Rattle.sfu_program.specs.ServePorts.{seen_ports}
 use Rattle.std.proofs.lemmas.Bool.{false≢true}
-use Rattle.sfu_program.proofs.TogetherForms.{is_status, no_command, not_check, not_convert, not_help, not_run, not_trial, not_two}
+use Rattle.sfu_program.proofs.TogetherForms.{is_status, not_check, not_convert, not_help, not_run, not_trial, not_two}
+use Rattle.sfu_program.proofs.ServeForms as serve
 use Rattle.sfu_program.proofs.sfu.sfu.Goals as goal
 
 pub returns-then-are_together-clause-run : goal.returns-then-are_together-clause-run
@@ -21,20 +24,56 @@ returns-then-are_together-clause-help g c = λ is. absurd (not_help _ (c.if-are_
 pub returns-then-are_together-clause-trial : goal.returns-then-are_together-clause-trial
 returns-then-are_together-clause-trial g c = λ s is. absurd (not_trial _ s (c.if-are_together.ensures.0 refl) is)
 
+pub returns-then-are_together-clause-serve : goal.returns-then-are_together-clause-serve
+returns-then-are_together-clause-serve g c = λ turns is. absurd (serve.not_together _ (turns, is) (c.if-are_together.ensures.0 refl))
+
 pub returns-then-are_together-clause-other : goal.returns-then-are_together-clause-other
-returns-then-are_together-clause-other g c = λ none. absurd (none (inr (c.if-are_together.ensures.0 refl)))
+returns-then-are_together-clause-other g c = λ none. absurd (none (inr (inl (c.if-are_together.ensures.0 refl))))
 
 pub returns-then-are_together-clause-form : goal.returns-then-are_together-clause-form
-returns-then-are_together-clause-form g c = (λ e. absurd (not_two _ c.play_script.ensures.only e), λ none. absurd (none (inr (c.if-are_together.ensures.0 refl))))
+returns-then-are_together-clause-form g c = (λ e. absurd (not_two _ c.play_script.ensures.only e), λ none. absurd (none (inr (inl (c.if-are_together.ensures.0 refl)))))
 
 pub returns-then-are_together-clause-only : goal.returns-then-are_together-clause-only
-returns-then-are_together-clause-only g c = is_status _ c.play_script.ensures.only
+returns-then-are_together-clause-only g c = inl (is_status _ c.play_script.ensures.only)
+
+pub returns-in-Some-clause-run : goal.returns-in-Some-clause-run
+returns-in-Some-clause-run g c = λ is. absurd (serve.not_run _ (_, c.in-Some.ensures) is)
+
+pub returns-in-Some-clause-headline : goal.returns-in-Some-clause-headline
+returns-in-Some-clause-headline g c = λ is. absurd (serve.not_run _ (_, c.in-Some.ensures) is)
+
+pub returns-in-Some-clause-check : goal.returns-in-Some-clause-check
+returns-in-Some-clause-check g c = λ id is. absurd (serve.not_check _ id (_, c.in-Some.ensures) is)
+
+pub returns-in-Some-clause-convert : goal.returns-in-Some-clause-convert
+returns-in-Some-clause-convert g c = λ is. absurd (serve.not_convert _ (_, c.in-Some.ensures) is)
+
+pub returns-in-Some-clause-help : goal.returns-in-Some-clause-help
+returns-in-Some-clause-help g c = λ is. absurd (serve.not_help _ (_, c.in-Some.ensures) is)
+
+pub returns-in-Some-clause-trial : goal.returns-in-Some-clause-trial
+returns-in-Some-clause-trial g c = λ s is. absurd (serve.not_trial _ s (_, c.in-Some.ensures) is)
+
+pub returns-in-Some-clause-other : goal.returns-in-Some-clause-other
+returns-in-Some-clause-other g c = λ none. absurd (none (inr (inr (_, c.in-Some.ensures))))
+
+pub returns-in-Some-clause-serve : goal.returns-in-Some-clause-serve
+returns-in-Some-clause-serve g c = λ turns is.
+    subst (λ (n : ℕ). Serves g.P.Port.Link.told g.P.Port.Link.faults n (g.S.Source.left c.args.source.now) (g.S.Source.left c.serve.new.source)
+    (g.K.Sink.written c.args.sink.now) (g.K.Sink.written c.serve.new.sink) (g.S.Source.faults c.args.source.now) (g.S.Source.faults c.serve.new.source)
+    (g.K.Sink.faults c.args.sink.now) (g.K.Sink.faults c.serve.new.sink)
+    (seen_ports (g.P.Ports.bound c.args.ports.now) (g.P.Ports.back_count c.args.ports.now) (g.P.Ports.returned c.args.ports.now) (g.P.Ports.faults c.args.ports.now))
+    (seen_ports (g.P.Ports.bound c.serve.new.ports) (g.P.Ports.back_count c.serve.new.ports) (g.P.Ports.returned c.serve.new.ports) (g.P.Ports.faults c.serve.new.ports)) c.serve.result)
+    (serve.one_number _ c.in-Some.turns turns c.in-Some.ensures is) c.serve.ensures
+
+pub returns-in-Some-clause-form : goal.returns-in-Some-clause-form
+returns-in-Some-clause-form g c = (λ e. absurd (serve.not_two _ c.serve.ensures.only e), λ none. absurd (none (inr (inr (_, c.in-Some.ensures)))))
+
+pub returns-in-Some-clause-only : goal.returns-in-Some-clause-only
+returns-in-Some-clause-only g c = serve.is_end _ c.serve.ensures.only
 
 pub returns-clause-together : goal.returns-clause-together
 returns-clause-together g c = λ t. absurd (false≢true (c.if-are_together.ensures.1 t))
 
 pub returns-clause-other : goal.returns-clause-other
 returns-clause-other g c = λ none. c.sfu_alone.ensures.other (λ is. none (inl is))
-
-pub returns-clause-form : goal.returns-clause-form
-returns-clause-form g c = (λ e. no_command _ (λ t. absurd (false≢true (c.if-are_together.ensures.1 t))) (c.sfu_alone.ensures.form.0 e), λ none. c.sfu_alone.ensures.form.1 (λ is. none (inl is)))

@@ -1,0 +1,43 @@
+-- Ports that are bound and come back, one after another.
+use Rattle.std.proofs.Common.{◌≡◌, ◌⊎◌, inl, inr, ◌<◌, ◌≤◌, ℕ, List, [], ◌∷◌, ◌++◌, refl, sym, ap, arith, Option, Some, None, append-nil, append_assoc}
+use Rattle.sfu_base.specs.Faults.{Rose}
+use Rattle.sfu_base.specs.Ports.{CountsBack, after_back}
+use Rattle.sfu_script.specs.declared.ports.PortLine.{PortLine}
+use Rattle.sfu_serve.specs.Runs.{Before}
+use Rattle.sfu_program.specs.ServePorts.{AreFresh, IsFresh, SomeFault, after_backs}
+
+-- one line more, and its job
+pub fresh_more : (lines : List PortLine) (jobs : List Before) (line : PortLine) (job : Before) → AreFresh lines jobs → IsFresh line job → AreFresh (lines ++ line ∷ []) (jobs ++ job ∷ [])
+fresh_more [] [] line job all one = (one, tt)
+fresh_more [] (j ∷ js) line job all one = absurd all
+fresh_more (l ∷ ls) [] line job all one = absurd all
+fresh_more (l ∷ ls) (j ∷ js) line job all one = (all.0, fresh_more ls js line job all.1 one)
+
+module _ {L : Type 0} where
+  pub backs_none : (told : Option (List L)) → told ≡ after_backs [] told
+  backs_none None = refl
+  backs_none (Some others) = ap (λ (x : List L). Some x) (sym (append-nil others))
+
+  -- one port more came back
+  pub backs_more : (ports : List L) (port : L) (told : Option (List L)) → after_back port (after_backs ports told) ≡ after_backs (ports ++ port ∷ []) told
+  backs_more ports port None = refl
+  backs_more ports port (Some others) = ap (λ (x : List L). Some x) (append_assoc others ports (port ∷ []))
+
+  fault_last : (faults : L → ℕ) (links : List L) (link : L) → SomeFault faults (links ++ link ∷ []) → SomeFault faults links ⊎ (0 < faults link)
+  fault_last faults [] link (inl here) = inr here
+  fault_last faults [] link (inr none) = absurd none
+  fault_last faults (l ∷ ls) link (inl here) = inl (inl here)
+  fault_last faults (l ∷ ls) link (inr later) = go (fault_last faults ls link later)
+    where
+      go : SomeFault faults ls ⊎ (0 < faults link) → SomeFault faults (l ∷ ls) ⊎ (0 < faults link)
+      go (inl some) = inl (inr some)
+      go (inr here) = inr here
+
+  -- the count rose where one of the links has faults
+  pub rose_more : (faults : L → ℕ) (links : List L) (link : L) (first before now : ℕ) → first ≤ before → (SomeFault faults links → Rose first before) → CountsBack (faults link) before now
+      → SomeFault faults (links ++ link ∷ []) → Rose first now
+  rose_more faults links link first before now le rose counts some = go (fault_last faults links link some)
+    where
+      go : SomeFault faults links ⊎ (0 < faults link) → Rose first now
+      go (inl earlier) = let r = rose earlier in let n = counts.never_falls in omega arith
+      go (inr here) = let r = counts.rises here in omega arith

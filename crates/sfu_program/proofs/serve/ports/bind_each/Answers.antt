@@ -1,0 +1,29 @@
+use Rattle.std.proofs.Common.{◌≡◌, ◌++◌, ◌+◌, [], ◌∷◌, List, take, sym, ap, subst, ◌∙◌, arith}
+use Rattle.std.proofs.lemmas.List.{map-append, take_more}
+use Rattle.sfu_script.specs.declared.ports.PortLine.{PortLine}
+use Rattle.sfu_serve.specs.Runs.{Before, job_before}
+use Rattle.sfu_program.specs.ServePorts.{AreFresh, befores}
+use Rattle.sfu_program.proofs.ServeBacks.{fresh_more}
+use Rattle.sfu_program.proofs.serve.ports.bind_each.Goals as goal
+
+pub loop-line-preserved : goal.loop-line-preserved
+loop-line-preserved g c =
+    let i = c.loop-line.line-index in
+    let all = c.args.lines.now in
+    let job = c.in_ok-job.job in
+    let inv = c.loop-line.invariant in
+    let told = g.P.Port.Link.told in
+    let faults = g.P.Port.Link.faults in
+    let one = fresh_more (take i all) (befores told faults c.loop-line.jobs.items) _ _ inv.fresh c.in_ok-job.ensures.fresh in
+    let more = subst (λ (lines : List PortLine). AreFresh lines (befores told faults c.loop-line.jobs.items ++ job_before job.role (told job.link) (faults job.link) ∷ [])) (sym (take_more all i _ (omega arith))) one in
+    let jobs : befores told faults c.push_reserved.new.self.items ≡ befores told faults c.loop-line.jobs.items ++ job_before job.role (told job.link) (faults job.link) ∷ [] =
+    ap (befores told faults) c.push_reserved.ensures.items ∙ map-append (λ j. job_before j.role (told j.link) (faults j.link)) c.loop-line.jobs.items (job ∷ []) in
+    record {
+      count = omega arith;
+      room = omega arith;
+      fresh = subst (λ (js : List Before). AreFresh (take (i + 1) all) js) (sym jobs) more;
+      bound = c.in_ok-job.ensures.bound ∙ ap (λ n. n + 1) inv.bound;
+      back_count = c.in_ok-job.ensures.back_count ∙ inv.back_count;
+      returned = c.in_ok-job.ensures.returned ∙ inv.returned;
+      never_falls = let n = c.in_ok-job.ensures.cause.never_falls in let m = inv.never_falls in omega arith;
+    }

@@ -1,0 +1,97 @@
+-- The command `serve`: the calls of the configuration are made by seat 0, its ports are bound, and each has a session of its own.
+use Rattle.std.specs.Prelude.{◌≡◌, ◌⊎◌, ◌+◌, ℕ, true, false, List, [], ◌++◌, length, map, Option, None}
+use Rattle.std.specs.Io.KnownBytes.{Appends, Consumes, IsAtEnd}
+use Rattle.sfu_base.specs.Faults.{Rose}
+use Rattle.sfu_base.specs.Links.{Traffic}
+use Rattle.sfu_base.specs.declared.call.Call.{Call}
+use Rattle.turn_lock.specs.declared.history.Entry as turn
+use Rattle.turn_lock.specs.History.{AllBelow, own_of}
+use Rattle.room_core.specs.Headline.{Headline}
+use Rattle.room_core.specs.History.{accepted}
+use Rattle.sfu_serve.specs.declared.run.Ended.{Ended}
+use Rattle.sfu_serve.specs.History.{entries_of}
+use Rattle.sfu_serve.specs.Runs.{After, AreSessions, Before, job_after}
+use Rattle.sfu_driver.specs.Drive.{WritesPart}
+use Rattle.sfu_program.specs.ServeEnds.{AreUnworn, all_made, ends_of, ends_text}
+use Rattle.sfu_program.specs.ServeOpening.{first_text, made_first}
+use Rattle.sfu_program.specs.ServePorts.{AreFresh, PortsSeen, WasUnbound, after_backs}
+use Rattle.sfu_program.specs.ServeReading.{ReadsNoSetup}
+use Rattle.sfu_script.specs.declared.ports.PortLine.{PortLine}
+use Rattle.sfu_program.specs.ServeScript.{configuration_of}
+
+-- sessions that ended: how, and what their links tell and count
+abbrev pub afters : {L : Type 0} → (L → Option Traffic) → (L → ℕ) → List (Ended L) → List After
+afters told faults ended = map (λ session. job_after session.end (told session.link) (faults session.link)) ended
+
+-- There is one history that begins with these calls by seat 0, and each job had its session in it, with the seat of its place, counted
+-- from 1; no other seat made a call behind them. No session found the lock worn.
+pub record HaveServed (limit : ℕ) (calls : List Call) (jobs : List Before) (ended : List After) : Type 0 where
+  pub history : List (turn.Entry Call)
+  pub added : List (turn.Entry Call)
+  pub begins : history ≡ made_first calls ++ added
+  pub no_other : own_of 0 added ≡ []
+  pub below : AllBelow (length jobs + 1) added
+  pub each : AreSessions limit 0 history 1 jobs ended
+  pub unworn : AreUnworn (map (λ after. after.end) ended)
+  pub headline : Headline (accepted (entries_of history))
+
+-- All ports of these lines were bound, in their order, had their sessions, and came back in this order.
+pub record HasServed {L : Type 0} (told : L → Option Traffic) (faults : L → ℕ) (limit : ℕ) (calls : List Call) (lines : List PortLine) (old new : PortsSeen L) (ended : List (Ended L)) : Type 0 where
+  pub jobs : List Before
+  pub fresh : AreFresh lines jobs
+  pub served : HaveServed limit calls jobs (afters told faults ended)
+  pub bound : new.bound ≡ length lines
+  pub back : new.back ≡ length lines
+  pub returned : new.returned ≡ after_backs (map (λ session. session.link) ended) old.returned
+
+-- What came of the ports of these lines, behind these calls.
+pub record Ends {L : Type 0} (told : L → Option Traffic) (faults : L → ℕ) (limit : ℕ) (calls : List Call) (lines : List PortLine) (written written' : Option (List ℕ)) (writes writes' : ℕ) (old new : PortsSeen L) (status : ℕ) : Type 0 where
+  -- 0: each session made all its turns, and a line for each was written
+  pub done : status ≡ 0 → (ended : List (Ended L)) × HasServed told faults limit calls lines old new ended × (all_made (ends_of ended) ≡ true) × Appends written written' (ends_text 1 (ends_of ended))
+  -- 4: the sink failed in these lines
+  pub sink : status ≡ 4 → Rose writes writes'
+  pub unwritten : status ≡ 4 → (ended : List (Ended L)) × HasServed told faults limit calls lines old new ended × WritesPart written written' (ends_text 1 (ends_of ended))
+  -- 6: memory was wanting, and nothing was written
+  pub memory : status ≡ 6 → Appends written written' []
+  -- 7: a port wasn't bound, so no session started; or the link of a session failed, and the lines were written
+  pub ports : status ≡ 7 → Rose old.faults new.faults
+  pub failed : status ≡ 7 → (WasUnbound told faults lines old new × Appends written written' [])
+      ⊎ ((ended : List (Ended L)) × HasServed told faults limit calls lines old new ended × (all_made (ends_of ended) ≡ false) × Appends written written' (ends_text 1 (ends_of ended)))
+  pub only : (status ≡ 0) ⊎ (status ≡ 4) ⊎ (status ≡ 6) ⊎ (status ≡ 7)
+
+-- all that is due: the replies to the first calls, and then a line for each session
+abbrev pub serve_text : {L : Type 0} → List Call → List (Ended L) → List ℕ
+serve_text calls ended = first_text calls ++ ends_text 1 (ends_of ended)
+
+-- What was done for these calls and lines.
+pub record Acts {L : Type 0} (told : L → Option Traffic) (faults : L → ℕ) (limit : ℕ) (calls : List Call) (lines : List PortLine) (written written' : Option (List ℕ)) (writes writes' : ℕ) (old new : PortsSeen L) (status : ℕ) : Type 0 where
+  -- 0: each session made all its turns, and all that is due was written
+  pub done : status ≡ 0 → (ended : List (Ended L)) × HasServed told faults limit calls lines old new ended × (all_made (ends_of ended) ≡ true) × Appends written written' (serve_text calls ended)
+  -- 4: the sink failed; what was written is a part of what is due, and not all of it. Before the replies were written no port was bound
+  pub sink : status ≡ 4 → Rose writes writes'
+  pub unwritten : status ≡ 4 → (WritesPart written written' (first_text calls) × (new ≡ old))
+      ⊎ ((ended : List (Ended L)) × HasServed told faults limit calls lines old new ended × WritesPart written written' (serve_text calls ended))
+  -- 6: memory was wanting; nothing was written, or the replies to the first calls
+  pub memory : status ≡ 6 → (Appends written written' [] × (new ≡ old)) ⊎ Appends written written' (first_text calls)
+  -- 7: a port wasn't bound, so no session started and the replies alone were written; or the link of a session failed, and all was written
+  pub ports : status ≡ 7 → Rose old.faults new.faults
+  pub failed : status ≡ 7 → (WasUnbound told faults lines old new × Appends written written' (first_text calls))
+      ⊎ ((ended : List (Ended L)) × HasServed told faults limit calls lines old new ended × (all_made (ends_of ended) ≡ false) × Appends written written' (serve_text calls ended))
+  pub only : (status ≡ 0) ⊎ (status ≡ 4) ⊎ (status ≡ 6) ⊎ (status ≡ 7)
+
+-- The source was read to its end, its bytes are a configuration, and this was done for its calls and its ports.
+pub record ActsOn {L : Type 0} (told : L → Option Traffic) (faults : L → ℕ) (limit : ℕ) (left left' written written' : Option (List ℕ)) (writes writes' : ℕ) (old new : PortsSeen L) (status : ℕ) : Type 0 where
+  pub bytes : List ℕ
+  pub consumed : Consumes left left' bytes
+  pub at_end : IsAtEnd left'
+  pub whole : (configuration_of bytes).fault ≡ None
+  pub acts : Acts told faults limit (configuration_of bytes).setup.calls (configuration_of bytes).setup.ports written written' writes writes' old new status
+
+-- What `serve` does. Where the source fails (3), a line is outside the grammar (5) or memory is wanting for what the lines say (6), no call
+-- is made and no port bound.
+pub record Serves {L : Type 0} (told : L → Option Traffic) (faults : L → ℕ) (limit : ℕ) (left left' written written' : Option (List ℕ)) (reads reads' writes writes' : ℕ) (old new : PortsSeen L) (status : ℕ) : Type 0 where
+  pub came : (ReadsNoSetup left left' written written' reads reads' writes writes' status × (new ≡ old)) ⊎ ActsOn told faults limit left left' written written' writes writes' old new status
+  -- no other status comes
+  pub only : (status ≡ 0) ⊎ (status ≡ 3) ⊎ (status ≡ 4) ⊎ (status ≡ 5) ⊎ (status ≡ 6) ⊎ (status ≡ 7)
+  -- where nothing outside fails, all sessions make all their turns, unless a line is outside the grammar
+  pub complete : ¬ (Rose reads reads') → ¬ (Rose writes writes') → ¬ (Rose old.faults new.faults) → (status ≡ 0) ⊎ (status ≡ 5) ⊎ (status ≡ 6)

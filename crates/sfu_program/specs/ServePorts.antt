@@ -1,0 +1,68 @@
+-- Ports that are bound for sessions, and that come back. Own rule.
+use Rattle.std.specs.Prelude.{◌≡◌, ◌⊎◌, ◌<◌, ℕ, List, [], ◌∷◌, ◌++◌, length, map, take, Option}
+use Rattle.std.specs.Option.{option_map}
+use Rattle.sfu_base.specs.Faults.{Rose}
+use Rattle.sfu_base.specs.Links.{Traffic}
+use Rattle.sfu_base.specs.Ports.{tells_nothing_yet}
+use Rattle.sfu_script.specs.declared.ports.PortLine.{PortLine}
+use Rattle.sfu_script.specs.declared.ports.PortRole.{PortRole}
+use Rattle.sfu_script.specs.declared.ports.PortRole.TheVariants as line
+use Rattle.sfu_serve.specs.declared.run.Job.{Job}
+use Rattle.sfu_serve.specs.declared.run.Role.{Role}
+use Rattle.sfu_serve.specs.declared.run.Role.TheVariants.{Publisher, Subscriber, Control}
+use Rattle.sfu_serve.specs.Runs.{Before, job_before}
+
+-- whose session a port's line asks for
+abbrev pub role_of : PortRole → Role
+role_of (line.Publisher track ssrc) = Publisher track ssrc
+role_of (line.Subscriber subscriber ssrc) = Subscriber subscriber ssrc
+role_of line.Control = Control
+
+-- ---- ports that are bound
+
+-- The port of a job was just bound for this line: it has no faults yet and, where it tells its traffic, none.
+pub record IsFresh (line : PortLine) (job : Before) : Type 0 where
+  pub role : job.role ≡ role_of line.role
+  pub quiet : job.faults ≡ 0
+  pub silent : tells_nothing_yet job.told
+
+-- the same of each line and its job, in order
+abbrev pub AreFresh : List PortLine → List Before → Type 0
+AreFresh [] [] = Unit {0}
+AreFresh (line ∷ lines) (job ∷ jobs) = IsFresh line job × AreFresh lines jobs
+AreFresh _ _ = ⊥
+
+-- jobs before their sessions: their roles, and what their links tell and count
+abbrev pub befores : {L : Type 0} → (L → Option Traffic) → (L → ℕ) → List (Job L) → List Before
+befores told faults jobs = map (λ job. job_before job.role (told job.link) (faults job.link)) jobs
+
+-- ---- ports that come back
+
+-- these ports came back, in this order
+abbrev pub after_backs : {L : Type 0} → List L → Option (List L) → Option (List L)
+after_backs ports told = option_map (λ others. others ++ ports) told
+
+-- one of these links has faults
+abbrev pub SomeFault : {L : Type 0} → (L → ℕ) → List L → Type 0
+SomeFault faults [] = ⊥
+SomeFault faults (link ∷ links) = (0 < faults link) ⊎ SomeFault faults links
+
+-- what ports count and tell: how many were bound and came back, those that came back, and the faults
+pub record PortsSeen (L : Type 0) : Type 0 where
+  pub bound : ℕ
+  pub back : ℕ
+  pub returned : Option (List L)
+  pub faults : ℕ
+
+abbrev pub seen_ports : {L : Type 0} → ℕ → ℕ → Option (List L) → ℕ → PortsSeen L
+seen_ports bound back returned faults = record { bound = bound; back = back; returned = returned; faults = faults }
+
+-- A port wasn't bound. Those of the lines before it were, in their order, and came back.
+pub record WasUnbound {L : Type 0} (told : L → Option Traffic) (faults : L → ℕ) (lines : List PortLine) (old new : PortsSeen L) : Type 0 where
+  pub jobs : List (Job L)
+  pub fewer : length jobs < length lines
+  pub fresh : AreFresh (take (length jobs) lines) (befores told faults jobs)
+  pub bound : new.bound ≡ length jobs
+  pub back : new.back ≡ length jobs
+  pub returned : new.returned ≡ after_backs (map (λ job. job.link) jobs) old.returned
+  pub rose : Rose old.faults new.faults

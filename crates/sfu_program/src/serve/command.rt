@@ -1,0 +1,35 @@
+// The command `serve`, from its source to its status.
+ghost use Rattle.std.specs.Prelude.{◌≡◌, ◌≤◌};
+ghost use Rattle.sfu_program.specs.Serve.{Serves};
+ghost use Rattle.sfu_program.specs.ServePorts.{seen_ports};
+
+use super::acting::act;
+use super::reading::read_served;
+use sfu_base::{Clock, Ports, Sink, Source};
+use std::alloc::Global;
+use std::sync::Wait;
+use std::thread::Threads;
+
+/// Reads a configuration to its end, makes its calls and writes their replies, binds its ports in order, runs a session of so many turns
+/// for each on a thread of its own, gives the ports back in order, writes a line for each session, and answers the status.
+pub fn serve<S: Source, K: Sink, P: Ports, C: Clock + Sync, W: Threads + Wait + Sync>(
+    rt: &W,
+    alloc: Global,
+    limit: u64,
+    source: &mut S,
+    sink: &mut K,
+    ports: &mut P,
+    clock: &C,
+) -> u8
+    requires limited { limit ≤ 1000000000000 }
+    requires unbound { P.bound ports.old ≡ 0 }
+    requires none_back { P.back_count ports.old ≡ 0 }
+    ensures { Serves P.Port.told P.Port.faults limit (S.left source.old) (S.left source.new) (K.written sink.old) (K.written sink.new) (S.faults source.old) (S.faults source.new) (K.faults sink.old) (K.faults sink.new)
+        (seen_ports (P.bound ports.old) (P.back_count ports.old) (P.returned ports.old) (P.faults ports.old))
+        (seen_ports (P.bound ports.new) (P.back_count ports.new) (P.returned ports.new) (P.faults ports.new)) result }
+{
+    match read_served(alloc, source, sink) {
+        Ok(served) => act(rt, alloc, limit, &served, sink, ports, clock),
+        Err(status) => status,
+    }
+}

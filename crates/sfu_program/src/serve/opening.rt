@@ -1,0 +1,90 @@
+// The calls that are made before any session starts, and their replies.
+ghost use Rattle.std.specs.Prelude.{◌≡◌, ◌^◌, ◌∷◌, ◌++◌, [], List, IfErr, OnOk};
+ghost use Rattle.sfu_base.specs.Answer.{answer_of, is_starved};
+ghost use Rattle.sfu_script.specs.Replies.{answer_text};
+ghost use Rattle.sfu_base.specs.declared.call.Call.{Call};
+ghost use Rattle.turn_lock.specs.Known.{Fits};
+ghost use Rattle.sfu_program.specs.ServeOpening.{HasMade, IsWornOut, first_text, next_line};
+ghost use Rattle.sfu_program.specs.declared.serve.opening.Unmade.TheVariants.{Worn};
+
+use room_core::KeepNone;
+use sfu_base::{Blob, Call, NoMemory, PacketBuf, Refusal, Reply, Scratch, SeqList};
+use sfu_script::write_reply;
+use sfu_serve::SharedRoom;
+use std::sync::Wait;
+use turn_lock::{Seat, Turns};
+
+/// Why a call wasn't made.
+#[derive(Clone, Copy, Debug)]
+pub enum Unmade {
+    /// Memory was wanting.
+    Starved,
+    /// The lock gave no ticket.
+    Worn,
+}
+
+// Whether a reply is want of memory.
+fn wants_memory(reply: &Reply) -> bool
+    ensures { result ≡ is_starved reply.now }
+{
+    matches!(reply, Reply::Refused(Refusal::NoMemory))
+}
+
+// Puts the line of a reply behind the texts that are ready.
+fn add_line(reply: &Reply, scratch: &Scratch, ready: &mut Blob) -> Result<(), NoMemory>
+    ensures { OnOk result (ready.new ≡ ready.old ++ (answer_text (answer_of reply.now scratch.now.packet scratch.now.names) ++ 10 ∷ [])) }
+{
+    write_reply(reply, scratch, ready)?;
+    ready.append(b"\n")
+}
+
+// Makes one call by the first seat, and puts the line of its reply behind the texts that are ready.
+fn make_call<W: Wait + Sync>(
+    rt: &W,
+    turns: &Turns<SharedRoom<KeepNone>>,
+    seat: &mut Seat<SharedRoom<KeepNone>>,
+    call: &Call,
+    scratch: &mut Scratch,
+    ready: &mut Blob,
+) -> Result<(), Unmade>
+    requires lock { seat.old.lock ≡ turns.now }
+    requires fits { Fits seat.old }
+    ensures made { OnOk result ((calls : List Call) → HasMade turns.now calls seat.old → HasMade turns.now (calls ++ call.now ∷ []) seat.new × (ready.new ≡ ready.old ++ next_line calls call.now)) }
+    ensures worn { IfErr result (λ why. why ≡ Worn → (calls : List Call) → HasMade turns.now calls seat.old → HasMade turns.now calls seat.new × (seat.new.found ≡ 2 ^ 63)) }
+    ensures fits { Fits seat.new }
+{
+    let Ok(turn) = turns.turn(rt, seat, call, scratch) else {
+        return Err(Unmade::Worn);
+    };
+    if wants_memory(&turn.reply) {
+        return Err(Unmade::Starved);
+    }
+    match add_line(&turn.reply, scratch, ready) {
+        Ok(()) => Ok(()),
+        Err(NoMemory) => Err(Unmade::Starved),
+    }
+}
+
+/// Makes these calls by the first seat, in their order, and puts the lines of their replies behind the texts that are ready.
+pub fn make_calls<W: Wait + Sync>(
+    rt: &W,
+    turns: &Turns<SharedRoom<KeepNone>>,
+    seat: &mut Seat<SharedRoom<KeepNone>>,
+    calls: &[Call],
+    ready: &mut Blob,
+) -> Result<(), Unmade>
+    requires made { HasMade turns.now [] seat.old }
+    requires fits { Fits seat.old }
+    ensures made { OnOk result (HasMade turns.now calls.now seat.new × (ready.new ≡ ready.old ++ first_text calls.now)) }
+    ensures worn { IfErr result (λ why. why ≡ Worn → IsWornOut turns.now calls.now seat.new) }
+    ensures fits { Fits seat.new }
+{
+    let mut scratch = Scratch {
+        packet: PacketBuf::new(),
+        names: SeqList::new(),
+    };
+    for call in calls {
+        make_call(rt, turns, seat, call, &mut scratch, ready)?;
+    }
+    Ok(())
+}

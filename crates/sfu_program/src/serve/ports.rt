@@ -1,0 +1,134 @@
+// The ports of `serve`: bound in order, and given back in order.
+ghost use Rattle.std.specs.Prelude.{◌≡◌, ◌+◌, ◌<◌, ◌≤◌, ℕ, [], length, map, take, vec_len, IfErr, IfOk, OnErr, OnOk};
+ghost use Rattle.std.specs.Vec.{vec_capacity};
+ghost use Rattle.sfu_base.specs.Faults.{HasCause, Rose};
+ghost use Rattle.sfu_base.specs.Ports.{after_bind};
+ghost use Rattle.sfu_serve.specs.Runs.{job_before};
+ghost use Rattle.sfu_program.specs.ServePorts.{AreFresh, IsFresh, WasUnbound, SomeFault, after_backs, befores, role_of, seen_ports};
+ghost use Rattle.sfu_program.specs.declared.serve.ports.Unbound.TheVariants.{PortFault, Starved};
+
+use sfu_base::{Failed, Ports};
+use sfu_script::{PortLine, PortRole};
+use sfu_serve::{Ended, Job, Role};
+use std::alloc::Global;
+
+/// Why the ports weren't all bound.
+#[derive(Clone, Copy, Debug)]
+pub enum Unbound {
+    /// Memory was wanting.
+    Starved,
+    /// A port wasn't bound.
+    PortFault,
+}
+
+// Whose session a port's line asks for.
+fn role(line: PortRole) -> Role
+    ensures { result ≡ role_of line }
+{
+    match line {
+        PortRole::Publisher { track, ssrc } => Role::Publisher { track, ssrc },
+        PortRole::Subscriber { subscriber, ssrc } => Role::Subscriber { subscriber, ssrc },
+        PortRole::Control => Role::Control,
+    }
+}
+
+// Binds the port of a line for a job.
+fn bind_one<P: Ports>(line: &PortLine, ports: &mut P) -> Result<Job<P::Port>, Failed>
+    requires { P.bound ports.old < 64 }
+    ensures fresh { IfOk result (λ job. IsFresh line.now (job_before job.role (P.Port.told job.link) (P.Port.faults job.link))) }
+    ensures bound { P.bound ports.new ≡ after_bind result (P.bound ports.old) }
+    ensures back_count { P.back_count ports.new ≡ P.back_count ports.old }
+    ensures returned { P.returned ports.new ≡ P.returned ports.old }
+    ensures cause { HasCause (P.faults ports.old) (P.faults ports.new) result }
+{
+    let link = ports.bind(line.local, line.peer)?;
+    Ok(Job {
+        role: role(line.role),
+        link,
+    })
+}
+
+// Binds the ports of lines in their order, until one fails.
+fn bind_each<P: Ports>(
+    lines: &[PortLine],
+    ports: &mut P,
+    jobs: &mut Vec<Job<P::Port>>,
+) -> Result<(), Failed>
+    requires few { length lines.now ≤ 64 }
+    requires room { length lines.now ≤ vec_capacity jobs.old }
+    requires none { vec_len jobs.old ≡ 0 }
+    requires unbound { P.bound ports.old ≡ 0 }
+    ensures all { OnOk result (vec_len jobs.new ≡ length lines.now) }
+    ensures failed { OnErr result (vec_len jobs.new < length lines.now) }
+    ensures rose { OnErr result (Rose (P.faults ports.old) (P.faults ports.new)) }
+    ensures never_falls { P.faults ports.old ≤ P.faults ports.new }
+    ensures fresh { AreFresh (take (vec_len jobs.new) lines.now) (befores P.Port.told P.Port.faults jobs.new.items) }
+    ensures bound { P.bound ports.new ≡ vec_len jobs.new }
+    ensures back_count { P.back_count ports.new ≡ P.back_count ports.old }
+    ensures returned { P.returned ports.new ≡ P.returned ports.old }
+{
+    for line in lines {
+        let job = bind_one(line, ports)?;
+        jobs.push_reserved(job);
+    }
+    Ok(())
+}
+
+// Gives the ports of jobs back, in their order.
+fn give_back<P: Ports>(jobs: Vec<Job<P::Port>>, ports: &mut P)
+    requires { P.back_count ports.old + vec_len jobs ≤ P.bound ports.old }
+    ensures bound { P.bound ports.new ≡ P.bound ports.old }
+    ensures back_count { P.back_count ports.new ≡ P.back_count ports.old + vec_len jobs }
+    ensures returned { P.returned ports.new ≡ after_backs (map (λ job. job.link) jobs.items) (P.returned ports.old) }
+    ensures never_falls { P.faults ports.old ≤ P.faults ports.new }
+{
+    for job in jobs {
+        let Job { role: _, link } = job;
+        ports.back(link);
+    }
+}
+
+/// Gives the ports of sessions that ended back, in their order.
+pub fn give_back_ended<P: Ports>(ended: Vec<Ended<P::Port>>, ports: &mut P)
+    requires { P.back_count ports.old + vec_len ended ≤ P.bound ports.old }
+    ensures bound { P.bound ports.new ≡ P.bound ports.old }
+    ensures back_count { P.back_count ports.new ≡ P.back_count ports.old + vec_len ended }
+    ensures returned { P.returned ports.new ≡ after_backs (map (λ e. e.link) ended.items) (P.returned ports.old) }
+    ensures never_falls { P.faults ports.old ≤ P.faults ports.new }
+    ensures rose { SomeFault P.Port.faults (map (λ e. e.link) ended.items) → Rose (P.faults ports.old) (P.faults ports.new) }
+{
+    for session in ended {
+        let Ended { end: _, link } = session;
+        ports.back(link);
+    }
+}
+
+/// Binds the ports of lines in their order, each for a job. Where one fails, those that were bound before it are given back in order.
+pub fn bind_all<P: Ports>(
+    alloc: Global,
+    lines: &[PortLine],
+    ports: &mut P,
+) -> Result<Vec<Job<P::Port>>, Unbound>
+    requires few { length lines.now ≤ 64 }
+    requires unbound { P.bound ports.old ≡ 0 }
+    requires none_back { P.back_count ports.old ≡ 0 }
+    ensures fresh { IfOk result (λ jobs. AreFresh lines.now (befores P.Port.told P.Port.faults jobs.items)) }
+    ensures bound { IfOk result (λ jobs. P.bound ports.new ≡ vec_len jobs) }
+    ensures all { IfOk result (λ jobs. vec_len jobs ≡ length lines.now) }
+    ensures none_came { OnOk result (P.back_count ports.new ≡ 0) }
+    ensures returned { OnOk result (P.returned ports.new ≡ P.returned ports.old) }
+    ensures never_falls { P.faults ports.old ≤ P.faults ports.new }
+    ensures failed { IfErr result (λ why. why ≡ PortFault → WasUnbound P.Port.told P.Port.faults lines.now
+        (seen_ports (P.bound ports.old) (P.back_count ports.old) (P.returned ports.old) (P.faults ports.old))
+        (seen_ports (P.bound ports.new) (P.back_count ports.new) (P.returned ports.new) (P.faults ports.new))) }
+    ensures starved { IfErr result (λ why. why ≡ Starved → ports.new ≡ ports.old) }
+{
+    let Ok(mut jobs) = Vec::with_capacity(alloc, lines.len()) else {
+        return Err(Unbound::Starved);
+    };
+    if bind_each(lines, ports, &mut jobs).is_err() {
+        give_back(jobs, ports);
+        return Err(Unbound::PortFault);
+    }
+    Ok(jobs)
+}
