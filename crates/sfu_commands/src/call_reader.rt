@@ -1,11 +1,23 @@
 // The calls that the units of a script say.
-ghost use Rattle.std.specs.Prelude.{◌≡◌, MatchOption, None, Some};
+ghost use Rattle.std.specs.Prelude.{◌≡◌, IfSome, MatchOption, None, Some};
+ghost use Rattle.sfu_script.specs.Lines.{IsLine};
+ghost use Rattle.sfu_script.specs.ReadLines.{call_of};
 ghost use Rattle.sfu_commands.specs.Script.{call_in};
 
 use crate::form::Form;
 use script_records::RecordReader;
 use sfu_base::Call;
 use sfu_script::LineReader;
+
+// One function for all commands: the reader has one caller, and is inlined in it.
+/// The call that a line says, which is kept until the next line is read; `None` exactly where it says none.
+#[inline(never)]
+pub fn read_line<'a>(reader: &'a mut LineReader, line: &[u8]) -> Option<&'a Call>
+    ensures value { MatchOption result (call_of line.now ≡ None) (λ call. call_of line.now ≡ Some call.now) }
+    ensures said { IfSome result (λ call. IsLine call.now line.now) }
+{
+    reader.read(line).ok()
+}
 
 /// Reads lines and records. A call is kept until the next is read.
 #[derive(Drop)]
@@ -29,7 +41,7 @@ impl CallReader {
         ensures { MatchOption result (call_in form unit.now ≡ None) (λ call. call_in form unit.now ≡ Some call.now) }
     {
         match form {
-            Form::Lines => self.lines.read(unit).ok(),
+            Form::Lines => read_line(&mut self.lines, unit),
             Form::Records => self.records.read(unit).ok(),
         }
     }

@@ -2,16 +2,19 @@
 ghost use Rattle.std.specs.Prelude.{[]};
 ghost use Rattle.sfu_commands.specs.Convert.{Converts, IsConvertStatus, converted};
 
+use crate::call_reader::read_line;
 use crate::record_cut::HEADER;
 use script_records::write_record;
 use sfu_base::{Blob, NoMemory, Sink, Source};
 use sfu_driver::{Ending, Halt, Judge, Lines, Stop, Units, answer, status, write_all};
-use sfu_script::{is_skipped, read_call};
+use sfu_script::{LineReader, is_skipped};
 use std::alloc::Global;
 
 /// Writes the call of each line as a record.
 #[derive(Drop)]
-pub struct Converter;
+pub struct Converter {
+    pub reader: LineReader,
+}
 
 impl Judge for Converter {
     ghost State = { Unit {0} };
@@ -28,11 +31,10 @@ impl Judge for Converter {
         if is_skipped(line) {
             return Ok(());
         }
-        // Not by the reader of `run`, which LLVM inlines there as long as nothing else calls it.
-        let Ok(call) = read_call(line) else {
+        let Some(call) = read_line(&mut self.reader, line) else {
             return Err(Halt::Ended(Ending::Outside));
         };
-        write_record(&call, ready)?;
+        write_record(call, ready)?;
         Ok(())
     }
 
@@ -53,7 +55,10 @@ pub fn convert<S: Source, K: Sink>(alloc: Global, source: &mut S, sink: &mut K) 
 {
     match write_all(sink, HEADER) {
         Ok(()) => {
-            let mut units = Units::new(Lines, Converter, 1);
+            let judge = Converter {
+                reader: LineReader::new(),
+            };
+            let mut units = Units::new(Lines, judge, 1);
             answer(alloc, &mut units, source, sink)
         }
         Err(_) => status(Err(Stop::SinkFault)),
