@@ -12,3 +12,5 @@ pub mod Staging
 pub mod TrialNumbers
 pub mod Summing
 pub mod Playing
+pub mod EveryTrial
+pub mod MadePackets

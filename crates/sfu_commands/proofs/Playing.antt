@@ -1,14 +1,10 @@
 -- A trial, event by event.
-use Rattle.std.proofs.Common.{◌≡◌, ◌+◌, ℕ, zero, suc, arith, cond, List, [], ◌∷◌, ◌++◌, append-nil, fold, map, reverse, refl, sym, ap, subst, ◌∙◌, Option, Some, None}
+use Rattle.std.proofs.Common.{◌≡◌, ℕ, arith, cond, List, [], ◌∷◌, ◌++◌, append-nil, fold, map, reverse, refl, sym, ap, subst, ◌∙◌, Option, Some, None}
 use Rattle.std.specs.List.{AllByRecursion}
 use Rattle.std.specs.Option.{option_to_list}
 use Rattle.std.proofs.lemmas.Grind.{common_steps, fold-append}
 use Rattle.sfu_base.specs.declared.call.Call.{Call}
 use Rattle.sfu_base.specs.declared.call.Call.TheVariants as call
-use Rattle.room_core.specs.Formats.{format_of}
-use Rattle.room_core.specs.WellFormed.{AreWellFormed}
-use Rattle.room_core.proofs.Promising.{taken_pleases}
-use Rattle.room_core.proofs.WellFormed.{well_formed_after}
 use Rattle.stream_maker.specs.declared.counts.Counts.{Counts}
 use Rattle.stream_maker.specs.declared.event.Event.{Event}
 use Rattle.stream_maker.specs.declared.event.Event.TheVariants as event
@@ -19,12 +15,9 @@ use Rattle.stream_maker.specs.Order.{ends_stream, tick_due}
 use Rattle.stream_maker.specs.Packets.{packets}
 use Rattle.stream_maker.specs.Stream.{Stream, counts_of, events, fate, turns, waiting}
 use Rattle.stream_maker.specs.Turn.{Given, sent, sent_event, tick_event, turn}
-use Rattle.strict_receiver.specs.Receivers.{complaint_over}
-use Rattle.sfu_commands.specs.Trial.{ArePleased, after_event, after_given, after_takes, and_call, made, opened, received, takes, queued_for, trial_calls}
-use Rattle.sfu_commands.specs.Staged.{AllJoined, HasJoined, IsStaged}
+use Rattle.sfu_commands.specs.Trial.{after_event, after_given, after_takes, and_call, made, opened, trial_calls}
+use Rattle.sfu_commands.specs.Staged.{IsStaged}
 use Rattle.sfu_commands.specs.declared.trial.stage.Stage.{Stage}
-use Rattle.sfu_commands.proofs.Viewers.{packet_stays, received_is, tick_stays}
-use Rattle.sfu_commands.proofs.Staging.{all_joined, own_takes_all, other_takes_all}
 
 -- ---- what a stream gives: packets with their places, and ticks
 
@@ -180,99 +173,3 @@ play_ends stage old new s out out' gives playing = go old.left refl gives
     go (x ∷ rest) is g =
         let sound : AreSound (x ∷ rest) = subst AreSound is playing.sound in
         absurd (subst (λ (e : Event). IsSound e x.place) (sym g.0) sound.all.0)
-
--- ---- no complaint
-
--- what holds of the calls of a trial, whatever the room finds
-pub record IsGood (past : List Call) : Type 0 where
-  pub all : AllJoined past
-  pub well : AreWellFormed past
-
-good_takes : (n count : ℕ) (past : List Call) → AreWellFormed past → AreWellFormed (takes count n past)
-unfolding takes
-good_takes n zero past well = well
-good_takes n (suc count) past well = well_formed_after (takes count n past) (call.Take n) tt (good_takes n count past well)
-
-good_after : (n : ℕ) (past : List Call) → AreWellFormed past → AreWellFormed (after_takes n past)
-unfolding after_takes
-good_after n past well = good_takes n (queued_for n past + 1) past well
-
-good_packet : (moment : ℕ) (bytes : List ℕ) (past : List Call) → IsGood past → IsGood (and_call past (call.Packet 1 moment bytes))
-good_packet moment bytes past g = record {
-  all = record {
-    first = (packet_stays 1 moment bytes past g.all.first).joined_is;
-    second = (packet_stays 2 moment bytes past g.all.second).joined_is;
-    third = (packet_stays 3 moment bytes past g.all.third).joined_is;
-  };
-  well = well_formed_after past (call.Packet 1 moment bytes) tt g.well;
-}
-
-good_tick : (moment : ℕ) (past : List Call) → IsGood past → IsGood (and_call past (call.Tick 1 moment))
-good_tick moment past g = record {
-  all = record {
-    first = (tick_stays 1 moment past g.all.first).joined_is;
-    second = (tick_stays 2 moment past g.all.second).joined_is;
-    third = (tick_stays 3 moment past g.all.third).joined_is;
-  };
-  well = well_formed_after past (call.Tick 1 moment) tt g.well;
-}
-
-good_first : (past : List Call) → IsGood past → IsGood (after_takes 1 past)
-good_first past g = record {
-  all = record {
-    first = own_takes_all 1 past g.all.first;
-    second = (other_takes_all 2 1 past refl g.all.second).joined_is;
-    third = (other_takes_all 3 1 past refl g.all.third).joined_is;
-  };
-  well = good_after 1 past g.well;
-}
-
-good_second : (past : List Call) → IsGood past → IsGood (after_takes 2 past)
-good_second past g = record {
-  all = record {
-    first = (other_takes_all 1 2 past refl g.all.first).joined_is;
-    second = own_takes_all 2 past g.all.second;
-    third = (other_takes_all 3 2 past refl g.all.third).joined_is;
-  };
-  well = good_after 2 past g.well;
-}
-
-good_third : (past : List Call) → IsGood past → IsGood (after_takes 3 past)
-good_third past g = record {
-  all = record {
-    first = (other_takes_all 1 3 past refl g.all.first).joined_is;
-    second = (other_takes_all 2 3 past refl g.all.second).joined_is;
-    third = own_takes_all 3 past g.all.third;
-  };
-  well = good_after 3 past g.well;
-}
-
-good_event : (past : List Call) (e : Event) (place : Option Place) → IsGood past → IsGood (after_event past e place)
-unfolding after_event
-good_event past (event.Packet moment) None g = g
-good_event past (event.Packet moment) (Some p) g = good_packet moment (packet_bytes p) past g
-good_event past (event.Tick moment) place g = good_third _ (good_second _ (good_first _ (good_tick moment past g)))
-good_event past event.End place g = g
-
-good_all : (gs : List Given) (past : List Call) → IsGood past → IsGood (fold after_given past gs)
-good_all [] past g = g
-good_all (x ∷ gs) past g = good_all gs (after_given past x) (good_event past x.event x.place g)
-
-good_trial : (s : Stream) → IsGood (trial_calls s)
-unfolding trial_calls
-good_trial s = good_all (events s) opened (record { all = all_joined; well = (omega arith, (omega arith, (omega arith, (tt, tt)))) })
-
-pleased : (n : ℕ) (past : List Call) → HasJoined n past → AreWellFormed past → complaint_over 4 (received n past) ≡ None
-unfolding format_of
-pleased n past v well =
-    ap (complaint_over 4) (received_is n past v)
-    ∙ taken_pleases past well 4 n (record { track = 1; ssrc = v.ssrc; first = 0; wish = v.wish }) v.how
-
-pub trial_pleases : (s : Stream) → ArePleased (trial_calls s)
-trial_pleases s =
-    let g = good_trial s in
-    record {
-      first = pleased 1 (trial_calls s) g.all.first g.well;
-      second = pleased 2 (trial_calls s) g.all.second g.well;
-      third = pleased 3 (trial_calls s) g.all.third g.well;
-    }

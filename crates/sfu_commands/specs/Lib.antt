@@ -7,6 +7,7 @@ pub mod Check
 pub mod Promise
 pub mod Help
 pub mod Trial
+pub mod MadePackets
 pub mod Staged
 pub mod TrialWords
 pub mod Words

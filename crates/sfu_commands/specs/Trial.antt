@@ -9,7 +9,8 @@ use Rattle.sfu_base.specs.declared.call.Call.TheVariants as call
 use Rattle.sfu_base.specs.declared.call.Kind.TheVariants.{Layered}
 use Rattle.sfu_base.specs.declared.frame.Wish.{Wish}
 use Rattle.forwarding_model.specs.forwarding.Outgoing.{queue}
-use Rattle.room_core.specs.Live.{Joined, joined, kind_of}
+use Rattle.room_core.specs.Given.{given_to}
+use Rattle.room_core.specs.Live.{Joined, joined, kind_of, published}
 use Rattle.room_core.specs.Sent.{sent}
 use Rattle.room_core.specs.SentBytes.{taken_bytes}
 use Rattle.room_core.specs.Views.{events_for, subscriber_by}
@@ -99,6 +100,22 @@ taken_by n (Some j) past = taken_bytes (kind_of j.track past) (subscriber_by j) 
 unfoldable pub received : ℕ → List Call → List (List ℕ)
 received n past = taken_by n (joined n past) past
 
+abbrev pub joined_as : ℕ → Wish → Joined
+joined_as ssrc wish = record { track = 1; ssrc = ssrc; first = 0; wish = wish }
+
+-- The track is there, and each subscriber joined it as it asked to: none of the opening's calls was refused.
+pub record HaveJoined (past : List Call) : Type 0 where
+  pub track : published 1 past ≡ Some (record { kind = Layered 4; ssrc = 0x11111111; hold = 50 })
+  pub first : joined 1 past ≡ Some (joined_as 0x22222222 (wish_for 1 1))
+  pub second : joined 2 past ≡ Some (joined_as 0x22222223 (wish_for 1 0))
+  pub third : joined 3 past ≡ Some (joined_as 0x22222224 (wish_for 0 0))
+
+-- What each subscriber took is what its takes were answered, in this order.
+pub record AreGiven (past : List Call) : Type 0 where
+  pub first : received 1 past ≡ given_to 1 past
+  pub second : received 2 past ≡ given_to 2 past
+  pub third : received 3 past ≡ given_to 3 past
+
 -- A strict receiver of what each subscriber took has no complaint.
 pub record ArePleased (past : List Call) : Type 0 where
   pub first : complaint_over 4 (received 1 past) ≡ None
@@ -144,6 +161,8 @@ pub record ShowsTrial (s : Stream) (written written' : Option (List ℕ)) (write
   pub unwritten : status ≡ 4 → WritesPart written written' (trial_text s)
   pub memory : status ≡ 6 → Appends written written' []
   pub only : (status ≡ 0) ⊎ (status ≡ 4) ⊎ (status ≡ 6)
+  pub joined : HaveJoined (trial_calls s)
+  pub given : AreGiven (trial_calls s)
   pub pleased : ArePleased (trial_calls s)
 
 -- `trial`: nothing is read.

@@ -1,6 +1,9 @@
-// What is true of converted scripts, for every script. The functions have no effect: their contracts are the laws.
+// What is true of every converted script, and of every packet of a trial. The functions have no effect: their contracts are the laws.
 ghost use Rattle.std.specs.Prelude.{◌≡◌, List, None, Some, ℕ};
+ghost use Rattle.stream_maker.specs.declared.place.Place.{Place};
+ghost use Rattle.stream_maker.specs.Bytes.{packet_bytes};
 ghost use Rattle.sfu_commands.specs.Convert.{convert_due, silent_end};
+ghost use Rattle.sfu_commands.specs.MadePackets.{SaysPlace};
 ghost use Rattle.sfu_commands.specs.Records.{header};
 ghost use Rattle.sfu_commands.specs.Run.{run_due};
 ghost use Rattle.sfu_commands.specs.Script.{form_of, script_in, script_of, stops_at};
@@ -12,4 +15,11 @@ pub fn converted_scripts_run_alike()
     ensures calls { (bytes : List ℕ) → (convert_due bytes).end ≡ None → script_of (convert_due bytes).text ≡ script_of bytes }
     ensures replies { (bytes : List ℕ) → (convert_due bytes).end ≡ None → run_due (convert_due bytes).text ≡ run_due bytes }
     ensures records { (bytes : List ℕ) → form_of bytes ≡ Records → (script_in Lines bytes ≡ stops_at 1) × (convert_due bytes ≡ record { text = header; end = silent_end (Some 1) }) }
+{}
+
+/// The packets of a trial's stream say to the project's own readers what the stream's definition lays into them: RTP finds no fault in them (RFC
+/// 3550, section 5.1), and under id 4 they have a dependency descriptor with the edges, the template and the frame number of the packet's place
+/// (RFC 8285; RTP Payload Format For AV1 v1.0, Appendix A).
+pub fn made_packets_say_their_places()
+    ensures { (p : Place) → SaysPlace p (packet_bytes p) }
 {}

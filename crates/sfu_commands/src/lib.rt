@@ -23,5 +23,5 @@ mod usage;
 mod words;
 
 pub use alone::sfu_alone;
-pub use laws::converted_scripts_run_alike;
+pub use laws::{converted_scripts_run_alike, made_packets_say_their_places};
 pub use texts::add_fault;

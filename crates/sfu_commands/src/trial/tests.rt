@@ -14,6 +14,15 @@ const ONE_UNIT: &str = "made 2 frames 5 packets\nlost 0 repeated 0 swapped 0\n\
     subscriber 1 frames 2 packets 5 complaints 0\nsubscriber 2 frames 2 packets 5 complaints 0\n\
     subscriber 3 frames 1 packets 3 complaints 0\n";
 
+// Worked out by `bench/trial_model.py`, which shares nothing with the program: here the last unit has no upper frame.
+const SOME_LOST: &str = "made 401 frames 611 packets\nlost 23 repeated 11 swapped 26\n\
+    subscriber 1 frames 280 packets 390 complaints 0\nsubscriber 2 frames 148 packets 212 complaints 0\n\
+    subscriber 3 frames 94 packets 104 complaints 0\n";
+
+const MANY_LOST: &str = "made 203 frames 310 packets\nlost 52 repeated 51 swapped 39\n\
+    subscriber 1 frames 12 packets 21 complaints 0\nsubscriber 2 frames 9 packets 17 complaints 0\n\
+    subscriber 3 frames 5 packets 9 complaints 0\n";
+
 const USAGE: &str = "usage: run, together, trial, check, serve, convert, help\n";
 
 // Takes a text byte by byte.
@@ -48,14 +57,19 @@ fn at_words(alloc: Global, texts: &[&str]) -> Result<(Vec<String>, MemSource), A
 #[test]
 fn a_trial_writes_its_summary_and_reads_nothing(rt: HostRuntime) -> Result<(), Fail> {
     let alloc = rt.alloc();
-    for (frames, text) in [("1000", THOUSAND), ("2", ONE_UNIT)] {
-        let (words, mut source) = at_words(alloc, &["trial", frames, "7", "0"])?;
+    for (frames, start, loss, text) in [
+        ("1000", "7", "0", THOUSAND),
+        ("2", "7", "0", ONE_UNIT),
+        ("401", "11", "3", SOME_LOST),
+        ("203", "2", "20", MANY_LOST),
+    ] {
+        let (words, mut source) = at_words(alloc, &["trial", frames, start, loss])?;
         let mut sink = MemSink::new(alloc, Vec::new(alloc));
         assert_eq!(rt;
             sfu_alone(alloc, words.as_slice(), &mut source, &mut sink),
             0
         );
-        assert_eq!(rt; sink.written(), text.as_bytes());
+        assert_eq!(rt; sink.written(), text.as_bytes(), "{frames} {start} {loss}");
         // The first read is still to come, and fails.
         assert_eq!(rt; source.read(&mut [0u8; 8]), Err(Failed));
     }
