@@ -190,6 +190,7 @@ fn a_failed_read_and_a_line_outside_the_grammar_bind_no_port(rt: HostRuntime) ->
         &[],
     )?;
     assert_eq!(rt; (status, written.len()), (3, 0));
+    assert_eq!(rt; ports.returned().len(), 0);
     let rows: [(&str, &str); 4] = [
         ("take 1\n", "line 1\n"),
         (
@@ -200,6 +201,7 @@ fn a_failed_read_and_a_line_outside_the_grammar_bind_no_port(rt: HostRuntime) ->
         ("# a\n\nrecord\n", "line 3\n"),
     ];
     for (configuration, text) in rows {
+        let mut ports = MemPorts::new(alloc, Vec::new(alloc), Vec::new(alloc))?;
         let (status, written) = served(
             &rt,
             alloc,
@@ -211,8 +213,8 @@ fn a_failed_read_and_a_line_outside_the_grammar_bind_no_port(rt: HostRuntime) ->
         )?;
         assert_eq!(rt; written.as_slice(), text.as_bytes());
         assert_eq!(rt; status, 5);
+        assert_eq!(rt; ports.returned().len(), 0);
     }
-    assert_eq!(rt; ports.returned().len(), 0);
     Ok(())
 }
 
