@@ -1,6 +1,6 @@
 -- A remasked descriptor has the parts of the old one, and reads as the old one but for its mask.
 use Rattle.std.proofs.Common.{◌≡◌, ℕ, ◌+◌, ◌-◌, ◌*◌, ◌<◌, ◌^◌, Bool, true, false, List, ◌++◌, length, replicate, Option, Some, None, Result, Ok, Err, refl, sym, ap, subst, ◌∙◌, append_assoc, arith}
-use Rattle.std.specs.Prelude.{is_some, IfSome}
+use Rattle.std.specs.Prelude.{is_some, IfSome, IsErr, OnErr, OnOk, ◌↔◌, ◌≤◌}
 use Rattle.std.proofs.lemmas.List.{length-append, take_at}
 use Rattle.dd_bits.specs.Bits.{bits_of, bits_of_bytes}
 use Rattle.dd_bits.specs.Writer.{IsPadded}
@@ -9,16 +9,16 @@ use Rattle.dd_bits.proofs.SequenceLaws.{bind_is, ok_is, some_is}
 use Rattle.dd_structure.specs.Spelling.{IsWellFormed}
 use Rattle.dd_structure.specs.TemplateStructure.{TemplateStructure}
 use Rattle.dd_descriptor.specs.declared.fault.DdFault.{DdFault}
-use Rattle.dd_descriptor.specs.declared.remasking.Parts.{Parts}
 use Rattle.dd_descriptor.specs.declared.descriptor.Custom.{Custom}
 use Rattle.dd_descriptor.specs.Content.{FrameContent, Content, holding}
-use Rattle.dd_descriptor.specs.Parts.{PartBits, taken, body_parts_at, held_parts_at, parts_at, parts_of, with_mask}
+use Rattle.dd_descriptor.specs.Parts.{MakesBytes, MakesNone, PartBits, taken, body_parts_at, held_parts_at, parts_at, with_mask}
 use Rattle.dd_descriptor.specs.Reading.{head_at, flags_in, carried_at, mask_at, index_of, index_at, frame_at, descriptor_at}
 use Rattle.dd_descriptor.specs.Laid.{Layout, laid_flags, laid_mask, laid_frame, laid_more, laid_bits, IsMask, AreSizes, IsLaid, IsDescriptor}
 use Rattle.dd_descriptor.specs.Remasking.{remasked_bits, remasked, with_new_mask, TakesMask}
 use Rattle.dd_descriptor.specs.Spelling.{head_bits, carried_bits, IsFrame, IsWritable}
 use Rattle.dd_descriptor.proofs.Again.{flags_of, after_flags, tail_of, head_again, length-head_bits, flags_either, carried_again, mask_again, index_again, frame_again, laid_again}
 use Rattle.dd_descriptor.proofs.LaidFound.{descriptor_laid}
+use Rattle.dd_descriptor.proofs.Padding.{not_too_long}
 
 -- ---- the parts
 
@@ -97,38 +97,47 @@ remasked_is bytes out force c mask d small padded = record {
   laid = remasked_laid d.by d.layout c mask bytes out d.laid small padded;
 }
 
--- ---- what the code finds
+-- ---- what the code fills in
 
--- the parts that were found make the new descriptor
-pub found_remasked : (bytes : List ℕ) (force : Option TemplateStructure) (p : Parts) (c : Content) (mask : ℕ) → parts_at bytes force ≡ Ok (parts_of p) → (d : IsDescriptor bytes force c) → with_mask (parts_of p) mask ≡ remasked d mask
-found_remasked bytes force p c mask found d =
-    let same = ok_is {E = DdFault} (laid_parts d.by d.layout c) (parts_of p) (sym (parts_laid d.by force d.layout c bytes d.holds d.laid) ∙ found) in
-    ap (λ (x : PartBits). with_mask x mask) (sym same) ∙ with_mask-laid d.by d.layout c mask
+-- the parts of a descriptor, as they were found
+at_parts : (P : Result PartBits DdFault → Type 0) (bytes : List ℕ) (force : Option TemplateStructure) (c : Content) (d : IsDescriptor bytes force c) → P (parts_at bytes force) → P (Ok (laid_parts d.by d.layout c))
+at_parts P bytes force c d p = subst P (parts_laid d.by force d.layout c bytes d.holds d.laid) p
 
-never : {A : Type 0} (found : Result PartBits DdFault) (e : DdFault) (x : PartBits) → found ≡ Err e → found ≡ Ok x → A
-never found e x fault given = absurd cc
+pub made_is : (bytes out : List ℕ) (force : Option TemplateStructure) (mask : ℕ) (c : Content) → (d : IsDescriptor bytes force c) → MakesBytes (parts_at bytes force) mask out → IsPadded (remasked d mask) out
+made_is bytes out force mask c d made =
+    let here = at_parts (λ r. MakesBytes r mask out) bytes force c d made in
+    subst (λ (bits : List Bool). IsPadded bits out) (with_mask-laid d.by d.layout c mask) here.0
 
-pub no_fault : {A : Type 0} (bytes : List ℕ) (force : Option TemplateStructure) (mask : ℕ) (e : DdFault) → IfSome force IsWellFormed → TakesMask bytes force mask → parts_at bytes force ≡ Err e → A
-no_fault bytes force mask e well takes fault =
-    let d = descriptor_laid bytes force takes.content well takes.reads in
-    never (parts_at bytes force) e (laid_parts d.by d.layout takes.content) fault (parts_laid d.by force d.layout takes.content bytes d.holds d.laid)
+pub made_fits : (bytes out : List ℕ) (force : Option TemplateStructure) (mask : ℕ) (c : Content) → (d : IsDescriptor bytes force c) → MakesBytes (parts_at bytes force) mask out → length (remasked d mask) ≤ 8 * 255
+made_fits bytes out force mask c d made =
+    let here = at_parts (λ r. MakesBytes r mask out) bytes force c d made in
+    not_too_long (remasked d mask) out (made_is bytes out force mask c d made) here.1
 
-pub mask_fits : (bytes : List ℕ) (force : Option TemplateStructure) (mask : ℕ) (p : Parts) → IfSome force IsWellFormed → TakesMask bytes force mask → parts_at bytes force ≡ Ok (parts_of p) → mask < 2 ^ p.targets
-mask_fits bytes force mask p well takes found =
-    let d = descriptor_laid bytes force takes.content well takes.reads in
-    let same = ok_is {E = DdFault} (laid_parts d.by d.layout takes.content) (parts_of p) (sym (parts_laid d.by force d.layout takes.content bytes d.holds d.laid) ∙ found) in
-    let by : d.by ≡ takes.by = some_is d.by takes.by (sym d.holds ∙ takes.holds) in
-    let targets : takes.by.target_count ≡ p.targets = ap (λ (x : TemplateStructure). x.target_count) (sym by) ∙ ap (λ (x : PartBits). x.targets) same in
-    subst (λ (n : ℕ). mask < 2 ^ n) targets takes.small
+pub none_is_long : (bytes : List ℕ) (force : Option TemplateStructure) (mask : ℕ) (c : Content) → (d : IsDescriptor bytes force c) → MakesNone (parts_at bytes force) mask → 8 * 255 < length (remasked d mask)
+none_is_long bytes force mask c d none =
+    let here = at_parts (λ r. MakesNone r mask) bytes force c d none in
+    subst (λ (bits : List Bool). 8 * 255 < length bits) (with_mask-laid d.by d.layout c mask) here
+
+-- it fails exactly where they would be too long
+pub fails_where_long : {E : Type 0} (bytes out : List ℕ) (force : Option TemplateStructure) (mask : ℕ) (c : Content) (r : Result (Unit {0}) E) → OnOk r (MakesBytes (parts_at bytes force) mask out) → OnErr r (MakesNone (parts_at bytes force) mask)
+    → (d : IsDescriptor bytes force c) → IsErr r ↔ (8 * 255 < length (remasked d mask))
+fails_where_long bytes out force mask c (Ok x) made none d = (λ yes. absurd cc, λ long. absurd (omega (arith, made_fits bytes out force mask c d made, long)))
+fails_where_long bytes out force mask c (Err e) made none d = (λ yes. none_is_long bytes force mask c d none, λ long. refl)
+
+pub all_made : {E : Type 0} (bytes out : List ℕ) (force : Option TemplateStructure) (mask : ℕ) (c : Content) (r : Result (Unit {0}) E) → OnOk r (MakesBytes (parts_at bytes force) mask out)
+    → (d : IsDescriptor bytes force c) → OnOk r (IsPadded (remasked d mask) out)
+all_made bytes out force mask c (Ok x) made d = made_is bytes out force mask c d made
+all_made bytes out force mask c (Err e) made d = tt
 
 -- what was filled in reads as the same content but for its mask
-pub remasked_reads : (bytes out : List ℕ) (force : Option TemplateStructure) (mask : ℕ) (p : Parts) (c : Content) → IfSome force IsWellFormed → TakesMask bytes force mask → parts_at bytes force ≡ Ok (parts_of p) → IsPadded (with_mask (parts_of p) mask) out
-    → descriptor_at bytes force ≡ Ok c → descriptor_at out force ≡ Ok (with_new_mask c mask)
-remasked_reads bytes out force mask p c well takes found padded reads =
+pub made_reads : {E : Type 0} (bytes out : List ℕ) (force : Option TemplateStructure) (mask : ℕ) (c : Content) (r : Result (Unit {0}) E) → IfSome force IsWellFormed → TakesMask bytes force mask
+    → OnOk r (MakesBytes (parts_at bytes force) mask out) → descriptor_at bytes force ≡ Ok c → OnOk r (descriptor_at out force ≡ Ok (with_new_mask c mask))
+made_reads bytes out force mask c (Err e) well takes made reads = tt
+made_reads bytes out force mask c (Ok x) well takes made reads =
     let d = descriptor_laid bytes force c well reads in
     let same : takes.content ≡ c = ok_is {E = DdFault} takes.content c (sym takes.reads ∙ reads) in
     let holds : holding c.structure force ≡ Some takes.by = subst (λ (x : Content). holding x.structure force ≡ Some takes.by) same takes.holds in
     let by : takes.by ≡ d.by = some_is takes.by d.by (sym holds ∙ d.holds) in
     let small : mask < 2 ^ d.by.target_count = subst (λ (s : TemplateStructure). mask < 2 ^ s.target_count) by takes.small in
-    let new = remasked_is bytes out force c mask d small (subst (λ (bits : List Bool). IsPadded bits out) (found_remasked bytes force p c mask found d) padded) in
+    let new = remasked_is bytes out force c mask d small (made_is bytes out force mask c d made) in
     laid_again new.by force new.layout (with_new_mask c mask) out new.holds new.laid

@@ -1,9 +1,10 @@
 -- The bits of a descriptor part by part, as a read of it finds them.
 -- RTP Payload Format For AV1 v1.0, Appendix A, dependency_descriptor. The code keeps a reader from before and after each part.
-use Rattle.std.specs.Prelude.{◌≡◌, ℕ, ◌-◌, Bool, true, List, ◌++◌, length, take, Option, Result, Ok, Err, is_some}
+use Rattle.std.specs.Prelude.{◌≡◌, ℕ, ◌-◌, ◌*◌, ◌<◌, ◌≤◌, Bool, true, List, ◌++◌, length, take, Option, Result, Ok, Err, is_some}
 use Rattle.dd_bits.specs.Bits.{bits_of, bits_of_bytes}
 use Rattle.dd_bits.specs.Reader.{bits_between}
 use Rattle.dd_bits.specs.Sequences.{◌>>=◌}
+use Rattle.dd_bits.specs.Writer.{IsPadded}
 use Rattle.dd_structure.specs.TemplateStructure.{TemplateStructure}
 use Rattle.dd_descriptor.specs.declared.fault.DdFault.{DdFault}
 use Rattle.dd_descriptor.specs.declared.parts.Flags.{Flags}
@@ -62,3 +63,13 @@ GivesParts (Err e) given = given ≡ Err e
 abbrev pub with_mask : PartBits → ℕ → List Bool
 with_mask p mask =
     p.head ++ ((flag_bits p.flags.structure ++ (flag_bits true ++ (flag_bits p.flags.dtis ++ (flag_bits p.flags.fdiffs ++ flag_bits p.flags.chains)))) ++ (p.structure ++ (bits_of p.targets mask ++ p.frame)))
+
+-- these are the bytes of the parts with this mask, as many as an element has room for
+abbrev pub MakesBytes : Result PartBits DdFault → ℕ → List ℕ → Type 0
+MakesBytes (Err fault) mask out = ⊥
+MakesBytes (Ok parts) mask out = IsPadded (with_mask parts mask) out × (length out ≤ 255)
+
+-- there are no parts, or they would be more bytes with this mask
+abbrev pub MakesNone : Result PartBits DdFault → ℕ → Type 0
+MakesNone (Err fault) mask = Unit {0}
+MakesNone (Ok parts) mask = 8 * 255 < length (with_mask parts mask)

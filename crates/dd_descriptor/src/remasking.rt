@@ -1,13 +1,14 @@
 //! Another mask in a descriptor that else stays as it stands.
 
-ghost use Rattle.std.specs.Prelude.{◌≡◌, ◌<◌, ◌*◌, ◌^◌, ◌↔◌, Some, Ok, IfSome, IsErr, OnOk, OnErr, length};
+ghost use Rattle.std.specs.Prelude.{◌≡◌, ◌<◌, ◌≤◌, ◌*◌, ◌%◌, ◌^◌, ◌↔◌, Some, Ok, IsErr, OnOk, OnErr, length};
 ghost use Rattle.std.specs.Option.{option_copied};
+ghost use Rattle.dd_bits.specs.Bits.{bits_of};
 ghost use Rattle.dd_bits.specs.Reader.{bits_left};
 ghost use Rattle.dd_bits.specs.Sequences.{Gives};
 ghost use Rattle.dd_bits.specs.Writer.{Puts, IsPadded};
 ghost use Rattle.dd_descriptor.specs.Content.{Content, holding};
 ghost use Rattle.dd_descriptor.specs.Laid.{IsDescriptor};
-ghost use Rattle.dd_descriptor.specs.Parts.{body_parts_at, held_parts_at, parts_at, part_bits, parts_of, GivesParts, with_mask};
+ghost use Rattle.dd_descriptor.specs.Parts.{body_parts_at, held_parts_at, parts_at, part_bits, parts_of, GivesParts, MakesBytes, MakesNone, with_mask};
 ghost use Rattle.dd_descriptor.specs.Reading.{descriptor_at};
 ghost use Rattle.dd_descriptor.specs.Remasking.{remasked, with_new_mask, TakesMask};
 
@@ -110,9 +111,19 @@ fn parts_in<'a>(bytes: &'a [u8], force: Option<&Structure>) -> Result<Parts<'a>,
     })
 }
 
+/// The lowest so many bits of a mask, or all.
+fn lowest(mask: u32, count: u8) -> u32
+    ensures { result ≡ mask % 2 ^ count }
+{
+    if count < 32 {
+        mask % (1 << count)
+    } else {
+        mask
+    }
+}
+
 /// Puts the parts with this mask.
 fn put_parts(out: &mut BitWriter, parts: &Parts<'_>, mask: u32) -> Result<(), NoRoom>
-    requires { mask < 2 ^ parts.now.targets }
     ensures { Puts result out.old out.new (with_mask (parts_of parts.now) mask) }
 {
     let custom = Custom {
@@ -123,8 +134,44 @@ fn put_parts(out: &mut BitWriter, parts: &Parts<'_>, mask: u32) -> Result<(), No
     out.put_read(parts.head.from, parts.head.to)?;
     put_flags(out, parts.flags.structure, true, custom)?;
     out.put_read(parts.structure.from, parts.structure.to)?;
-    out.put(parts.targets, mask)?;
+    put_mask(out, parts.targets, mask)?;
     out.put_read(parts.frame.from, parts.frame.to)
+}
+
+/// Puts the lowest so many bits of a mask.
+fn put_mask(out: &mut BitWriter, targets: u8, mask: u32) -> Result<(), NoRoom>
+    ensures { Puts result out.old out.new (bits_of targets mask) }
+{
+    out.put(targets, lowest(mask, targets))
+}
+
+/// Fills `out` anew as [`remask`] does, with as many of the mask's lowest bits as there are decode targets. `NoFit` comes also where the bytes
+/// don't read with the structure in force; `out` is then as before. The bytes are read once.
+pub fn remask_lowest(
+    bytes: &[u8],
+    force: Option<&Structure>,
+    mask: u32,
+    out: &mut PacketBuf,
+) -> Result<(), NoFit>
+    ensures ok { OnOk result (MakesBytes (parts_at bytes.now (option_copied force.entry)) mask out.new) }
+    ensures err { OnErr result (MakesNone (parts_at bytes.now (option_copied force.entry)) mask) }
+    ensures unchanged { OnErr result (out.new ≡ out.old) }
+{
+    let Ok(parts) = parts_in(bytes, force) else {
+        return Err(NoFit);
+    };
+    let mut bits = BitWriter::new();
+    match put_parts(&mut bits, &parts, mask) {
+        Err(_) => Err(NoFit),
+        Ok(()) => {
+            let bytes = bits.bytes();
+            if bytes.len() > MOST {
+                return Err(NoFit);
+            }
+            out.fill(bytes);
+            Ok(())
+        }
+    }
 }
 
 /// Fills `out` anew with the same descriptor but for its mask: bit i of the mask, the lowest first, says whether decode target i is active.
@@ -145,19 +192,5 @@ pub fn remask(
     ensures unchanged { OnErr result (out.new ≡ out.old) }
 {
     force_is_well_formed(force);
-    let Ok(parts) = parts_in(bytes, force) else {
-        unreachable!()
-    };
-    let mut bits = BitWriter::new();
-    match put_parts(&mut bits, &parts, mask) {
-        Err(_) => Err(NoFit),
-        Ok(()) => {
-            let bytes = bits.bytes();
-            if bytes.len() > MOST {
-                return Err(NoFit);
-            }
-            out.fill(bytes);
-            Ok(())
-        }
-    }
+    remask_lowest(bytes, force, mask, out)
 }

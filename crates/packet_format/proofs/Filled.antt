@@ -1,6 +1,6 @@
 -- What the code fills in is the remasked packet.
 use Rattle.std.proofs.Common.{◌≡◌, ◌<◌, ◌≤◌, ℕ, ◌+◌, ◌-◌, ◌*◌, Bool, true, false, List, [], ◌++◌, length, take, drop, Option, Some, None, Result, Ok, Err, refl, sym, ap, ap₂, subst, ◌∙◌, arith, append_assoc}
-use Rattle.std.specs.Prelude.{◌↔◌, IfSome, IsErr, OnErr, OnOk}
+use Rattle.std.specs.Prelude.{OnErr}
 use Rattle.std.proofs.lemmas.Bool.{le-ltb, lt-ltb, ltb-false}
 use Rattle.std.proofs.lemmas.List.{drop-drop, length-drop, length-take-le}
 use Rattle.std.proofs.Math.Seq.{take-add}
@@ -10,16 +10,9 @@ use Rattle.rtp_packet.specs.Fields.{behind_csrcs, behind_extension, behind_heade
 use Rattle.rtp_packet.proofs.Faultless.{has_none}
 use Rattle.rtp_extension.specs.Forms.{IsBetween}
 use Rattle.rtp_extension.specs.Reblocked.{extension_with}
-use Rattle.dd_bits.specs.Writer.{IsPadded}
-use Rattle.dd_structure.specs.Spelling.{IsWellFormed}
 use Rattle.dd_structure.specs.TemplateStructure.{TemplateStructure}
 use Rattle.dd_descriptor.specs.declared.fault.DdFault.{DdFault}
-use Rattle.dd_descriptor.specs.Content.{Content}
-use Rattle.dd_descriptor.specs.Laid.{IsDescriptor}
-use Rattle.dd_descriptor.specs.Parts.{PartBits, parts_at, with_mask}
-use Rattle.dd_descriptor.specs.Remasking.{TakesMask, remasked as remasked_descriptor}
-use Rattle.dd_descriptor.proofs.LaidFound.{descriptor_laid}
-use Rattle.dd_descriptor.proofs.Remasked.{parts_laid, with_mask-laid}
+use Rattle.dd_descriptor.specs.Parts.{MakesBytes, MakesNone, PartBits, parts_at, with_mask}
 use Rattle.packet_format.specs.Formats.{element_in, element_of}
 use Rattle.packet_format.specs.WholeBytes.{whole_bytes}
 use Rattle.packet_format.specs.Remasked.{at_most, new_value, remasked, value_with, with_extension, with_value}
@@ -42,40 +35,23 @@ on_err (Err e) p = p
 
 -- ---- the value
 
-module _ (E : Type 0) (descriptor : List ℕ) (force : Option TemplateStructure) (mask : ℕ) (out : List ℕ) (result : Result (Unit {0}) E) (well : IfSome force IsWellFormed) (takes : TakesMask descriptor force mask)
-    (full : (c : Content) (d : IsDescriptor descriptor force c) → IsErr result ↔ (8 * 255 < length (remasked_descriptor d mask))) where
-  laid : IsDescriptor descriptor force takes.content
-  laid = descriptor_laid descriptor force takes.content well takes.reads
-
-  value_is : new_value force mask (given descriptor) ≡ Some (whole_bytes (remasked_descriptor laid mask))
-  value_is =
-      ap (value_with mask) (parts_laid laid.by force laid.layout takes.content descriptor laid.holds laid.laid)
-      ∙ ap (λ (b : List Bool). given (whole_bytes b)) (with_mask-laid laid.by laid.layout takes.content mask)
-
-  pub value_filled : AreBytes out → ((c : Content) (d : IsDescriptor descriptor force c) → OnOk result (IsPadded (remasked_descriptor d mask) out))
-      → OnOk result (at_most 255 (new_value force mask (given descriptor)) ≡ Some out)
-  value_filled are is = by result (is takes.content laid) (full takes.content laid).1
+module _ (descriptor : List ℕ) (force : Option TemplateStructure) (mask : ℕ) (out : List ℕ) where
+  pub value_filled : AreBytes out → MakesBytes (parts_at descriptor force) mask out → at_most 255 (new_value force mask (given descriptor)) ≡ Some out
+  value_filled are made = by (parts_at descriptor force) made
     where
-      by : (r : Result (Unit {0}) E) → OnOk r (IsPadded (remasked_descriptor laid mask) out) → (8 * 255 < length (remasked_descriptor laid mask) → IsErr r)
-          → OnOk r (at_most 255 (new_value force mask (given descriptor)) ≡ Some out)
-      by (Err e) p f = tt
-      by (Ok x) p f =
-          let bits = remasked_descriptor laid mask in
-          let same : out ≡ whole_bytes bits = padded_once bits out p are in
-          let short : length (whole_bytes bits) ≤ 255 = fits bits (λ long. let never : ⊥ = let e = f long in cc in never) in
-          ap (at_most 255) value_is ∙ kept 255 (whole_bytes bits) short ∙ ap given (sym same)
-        where
-          fits : (bits : List Bool) → (8 * 255 < length bits → ⊥) → length (whole_bytes bits) ≤ 255
-          fits bits never = omega (arith, length-whole bits, never)
+      by : (r : Result PartBits DdFault) → MakesBytes r mask out → at_most 255 (value_with mask r) ≡ Some out
+      by (Err fault) made = absurd made
+      by (Ok parts) made =
+          let bits = with_mask parts mask in
+          let same : out ≡ whole_bytes bits = padded_once bits out made.0 are in
+          ap (λ (bytes : List ℕ). at_most 255 (given bytes)) (sym same) ∙ kept 255 out made.1
 
-  pub value_too_long : OnErr result (at_most 255 (new_value force mask (given descriptor)) ≡ None)
-  value_too_long = by result (full takes.content laid).0
+  pub value_too_long : MakesNone (parts_at descriptor force) mask → at_most 255 (new_value force mask (given descriptor)) ≡ None
+  value_too_long none = by (parts_at descriptor force) none
     where
-      by : (r : Result (Unit {0}) E) → (IsErr r → 8 * 255 < length (remasked_descriptor laid mask)) → OnErr r (at_most 255 (new_value force mask (given descriptor)) ≡ None)
-      by (Ok x) f = tt
-      by (Err e) f =
-          let bits = remasked_descriptor laid mask in
-          ap (at_most 255) value_is ∙ over 255 (whole_bytes bits) (omega (arith, length-whole bits, f refl))
+      by : (r : Result PartBits DdFault) → MakesNone r mask → at_most 255 (value_with mask r) ≡ None
+      by (Err fault) none = refl
+      by (Ok parts) none = let bits = with_mask parts mask in over 255 (whole_bytes bits) (omega (arith, length-whole bits, none))
 
 pub value_between : (force : Option TemplateStructure) (mask : ℕ) (descriptor value : List ℕ) → at_most 255 (new_value force mask (Some descriptor)) ≡ Some value → IsBetween 1 255 (length value)
 value_between force mask descriptor value e =

@@ -1,32 +1,16 @@
 -- What a remasked packet shows: what it showed, but for its mask.
 -- RFC 3550, section 5.1, RFC 8285, AV1 RTP payload format, section 4.4 and Appendix A. Own statement. The code doesn't compute it; it is
 -- what laws say of the definition.
-use Rattle.std.specs.Prelude.{◌≡◌, ◌≢◌, ◌⊎◌, ◌≤◌, ◌<◌, ◌^◌, ℕ, Bool, true, List, length, take, Option, None, Some, Ok, Err}
+use Rattle.std.specs.Prelude.{◌≡◌, ◌≢◌, ◌⊎◌, ◌≤◌, ◌<◌, ◌^◌, ℕ, Bool, true, List, length, take, Option, None, Some}
 use Rattle.forwarding_model.specs.frames.Reading.{Descriptor, IsCarried, MayBeInForce, Payload, is_key_start, read_by, shown}
 use Rattle.forwarding_model.specs.frames.Reading.Showing.{Shows}
 use Rattle.rtp_packet.specs.Faults.{first_fault}
 use Rattle.rtp_packet.specs.Fields.{csrc_count, marker_of, payload_type_of, sequence_of, timestamp_of, ssrc_of, behind_header, payload_of}
 use Rattle.dd_structure.specs.TemplateStructure.{TemplateStructure}
-use Rattle.dd_descriptor.specs.declared.fault.DdFault.{DdFault}
-use Rattle.dd_descriptor.specs.Content.{Content, holding}
-use Rattle.dd_descriptor.specs.Reading.{descriptor_at}
 use Rattle.packet_format.specs.Formats.{element_of, format_of}
 use Rattle.packet_format.specs.Packets.{packet_of}
 use Rattle.packet_format.specs.Telling.{tells}
 use Rattle.packet_format.specs.Remasked.{remasked, remasked_bytes, remasked_packet}
-
--- the descriptor is read by a structure with so many decode targets
-pub record HasTargets (bytes : List ℕ) (force : Option TemplateStructure) (targets : ℕ) : Type 0 where
-  pub content : Content
-  pub by : TemplateStructure
-  pub reads : descriptor_at bytes force ≡ Ok content
-  pub holds : holding content.structure force ≡ Some by
-  pub count : by.target_count ≡ targets
-
--- so many, or the descriptor doesn't read
-abbrev pub IsReadBy : List ℕ → Option TemplateStructure → Option ℕ → Type 0
-IsReadBy bytes force None = (fault : DdFault) × (descriptor_at bytes force ≡ Err fault)
-IsReadBy bytes force (Some targets) = HasTargets bytes force targets
 
 -- a descriptor that tells this mask
 abbrev pub telling : ℕ → Descriptor TemplateStructure → Descriptor TemplateStructure

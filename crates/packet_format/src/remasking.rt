@@ -1,16 +1,14 @@
 // A packet whose dependency descriptor tells another mask.
 
-ghost use Rattle.std.specs.Prelude.{◌≡◌, ◌≤◌, ◌+◌, ◌*◌, ◌%◌, ◌^◌, IfSome, None, OnErr, OnOk, Some, drop, length};
+ghost use Rattle.std.specs.Prelude.{◌≡◌, ◌≤◌, ◌+◌, ◌*◌, None, OnErr, OnOk, Some, drop, length};
 ghost use Rattle.std.specs.Option.{option_copied};
 ghost use Rattle.sfu_base.specs.Bytes.{AreBytes};
 ghost use Rattle.rtp_packet.specs.Faults.{first_fault};
 ghost use Rattle.rtp_packet.specs.Fields.{behind_header, csrc_count};
-ghost use Rattle.dd_structure.specs.Spelling.{IsWellFormed};
 ghost use Rattle.packet_format.specs.Remasked.{at_most, new_value, remasked, with_extension};
-ghost use Rattle.packet_format.specs.RemaskedReads.{IsReadBy};
 
 use crate::look::descriptor_bytes;
-use dd_descriptor::{Descriptor, read_into};
+use dd_descriptor::remask_lowest;
 use dd_structure::Structure;
 use sfu_base::{NoFit, PacketBuf};
 
@@ -26,10 +24,9 @@ const EXTENSION_HEADER: usize = 4;
 /// The bytes that a remasked packet has at most.
 const MOST: usize = 1536;
 
-/// Gives packets another mask. It keeps what it works in, some 5 KB, so that no packet has to clear it.
+/// Gives packets another mask. It keeps what it works in, some 4 KB, so that no packet has to clear it.
 #[derive(Drop)]
 pub struct Remasker {
-    newest: Descriptor,
     value: PacketBuf,
     extension: PacketBuf,
 }
@@ -43,7 +40,6 @@ impl Remasker {
     /// One for all packets, whatever they tell.
     pub fn new() -> Remasker {
         Remasker {
-            newest: Descriptor::new(),
             value: PacketBuf::new(),
             extension: PacketBuf::new(),
         }
@@ -79,7 +75,7 @@ impl Remasker {
         let Some(descriptor) = descriptor_bytes(&parts, id) else {
             return Err(NoFit);
         };
-        fill_value(descriptor, force, mask, &mut self.newest, &mut self.value)?;
+        fill_value(descriptor, force, mask, &mut self.value)?;
         let value = self.value.bytes();
         self.extension.fill(&[]);
         rtp_extension::reblock(profile, parts.block, id, value, &mut self.extension)?;
@@ -94,62 +90,19 @@ impl Default for Remasker {
     }
 }
 
-/// Fills `out` with the descriptor as it tells this mask. It is read into `newest`.
+/// Fills `out` with the descriptor as it tells this mask.
 fn fill_value(
     descriptor: &[u8],
     force: Option<&Structure>,
     mask: u32,
-    newest: &mut Descriptor,
     out: &mut PacketBuf,
 ) -> Result<(), NoFit>
     ensures ok { OnOk result (at_most 255 (new_value (option_copied force.entry) mask (Some descriptor.now)) ≡ Some out.new) }
     ensures err { OnErr result (at_most 255 (new_value (option_copied force.entry) mask (Some descriptor.now)) ≡ None) }
 {
-    force_is_well_formed(force);
-    let Some(targets) = target_count(descriptor, force, newest) else {
-        return Err(NoFit);
-    };
-    let result = dd_descriptor::remask(descriptor, force, lowest(mask, targets), out);
+    let result = remask_lowest(descriptor, force, mask, out);
     are_bytes(out.bytes());
     result
-}
-
-/// How many decode targets the structure has by which the descriptor is read, or `None` where it doesn't read. It is read into `newest`.
-fn target_count(descriptor: &[u8], force: Option<&Structure>, newest: &mut Descriptor) -> Option<u8>
-    ensures read { IsReadBy descriptor.now (option_copied force.entry) result }
-    ensures few { IfSome result (λ n. n ≤ 32) }
-{
-    if read_into(descriptor, force, newest).is_err() {
-        return None;
-    }
-    match &newest.structure {
-        Some(structure) => Some(structure.target_count()),
-        None => match force {
-            Some(structure) => Some(structure.target_count()),
-            None => None,
-        },
-    }
-}
-
-/// The lowest so many bits of a mask.
-fn lowest(mask: u32, count: u8) -> u32
-    requires { count ≤ 32 }
-    ensures { result ≡ mask % 2 ^ count }
-{
-    if count == 32 {
-        mask
-    } else {
-        mask % (1 << count)
-    }
-}
-
-/// What a structure keeps, where one is in force.
-fn force_is_well_formed(force: Option<&Structure>)
-    ensures { IfSome (option_copied force.entry) IsWellFormed }
-{
-    if let Some(structure) = force {
-        structure.is_well_formed();
-    }
 }
 
 /// What bytes are.
