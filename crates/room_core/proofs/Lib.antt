@@ -8,6 +8,7 @@ pub mod Stepping
 pub mod Changing
 pub mod Working
 pub mod TableSteps
+pub mod Places
 pub mod Releasing
 pub mod Owning
 pub mod Beginnings

@@ -2,7 +2,7 @@
 use Rattle.std.proofs.Common.{◌≡◌, ◌≤◌, ℕ, Bool, true, false, cond, List, [], ◌∷◌, ◌++◌, length, map, refl, sym, ap, subst, ◌∙◌, Option, Some, None, IsSome, Ok, Err, Result, eqb, nat_eq, true≢false}
 use Rattle.std.specs.Prelude.{nat_lt}
 use Rattle.std.proofs.lemmas.Bool.{eq-eqb, lt-ltb}
-use Rattle.indexmap.specs.IndexMap.{WritesThrough, get, index_map_len}
+use Rattle.indexmap.specs.IndexMap.{get, index_map_len}
 use Rattle.sfu_base.specs.Answer.{Answer, Done, Refused, Sent}
 use Rattle.sfu_base.specs.declared.call.Refusal.{Refusal}
 use Rattle.sfu_base.specs.declared.call.Refusal.TheVariants.{Empty, NotKept}
@@ -39,6 +39,7 @@ use Rattle.room_core.specs.History.{after as afterwards}
 use Rattle.room_core.specs.Follows.{Follows, FollowsAim, FollowsTake, Happened, Resends, ResendsIt, TakesNext, Tells}
 use Rattle.room_core.specs.Passing.{Both}
 use Rattle.room_core.specs.Content.{Does, IsAfter, IsSubscriberAfter, IsTrackAfter}
+use Rattle.room_core.proofs.Places.{IsWritten}
 use Rattle.room_core.proofs.TableSteps.{table_after, table_same}
 use Rattle.room_core.proofs.Stepping.{formats_read}
 
@@ -165,7 +166,7 @@ found_subscriber content past n known found h =
     some_subscriber past n known (joined n past) (subst (λ (o : Option LiveSubscriber). Both (IsSubscriberAfter past n) o (joined n past)) (sym found) (h.subscribers n))
 
 pub own_after : (old new : Content) (past next : List Call) (subscriber : ℕ) (entry : Entry) (known now : LiveSubscriber) → IsOwn subscriber entry past next → IsOwnEntry subscriber entry
-    → IsAfter old past → Some known ≡ get nat_eq old.subscribers subscriber → WritesThrough nat_eq (nat_eq subscriber) old.subscribers now new.subscribers
+    → IsAfter old past → Some known ≡ get nat_eq old.subscribers subscriber → IsWritten subscriber old.subscribers new.subscribers now
     → now.track ≡ known.track
     → ((j : Joined) → IsSubscriberAfter past subscriber known j
     → Follows (kind_of j.track past) now.feed.value (subscriber_by j) (timeline_as (kind_of j.track past) subscriber (entry ∷ entries_of j.track past)))
@@ -184,15 +185,14 @@ own_after old new past next subscriber entry known now r own h found writes trac
       follows = subst (λ (o : Option Published). Follows (kind_or_plain o) now.feed.value (subscriber_by j) (timeline_as (kind_or_plain o) subscriber (entries_of j.track next))) (sym (r.origin_is j.track))
           (subst (λ (es : List Entry). Follows (kind_of j.track past) now.feed.value (subscriber_by j) (timeline_as (kind_of j.track past) subscriber es)) (sym entries) (step j there.2));
     }) in
-    let updates = writes.3 (subst (λ (o : Option LiveSubscriber). IsSome o) found refl) in
     record {
       tracks = subst (λ t. (n : ℕ) → Both (IsTrackAfter next n) (get nat_eq t n) (published n next)) (sym tables)
           (table_same (IsTrackAfter past) (IsTrackAfter next) (get nat_eq old.tracks) (λ n. published n past) (λ n. published n next) h.tracks r.published_is
           (λ n a p x. tracks_stay subscriber entry past next r own n a p x));
       subscribers = table_after (IsSubscriberAfter past) (IsSubscriberAfter next) (get nat_eq old.subscribers) (get nat_eq new.subscribers) (λ n. joined n past) (λ n. joined n next)
-          subscriber (Some now) h.subscribers updates.0 (λ n e. r.joined_is n) this (λ n a i e x. others_stay subscriber entry past next r own n a i e x);
+          subscriber (Some now) h.subscribers writes.found (λ n e. r.joined_is n) this (λ n a i e x. others_stay subscriber entry past next r own n a i e x);
       track_count = ap index_map_len tables ∙ h.track_count ∙ sym r.tracks_is;
-      subscriber_count = writes.2 ∙ h.subscriber_count ∙ sym r.subscribers_is;
+      subscriber_count = writes.count ∙ h.subscriber_count ∙ sym r.subscribers_is;
       highest_track_is = highest ∙ h.highest_track_is ∙ sym r.highest_track_is;
       highest_subscriber_is = highest' ∙ h.highest_subscriber_is ∙ sym r.highest_subscriber_is;
     }
@@ -283,7 +283,7 @@ asked_itself subscriber (Layered id) es =
     (eq-eqb subscriber subscriber refl)
 
 pub aim_does : (old new : Content) (subscriber : ℕ) (wish : Wish) (known now : LiveSubscriber) → Some known ≡ get nat_eq old.subscribers subscriber
-    → WritesThrough nat_eq (nat_eq subscriber) old.subscribers now new.subscribers → now.track ≡ known.track → FollowsAim known.feed.value now.feed.value wish
+    → IsWritten subscriber old.subscribers new.subscribers now → now.track ≡ known.track → FollowsAim known.feed.value now.feed.value wish
     → new.tracks ≡ old.tracks → new.highest_track ≡ old.highest_track → new.highest_subscriber ≡ old.highest_subscriber
     → (bytes numbers : List ℕ) → Does old new (call.Aim subscriber wish) reply.Done bytes numbers
 aim_does old new subscriber wish known now found writes track follows tables highest highest' bytes numbers =
@@ -311,7 +311,7 @@ takes_none None kind old new before bytes to events t = (refl, t.1)
 takes_none (Some packet) kind old new before bytes to events t = absurd (true≢false (sym t.0))
 
 pub take_does : (old new : Content) (subscriber : ℕ) (known now : LiveSubscriber) (before bytes : List ℕ) → Some known ≡ get nat_eq old.subscribers subscriber
-    → WritesThrough nat_eq (nat_eq subscriber) old.subscribers now new.subscribers → now.track ≡ known.track
+    → IsWritten subscriber old.subscribers new.subscribers now → now.track ≡ known.track
     → FollowsTake known.feed.value now.feed.value true before bytes
     → new.tracks ≡ old.tracks → new.highest_track ≡ old.highest_track → new.highest_subscriber ≡ old.highest_subscriber
     → (numbers : List ℕ) → Does old new (call.Take subscriber) reply.Packet bytes numbers
@@ -343,7 +343,7 @@ take_does old new subscriber known now before bytes found writes track follows t
 
 -- a take that finds none, and whatever leaves a subscriber as it was
 pub same_after : (old new : Content) (past : List Call) (subscriber : ℕ) (known now : LiveSubscriber) → IsAfter old past → Some known ≡ get nat_eq old.subscribers subscriber
-    → WritesThrough nat_eq (nat_eq subscriber) old.subscribers now new.subscribers → now.track ≡ known.track → now.feed.value ≡ known.feed.value
+    → IsWritten subscriber old.subscribers new.subscribers now → now.track ≡ known.track → now.feed.value ≡ known.feed.value
     → new.tracks ≡ old.tracks → new.highest_track ≡ old.highest_track → new.highest_subscriber ≡ old.highest_subscriber → IsAfter new past
 same_after old new past subscriber known now h found writes track feed tables highest highest' =
     let there = found_subscriber old past subscriber known found h in
@@ -356,19 +356,18 @@ same_after old new past subscriber known now h found writes track feed tables hi
       joined_is = x.joined_is;
       follows = subst (λ (f : Feed). Follows (kind_of there.0.track past) f (subscriber_by there.0) (timeline_as (kind_of there.0.track past) subscriber (entries_of there.0.track past))) (sym feed) x.follows;
     }) in
-    let updates = writes.3 (subst (λ (o : Option LiveSubscriber). IsSome o) found refl) in
     record {
       tracks = subst (λ t. (n : ℕ) → Both (IsTrackAfter past n) (get nat_eq t n) (published n past)) (sym tables) h.tracks;
       subscribers = table_after (IsSubscriberAfter past) (IsSubscriberAfter past) (get nat_eq old.subscribers) (get nat_eq new.subscribers) (λ n. joined n past) (λ n. joined n past)
-          subscriber (Some now) h.subscribers updates.0 (λ n e. refl) this (λ n a i e r. r);
+          subscriber (Some now) h.subscribers writes.found (λ n e. refl) this (λ n a i e r. r);
       track_count = ap index_map_len tables ∙ h.track_count;
-      subscriber_count = writes.2 ∙ h.subscriber_count;
+      subscriber_count = writes.count ∙ h.subscriber_count;
       highest_track_is = highest ∙ h.highest_track_is;
       highest_subscriber_is = highest' ∙ h.highest_subscriber_is;
     }
 
 pub take_finds_none : (old new : Content) (subscriber : ℕ) (known now : LiveSubscriber) (before bytes : List ℕ) → Some known ≡ get nat_eq old.subscribers subscriber
-    → WritesThrough nat_eq (nat_eq subscriber) old.subscribers now new.subscribers → now.track ≡ known.track
+    → IsWritten subscriber old.subscribers new.subscribers now → now.track ≡ known.track
     → FollowsTake known.feed.value now.feed.value false before bytes
     → new.tracks ≡ old.tracks → new.highest_track ≡ old.highest_track → new.highest_subscriber ≡ old.highest_subscriber
     → (numbers : List ℕ) → Does old new (call.Take subscriber) (reply.Refused Empty) bytes numbers

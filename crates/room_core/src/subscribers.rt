@@ -1,5 +1,6 @@
 // Calls on a live subscriber.
-ghost use Rattle.std.specs.Prelude.{◌≡◌, ◌≢◌, List, false, ℕ};
+ghost use Rattle.std.specs.Prelude.{◌≡◌, ◌≢◌, List, false, nat_eq, ℕ};
+ghost use Rattle.indexmap.specs.IndexMap.{get};
 ghost use Rattle.sfu_base.specs.Answer.{is_starved};
 ghost use Rattle.sfu_base.specs.declared.call.Call.TheVariants as call;
 ghost use Rattle.sfu_base.specs.declared.call.Reply.TheVariants as reply;
@@ -7,8 +8,11 @@ ghost use Rattle.sfu_base.specs.declared.call.Call.{Call};
 ghost use Rattle.room_core.specs.Content.{Does, DoesSilently, IsAfter};
 ghost use Rattle.room_core.specs.Kinds.{kind_joined};
 ghost use Rattle.room_core.specs.Live.{joined};
+ghost use Rattle.room_core.specs.Tables.{IsPlace};
 
 use crate::content::Content;
+use crate::live::LiveSubscriber;
+use indexmap::IndexMap;
 use sfu_base::{Kind, PacketBuf, Refusal, Reply, Wish};
 
 impl Content {
@@ -43,7 +47,11 @@ impl Content {
         ensures fed { is_starved result ≡ false }
         ensures untouched { result ≢ reply.Packet → out.new ≡ out.old }
     {
-        match self.subscribers.get_mut(&subscriber) {
+        let Some(place) = place_of(&self.subscribers, self.last_taker, subscriber) else {
+            return Reply::Refused(Refusal::NoSubscriber);
+        };
+        self.last_taker = place;
+        match self.subscribers.get_index_mut(place) {
             Some(known) => {
                 if known.feed.take(out) {
                     Reply::Packet
@@ -51,6 +59,7 @@ impl Content {
                     Reply::Refused(Refusal::Empty)
                 }
             }
+            // The place is one of the table's.
             None => Reply::Refused(Refusal::NoSubscriber),
         }
     }
@@ -113,4 +122,20 @@ impl Content {
             .get(&subscriber)
             .map(|known| known.feed.kind)
     }
+}
+
+// The place of the subscriber in the table, if it is there. `likely` is tried first.
+fn place_of(
+    subscribers: &IndexMap<u32, LiveSubscriber>,
+    likely: usize,
+    subscriber: u32,
+) -> Option<usize>
+    ensures { IsPlace subscriber subscribers.now.entries (get nat_eq subscribers.now subscriber) result }
+{
+    if let Some((number, _)) = subscribers.get_index(likely) {
+        if *number == subscriber {
+            return Some(likely);
+        }
+    }
+    subscribers.get_index_of(&subscriber)
 }
