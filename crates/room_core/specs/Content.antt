@@ -75,7 +75,7 @@ DoesSilently old new call reply = (bytes numbers : List ℕ) → Does old new ca
 
 abbrev pub IsPipelineReady : Option Refusal → Content → Kind → ℕ → ℕ → Ready → Type 0
 IsPipelineReady (Some why) content kind ssrc hold ready = ready ≡ Nothing
-IsPipelineReady None content kind ssrc hold (Pipeline pipeline) = IsBegun pipeline.value kind ssrc hold × (0 < spare content.tracks)
+IsPipelineReady None content kind ssrc hold (Pipeline pipeline told) = IsBegun pipeline.value kind ssrc hold × (0 < spare content.tracks)
 IsPipelineReady None content kind ssrc hold Nothing = ⊥
 IsPipelineReady None content kind ssrc hold (Sent feed) = ⊥
 
@@ -89,7 +89,7 @@ IsFeedReady (Some why) content track ssrc first wish ready = ready ≡ Nothing
 IsFeedReady None content track ssrc first wish (Sent feed) =
     IsFreshOn (get nat_eq content.tracks track) feed.value ssrc first wish × (first < 65536) × (0 < spare content.subscribers)
 IsFeedReady None content track ssrc first wish Nothing = ⊥
-IsFeedReady None content track ssrc first wish (Pipeline pipeline) = ⊥
+IsFeedReady None content track ssrc first wish (Pipeline pipeline told) = ⊥
 
 abbrev pub refusal_to_publish : Content → ℕ → Kind → Option Refusal
 refusal_to_publish content track kind = publish_refusal content.highest_track (index_map_len content.tracks) track kind

@@ -27,7 +27,6 @@ impl Content {
             subscribers: IndexMap::new(alloc),
             highest_subscriber: 0,
             last_taker: 0,
-            told: Told::new(),
         }
     }
 
@@ -78,8 +77,11 @@ impl Content {
         let Ok(pipeline) = Box::new(alloc, pipeline) else {
             return Err(NoMemory);
         };
+        let Ok(told) = Box::new(alloc, Told::new()) else {
+            return Err(NoMemory);
+        };
         match self.tracks.reserve(1) {
-            Ok(()) => Ok(Ready::Pipeline(pipeline)),
+            Ok(()) => Ok(Ready::Pipeline(pipeline, told)),
             Err(_) => Err(NoMemory),
         }
     }
@@ -125,11 +127,12 @@ impl Content {
         ensures fed { is_starved result ≡ false }
     {
         match ready {
-            Ready::Pipeline(pipeline) => {
+            Ready::Pipeline(pipeline, told) => {
                 let live = LiveTrack {
                     kind,
                     pleaded: false,
                     pipeline,
+                    told,
                 };
                 match self.tracks.insert(track, live) {
                     Ok(_) => {

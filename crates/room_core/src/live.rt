@@ -2,15 +2,18 @@
 ghost use Rattle.std.specs.Prelude.{◌≡◌, []};
 
 use crate::feed::Feed;
+use crate::told::Told;
 use sfu_base::Kind;
 use track_core::Track;
 
-/// A live track: its kind, whether a plea for a key frame stands, and its pipeline. No item waits between calls.
+/// A live track: its kind, whether a plea for a key frame stands, its pipeline, and what its frames tell. No item waits between calls. The
+/// long parts lie on the heap, so that a room is small: a lock that holds one moves it twice a turn.
 #[derive(Drop)]
 pub struct LiveTrack {
     pub kind: Kind,
     pub pleaded: bool,
     pub pipeline: Box<Track>,
+    pub told: Box<Told>,
     ghost idle: { pipeline.value.window.waiting ≡ [] },
 }
 
@@ -22,10 +25,11 @@ pub struct LiveSubscriber {
     pub feed: Box<Feed>,
 }
 
-/// What a call has ready before anything changes: the pipeline of an accepted publish, what an accepted join is sent, or nothing.
+/// What a call has ready before anything changes: the pipeline of an accepted publish and what its frames will tell, what an accepted join
+/// is sent, or nothing.
 #[derive(Drop)]
 pub enum Ready {
     Nothing,
-    Pipeline(Box<Track>),
+    Pipeline(Box<Track>, Box<Told>),
     Sent(Box<Feed>),
 }

@@ -36,7 +36,7 @@ impl Content {
                         &mut known.pleaded,
                         track,
                         &mut self.subscribers,
-                        &mut self.told,
+                        &mut *known.told,
                     );
                     Reply::Done
                 }
@@ -59,7 +59,7 @@ impl Content {
                     &mut known.pleaded,
                     track,
                     &mut self.subscribers,
-                    &mut self.told,
+                    &mut *known.told,
                 );
                 Reply::Done
             }
