@@ -1,7 +1,8 @@
 // The packets of one frame.
 ghost use Rattle.std.specs.Prelude.{◌≡◌, ◌<◌, ◌≤◌, ◌++◌, ◌∷◌, [], IfOk, length, Some, slice_get};
 
-use sfu_base::{NoMemory, PacketBuf};
+use packet_slot::PacketSlot;
+use sfu_base::NoMemory;
 use std::alloc::Global;
 use std::marker::Model;
 
@@ -11,7 +12,7 @@ pub const MOST_PACKETS: usize = 512;
 /// Up to 512 packets, seen as the list of their bytes, in slots that are made once.
 #[derive(Drop)]
 pub struct Packets {
-    slots: Vec<PacketBuf>,
+    slots: Vec<PacketSlot>,
     count: usize,
 }
 
@@ -35,7 +36,7 @@ impl Packets {
             return Err(NoMemory);
         };
         while slots.len() < MOST_PACKETS {
-            slots.push_reserved(PacketBuf::new());
+            slots.push_reserved(PacketSlot::new());
         }
         Ok(Packets { slots, count: 0 })
     }
