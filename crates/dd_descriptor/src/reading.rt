@@ -25,18 +25,14 @@ use dd_bits::BitReader;
 use dd_structure::Structure;
 use sfu_base::Dti;
 
-/// The structure that is carried, in place of what was there. It has a frame of its own, since a function clears its long locals
-/// whenever it is entered.
-#[tactic(auto, unfolding(crate::specs::Reading::carried_at))]
+/// The structure that is carried, in place of what was there. It is a call of its own, since few descriptors carry one.
+#[tactic(auto, unfolding(crate::specs::Reading::carried_at, dd_structure::specs::Reading::some_structure_at))]
 #[inline(never)]
 fn put_structure(bits: &mut BitReader<'_>, out: &mut Option<Structure>) -> Result<(), DdFault>
     ensures { Gives (λ _. out.new) result bits.new (carried_at true (bits_left bits.old)) }
 {
-    match Structure::read(bits) {
-        Ok(structure) => {
-            *out = Some(structure);
-            Ok(())
-        }
+    match Structure::read_into(bits, out) {
+        Ok(()) => Ok(()),
         Err(fault) => Err(DdFault::Bad(fault)),
     }
 }

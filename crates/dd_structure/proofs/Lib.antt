@@ -5,3 +5,4 @@ pub mod WriteLemmas
 pub mod PairLemmas
 pub mod ColumnLemmas
 pub mod EqualLemmas
+pub mod FirstRows

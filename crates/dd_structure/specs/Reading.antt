@@ -123,3 +123,9 @@ structure_at bits = do
     },
     resolutions.1,
   )
+
+-- the same, as a place for a structure that may be there holds it
+unfoldable pub some_structure_at : List Bool → Result (Option TemplateStructure × List Bool) StructureFault
+some_structure_at bits = do
+  s ← structure_at bits
+  Ok (Some s.0, s.1)

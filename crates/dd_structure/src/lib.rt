@@ -7,6 +7,7 @@
 #![tactic(auto)]
 
 mod access;
+mod blank;
 mod columns;
 mod equal;
 mod fault;
@@ -20,8 +21,8 @@ mod writing;
 pub use fault::StructureFault;
 pub use laws::{structure_reads_back, structures_are_well_formed};
 pub use layer::Layer;
-pub use reading::chains::read_links;
-pub use reading::indications::read_indications;
+pub use reading::chains::read_links_into;
+pub use reading::indications::read_indications_into;
 pub use structure::Structure;
 pub use writing::chains::put_links;
 pub use writing::indications::put_indications;

@@ -1,7 +1,8 @@
+use crate::blank::BLANK;
 use crate::columns::Columns;
 use crate::equal::same_columns;
 use crate::fault::StructureFault;
-use crate::reading::read_columns;
+use crate::reading::fill_whole;
 use crate::writing::put_columns;
 use dd_bits::{BitReader, BitWriter, NoRoom};
 use std::marker::Model;
@@ -25,12 +26,35 @@ impl Model for Structure {
     ghost invariant = { λ s. IsWhole s.columns };
 }
 
+ghost use Rattle.std.specs.Prelude.{◌≡◌, None, OnErr};
+ghost use Rattle.dd_bits.specs.Reader.{bits_left};
+ghost use Rattle.dd_bits.specs.Sequences.{Gives};
+ghost use Rattle.dd_structure.specs.Reading.{some_structure_at};
+
+/// Reads into a place that holds no structure: a blank one is put there first.
+#[tactic(auto, unfolding(crate::specs::Reading::some_structure_at))]
+#[inline(never)]
+fn read_anew(bits: &mut BitReader<'_>, out: &mut Option<Structure>) -> Result<(), StructureFault>
+    ensures read { Gives (λ _. out.new) result bits.new (some_structure_at (bits_left bits.old)) }
+    ensures unchanged { OnErr result (bits.new ≡ bits.old) }
+    ensures none { OnErr result (out.new ≡ None) }
+{
+    let structure = out.insert(Structure { columns: BLANK });
+    match fill_whole(bits, &mut structure.columns) {
+        Ok(()) => Ok(()),
+        Err(fault) => {
+            *out = None;
+            Err(fault)
+        }
+    }
+}
+
 impl Structure {
-    ghost use Rattle.std.specs.Prelude.{◌≡◌, ◌≤◌, ◌↔◌, IsTrue, OnErr, length};
+    ghost use Rattle.std.specs.Prelude.{◌≡◌, ◌≤◌, ◌↔◌, None, IsTrue, OnErr, length};
     ghost use Rattle.dd_bits.specs.Reader.{bits_left};
     ghost use Rattle.dd_bits.specs.Sequences.{Gives};
     ghost use Rattle.dd_bits.specs.Writer.{room, written, Puts};
-    ghost use Rattle.dd_structure.specs.Reading.{structure_at};
+    ghost use Rattle.dd_structure.specs.Reading.{structure_at, some_structure_at};
     ghost use Rattle.dd_structure.specs.Spelling.{structure_bits, IsWellFormed};
 
     /// Takes the structure that the bits begin with. The fault is the first from left to right; the reader is then as before.
@@ -38,13 +62,31 @@ impl Structure {
         ensures read { Gives (λ s. s) result bits.new (structure_at (bits_left bits.old)) }
         ensures unchanged { OnErr result (bits.new ≡ bits.old) }
     {
-        let before = *bits;
-        match read_columns(bits) {
-            Ok(columns) => Ok(Structure { columns }),
-            Err(fault) => {
-                *bits = before;
-                Err(fault)
-            }
+        let mut columns = BLANK;
+        fill_whole(bits, &mut columns)?;
+        Ok(Structure { columns })
+    }
+
+    /// The same, in place of what `out` held; after a fault it holds none. A structure is long: where one stands already, nothing is cleared
+    /// or moved.
+    #[tactic(auto, unfolding(crate::specs::Reading::some_structure_at))]
+    pub fn read_into(
+        bits: &mut BitReader<'_>,
+        out: &mut Option<Structure>,
+    ) -> Result<(), StructureFault>
+        ensures read { Gives (λ _. out.new) result bits.new (some_structure_at (bits_left bits.old)) }
+        ensures unchanged { OnErr result (bits.new ≡ bits.old) }
+        ensures none { OnErr result (out.new ≡ None) }
+    {
+        match out {
+            Some(structure) => match fill_whole(bits, &mut structure.columns) {
+                Ok(()) => Ok(()),
+                Err(fault) => {
+                    *out = None;
+                    Err(fault)
+                }
+            },
+            None => read_anew(bits, out),
         }
     }
 

@@ -360,6 +360,29 @@ fn a_structure_that_is_cut_is_short(rt: HostRuntime) -> Result<(), Fail> {
 }
 
 #[test]
+fn a_structure_takes_the_place_of_another(rt: HostRuntime) -> Result<(), Fail> {
+    let mut place = None;
+    for bytes in [
+        D_BYTES.as_slice(),
+        C.as_slice(),
+        C_RESOLUTIONS.as_slice(),
+        D_BYTES.as_slice(),
+    ] {
+        let mut bits = BitReader::new(bytes);
+        bits.bits(5)?;
+        Structure::read_into(&mut bits, &mut place)?;
+        let wanted = read(bytes)?;
+        assert!(rt; matches!(&place, Some(found) if found.same(&wanted)));
+    }
+    let mut bits = BitReader::new(&D_BYTES[..10]);
+    bits.bits(5)?;
+    let result = Structure::read_into(&mut bits, &mut place);
+    assert_eq!(rt; result, Err(StructureFault::Short));
+    assert!(rt; place.is_none());
+    Ok(())
+}
+
+#[test]
 fn structures_are_compared_and_their_targets_have_greatest_layers(
     rt: HostRuntime,
 ) -> Result<(), Fail> {

@@ -1,4 +1,4 @@
-ghost use Rattle.std.specs.Prelude.{◌≡◌, ◌≤◌, take, map};
+ghost use Rattle.std.specs.Prelude.{◌≡◌, ◌≤◌, take, map, length, OnOk};
 ghost use Rattle.dd_bits.specs.Reader.{bits_left};
 ghost use Rattle.dd_bits.specs.Sequences.{Gives, fixed_or, repeat_at};
 ghost use Rattle.dd_structure.specs.Reading.{number_at, below_at, guard_count, guards_at};
@@ -19,60 +19,73 @@ pub fn guarded_targets(chains: u8, targets: u8) -> u8
     if chains == 0 { 0 } else { targets }
 }
 
-fn guard_list(bits: &mut BitReader<'_>, chains: u8, targets: u8) -> Result<[u8; 32], StructureFault>
+fn fill_guard_list(
+    bits: &mut BitReader<'_>,
+    chains: u8,
+    targets: u8,
+    out: &mut [u8; 32],
+) -> Result<(), StructureFault>
     requires targets { targets ≤ 32 }
     requires chains { chains ≤ 32 }
     requires none { chains ≡ 0 → targets ≡ 0 }
-    ensures { Gives (λ a. take targets a) result bits.new (repeat_at (below_at chains) targets (bits_left bits.old)) }
+    ensures { Gives (λ _. take targets out.new) result bits.new (repeat_at (below_at chains) targets (bits_left bits.old)) }
 {
-    let mut out = [0; 32];
     for i in 0..targets {
         out[i as usize] = below(bits, chains as u32)? as u8;
     }
-    Ok(out)
+    Ok(())
 }
 
-/// The chain that protects each decode target.
+/// The chain that protects each decode target, in place of what was there.
 #[tactic(auto, unfolding(crate::specs::Reading::guards_at))]
-pub fn guards(bits: &mut BitReader<'_>, chains: u8, targets: u8) -> Result<[u8; 32], StructureFault>
+pub fn fill_guards(
+    bits: &mut BitReader<'_>,
+    chains: u8,
+    targets: u8,
+    out: &mut [u8; 32],
+) -> Result<(), StructureFault>
     requires targets { targets ≤ 32 }
     requires chains { chains ≤ 32 }
-    ensures { Gives (λ a. take (guard_count chains targets) a) result bits.new (guards_at chains targets (bits_left bits.old)) }
+    ensures { Gives (λ _. take (guard_count chains targets) out.new) result bits.new (guards_at chains targets (bits_left bits.old)) }
 {
-    guard_list(bits, chains, guarded_targets(chains, targets))
+    fill_guard_list(bits, chains, guarded_targets(chains, targets), out)
 }
 
-/// A link of so many bits for each chain, or `short` where there are too few bits; the reader may then have moved on.
-pub fn read_links<E: Copy>(
+/// A link of so many bits for each chain, in place of what was there, or `short` where there are too few bits; the reader may then have
+/// moved on, and `out` may hold any links. It is a call of its own, since few frames have links of their own.
+#[inline(never)]
+pub fn read_links_into<E: Copy>(
     bits: &mut BitReader<'_>,
     width: u8,
     chains: u8,
     short: E,
-) -> Result<[u8; 32], E>
+    out: &mut [u8; 32],
+) -> Result<(), E>
     requires width { width ≤ 8 }
     requires chains { chains ≤ 32 }
-    ensures { Gives (λ a. take chains a) result bits.new (repeat_at (fixed_or short width) chains (bits_left bits.old)) }
+    ensures { Gives (λ _. take chains out.new) result bits.new (repeat_at (fixed_or short width) chains (bits_left bits.old)) }
 {
-    let mut out = [0; 32];
     for i in 0..chains {
         out[i as usize] = bits.bits_or(width, short)? as u8;
     }
-    Ok(out)
+    Ok(())
 }
 
-/// The links of each template.
-pub fn link_table(
+/// The links of each template, in place of what was there.
+pub fn fill_link_table(
     bits: &mut BitReader<'_>,
     chains: u8,
     templates: u8,
-) -> Result<[[u8; 32]; 64], StructureFault>
+    out: &mut [[u8; 32]; 64],
+) -> Result<(), StructureFault>
     requires chains { chains ≤ 32 }
     requires templates { templates ≤ 64 }
-    ensures { Gives (λ a. map (take chains) (take templates a)) result bits.new (repeat_at (repeat_at (number_at 4) chains) templates (bits_left bits.old)) }
+    ensures read { Gives (λ _. map (take chains) (take templates out.new)) result bits.new (repeat_at (repeat_at (number_at 4) chains) templates (bits_left bits.old)) }
+    ensures len { OnOk result (length out.new ≡ 64) }
 {
-    let mut out = [[0; 32]; 64];
     for i in 0..templates {
-        out[i as usize] = read_links(bits, LINK_WIDTH, chains, StructureFault::Short)?;
+        let row = &mut out[i as usize];
+        read_links_into(bits, LINK_WIDTH, chains, StructureFault::Short, row)?;
     }
-    Ok(out)
+    Ok(())
 }

@@ -1,4 +1,4 @@
-ghost use Rattle.std.specs.Prelude.{◌≤◌, take, map};
+ghost use Rattle.std.specs.Prelude.{◌≡◌, ◌≤◌, take, map, length, OnOk};
 ghost use Rattle.dd_bits.specs.Reader.{bits_left};
 ghost use Rattle.dd_bits.specs.Sequences.{Gives, repeat_at};
 ghost use Rattle.dd_structure.specs.Columns.{distances_in};
@@ -8,11 +8,6 @@ use crate::columns::Distances;
 use crate::fault::StructureFault;
 use crate::reading::fields::number;
 use dd_bits::BitReader;
-
-const NONE: Distances = Distances {
-    count: 0,
-    items: [0; 16],
-};
 
 /// A template's next distance, if there is one.
 #[tactic(auto, unfolding(crate::specs::Reading::next_distance_at))]
@@ -42,17 +37,18 @@ fn distances(bits: &mut BitReader<'_>) -> Result<Distances, StructureFault>
     }
 }
 
-/// The distances of each template.
-pub fn distance_table(
+/// The distances of each template, in place of what was there.
+pub fn fill_distance_table(
     bits: &mut BitReader<'_>,
     templates: u8,
-) -> Result<[Distances; 64], StructureFault>
+    out: &mut [Distances; 64],
+) -> Result<(), StructureFault>
     requires { templates ≤ 64 }
-    ensures { Gives (λ a. map distances_in (take templates a)) result bits.new (repeat_at distances_at templates (bits_left bits.old)) }
+    ensures read { Gives (λ _. map distances_in (take templates out.new)) result bits.new (repeat_at distances_at templates (bits_left bits.old)) }
+    ensures len { OnOk result (length out.new ≡ 64) }
 {
-    let mut out = [NONE; 64];
     for i in 0..templates {
         out[i as usize] = distances(bits)?;
     }
-    Ok(out)
+    Ok(())
 }

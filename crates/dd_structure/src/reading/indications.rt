@@ -1,4 +1,4 @@
-ghost use Rattle.std.specs.Prelude.{◌≤◌, take, map};
+ghost use Rattle.std.specs.Prelude.{◌≡◌, ◌≤◌, take, map, length, OnOk};
 ghost use Rattle.dd_bits.specs.Reader.{bits_left};
 ghost use Rattle.dd_bits.specs.Sequences.{Gives, repeat_at};
 ghost use Rattle.dd_structure.specs.Reading.{indication_at, indication_or};
@@ -15,35 +15,39 @@ fn indication<E: Copy>(bits: &mut BitReader<'_>, short: E) -> Result<Dti, E>
     Ok(Dti::from_code(code))
 }
 
-/// An indication for each decode target, or `short` where there are too few bits; the reader may then have moved on.
-pub fn read_indications<E: Copy>(
+/// An indication for each decode target, in place of what was there, or `short` where there are too few bits; the reader may then have
+/// moved on, and `out` may hold any indications. It is a call of its own, since few frames have indications of their own.
+#[inline(never)]
+pub fn read_indications_into<E: Copy>(
     bits: &mut BitReader<'_>,
     targets: u8,
     short: E,
-) -> Result<[Dti; 32], E>
+    out: &mut [Dti; 32],
+) -> Result<(), E>
     requires { targets ≤ 32 }
-    ensures { Gives (λ a. take targets a) result bits.new (repeat_at (indication_or short) targets (bits_left bits.old)) }
+    ensures { Gives (λ _. take targets out.new) result bits.new (repeat_at (indication_or short) targets (bits_left bits.old)) }
 {
-    let mut out = [Dti::NotPresent; 32];
     for i in 0..targets {
         out[i as usize] = indication(bits, short)?;
     }
-    Ok(out)
+    Ok(())
 }
 
-/// The indications of each template.
-pub fn indication_table(
+/// The indications of each template, in place of what was there.
+pub fn fill_indication_table(
     bits: &mut BitReader<'_>,
     targets: u8,
     templates: u8,
-) -> Result<[[Dti; 32]; 64], StructureFault>
+    out: &mut [[Dti; 32]; 64],
+) -> Result<(), StructureFault>
     requires targets { targets ≤ 32 }
     requires templates { templates ≤ 64 }
-    ensures { Gives (λ a. map (take targets) (take templates a)) result bits.new (repeat_at (repeat_at indication_at targets) templates (bits_left bits.old)) }
+    ensures read { Gives (λ _. map (take targets) (take templates out.new)) result bits.new (repeat_at (repeat_at indication_at targets) templates (bits_left bits.old)) }
+    ensures len { OnOk result (length out.new ≡ 64) }
 {
-    let mut out = [[Dti::NotPresent; 32]; 64];
     for i in 0..templates {
-        out[i as usize] = read_indications(bits, targets, StructureFault::Short)?;
+        let row = &mut out[i as usize];
+        read_indications_into(bits, targets, StructureFault::Short, row)?;
     }
-    Ok(out)
+    Ok(())
 }

@@ -1,4 +1,4 @@
-ghost use Rattle.std.specs.Prelude.{◌≤◌, take, IfOk};
+ghost use Rattle.std.specs.Prelude.{◌≡◌, ◌≤◌, take, length, IfOk, OnOk};
 ghost use Rattle.dd_bits.specs.Reader.{bits_left};
 ghost use Rattle.dd_bits.specs.Sequences.{Gives};
 ghost use Rattle.dd_structure.specs.Reading.{next_layer_at, layers_at};
@@ -8,7 +8,8 @@ use crate::layer::Layer;
 use crate::reading::fields::number;
 use dd_bits::BitReader;
 
-const FIRST: Layer = Layer {
+/// The layer of the first template.
+pub const FIRST: Layer = Layer {
     spatial: 0,
     temporal: 0,
 };
@@ -33,25 +34,27 @@ fn next_layer(bits: &mut BitReader<'_>, layer: Layer) -> Result<Option<Layer>, S
     }
 }
 
-/// How many templates there are, and the layer of each.
-pub fn layers(bits: &mut BitReader<'_>) -> Result<(u8, [Layer; 64]), StructureFault>
-    ensures read { Gives (λ x. take x.0 x.1) result bits.new (layers_at (bits_left bits.old)) }
-    ensures some { IfOk result (λ x. 1 ≤ x.0) }
-    ensures most { IfOk result (λ x. x.0 ≤ 64) }
+/// How many templates there are, and the layer of each, in place of what was there.
+pub fn fill_layers(bits: &mut BitReader<'_>, out: &mut [Layer; 64]) -> Result<u8, StructureFault>
+    ensures read { Gives (λ n. take n out.new) result bits.new (layers_at (bits_left bits.old)) }
+    ensures some { IfOk result (λ n. 1 ≤ n) }
+    ensures most { IfOk result (λ n. n ≤ 64) }
+    ensures many { IfOk result (λ n. length (take n out.new) ≡ n) }
+    ensures len { OnOk result (length out.new ≡ 64) }
 {
-    let mut items = [FIRST; 64];
+    out[0] = FIRST;
     let mut before = FIRST;
     for count in 1..64 {
         match next_layer(bits, before)? {
-            None => return Ok((count, items)),
+            None => return Ok(count),
             Some(layer) => {
-                items[count as usize] = layer;
+                out[count as usize] = layer;
                 before = layer;
             }
         }
     }
     match next_layer(bits, before)? {
-        None => Ok((64, items)),
+        None => Ok(64),
         Some(_) => Err(StructureFault::Templates),
     }
 }

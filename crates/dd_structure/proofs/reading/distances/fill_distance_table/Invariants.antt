@@ -4,7 +4,7 @@ use Rattle.dd_bits.specs.Sequences.{repeat_at}
 use Rattle.dd_bits.proofs.ReadingLoops.{with_front}
 use Rattle.dd_structure.specs.Columns.{distances_in}
 use Rattle.dd_structure.specs.Reading.{distances_at}
-use Rattle.dd_structure.proofs.reading.distances.distance_table.Given as goal
+use Rattle.dd_structure.proofs.reading.distances.fill_distance_table.Given as goal
 
 abbrev pub invariant-loop-i : goal.invariant-loop-i
 invariant-loop-i l = record {

@@ -3,7 +3,7 @@ use Rattle.dd_bits.specs.Reader.{bits_left}
 use Rattle.dd_bits.specs.Sequences.{repeat_at}
 use Rattle.dd_bits.proofs.ReadingLoops.{with_front}
 use Rattle.dd_structure.specs.Reading.{number_at}
-use Rattle.dd_structure.proofs.reading.chains.link_table.Given as goal
+use Rattle.dd_structure.proofs.reading.chains.fill_link_table.Given as goal
 
 abbrev pub invariant-loop-i : goal.invariant-loop-i
 invariant-loop-i l = record {

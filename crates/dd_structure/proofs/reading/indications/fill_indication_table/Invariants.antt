@@ -3,7 +3,7 @@ use Rattle.dd_bits.specs.Reader.{bits_left}
 use Rattle.dd_bits.specs.Sequences.{repeat_at}
 use Rattle.dd_bits.proofs.ReadingLoops.{with_front}
 use Rattle.dd_structure.specs.Reading.{indication_at}
-use Rattle.dd_structure.proofs.reading.indications.indication_table.Given as goal
+use Rattle.dd_structure.proofs.reading.indications.fill_indication_table.Given as goal
 
 abbrev pub invariant-loop-i : goal.invariant-loop-i
 invariant-loop-i l = record {

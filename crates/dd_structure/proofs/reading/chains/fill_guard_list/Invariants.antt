@@ -3,7 +3,7 @@ use Rattle.dd_bits.specs.Reader.{bits_left}
 use Rattle.dd_bits.specs.Sequences.{repeat_at}
 use Rattle.dd_bits.proofs.ReadingLoops.{with_front}
 use Rattle.dd_structure.specs.Reading.{below_at}
-use Rattle.dd_structure.proofs.reading.chains.guard_list.Given as goal
+use Rattle.dd_structure.proofs.reading.chains.fill_guard_list.Given as goal
 
 abbrev pub invariant-loop-i : goal.invariant-loop-i
 invariant-loop-i l = record {

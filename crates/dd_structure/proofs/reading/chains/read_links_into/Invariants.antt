@@ -2,7 +2,7 @@ use Rattle.std.proofs.Common.{◌≡◌, ◌-◌, length, take}
 use Rattle.dd_bits.specs.Reader.{bits_left}
 use Rattle.dd_bits.specs.Sequences.{fixed_or, repeat_at}
 use Rattle.dd_bits.proofs.ReadingLoops.{with_front}
-use Rattle.dd_structure.proofs.reading.chains.read_links.Given as goal
+use Rattle.dd_structure.proofs.reading.chains.read_links_into.Given as goal
 
 abbrev pub invariant-loop-i : goal.invariant-loop-i
 invariant-loop-i g l = record {

@@ -3,7 +3,7 @@ use Rattle.std.proofs.lemmas.List.{length-set}
 use Rattle.std.proofs.lemmas.Result.{err_from_is_err_and}
 use Rattle.dd_bits.proofs.ReadingLoops.{repeat_fails, array_more, array_done}
 use Rattle.dd_structure.specs.Reading.{indication_or}
-use Rattle.dd_structure.proofs.reading.indications.read_indications.Goals as goal
+use Rattle.dd_structure.proofs.reading.indications.read_indications_into.Goals as goal
 
 pub returns-in_err-out : goal.returns-in_err-out
 returns-in_err-out g c =
