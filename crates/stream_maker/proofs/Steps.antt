@@ -1,7 +1,7 @@
 -- What a state is still to give, before a call and after it.
-use Rattle.std.proofs.Common.{◌≡◌, ℕ, ◌+◌, ◌-◌, ◌*◌, ◌<◌, ◌≤◌, Bool, true, false, cond, List, [], ◌∷◌, ◌++◌, map, refl, sym, ap, ◌∙◌, subst, arith, Option, Some, None}
-use Rattle.std.proofs.lemmas.Bool.{eqb-false}
-use Rattle.std.specs.Prelude.{is_none, ◌&&◌}
+use Rattle.std.proofs.Common.{◌≡◌, ℕ, ◌+◌, ◌-◌, ◌*◌, ◌<◌, zero, suc, ◌≤◌, Bool, true, false, cond, List, [], ◌∷◌, ◌++◌, map, refl, sym, ap, ◌∙◌, subst, arith, Option, Some, None}
+use Rattle.std.proofs.lemmas.Bool.{eqb-false, eqb-true}
+use Rattle.std.specs.Prelude.{is_none, not, replicate, ◌==◌, ◌&&◌}
 use Rattle.std.specs.Option.{option_to_list}
 use Rattle.rand_pcg.specs.Lcg.{Lcg}
 use Rattle.sfu_base.specs.Bytes.{bit}
@@ -13,14 +13,14 @@ use Rattle.stream_maker.specs.declared.event.Event.{Event}
 use Rattle.stream_maker.specs.declared.event.Event.TheVariants.{End}
 use Rattle.stream_maker.specs.declared.fate.Fate.{Fate}
 use Rattle.stream_maker.specs.declared.fate.Fate.TheVariants.{Lost, Twice, Held, Once}
-use Rattle.stream_maker.specs.Packets.{packet_count, is_upper, is_key_unit}
+use Rattle.stream_maker.specs.Packets.{moment_of, packet_count, is_upper, is_key_unit}
 use Rattle.stream_maker.specs.Bytes.{ends_frame, starts_frame}
 use Rattle.stream_maker.specs.Order.{ends_stream, tick_due}
 use Rattle.stream_maker.specs.Fates.{fate_of, word_of, after_word, is_twice, is_lost, is_to_be_held}
 use Rattle.stream_maker.specs.Turn.{Given, sent, sent_event, tick_event, turn}
 use Rattle.stream_maker.specs.Stream.{last_moment}
 use Rattle.stream_maker.specs.Giving.{Making, Gives, GivesNext, filled}
-use Rattle.stream_maker.specs.Left.{held_after, is_sent, place_after, counts_after, due_places, is_idle, due_events, packets_from, turns_left, left_of, making_of, IsSound}
+use Rattle.stream_maker.specs.Left.{behind, copies, held_after, place_after, counts_after, due_places, due_tick, is_idle, due_events, packets_from, turns_left, left_of, making_of, IsSound}
 use Rattle.stream_maker.proofs.PacketsLeft.{packets_from-next, packets_from-end}
 use Rattle.stream_maker.proofs.TurnsLeft.{one_turn}
 
@@ -52,48 +52,51 @@ gives-same_left old mid new event out out' left same h =
 
 -- ---- what is due
 
-due_events-parts : (counts : Counts) (due : Due) (ps : List Place) (t : Option ℕ) → due_places due ≡ ps → due.tick ≡ t
+due_events-parts : (counts : Counts) (due : Due) (ps : List Place) (t : Option ℕ) → due_places due ≡ ps → due_tick due ≡ t
     → due_events counts due ≡ map (sent_event counts) ps ++ map (tick_event counts) (option_to_list t)
 unfolding due_events
 due_events-parts counts due ps t places tick =
-    ap (λ (qs : List Place). map (sent_event counts) qs ++ map (tick_event counts) (option_to_list due.tick)) places
+    ap (λ (qs : List Place). map (sent_event counts) qs ++ map (tick_event counts) (option_to_list (due_tick due))) places
     ∙ ap (λ (u : Option ℕ). map (sent_event counts) ps ++ map (tick_event counts) (option_to_list u)) tick
 
-idle_options : (a b c d : Option Place) (t : Option ℕ)
-    → option_to_list a ++ option_to_list b ++ option_to_list c ++ option_to_list d ≡ [] → t ≡ None
-    → is_none a && is_none b && is_none c && is_none d && is_none t ≡ true
-idle_options None None None None None e h = refl
-idle_options None None None None (Some m) e h = cc
-idle_options None None None (Some x) t e h = cc
-idle_options None None (Some x) d t e h = cc
-idle_options None (Some x) c d t e h = cc
-idle_options (Some x) b c d t e h = cc
+no_copies : (n : ℕ) (p : Place) (xs : List Place) → replicate n p ++ xs ≡ [] → (n ≡ 0) × (xs ≡ [])
+no_copies zero p xs e = (refl, e)
+no_copies (suc n) p xs e = cc
 
-pub idle_of-nothing : (due : Due) → due_places due ≡ [] → due.tick ≡ None → is_idle due ≡ true
-idle_of-nothing due places tick = idle_options due.first due.again due.behind due.left_over due.tick places tick
+idle_parts : (n : ℕ) (b : Option Place) (t : Bool) (m : ℕ) → n ≡ 0 → option_to_list b ≡ [] → cond t (Some m) None ≡ None
+    → n == 0 && is_none b && not t ≡ true
+idle_parts zero None false m n b t = refl
+idle_parts zero None true m n b t = cc
+idle_parts zero (Some q) t m n b e = cc
+idle_parts (suc k) b t m n e f = cc
 
-no_places : (a b c d : Option Place) (t : Option ℕ)
-    → is_none a && is_none b && is_none c && is_none d && is_none t ≡ true
-    → (option_to_list a ++ option_to_list b ++ option_to_list c ++ option_to_list d ≡ []) × (t ≡ None)
-no_places None None None None None e = (refl, refl)
-no_places None None None None (Some m) e = cc
-no_places None None None (Some x) t e = cc
-no_places None None (Some x) d t e = cc
-no_places None (Some x) c d t e = cc
-no_places (Some x) b c d t e = cc
+pub idle_of-nothing : (due : Due) → due_places due ≡ [] → due_tick due ≡ None → is_idle due ≡ true
+idle_of-nothing due places tick =
+    let none = no_copies due.copies due.place (option_to_list due.behind) places in
+    idle_parts due.copies due.behind due.ticks (moment_of due.place.frame) none.0 none.1 tick
 
-nothing_of-idle : (due : Due) → is_idle due ≡ true → (due_places due ≡ []) × (due.tick ≡ None)
-nothing_of-idle due idle = no_places due.first due.again due.behind due.left_over due.tick idle
+both : (a b : Bool) → a && b ≡ true → (a ≡ true) × (b ≡ true)
+both true b e = (refl, e)
+both false b e = cc
+
+no_places : (n : ℕ) (p : Place) (b : Option Place) (t : Bool) (m : ℕ) → n ≡ 0 → is_none b ≡ true → not t ≡ true
+    → (replicate n p ++ option_to_list b ≡ []) × (cond t (Some m) None ≡ None)
+no_places zero p None false m z e f = (refl, refl)
+no_places zero p None true m z e f = cc
+no_places zero p (Some q) t m z e f = cc
+no_places (suc n) p b t m z e f = cc
+
+nothing_of-idle : (due : Due) → is_idle due ≡ true → (due_places due ≡ []) × (due_tick due ≡ None)
+nothing_of-idle due idle =
+    let parts = both (due.copies == 0 && is_none due.behind) (not due.ticks) idle in
+    let packets = both (due.copies == 0) (is_none due.behind) parts.0 in
+    no_places due.copies due.place due.behind due.ticks (moment_of due.place.frame) (eqb-true due.copies 0 packets.0) packets.1 parts.1
 
 due_cases : (f : Fate) (held : Option Place) (p : Place) (b : Bool)
-    → option_to_list (cond (is_sent f held) (Some p) None) ++ option_to_list (cond (is_twice f) (Some p) None)
-    ++ option_to_list (cond (is_sent f held) held None) ++ option_to_list (cond b (held_after f held p) None)
-    ≡ sent f held p ++ cond b (option_to_list (held_after f held p)) []
-unfolding held_after
-due_cases Lost None p true = refl
-due_cases Lost None p false = refl
-due_cases Lost (Some q) p true = refl
-due_cases Lost (Some q) p false = refl
+    → replicate (copies f held) p ++ option_to_list (behind f held p b) ≡ sent f held p ++ cond b (option_to_list (held_after f held p)) []
+unfolding behind held_after
+due_cases Lost held p true = refl
+due_cases Lost held p false = refl
 due_cases Twice None p true = refl
 due_cases Twice None p false = refl
 due_cases Twice (Some q) p true = refl
@@ -108,27 +111,14 @@ due_cases Held (Some q) p true = refl
 due_cases Held (Some q) p false = refl
 
 -- the parts of what is due make the turn
-pub due_of-turn : (frames : ℕ) (f : Fate) (held : Option Place) (p : Place) (counts : Counts) (due : Due) (sends twice ends : Bool) (then : Option Place)
-    → sends ≡ is_sent f held → twice ≡ is_twice f → ends ≡ ends_stream frames p → then ≡ held_after f held p
-    → due.first ≡ cond sends (Some p) None → due.again ≡ cond twice (Some p) None → due.behind ≡ cond sends held None
-    → due.left_over ≡ cond ends then None → due.tick ≡ tick_due frames p
+pub due_of-turn : (frames : ℕ) (f : Fate) (held : Option Place) (p : Place) (counts : Counts) (due : Due) (ends : Bool)
+    → ends ≡ ends_stream frames p → due.place ≡ p → due.copies ≡ copies f held → due.behind ≡ behind f held p ends → tick_due frames p ≡ due_tick due
     → due_events counts due ≡ turn frames f held (held_after f held p) counts p
 unfolding turn
-due_of-turn frames f held p counts due sends twice ends then is_s is_t is_e is_h first again behind left_over tick =
-    let a : due.first ≡ cond (is_sent f held) (Some p) None = first ∙ ap (λ (b : Bool). cond b (Some p) None) is_s in
-    let b : due.again ≡ cond (is_twice f) (Some p) None = again ∙ ap (λ (b : Bool). cond b (Some p) None) is_t in
-    let c : due.behind ≡ cond (is_sent f held) held None = behind ∙ ap (λ (b : Bool). cond b held None) is_s in
-    let d : due.left_over ≡ cond (ends_stream frames p) (held_after f held p) None =
-    left_over ∙ ap (λ (b : Bool). cond b then None) is_e ∙ ap (λ (o : Option Place). cond (ends_stream frames p) o None) is_h in
-    let list : Option Place → Option Place → Option Place → Option Place → List Place =
-    λ w x y z. option_to_list w ++ option_to_list x ++ option_to_list y ++ option_to_list z in
+due_of-turn frames f held p counts due ends is_e is_p is_c is_b tick =
     let places : due_places due ≡ sent f held p ++ cond (ends_stream frames p) (option_to_list (held_after f held p)) [] =
-    ap (λ (o : Option Place). list o due.again due.behind due.left_over) a
-    ∙ ap (λ (o : Option Place). list (cond (is_sent f held) (Some p) None) o due.behind due.left_over) b
-    ∙ ap (λ (o : Option Place). list (cond (is_sent f held) (Some p) None) (cond (is_twice f) (Some p) None) o due.left_over) c
-    ∙ ap (λ (o : Option Place). list (cond (is_sent f held) (Some p) None) (cond (is_twice f) (Some p) None) (cond (is_sent f held) held None) o) d
-    ∙ due_cases f held p (ends_stream frames p) in
-    due_events-parts counts due (sent f held p ++ cond (ends_stream frames p) (option_to_list (held_after f held p)) []) (tick_due frames p) places tick
+    rw (is_p, is_c, is_b, is_e) (due_cases f held p (ends_stream frames p)) in
+    due_events-parts counts due (sent f held p ++ cond (ends_stream frames p) (option_to_list (held_after f held p)) []) (tick_due frames p) places (sym tick)
 
 -- ---- what is left
 
@@ -139,34 +129,34 @@ left_of-due s due e =
     ap (λ (xs : List Given). xs ++ cond s.ended [] (turns_left s.frames s.loss s.generator s.held s.counts (packets_from s.frames s.next))) e
 
 -- a packet that is due comes first
-pub left_of-packet : (s : State) (due : Due) (p : Place) → due_places s.due ≡ p ∷ due_places due → due.tick ≡ s.due.tick
+pub left_of-packet : (s : State) (due : Due) (p : Place) → due_places s.due ≡ p ∷ due_places due → due_tick due ≡ due_tick s.due
     → left_of s ≡ sent_event s.counts p ∷ left_of (record s { due = due })
 left_of-packet s due p places tick =
-    let now = due_events-parts s.counts s.due (p ∷ due_places due) s.due.tick places refl in
-    let later = due_events-parts s.counts due (due_places due) s.due.tick refl tick in
+    let now = due_events-parts s.counts s.due (p ∷ due_places due) (due_tick s.due) places refl in
+    let later = due_events-parts s.counts due (due_places due) (due_tick s.due) refl tick in
     left_of-due s _ now ∙ ap (λ (xs : List Given). sent_event s.counts p ∷ xs) (sym (left_of-due (record s { due = due }) _ later))
 
 -- where no packet is due the places tell nothing
-pub left_of-same : (s : State) (due : Due) → due_places s.due ≡ due_places due → due.tick ≡ s.due.tick → left_of (record s { due = due }) ≡ left_of s
+pub left_of-same : (s : State) (due : Due) → due_places s.due ≡ due_places due → due_tick due ≡ due_tick s.due → left_of (record s { due = due }) ≡ left_of s
 left_of-same s due places tick =
-    let now = due_events-parts s.counts s.due (due_places due) s.due.tick places refl in
-    let later = due_events-parts s.counts due (due_places due) s.due.tick refl tick in
+    let now = due_events-parts s.counts s.due (due_places due) (due_tick s.due) places refl in
+    let later = due_events-parts s.counts due (due_places due) (due_tick s.due) refl tick in
     left_of-due (record s { due = due }) _ later ∙ sym (left_of-due s _ now)
 
-pub left_of-tick : (s : State) (due : Due) (moment : ℕ) → due_places s.due ≡ [] → s.due.tick ≡ Some moment
-    → due_places due ≡ [] → due.tick ≡ None → left_of s ≡ tick_event s.counts moment ∷ left_of (record s { due = due })
+pub left_of-tick : (s : State) (due : Due) (moment : ℕ) → due_places s.due ≡ [] → due_tick s.due ≡ Some moment
+    → due_places due ≡ [] → due_tick due ≡ None → left_of s ≡ tick_event s.counts moment ∷ left_of (record s { due = due })
 left_of-tick s due moment places tick places' tick' =
     let now = due_events-parts s.counts s.due [] (Some moment) places tick in
     let later = due_events-parts s.counts due [] None places' tick' in
     left_of-due s _ now ∙ ap (λ (xs : List Given). tick_event s.counts moment ∷ xs) (sym (left_of-due (record s { due = due }) _ later))
 
-left_of-idle : (s : State) (b : Bool) → s.ended ≡ b → due_places s.due ≡ [] → s.due.tick ≡ None
+left_of-idle : (s : State) (b : Bool) → s.ended ≡ b → due_places s.due ≡ [] → due_tick s.due ≡ None
     → left_of s ≡ cond b [] (turns_left s.frames s.loss s.generator s.held s.counts (packets_from s.frames s.next))
 left_of-idle s b ended places tick =
     left_of-due s [] (due_events-parts s.counts s.due [] None places tick)
     ∙ ap (λ (x : Bool). cond x [] (turns_left s.frames s.loss s.generator s.held s.counts (packets_from s.frames s.next))) ended
 
-pub left_of-ended : (s : State) → s.ended ≡ true → due_places s.due ≡ [] → s.due.tick ≡ None → left_of s ≡ []
+pub left_of-ended : (s : State) → s.ended ≡ true → due_places s.due ≡ [] → due_tick s.due ≡ None → left_of s ≡ []
 left_of-ended s ended places tick = left_of-idle s true ended places tick
 
 turns_left-nil : (frames loss : ℕ) (g : Lcg) (held : Option Place) (counts : Counts)
@@ -175,7 +165,7 @@ unfolding turns_left
 turns_left-nil frames loss g held counts = refl
 
 -- behind all packets comes the last tick, and then nothing
-pub left_of-last : (s : State) → s.ended ≡ false → due_places s.due ≡ [] → s.due.tick ≡ None → s.next.frame ≡ s.frames → s.next.part ≡ 0
+pub left_of-last : (s : State) → s.ended ≡ false → due_places s.due ≡ [] → due_tick s.due ≡ None → s.next.frame ≡ s.frames → s.next.part ≡ 0
     → left_of s ≡ tick_event s.counts (last_moment s.frames) ∷ left_of (record s { ended = true })
 left_of-last s ended places tick all_made first =
     let none : left_of (record s { ended = true }) ≡ [] = left_of-ended (record s { ended = true }) refl places tick in
@@ -321,7 +311,7 @@ not_ended s sound more =
     true_or_false s.ended (λ (e : s.ended ≡ true). (let made : s.next.frame ≡ s.frames = sound.ended e in omega arith))
 
 pub gives-same_due : (s : State) (due : Due) (new : Making) (event : Event) (out : List ℕ)
-    → due_places s.due ≡ due_places due → due.tick ≡ s.due.tick
+    → due_places s.due ≡ due_places due → due_tick due ≡ due_tick s.due
     → Gives (making_of (record s { due = due })) new event out out → Gives (making_of s) new event out out
 gives-same_due s due new event out places tick h =
     let mid : State = record s { due = due } in

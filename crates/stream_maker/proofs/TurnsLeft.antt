@@ -126,7 +126,7 @@ pub new_left-events : (s : Stream) (g : Lcg) → g ≡ generator_of s.start
       generator = g;
       next = record { frame = 0; part = 0; sequence = 0 };
       held = None;
-      due = record { first = None; again = None; behind = None; left_over = None; tick = None };
+      due = record { place = record { frame = 0; part = 0; sequence = 0 }; copies = 0; behind = None; ticks = false };
       ended = false;
       counts = record { frames = 0; packets = 0; lost = 0; repeated = 0; swapped = 0 };
     }) ≡ events s

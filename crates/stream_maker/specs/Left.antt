@@ -1,6 +1,6 @@
 -- What a maker's state stands for: the events that it is still to give. These definitions follow the state, and stand in no public clause; that
 -- a new maker is to give the events of the stream is proved of them.
-use Rattle.std.specs.Prelude.{◌≡◌, ◌≤◌, ◌<◌, ℕ, ◌+◌, ◌-◌, ◌*◌, ◌&&◌, Bool, true, false, if◌then◌else◌, List, [], ◌∷◌, ◌++◌, map, drop, Option, Some, None, is_some, is_none}
+use Rattle.std.specs.Prelude.{◌≡◌, ◌≤◌, ◌<◌, ℕ, ◌+◌, ◌-◌, ◌*◌, ◌==◌, ◌&&◌, Bool, true, if◌then◌else◌, List, [], ◌∷◌, ◌++◌, map, drop, replicate, not, Option, Some, None, is_some, is_none}
 use Rattle.std.specs.Option.{option_to_list}
 use Rattle.rand_pcg.specs.Lcg.{Lcg}
 use Rattle.sfu_base.specs.Bytes.{bit}
@@ -10,7 +10,7 @@ use Rattle.stream_maker.specs.declared.state.State.{State}
 use Rattle.stream_maker.specs.declared.counts.Counts.{Counts}
 use Rattle.stream_maker.specs.declared.fate.Fate.{Fate}
 use Rattle.stream_maker.specs.declared.fate.Fate.TheVariants.{Lost, Twice, Held, Once}
-use Rattle.stream_maker.specs.Packets.{packet_count, parts_from, placed}
+use Rattle.stream_maker.specs.Packets.{moment_of, packet_count, parts_from, placed}
 use Rattle.stream_maker.specs.Bytes.{starts_frame, ends_frame}
 use Rattle.stream_maker.specs.Fates.{fate_of, word_of, after_word, is_lost, is_twice, is_to_be_held}
 use Rattle.stream_maker.specs.Stream.{last_moment}
@@ -25,12 +25,20 @@ held_after Once held p = None
 held_after Held None p = Some p
 held_after Held (Some q) p = None
 
--- a packet of this fate is sent at its own turn
-abbrev pub is_sent : Fate → Option Place → Bool
-is_sent Lost held = false
-is_sent Twice held = true
-is_sent Once held = true
-is_sent Held held = is_some held
+-- how often a packet of this fate is sent at its own turn
+abbrev pub copies : Fate → Option Place → ℕ
+copies Lost held = 0
+copies Twice held = 2
+copies Once held = 1
+copies Held held = bit (is_some held)
+
+-- what is sent behind it: what was held back before it, or at the end of the stream what is then
+unfoldable pub behind : Fate → Option Place → Place → Bool → Option Place
+behind Lost held p ends = if ends then held_after Lost held p else None
+behind Twice held p ends = held
+behind Once held p ends = held
+behind Held None p ends = if ends then held_after Held None p else None
+behind Held (Some q) p ends = Some q
 
 -- the packet behind this one
 abbrev pub place_after : Place → Place
@@ -48,15 +56,18 @@ counts_after fate held p counts = record {
 }
 
 abbrev pub due_places : Due → List Place
-due_places due =
-    option_to_list due.first ++ option_to_list due.again ++ option_to_list due.behind ++ option_to_list due.left_over
+due_places due = replicate due.copies due.place ++ option_to_list due.behind
+
+-- the moment of the tick that is due
+abbrev pub due_tick : Due → Option ℕ
+due_tick due = if due.ticks then Some (moment_of due.place.frame) else None
 
 -- nothing is due
 abbrev pub is_idle : Due → Bool
-is_idle due = is_none due.first && is_none due.again && is_none due.behind && is_none due.left_over && is_none due.tick
+is_idle due = due.copies == 0 && is_none due.behind && not due.ticks
 
 unfoldable pub due_events : Counts → Due → List Given
-due_events counts due = map (sent_event counts) (due_places due) ++ map (tick_event counts) (option_to_list due.tick)
+due_events counts due = map (sent_event counts) (due_places due) ++ map (tick_event counts) (option_to_list (due_tick due))
 
 -- the packets from this one on, of a stream of so many frames
 unfoldable pub packets_from : ℕ → Place → List Place

@@ -1,109 +1,86 @@
 // What is still to be given of a packet's turn.
 
-ghost use Rattle.std.specs.Prelude.{◌≡◌, ◌<◌, ◌++◌, [], None, if◌then◌else◌, IfNone};
+ghost use Rattle.std.specs.Prelude.{◌≡◌, ◌++◌, [], IfNone};
 ghost use Rattle.std.specs.Option.{option_to_list};
-ghost use Rattle.stream_maker.specs.declared.counts.Counts.{Counts};
-ghost use Rattle.stream_maker.specs.Turn.{turn};
-ghost use Rattle.stream_maker.specs.Left.{held_after, is_sent, due_places, due_events, is_idle};
+ghost use Rattle.stream_maker.specs.Left.{behind, copies, held_after, due_places, due_tick, is_idle};
 
 use crate::fate::Fate;
 use crate::place::Place;
 
-/// The packets that are sent, in this order, and the moment of the tick behind them.
+/// A packet that is sent, the one behind it, and the tick behind both.
 #[derive(Clone, Copy, Debug)]
 pub(crate) struct Due {
-    pub(crate) first: Option<Place>,
-    pub(crate) again: Option<Place>,
+    /// The packet whose turn it is.
+    pub(crate) place: Place,
+    /// How often it is still to be sent.
+    pub(crate) copies: u8,
+    /// The packet that is sent behind it.
     pub(crate) behind: Option<Place>,
-    pub(crate) left_over: Option<Place>,
-    pub(crate) tick: Option<u64>,
+    /// Whether a tick follows, at the moment of its unit.
+    pub(crate) ticks: bool,
 }
 
-// The packet that is held back behind a packet's turn.
-#[tactic(auto, unfolding(crate::specs::Left::held_after))]
-pub(crate) fn held_after(fate: Fate, held: Option<Place>, place: Place) -> Option<Place>
-    ensures { result ≡ held_after fate held place }
+/// What a packet's turn sends, and which packet is held back then.
+#[derive(Clone, Copy, Debug)]
+pub(crate) struct Turn {
+    /// How often the packet is sent.
+    pub(crate) copies: u8,
+    /// What is sent behind it: the packet that was held back before it; or at the end of the stream the one that is then.
+    pub(crate) behind: Option<Place>,
+    pub(crate) held: Option<Place>,
+}
+
+// The turn of a packet of this fate, behind which the stream may end.
+#[tactic(auto, unfolding(crate::specs::Left::behind, crate::specs::Left::held_after))]
+pub(crate) fn turn_of(fate: Fate, held: Option<Place>, place: Place, ends_stream: bool) -> Turn
+    ensures copies { result.copies ≡ copies fate held }
+    ensures behind { result.behind ≡ behind fate held place ends_stream }
+    ensures held { result.held ≡ held_after fate held place }
 {
-    match fate {
-        Fate::Lost => held,
-        Fate::Held if held.is_none() => Some(place),
-        Fate::Held | Fate::Twice | Fate::Once => None,
+    let (copies, behind, held) = match fate {
+        Fate::Lost => (0, if ends_stream { held } else { None }, held),
+        Fate::Twice => (2, held, None),
+        Fate::Once => (1, held, None),
+        Fate::Held if held.is_some() => (1, held, None),
+        Fate::Held => {
+            let place = Some(place);
+            (0, if ends_stream { place } else { None }, place)
+        }
+    };
+    Turn {
+        copies,
+        behind,
+        held,
     }
-}
-
-// A packet of this fate is sent at its own turn.
-fn is_sent(fate: Fate, held: Option<Place>) -> bool
-    ensures { result ≡ is_sent fate held }
-{
-    match fate {
-        Fate::Lost => false,
-        Fate::Held => held.is_some(),
-        Fate::Twice | Fate::Once => true,
-    }
-}
-
-fn place_if(wanted: bool, place: Option<Place>) -> Option<Place>
-    ensures { result ≡ (if wanted then place else None) }
-{
-    if wanted { place } else { None }
 }
 
 impl Due {
     pub(crate) const NOTHING: Due = Due {
-        first: None,
-        again: None,
+        place: Place::FIRST,
+        copies: 0,
         behind: None,
-        left_over: None,
-        tick: None,
+        ticks: false,
     };
-
-    // What a packet's turn gives, in a stream of so many frames.
-    pub(crate) fn of(frames: u32, fate: Fate, held: Option<Place>, place: Place) -> Due
-        requires { 0 < frames }
-        ensures { (counts : Counts) → due_events counts result ≡ turn frames fate held (held_after fate held place) counts place }
-    {
-        let is_sent = is_sent(fate, held);
-        let is_twice = fate.is_twice();
-        let ends_stream = place.ends_stream(frames);
-        let held_then = held_after(fate, held, place);
-        let first = place_if(is_sent, Some(place));
-        let again = place_if(is_twice, Some(place));
-        let behind = place_if(is_sent, held);
-        let left_over = place_if(ends_stream, held_then);
-        let tick = place.tick_due(frames);
-        Due {
-            first,
-            again,
-            behind,
-            left_over,
-            tick,
-        }
-    }
 
     pub(crate) fn is_empty(&self) -> bool
         ensures { result ≡ is_idle self.now }
     {
-        self.first.is_none()
-            && self.again.is_none()
-            && self.behind.is_none()
-            && self.left_over.is_none()
-            && self.tick.is_none()
+        self.copies == 0 && self.behind.is_none() && !self.ticks
     }
 
     // The next packet, if one is due.
     pub(crate) fn take_packet(&mut self) -> Option<Place>
         ensures places { due_places self.old ≡ option_to_list result ++ due_places self.new }
         ensures empty { IfNone result (due_places self.new ≡ []) }
-        ensures tick { self.new.tick ≡ self.old.tick }
+        ensures tick { due_tick self.new ≡ due_tick self.old }
     {
-        if self.first.is_some() {
-            self.first.take()
-        } else if self.again.is_some() {
-            self.again.take()
+        if self.copies > 0 {
+            self.copies -= 1;
+            Some(self.place)
         } else if self.behind.is_some() {
             self.behind.take()
         } else {
-            self.left_over.take()
+            None
         }
     }
 }

@@ -1,7 +1,7 @@
 // What the network does to a packet.
 
 ghost use Rattle.std.specs.Prelude.{◌≡◌};
-ghost use Rattle.stream_maker.specs.Fates.{fate_of, is_twice, word_of, after_word};
+ghost use Rattle.stream_maker.specs.Fates.{fate_of, word_of, after_word};
 
 use rand_core::utils::NextWord;
 use rand_pcg::Lcg64Xsh32;
@@ -14,17 +14,6 @@ pub(crate) enum Fate {
     /// It is held back, unless one is held back already.
     Held,
     Once,
-}
-
-impl Fate {
-    pub(crate) fn is_twice(self) -> bool
-        ensures { result ≡ is_twice self }
-    {
-        match self {
-            Fate::Twice => true,
-            Fate::Lost | Fate::Held | Fate::Once => false,
-        }
-    }
 }
 
 // The next word of the generator.

@@ -46,11 +46,7 @@ impl Maker {
                 frames,
                 loss,
                 generator: Lcg64Xsh32::new(start, 0),
-                next: Place {
-                    frame: 0,
-                    part: 0,
-                    sequence: 0,
-                },
+                next: Place::FIRST,
                 held: None,
                 due: Due::NOTHING,
                 ended: false,

@@ -14,7 +14,10 @@ const FIRST_BYTE: u8 = 0x90;
 
 const PAYLOAD_TYPE: u8 = 96;
 
-const SSRC: [u8; 4] = [0x11; 4];
+const SSRC_BYTE: u8 = 0x11;
+
+// A unit's ticks of the RTP clock.
+const UNIT_TICKS: u32 = 3000;
 
 // Behind the frame number: the flag of a structure, the structure, and a byte of padding.
 const STRUCTURE: [u8; 23] = [
@@ -27,7 +30,7 @@ const STRUCTURE: [u8; 23] = [
 pub(crate) fn write(place: Place, out: &mut PacketBuf)
     ensures { out.new ≡ packet_bytes place }
 {
-    write_header(place, out);
+    out.fill(&header(place));
     write_extension(place, out);
     write_payload(place, out);
 }
@@ -52,17 +55,27 @@ fn is_marked(place: Place) -> bool
 }
 
 // The RTP header (RFC 3550, section 5.1).
-fn write_header(place: Place, out: &mut PacketBuf)
-    ensures bytes { out.new ≡ header place }
-    ensures bound { length out.new ≤ 12 }
+fn header(place: Place) -> [u8; 12]
+    ensures { result ≡ header place }
 {
     let marker = bit(is_marked(place));
-    let sequence = (place.sequence % 0x1_0000) as u16;
-    let timestamp = (3000 * u64::from(place.frame / 2) % 0x1_0000_0000) as u32;
-    out.fill(&[FIRST_BYTE, 128 * marker + PAYLOAD_TYPE]);
-    out.append(&sequence.to_be_bytes());
-    out.append(&timestamp.to_be_bytes());
-    out.append(&SSRC);
+    let [sequence_high, sequence_low] = ((place.sequence % 0x1_0000) as u16).to_be_bytes();
+    let timestamp = UNIT_TICKS.wrapping_mul(place.frame / 2);
+    let [timestamp_0, timestamp_1, timestamp_2, timestamp_3] = timestamp.to_be_bytes();
+    [
+        FIRST_BYTE,
+        128 * marker + PAYLOAD_TYPE,
+        sequence_high,
+        sequence_low,
+        timestamp_0,
+        timestamp_1,
+        timestamp_2,
+        timestamp_3,
+        SSRC_BYTE,
+        SSRC_BYTE,
+        SSRC_BYTE,
+        SSRC_BYTE,
+    ]
 }
 
 // The template of a frame in the stream's structure.
@@ -96,9 +109,8 @@ fn write_long_descriptor(frame: u32, out: &mut PacketBuf)
     ensures bytes { out.new ≡ out.old ++ long_extension frame }
     ensures bound { length out.new ≤ 48 }
 {
-    let frame_number = (frame % 0x1_0000) as u16;
-    out.append(&[0x10, 0x00, 0, 7, 4, 25, 0x80]);
-    out.append(&frame_number.to_be_bytes());
+    let [number_high, number_low] = ((frame % 0x1_0000) as u16).to_be_bytes();
+    out.append(&[0x10, 0x00, 0, 7, 4, 25, 0x80, number_high, number_low]);
     out.append(&STRUCTURE);
 }
 
@@ -107,12 +119,19 @@ fn write_short_descriptor(place: Place, out: &mut PacketBuf)
     ensures bytes { out.new ≡ out.old ++ short_extension place }
     ensures bound { length out.new ≤ 48 }
 {
-    let frame_number = (place.frame % 0x1_0000) as u16;
-    let starts = bit(place.part == 0);
-    let ends = bit(place.ends_frame());
+    let flags = 128 * bit(place.part == 0) + 64 * bit(place.ends_frame());
     let template = template_of(place.frame);
-    out.append(&[0xBE, 0xDE, 0, 1, 0x42, 128 * starts + 64 * ends + template]);
-    out.append(&frame_number.to_be_bytes());
+    let [number_high, number_low] = ((place.frame % 0x1_0000) as u16).to_be_bytes();
+    out.append(&[
+        0xBE,
+        0xDE,
+        0,
+        1,
+        0x42,
+        flags + template,
+        number_high,
+        number_low,
+    ]);
 }
 
 // The first byte of an element: where it begins a frame, the header of an OBU.

@@ -1,6 +1,6 @@
 // Where a packet stands in the stream.
 
-ghost use Rattle.std.specs.Prelude.{◌≡◌, ◌<◌, ◌^◌};
+ghost use Rattle.std.specs.Prelude.{◌≡◌, ◌<◌, ◌^◌, None, Some, if◌then◌else◌};
 ghost use Rattle.stream_maker.specs.Packets.{is_upper, is_key_unit, packet_count, moment_of};
 ghost use Rattle.stream_maker.specs.Bytes.{ends_frame};
 ghost use Rattle.stream_maker.specs.Order.{ends_stream, tick_due};
@@ -15,7 +15,7 @@ pub(crate) struct Place {
     /// The number of its frame, from 0.
     pub(crate) frame: u32,
     /// Which packet of its frame it is, from 0.
-    pub(crate) part: u8,
+    pub(crate) part: u32,
     /// Which packet of the stream it is, from 0.
     pub(crate) sequence: u32,
 }
@@ -33,7 +33,7 @@ pub(crate) fn is_key_unit(frame: u32) -> bool
 }
 
 // How many packets a frame has.
-pub(crate) fn packet_count(frame: u32) -> u8
+pub(crate) fn packet_count(frame: u32) -> u32
     ensures { result ≡ packet_count frame }
 {
     if is_upper(frame) {
@@ -53,6 +53,12 @@ pub(crate) fn moment_of(frame: u32) -> u64
 }
 
 impl Place {
+    pub(crate) const FIRST: Place = Place {
+        frame: 0,
+        part: 0,
+        sequence: 0,
+    };
+
     pub(crate) fn ends_frame(self) -> bool
         ensures { result ≡ ends_frame self }
     {
@@ -90,15 +96,11 @@ impl Place {
         self.frame == frames - 1 && self.ends_frame()
     }
 
-    // The moment of the tick behind it, where it is the last of its unit.
-    pub(crate) fn tick_due(self, frames: u32) -> Option<u64>
+    // A tick comes behind it: it is the last of its unit.
+    pub(crate) fn ends_unit(self, frames: u32) -> bool
         requires { 0 < frames }
-        ensures { result ≡ tick_due frames self }
+        ensures { tick_due frames self ≡ (if result then Some (moment_of self.frame) else None) }
     {
-        if self.ends_stream(frames) || is_upper(self.frame) && self.ends_frame() {
-            Some(moment_of(self.frame))
-        } else {
-            None
-        }
+        self.ends_frame() && (is_upper(self.frame) || self.frame == frames - 1)
     }
 }

@@ -1,11 +1,11 @@
 // How far a stream is made.
 
 ghost use Rattle.std.specs.Prelude.{◌≡◌, ◌<◌, ℕ, List, [], None, true};
-ghost use Rattle.stream_maker.specs.Left.{left_of, making_of, IsSound, is_idle, due_places, packets_bound};
+ghost use Rattle.stream_maker.specs.Left.{left_of, making_of, IsSound, is_idle, due_places, due_tick, packets_bound};
 ghost use Rattle.stream_maker.specs.Giving.{Gives};
 
 use crate::counts::Counts;
-use crate::due::{Due, held_after};
+use crate::due::{Due, turn_of};
 use crate::event::Event;
 use crate::fate::{draw, fate_of};
 use crate::packet;
@@ -46,8 +46,14 @@ impl State {
         let place = self.next;
         let fate = fate_of(self.loss, draw(&mut self.generator));
         self.counts.add(fate, self.held, place);
-        self.due = Due::of(self.frames, fate, self.held, place);
-        self.held = held_after(fate, self.held, place);
+        let turn = turn_of(fate, self.held, place, place.ends_stream(self.frames));
+        self.due = Due {
+            place,
+            copies: turn.copies,
+            behind: turn.behind,
+            ticks: place.ends_unit(self.frames),
+        };
+        self.held = turn.held;
         self.next = place.following();
     }
 
@@ -56,7 +62,7 @@ impl State {
         requires sound { IsSound self.old }
         ensures sound { IsSound self.new }
         ensures left { left_of self.new ≡ left_of self.old }
-        ensures ready { due_places self.new.due ≡ [] → self.new.due.tick ≡ None → self.new.next.frame ≡ self.new.frames }
+        ensures ready { due_places self.new.due ≡ [] → due_tick self.new.due ≡ None → self.new.next.frame ≡ self.new.frames }
         ensures ended { self.old.ended ≡ true → self.new ≡ self.old }
     {
         while self.due.is_empty() && self.next.frame < self.frames {
@@ -67,7 +73,7 @@ impl State {
     // What is due, or the last tick, or the end.
     pub(crate) fn give(&mut self, out: &mut PacketBuf) -> Event
         requires sound { IsSound self.old }
-        requires ready { due_places self.old.due ≡ [] → self.old.due.tick ≡ None → self.old.next.frame ≡ self.old.frames }
+        requires ready { due_places self.old.due ≡ [] → due_tick self.old.due ≡ None → self.old.next.frame ≡ self.old.frames }
         ensures sound { IsSound self.new }
         ensures gives { Gives (making_of self.old) (making_of self.new) result out.old out.new }
     {
@@ -86,13 +92,17 @@ impl State {
     fn give_tick(&mut self) -> Event
         requires sound { IsSound self.old }
         requires no_packet { due_places self.old.due ≡ [] }
-        requires ready { self.old.due.tick ≡ None → self.old.next.frame ≡ self.old.frames }
+        requires ready { due_tick self.old.due ≡ None → self.old.next.frame ≡ self.old.frames }
         ensures sound { IsSound self.new }
         ensures gives { (out : List ℕ) → Gives (making_of self.old) (making_of self.new) result out out }
     {
-        match self.due.tick.take() {
-            Some(moment) => Event::Tick { moment },
-            None => self.give_last(),
+        if self.due.ticks {
+            self.due.ticks = false;
+            Event::Tick {
+                moment: moment_of(self.due.place.frame),
+            }
+        } else {
+            self.give_last()
         }
     }
 
@@ -100,7 +110,7 @@ impl State {
     fn give_last(&mut self) -> Event
         requires sound { IsSound self.old }
         requires no_packet { due_places self.old.due ≡ [] }
-        requires no_tick { self.old.due.tick ≡ None }
+        requires no_tick { due_tick self.old.due ≡ None }
         requires all_made { self.old.next.frame ≡ self.old.frames }
         ensures sound { IsSound self.new }
         ensures gives { (out : List ℕ) → Gives (making_of self.old) (making_of self.new) result out out }

@@ -5,4 +5,4 @@ use Rattle.stream_maker.proofs.packet.write_long_descriptor.Goals as goal
 pub returns-clause-bytes : goal.returns-clause-bytes
 unfolding long_extension
 returns-clause-bytes c =
-    rw (c.append-3.ensures, c.append-2.ensures, c.append.ensures, c.to_be_bytes.ensures) (simp append_assoc)
+    rw (c.append-2.ensures, c.append.ensures, c.to_be_bytes.ensures) (simp append_assoc)
