@@ -86,9 +86,13 @@ fn held_parts<'a>(
     }
 }
 
-/// Where the parts stand in the bytes of a descriptor.
+/// Where the parts stand in the bytes of a descriptor. A structure that it carries is read into `carried`.
 #[tactic(auto, unfolding(crate::specs::Parts::parts_at))]
-fn parts_in<'a>(bytes: &'a [u8], force: Option<&Structure>) -> Result<Parts<'a>, DdFault>
+fn parts_in<'a>(
+    bytes: &'a [u8],
+    force: Option<&Structure>,
+    carried: &mut Option<Structure>,
+) -> Result<Parts<'a>, DdFault>
     ensures { GivesParts result (parts_at bytes.now (option_copied force.entry)) }
 {
     let (fields, mut bits) = head(bytes)?;
@@ -98,10 +102,9 @@ fn parts_in<'a>(bytes: &'a [u8], force: Option<&Structure>) -> Result<Parts<'a>,
     };
     let flags = flags(&mut bits, bytes.len())?;
     let from = bits;
-    let mut carried = None;
-    put_carried(&mut bits, flags.structure, &mut carried)?;
+    put_carried(&mut bits, flags.structure, carried)?;
     let structure = Part { from, to: bits };
-    let (targets, frame) = held_parts(&mut bits, fields.template, flags, &carried, force)?;
+    let (targets, frame) = held_parts(&mut bits, fields.template, flags, carried, force)?;
     Ok(Parts {
         head,
         flags,
@@ -146,18 +149,20 @@ fn put_mask(out: &mut BitWriter, targets: u8, mask: u32) -> Result<(), NoRoom>
 }
 
 /// Fills `out` anew as [`remask`] does, with as many of the mask's lowest bits as there are decode targets. `NoFit` comes also where the bytes
-/// don't read with the structure in force; `out` is then as before. The bytes are read once.
+/// don't read with the structure in force; `out` is then as before. The bytes are read once. `place` is only there for a structure to be read
+/// into, which is long: where a caller keeps the place, none is cleared for it.
 pub fn remask_lowest(
     bytes: &[u8],
     force: Option<&Structure>,
     mask: u32,
+    place: &mut Option<Structure>,
     out: &mut PacketBuf,
 ) -> Result<(), NoFit>
     ensures ok { OnOk result (MakesBytes (parts_at bytes.now (option_copied force.entry)) mask out.new) }
     ensures err { OnErr result (MakesNone (parts_at bytes.now (option_copied force.entry)) mask) }
     ensures unchanged { OnErr result (out.new ≡ out.old) }
 {
-    let Ok(parts) = parts_in(bytes, force) else {
+    let Ok(parts) = parts_in(bytes, force, place) else {
         return Err(NoFit);
     };
     let mut bits = BitWriter::new();
@@ -192,5 +197,5 @@ pub fn remask(
     ensures unchanged { OnErr result (out.new ≡ out.old) }
 {
     force_is_well_formed(force);
-    remask_lowest(bytes, force, mask, out)
+    remask_lowest(bytes, force, mask, &mut None, out)
 }
