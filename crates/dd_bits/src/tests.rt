@@ -59,5 +59,8 @@ fn bits_that_were_read_are_put_again(rt: HostRuntime) -> Result<(), Fail> {
     out.put(2, 1)?;
     out.put_read(begin, bits)?;
     assert_eq!(rt; out.bytes(), [0x72, 0x80].as_slice());
+    out.clear();
+    out.put(3, 5)?;
+    assert_eq!(rt; out.bytes(), [0xa0].as_slice());
     Ok(())
 }

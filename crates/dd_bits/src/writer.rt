@@ -46,6 +46,15 @@ impl BitWriter {
         }
     }
 
+    /// Takes all bits out. The bytes stay as they are, so this costs less than a new writer.
+    pub fn clear(&mut self)
+        ensures { written self.new ≡ [] }
+    {
+        self.len = 0;
+        self.used = 0;
+        self.pending = 0;
+    }
+
     /// Puts a number in n bits, f(n). `NoRoom` comes where they would pass 2,040 bytes; the writer is then as before.
     pub fn put(&mut self, n: u8, value: u32) -> Result<(), NoRoom>
         requires { value < 2 ^ n }

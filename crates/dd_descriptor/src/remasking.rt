@@ -148,28 +148,50 @@ fn put_mask(out: &mut BitWriter, targets: u8, mask: u32) -> Result<(), NoRoom>
     out.put(targets, lowest(mask, targets))
 }
 
+/// What a remask works in, 7 KB of whatever was there before: where a caller keeps it, nothing is cleared.
+#[derive(Debug, Drop)]
+pub struct RemaskRoom {
+    structure: Option<Structure>,
+    bits: BitWriter,
+}
+
+impl RemaskRoom {
+    /// One for all descriptors.
+    pub fn new() -> RemaskRoom {
+        RemaskRoom {
+            structure: None,
+            bits: BitWriter::new(),
+        }
+    }
+}
+
+impl Default for RemaskRoom {
+    fn default() -> RemaskRoom {
+        RemaskRoom::new()
+    }
+}
+
 /// Fills `out` anew as [`remask`] does, with as many of the mask's lowest bits as there are decode targets. `NoFit` comes also where the bytes
-/// don't read with the structure in force; `out` is then as before. The bytes are read once. `place` is only there for a structure to be read
-/// into, which is long: where a caller keeps the place, none is cleared for it.
+/// don't read with the structure in force; `out` is then as before. The bytes are read once.
 pub fn remask_lowest(
     bytes: &[u8],
     force: Option<&Structure>,
     mask: u32,
-    place: &mut Option<Structure>,
+    room: &mut RemaskRoom,
     out: &mut PacketBuf,
 ) -> Result<(), NoFit>
     ensures ok { OnOk result (MakesBytes (parts_at bytes.now (option_copied force.entry)) mask out.new) }
     ensures err { OnErr result (MakesNone (parts_at bytes.now (option_copied force.entry)) mask) }
     ensures unchanged { OnErr result (out.new ≡ out.old) }
 {
-    let Ok(parts) = parts_in(bytes, force, place) else {
+    let Ok(parts) = parts_in(bytes, force, &mut room.structure) else {
         return Err(NoFit);
     };
-    let mut bits = BitWriter::new();
-    match put_parts(&mut bits, &parts, mask) {
+    room.bits.clear();
+    match put_parts(&mut room.bits, &parts, mask) {
         Err(_) => Err(NoFit),
         Ok(()) => {
-            let bytes = bits.bytes();
+            let bytes = room.bits.bytes();
             if bytes.len() > MOST {
                 return Err(NoFit);
             }
@@ -197,5 +219,5 @@ pub fn remask(
     ensures unchanged { OnErr result (out.new ≡ out.old) }
 {
     force_is_well_formed(force);
-    remask_lowest(bytes, force, mask, &mut None, out)
+    remask_lowest(bytes, force, mask, &mut RemaskRoom::new(), out)
 }

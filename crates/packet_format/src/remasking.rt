@@ -8,7 +8,7 @@ ghost use Rattle.rtp_packet.specs.Fields.{behind_header, csrc_count};
 ghost use Rattle.packet_format.specs.Remasked.{at_most, new_value, remasked, with_extension};
 
 use crate::look::descriptor_bytes;
-use dd_descriptor::remask_lowest;
+use dd_descriptor::{RemaskRoom, remask_lowest};
 use dd_structure::Structure;
 use sfu_base::{NoFit, PacketBuf};
 
@@ -24,10 +24,10 @@ const EXTENSION_HEADER: usize = 4;
 /// The bytes that a remasked packet has at most.
 const MOST: usize = 1536;
 
-/// Gives packets another mask. It keeps what it works in, some 10 KB, so that no packet has to clear it.
+/// Gives packets another mask. It keeps what it works in, some 12 KB, so that no packet has to clear it.
 #[derive(Drop)]
 pub struct Remasker {
-    place: Option<Structure>,
+    room: RemaskRoom,
     value: PacketBuf,
     extension: PacketBuf,
 }
@@ -41,7 +41,7 @@ impl Remasker {
     /// One for all packets, whatever they tell.
     pub fn new() -> Remasker {
         Remasker {
-            place: None,
+            room: RemaskRoom::new(),
             value: PacketBuf::new(),
             extension: PacketBuf::new(),
         }
@@ -77,7 +77,7 @@ impl Remasker {
         let Some(descriptor) = descriptor_bytes(&parts, id) else {
             return Err(NoFit);
         };
-        fill_value(descriptor, force, mask, &mut self.place, &mut self.value)?;
+        fill_value(descriptor, force, mask, &mut self.room, &mut self.value)?;
         let value = self.value.bytes();
         self.extension.fill(&[]);
         rtp_extension::reblock(profile, parts.block, id, value, &mut self.extension)?;
@@ -92,18 +92,18 @@ impl Default for Remasker {
     }
 }
 
-/// Fills `out` with the descriptor as it tells this mask. A structure that it carries is read into `place`.
+/// Fills `out` with the descriptor as it tells this mask.
 fn fill_value(
     descriptor: &[u8],
     force: Option<&Structure>,
     mask: u32,
-    place: &mut Option<Structure>,
+    room: &mut RemaskRoom,
     out: &mut PacketBuf,
 ) -> Result<(), NoFit>
     ensures ok { OnOk result (at_most 255 (new_value (option_copied force.entry) mask (Some descriptor.now)) ≡ Some out.new) }
     ensures err { OnErr result (at_most 255 (new_value (option_copied force.entry) mask (Some descriptor.now)) ≡ None) }
 {
-    let result = remask_lowest(descriptor, force, mask, place, out);
+    let result = remask_lowest(descriptor, force, mask, room, out);
     are_bytes(out.bytes());
     result
 }

@@ -12,7 +12,7 @@ ghost use Rattle.packet_format.specs.Packets.{packet_of};
 ghost use Rattle.packet_format.specs.Shown.{HasDistances, IsOf, fault_shown, shows, showing_said};
 
 use crate::look::{PayloadFlags, descriptor_bytes, payload_flags};
-use dd_descriptor::{DdFault, Descriptor, read_into};
+use dd_descriptor::{DdFault, Descriptor, NewestDescriptor};
 use dd_structure::Structure;
 use rtp_packet::Rtp;
 
@@ -29,7 +29,12 @@ pub enum Shown {
 
 /// What a packet shows by the structure in force. Its descriptor, where it has one that is read, is left in `newest`, which may else say
 /// anything.
-pub fn show(packet: &Rtp<'_>, id: u8, force: Option<&Structure>, newest: &mut Descriptor) -> Shown
+pub fn show(
+    packet: &Rtp<'_>,
+    id: u8,
+    force: Option<&Structure>,
+    newest: &mut NewestDescriptor,
+) -> Shown
     ensures references { shows result ≡ true → HasDistances newest.new }
     ensures shown { (bytes : List ℕ) → IsOf bytes packet.now
         → showing_said (option_copied force.entry) newest.new result ≡ shown (format_of id) (option_copied force.entry) (packet_of bytes).rest }
@@ -37,10 +42,10 @@ pub fn show(packet: &Rtp<'_>, id: u8, force: Option<&Structure>, newest: &mut De
     let Some(element) = descriptor_bytes(packet, id) else {
         return Shown::Unread;
     };
-    match read_into(element, force, newest) {
+    match newest.read(element, force) {
         Err(fault) => of_fault(fault),
         Ok(()) => {
-            if obeys(newest, force) {
+            if obeys(newest.get(), force) {
                 Shown::Shows(payload_flags(packet.payload))
             } else {
                 Shown::Unread

@@ -16,7 +16,7 @@ ghost use Rattle.strict_receiver.specs.States.{Answers, Expects, Fed, Finishes, 
 use crate::frame::OpenFrame;
 use crate::joining::{begins, begun, goes_on};
 use crate::received::ReceivedFrames;
-use dd_descriptor::Descriptor;
+use dd_descriptor::NewestDescriptor;
 use dd_structure::Structure;
 use forwarding_model::Complaint;
 use packet_format::{PayloadFlags, Shown, begins_epoch, show};
@@ -50,7 +50,7 @@ pub struct State {
     /// The structure in force.
     pub structure: Option<Structure>,
     pub received: ReceivedFrames,
-    pub newest: Descriptor,
+    pub newest: NewestDescriptor,
 }
 
 impl State {
@@ -65,7 +65,7 @@ impl State {
             frame: None,
             structure: None,
             received: ReceivedFrames::new(),
-            newest: Descriptor::new(),
+            newest: NewestDescriptor::new(),
         }
     }
 
@@ -168,7 +168,7 @@ impl State {
         ensures joined { (r : Reception TemplateStructure) → IsExpected self.old last.ssrc r
             → Answers self.new result (part_as r last.sequence (said_by self.old.structure self.old.newest) (record { continues = continues; carries = carries })) }
     {
-        let key = begins_epoch(&self.newest);
+        let key = begins_epoch(self.newest.get());
         self.keep_structure(key);
         if !self.join(continues, carries) {
             return Err(Complaint::NotWhole);
@@ -188,7 +188,7 @@ impl State {
         ensures rest { self.new ≡ record self.old { structure = self.new.structure } }
     {
         if key {
-            self.structure = match &self.newest.structure {
+            self.structure = match &self.newest.get().structure {
                 Some(structure) => Some(structure.copied()),
                 None => None,
             };
@@ -203,16 +203,17 @@ impl State {
         ensures joined { (force : Option TemplateStructure)
             → Joined self.new.frame result (joined_as (option_map frame_said self.old.frame) (said_by force self.old.newest) (record { continues = continues; carries = carries })) }
     {
+        let newest = self.newest.get();
         match &mut self.frame {
             None => {
-                if !begins(&self.newest, continues) {
+                if !begins(newest, continues) {
                     return false;
                 }
-                self.frame = Some(begun(&self.newest, carries));
+                self.frame = Some(begun(newest, carries));
                 true
             }
             Some(frame) => {
-                if !goes_on(frame, &self.newest, continues) {
+                if !goes_on(frame, newest, continues) {
                     return false;
                 }
                 frame.packets += 1;
@@ -232,7 +233,7 @@ impl State {
         let Some(frame) = &self.frame else {
             unreachable!()
         };
-        if !self.newest.end {
+        if !self.newest.get().end {
             return Ok(());
         }
         if frame.carries {

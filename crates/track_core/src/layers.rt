@@ -14,7 +14,7 @@ ghost use Rattle.track_core.specs.Mapped.{mark_with};
 ghost use Rattle.track_core.specs.Pieces.{IsTaken, item_by};
 ghost use Rattle.frame_table.specs.Seen.{IsFirst};
 
-use dd_descriptor::{Descriptor, read_into};
+use dd_descriptor::{Descriptor, NewestDescriptor};
 use frame_assembly::{Assembly, Mark, Outcome};
 use frame_table::{FrameHead, FrameTable, Reading};
 use packet_format::{PayloadFlags, descriptor_bytes, payload_flags};
@@ -30,7 +30,7 @@ pub struct Layers {
     pub table: FrameTable,
     pub assembly: Assembly,
     pub head: FrameHead,
-    pub newest: Descriptor,
+    pub newest: NewestDescriptor,
 }
 
 const NO_HEAD: FrameHead = FrameHead {
@@ -56,7 +56,7 @@ impl Layers {
             table: FrameTable::new(),
             assembly: Assembly::new(alloc)?,
             head: NO_HEAD,
-            newest: Descriptor::new(),
+            newest: NewestDescriptor::new(),
         })
     }
 
@@ -102,17 +102,18 @@ impl Layers {
         let Some(element) = descriptor_bytes(packet, self.id) else {
             return Mark::Unread;
         };
-        if read_into(element, self.table.force(), &mut self.newest).is_err() {
+        if self.newest.read(element, self.table.force()).is_err() {
             return Mark::Unread;
         }
-        if let Reading::Unread = self.table.see(&self.newest) {
+        let newest = self.newest.get();
+        if let Reading::Unread = self.table.see(newest) {
             return Mark::Unread;
         }
         match flags {
             PayloadFlags::Elements { continues, carries } => Mark::Part {
-                start: self.newest.start,
-                end: self.newest.end,
-                number: self.newest.number,
+                start: newest.start,
+                end: newest.end,
+                number: newest.number,
                 continues,
                 carries,
             },
@@ -131,7 +132,7 @@ impl Layers {
             → marked mark.now bytes.now ≡ mark_with sent_of m → StartsAs self.old.table self.old.newest m → Pushed self.old self.new (written result meaning.new) marks m }
         ensures valid { IfSome (written result meaning.new) IsValid }
     {
-        keep_head(mark, &self.table, &self.newest, &mut self.head);
+        keep_head(mark, &self.table, self.newest.get(), &mut self.head);
         match self.assembly.push(mark, bytes) {
             Outcome::Whole => self.table.whole_into(&self.head, meaning),
             _ => false,

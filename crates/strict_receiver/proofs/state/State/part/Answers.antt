@@ -21,13 +21,14 @@ returns-in-Ok-clause-joined c r expected =
     let joins : Joins = record { continues = c.args.continues; carries = c.args.carries } in
     let said = said_by old.structure old.newest in
     let after = with_last r last.sequence said in
+    let key = rw c.get.ensures at c.begins_epoch-key.ensures old.structure in
     let same_newest : joined.newest ≡ old.newest =
     ap (λ (x : State). x.newest) c.join.ensures.rest ∙ ap (λ (x : State). x.newest) c.keep_structure.ensures.rest in
     let same_received : joined.received ≡ old.received =
     ap (λ (x : State). x.received) c.join.ensures.rest ∙ ap (λ (x : State). x.received) c.keep_structure.ensures.rest in
     part_ok old last joins r expected (record left { stage = stage.Receiving last }) joined.frame refl
     (ap (λ (x : State). x.structure) c.in-Ok.ensures.rest ∙ ap (λ (x : State). x.structure) c.join.ensures.rest ∙ c.keep_structure.ensures.structure
-    ∙ ap (λ (b : Bool). cond b old.newest.structure old.structure) (c.begins_epoch-key.ensures old.structure))
+    ∙ ap (λ (b : Bool). cond b old.newest.structure old.structure) key)
     (subst (λ (b : Bool). Joined joined.frame b (joined_as (option_map frame_said old.frame) said joins)) c.if-not-join.false
     (subst (λ (x : State). Joined joined.frame c.join.result (joined_as (option_map frame_said x.frame) (said_by old.structure x.newest) joins)) c.keep_structure.ensures.rest
     (c.join.ensures.joined old.structure)))

@@ -23,40 +23,47 @@ returns-in_default-descriptor_bytes-clause-looked c =
 
 pub returns-then-is_err-clause-looked : goal.returns-then-is_err-clause-looked
 returns-then-is_err-clause-looked c =
-    let bad = read_err _ _ c.read_into.new.out c.in-Some.element.now c.read_into.result c.force.ensures c.if-is_err.ensures.value c.read_into.ensures.read in
-    looked_faulty c.args.self.now.id c.args.self.now.table c.read_into.new.out c.args.bytes.now c.args.packet.now c.requires.packet c.in-Some.element.now bad.0
+    let bad = read_err _ _ c.read.new.self c.in-Some.element.now c.read.result c.force.ensures c.if-is_err.ensures.value c.read.ensures.read in
+    looked_faulty c.args.self.now.id c.args.self.now.table c.read.new.self c.args.bytes.now c.args.packet.now c.requires.packet c.in-Some.element.now bad.0
     (sym (ap is_padding c.payload_flags-flags.ensures) ∙ not_padding c.payload_flags-flags.result c.in_default.not-Empty)
     (sym c.in-Some.ensures) bad.1
 
 pub returns-in-Unread-clause-looked : goal.returns-in-Unread-clause-looked
 returns-in-Unread-clause-looked c =
-    let good = read_ok _ _ c.read_into.new.out c.in-Some.element.now c.read_into.result c.force.ensures c.if-is_err.ensures.value c.read_into.ensures.read in
-    let rule = obeys_not c.args.self.now.table c.read_into.new.out (sym c.see.ensures.reading ∙ c.in-Unread.is) in
-    subst (λ (f : Force TemplateStructure). Looked c.args.self.now.id c.args.self.now.table f c.read_into.new.out code.Unread c.args.bytes.now)
-    (sym (c.see.ensures.force ∙ seen_not c.args.self.now.table c.read_into.new.out rule))
-    (looked_other c.args.self.now.id c.args.self.now.table c.read_into.new.out c.args.bytes.now c.args.packet.now c.requires.packet c.in-Some.element.now
+    let reading = rw c.get-newest.ensures at c.see.ensures.reading in
+    let forced = rw c.get-newest.ensures at c.see.ensures.force in
+    let good = read_ok _ _ c.read.new.self c.in-Some.element.now c.read.result c.force.ensures c.if-is_err.ensures.value c.read.ensures.read in
+    let rule = obeys_not c.args.self.now.table c.read.new.self (sym reading ∙ c.in-Unread.is) in
+    subst (λ (f : Force TemplateStructure). Looked c.args.self.now.id c.args.self.now.table f c.read.new.self code.Unread c.args.bytes.now)
+    (sym (forced ∙ seen_not c.args.self.now.table c.read.new.self rule))
+    (looked_other c.args.self.now.id c.args.self.now.table c.read.new.self c.args.bytes.now c.args.packet.now c.requires.packet c.in-Some.element.now
     (sym (ap is_padding c.payload_flags-flags.ensures) ∙ not_padding c.payload_flags-flags.result c.in_default.not-Empty)
     (sym c.in-Some.ensures) good rule)
 
 pub returns-in_default-flags-clause-looked : goal.returns-in_default-flags-clause-looked
 returns-in_default-flags-clause-looked c =
-    let good = read_ok _ _ c.read_into.new.out c.in-Some.element.now c.read_into.result c.force.ensures c.if-is_err.ensures.value c.read_into.ensures.read in
-    let rule = obeys_so c.args.self.now.table c.read_into.new.out (λ e. c.in_default-see.not-Unread (c.see.ensures.reading ∙ e)) in
-    let now = c.see.ensures.force ∙ seen_so c.args.self.now.table c.read_into.new.out rule in
-    looked_broken c.args.self.now.id c.args.self.now.table c.read_into.new.out c.args.bytes.now c.args.packet.now c.requires.packet c.in-Some.element.now c.see.new.self
+    let reading = rw c.get-newest.ensures at c.see.ensures.reading in
+    let forced = rw c.get-newest.ensures at c.see.ensures.force in
+    let good = read_ok _ _ c.read.new.self c.in-Some.element.now c.read.result c.force.ensures c.if-is_err.ensures.value c.read.ensures.read in
+    let rule = obeys_so c.args.self.now.table c.read.new.self (λ e. c.in_default-see.not-Unread (reading ∙ e)) in
+    let now = forced ∙ seen_so c.args.self.now.table c.read.new.self rule in
+    looked_broken c.args.self.now.id c.args.self.now.table c.read.new.self c.args.bytes.now c.args.packet.now c.requires.packet c.in-Some.element.now c.see.new.self
     (sym c.payload_flags-flags.ensures ∙ broken_only c.payload_flags-flags.result c.in_default.not-Empty c.in_default-flags.not-Elements)
     (sym c.in-Some.ensures) good rule now
-    (some_after c.args.self.now.table c.see.new.self (said_of c.args.self.now.table.structure c.read_into.new.out) now)
+    (some_after c.args.self.now.table c.see.new.self (said_of c.args.self.now.table.structure c.read.new.self) now)
 
 pub returns-in-Elements-clause-looked : goal.returns-in-Elements-clause-looked
 returns-in-Elements-clause-looked c =
-    let good = read_ok _ _ c.read_into.new.out c.in-Some.element.now c.read_into.result c.force.ensures c.if-is_err.ensures.value c.read_into.ensures.read in
-    let rule = obeys_so c.args.self.now.table c.read_into.new.out (λ e. c.in_default-see.not-Unread (c.see.ensures.reading ∙ e)) in
-    let now = c.see.ensures.force ∙ seen_so c.args.self.now.table c.read_into.new.out rule in
-    looked_part c.args.self.now.id c.args.self.now.table c.read_into.new.out c.args.bytes.now c.args.packet.now c.requires.packet c.in-Some.element.now c.see.new.self
+    let reading = rw c.get-newest.ensures at c.see.ensures.reading in
+    let forced = rw c.get-newest.ensures at c.see.ensures.force in
+    let good = read_ok _ _ c.read.new.self c.in-Some.element.now c.read.result c.force.ensures c.if-is_err.ensures.value c.read.ensures.read in
+    let rule = obeys_so c.args.self.now.table c.read.new.self (λ e. c.in_default-see.not-Unread (reading ∙ e)) in
+    let now = forced ∙ seen_so c.args.self.now.table c.read.new.self rule in
+    rw c.get-newest.ensures
+    (looked_part c.args.self.now.id c.args.self.now.table c.read.new.self c.args.bytes.now c.args.packet.now c.requires.packet c.in-Some.element.now c.see.new.self
     (record { continues = c.in-Elements.continues; carries = c.in-Elements.carries })
     (sym c.payload_flags-flags.ensures ∙ ap payload_said c.in-Elements.is)
     (sym c.in-Some.ensures) good rule now
-    (some_after c.args.self.now.table c.see.new.self (said_of c.args.self.now.table.structure c.read_into.new.out) now)
-    (first_here c.args.self.now.table c.see.new.self c.read_into.new.out c.in-Some.element.now (few_refs c.read_into.new.out c.read_into.result c.if-is_err.ensures.value c.read_into.ensures.few) good rule now
-    (record { continues = c.in-Elements.continues; carries = c.in-Elements.carries }) (packet_of c.args.bytes.now))
+    (some_after c.args.self.now.table c.see.new.self (said_of c.args.self.now.table.structure c.read.new.self) now)
+    (first_here c.args.self.now.table c.see.new.self c.read.new.self c.in-Some.element.now (few_refs c.read.new.self c.read.result c.if-is_err.ensures.value c.read.ensures.few) good rule now
+    (record { continues = c.in-Elements.continues; carries = c.in-Elements.carries }) (packet_of c.args.bytes.now)))
