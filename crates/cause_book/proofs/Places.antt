@@ -1,5 +1,5 @@
 -- What stands at the places of a book, and after a write.
-use Rattle.std.proofs.Common.{◌≡◌, ◌≢◌, ◌<◌, ℕ, zero, suc, ◌%◌, Bool, true, false, cond, List, [], ◌∷◌, ◌++◌, length, refl, sym, ap, ◌∙◌, arith, Option, Some, None, slice_get}
+use Rattle.std.proofs.Common.{◌≡◌, ◌≢◌, ◌<◌, ℕ, zero, suc, ◌%◌, Bool, true, false, cond, List, [], ◌∷◌, ◌++◌, length, replicate, refl, sym, ap, ◌∙◌, arith, Option, Some, None, slice_get}
 use Rattle.std.specs.Prelude.{◌==◌, slice_set}
 use Rattle.std.specs.List.{AllByRecursion}
 use Rattle.std.proofs.lemmas.Bool.{eqb-true, eq-eqb, ne_eqb}
@@ -24,9 +24,17 @@ number_at slots n s e = numbered n (slice_get slots (n % 4096)) s e
 abbrev pub AreNone : List (Option Step) → Type 0
 AreNone slots = AllByRecursion (λ o. o ≡ None) slots
 
-pub none_pushed : (slots : List (Option Step)) → AreNone slots → AreNone (slots ++ None ∷ [])
-none_pushed [] h = (refl, tt)
-none_pushed (o ∷ slots) h = (h.0, none_pushed slots h.1)
+none_joined : (slots more : List (Option Step)) → AreNone slots → AreNone more → AreNone (slots ++ more)
+none_joined [] more h g = g
+none_joined (o ∷ slots) more h g = (h.0, none_joined slots more h.1 g)
+
+none_repeated : (n : ℕ) → AreNone (replicate n None)
+none_repeated zero = tt
+none_repeated (suc n) = (refl, none_repeated n)
+
+-- a block of places without a verdict
+pub none_added : (slots : List (Option Step)) (n : ℕ) → AreNone slots → AreNone (slots ++ replicate n None)
+none_added slots n h = none_joined slots (replicate n None) h (none_repeated n)
 
 none_in : (slots : List (Option Step)) (n i : ℕ) → AreNone slots → if_numbered n (slice_get slots i) ≡ None
 none_in [] n i h = refl

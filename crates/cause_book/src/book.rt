@@ -11,6 +11,9 @@ use std::marker::Model;
 /// The numbers that are kept, up to the newest (own rule).
 const SPAN: u64 = 4096;
 
+/// As many places are filled at once: a fill of 2 KB or more costs an instruction a byte.
+const BLOCK: usize = 32;
+
 /// Why the frames of the last 4,096 numbers were or weren't passed on. Clauses see it as the list of their verdicts, the newest first.
 #[derive(Debug, Drop)]
 pub struct CauseBook {
@@ -40,8 +43,10 @@ impl CauseBook {
         let Ok(mut steps) = Vec::with_capacity(alloc, SPAN as usize) else {
             return Err(NoMemory);
         };
-        while steps.len() < SPAN as usize {
-            steps.push_reserved(None);
+        for _ in 0..SPAN as usize / BLOCK {
+            let Ok(()) = steps.extend_from_slice(&[None; BLOCK]) else {
+                return Err(NoMemory);
+            };
         }
         Ok(CauseBook {
             newest: None,
