@@ -1,8 +1,8 @@
 -- What a packet or a tick of a track does to a room, whatever calls were accepted before.
-use Rattle.std.proofs.Common.{◌≡◌, ◌≤◌, ℕ, Bool, true, false, cond, ◌&&◌, List, [], ◌∷◌, ◌++◌, refl, sym, ap, subst, ◌∙◌, Option, Some, None, IsSome, eqb, nat_eq}
+use Rattle.std.proofs.Common.{◌≡◌, ◌≤◌, ℕ, Bool, true, false, cond, ◌&&◌, List, [], ◌∷◌, ◌++◌, refl, sym, ap, subst, ◌∙◌, Option, Some, None, eqb, nat_eq}
 use Rattle.std.specs.Prelude.{not}
 use Rattle.std.proofs.lemmas.Bool.{eqb-true, eqb-false, eq-eqb}
-use Rattle.indexmap.specs.IndexMap.{WritesThrough, get, index_map_len}
+use Rattle.indexmap.specs.IndexMap.{get, index_map_len}
 use Rattle.sfu_base.specs.Answer.{Answer, Done, Refused}
 use Rattle.sfu_base.specs.declared.call.Refusal.{Refusal}
 use Rattle.sfu_base.specs.declared.call.Reply.TheVariants as reply
@@ -33,6 +33,7 @@ use Rattle.room_core.specs.Views.{makes_key, plea, subscriber_by, timeline_as}
 use Rattle.room_core.specs.Follows.{Follows, Happened}
 use Rattle.room_core.specs.Passing.{Both, FollowsOn, IsPassed, StayOneTrack, WorkedOff, WorksOffFrom, released_as}
 use Rattle.room_core.specs.Content.{Does, IsAfter, IsSubscriberAfter, IsTrackAfter}
+use Rattle.room_core.proofs.Places.{IsWritten}
 use Rattle.room_core.proofs.TableSteps.{table_after, table_mapped}
 use Rattle.room_core.proofs.Stepping.{brought_at, brought_waits, formats_read, kind_stays, order_at as order_is}
 
@@ -244,7 +245,7 @@ released_after old new past next track event known now mid r h found tables coun
 
 -- the reply is that of the history too
 pub release_does : (old new : Content) (call : Call) (track : ℕ) (event : Event) (known now : LiveTrack) (mid : Seen) → ((past : List Call) → IsRelease track event past (call ∷ past))
-    → Some known ≡ get nat_eq old.tracks track → WritesThrough nat_eq (nat_eq track) old.tracks now new.tracks → now.kind ≡ known.kind
+    → Some known ≡ get nat_eq old.tracks track → IsWritten track old.tracks new.tracks now → now.kind ≡ known.kind
     → IsBrought event known.pipeline.value mid → known.pipeline.value.window.waiting ≡ []
     → WorkedOff mid now.pipeline.value track (get nat_eq old.subscribers) (get nat_eq new.subscribers) known.pleaded now.pleaded
     → index_map_len new.subscribers ≡ index_map_len old.subscribers → new.highest_track ≡ old.highest_track → new.highest_subscriber ≡ old.highest_subscriber
@@ -254,12 +255,11 @@ release_does old new call track event known now mid r found writes kinds brought
     let there : (past : List Call) → IsAfter old past → (p : Published) × (published track past ≡ Some p) × IsTrackAfter past track known p = λ past h.
     some_track past track known (published track past) (subst (λ (o : Option LiveTrack). Both (IsTrackAfter past track) o (published track past)) (sym found) (h.tracks track)) in
     let done : (past : List Call) → IsAfter old past → answer past call ≡ Done = λ past h. let t = there past h in answers past t.0 t.1 t.2 in
-    let updates = writes.3 (subst (λ (o : Option LiveTrack). IsSome o) found refl) in
     record {
       answered = λ past h. sym (done past h);
       done = λ past h.
           subst (λ (a : Answer). IsAfter new (afterwards a call past)) (sym (done past h))
-          (released_after old new past (call ∷ past) track event known now mid (r past) h (sym found) updates.0 writes.2 kinds brought idle worked subscribers highest highest');
+          (released_after old new past (call ∷ past) track event known now mid (r past) h (sym found) writes.found writes.count kinds brought idle worked subscribers highest highest');
     }
 
 track_answers : (past : List Call) (track : ℕ) (p : Published) (to : Published → Answer) → published track past ≡ Some p → of_track (published track past) to ≡ to p
@@ -279,7 +279,7 @@ packet_answers track moment bytes known o is past p e h =
 
 -- a packet that is refused changes nothing
 pub packet_refused : (old new : Content) (track moment : ℕ) (bytes : List ℕ) (known now : LiveTrack) (why : Refusal) → Some known ≡ get nat_eq old.tracks track
-    → WritesThrough nat_eq (nat_eq track) old.tracks now new.tracks → now.kind ≡ known.kind → now.pleaded ≡ known.pleaded → now.pipeline.value ≡ known.pipeline.value
+    → IsWritten track old.tracks new.tracks now → now.kind ≡ known.kind → now.pleaded ≡ known.pleaded → now.pipeline.value ≡ known.pipeline.value
     → Some why ≡ first_refusal known.pipeline.value.ssrc known.pipeline.value.window.order bytes
     → new.subscribers ≡ old.subscribers → new.highest_track ≡ old.highest_track → new.highest_subscriber ≡ old.highest_subscriber
     → (bytes' numbers : List ℕ) → Does old new (call.Packet track moment bytes) (reply.Refused why) bytes' numbers
@@ -288,7 +288,6 @@ packet_refused old new track moment bytes known now why found writes kinds pleas
     some_track past track known (published track past) (subst (λ (o : Option LiveTrack). Both (IsTrackAfter past track) o (published track past)) (sym found) (h.tracks track)) in
     let refused : (past : List Call) → IsAfter old past → answer past (call.Packet track moment bytes) ≡ Refused why = λ past h.
     let t = there past h in packet_answers track moment bytes known (Some why) is past t.0 t.1 t.2 in
-    let updates = writes.3 (subst (λ (o : Option LiveTrack). IsSome o) found refl) in
     record {
       answered = λ past h. sym (refused past h);
       done = λ past h.
@@ -307,9 +306,9 @@ packet_refused old new track moment bytes known now why found writes kinds pleas
           subst (λ (a : Answer). IsAfter new (afterwards a (call.Packet track moment bytes) past)) (sym (refused past h))
           (record {
             tracks = table_after (IsTrackAfter past) (IsTrackAfter past) (get nat_eq old.tracks) (get nat_eq new.tracks) (λ n. published n past) (λ n. published n past) track (Some now)
-                h.tracks updates.0 (λ n e. refl) this (λ n a p e x. x);
+                h.tracks writes.found (λ n e. refl) this (λ n a p e x. x);
             subscribers = subst (λ t. (n : ℕ) → Both (IsSubscriberAfter past n) (get nat_eq t n) (joined n past)) (sym tables) h.subscribers;
-            track_count = writes.2 ∙ h.track_count;
+            track_count = writes.count ∙ h.track_count;
             subscriber_count = ap index_map_len tables ∙ h.subscriber_count;
             highest_track_is = highest ∙ h.highest_track_is;
             highest_subscriber_is = highest' ∙ h.highest_subscriber_is;

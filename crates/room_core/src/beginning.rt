@@ -26,6 +26,7 @@ impl Content {
             highest_track: 0,
             subscribers: IndexMap::new(alloc),
             highest_subscriber: 0,
+            last_track: 0,
             last_taker: 0,
         }
     }

@@ -16,6 +16,7 @@ mod room;
 mod sending;
 mod serving;
 mod subscribers;
+mod table;
 #[cfg(test)]
 mod tests;
 mod told;

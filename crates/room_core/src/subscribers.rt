@@ -1,6 +1,5 @@
 // Calls on a live subscriber.
-ghost use Rattle.std.specs.Prelude.{◌≡◌, ◌≢◌, List, false, nat_eq, ℕ};
-ghost use Rattle.indexmap.specs.IndexMap.{get};
+ghost use Rattle.std.specs.Prelude.{◌≡◌, ◌≢◌, List, false, ℕ};
 ghost use Rattle.sfu_base.specs.Answer.{is_starved};
 ghost use Rattle.sfu_base.specs.declared.call.Call.TheVariants as call;
 ghost use Rattle.sfu_base.specs.declared.call.Reply.TheVariants as reply;
@@ -8,11 +7,9 @@ ghost use Rattle.sfu_base.specs.declared.call.Call.{Call};
 ghost use Rattle.room_core.specs.Content.{Does, DoesSilently, IsAfter};
 ghost use Rattle.room_core.specs.Kinds.{kind_joined};
 ghost use Rattle.room_core.specs.Live.{joined};
-ghost use Rattle.room_core.specs.Tables.{IsPlace};
 
 use crate::content::Content;
-use crate::live::LiveSubscriber;
-use indexmap::IndexMap;
+use crate::table::place_of;
 use sfu_base::{Kind, PacketBuf, Refusal, Reply, Wish};
 
 impl Content {
@@ -122,20 +119,4 @@ impl Content {
             .get(&subscriber)
             .map(|known| known.feed.kind)
     }
-}
-
-// The place of the subscriber in the table, if it is there. `likely` is tried first.
-fn place_of(
-    subscribers: &IndexMap<u32, LiveSubscriber>,
-    likely: usize,
-    subscriber: u32,
-) -> Option<usize>
-    ensures { IsPlace subscriber subscribers.now.entries (get nat_eq subscribers.now subscriber) result }
-{
-    if let Some((number, _)) = subscribers.get_index(likely) {
-        if *number == subscriber {
-            return Some(likely);
-        }
-    }
-    subscribers.get_index_of(&subscriber)
 }

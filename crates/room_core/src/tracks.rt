@@ -9,6 +9,7 @@ ghost use Rattle.room_core.specs.Views.{has_waiting};
 
 use crate::content::Content;
 use crate::passing::{waits, work_off};
+use crate::table::place_of;
 use sfu_base::{Kind, PacketBuf, Refusal, Reply, SeqList};
 
 impl Content {
@@ -28,7 +29,11 @@ impl Content {
         ensures does { DoesSilently self.old self.new (call.Packet track moment bytes.now) result }
         ensures fed { is_starved result ≡ false }
     {
-        match self.tracks.get_mut(&track) {
+        let Some(place) = place_of(&self.tracks, self.last_track, track) else {
+            return Reply::Refused(Refusal::NoTrack);
+        };
+        self.last_track = place;
+        match self.tracks.get_index_mut(place) {
             Some(known) => match known.pipeline.arrive(moment, bytes.bytes()) {
                 Ok(()) => {
                     work_off(
@@ -42,6 +47,7 @@ impl Content {
                 }
                 Err(why) => Reply::Refused(why),
             },
+            // The place is one of the table's.
             None => Reply::Refused(Refusal::NoTrack),
         }
     }
@@ -51,7 +57,11 @@ impl Content {
         ensures does { DoesSilently self.old self.new (call.Tick track moment) result }
         ensures fed { is_starved result ≡ false }
     {
-        match self.tracks.get_mut(&track) {
+        let Some(place) = place_of(&self.tracks, self.last_track, track) else {
+            return Reply::Refused(Refusal::NoTrack);
+        };
+        self.last_track = place;
+        match self.tracks.get_index_mut(place) {
             Some(known) => {
                 known.pipeline.tick(moment);
                 work_off(
@@ -63,6 +73,7 @@ impl Content {
                 );
                 Reply::Done
             }
+            // The place is one of the table's.
             None => Reply::Refused(Refusal::NoTrack),
         }
     }
