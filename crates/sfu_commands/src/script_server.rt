@@ -1,6 +1,8 @@
 // Serving the calls of a script.
-ghost use Rattle.std.specs.Prelude.{◌≡◌, ◌≤◌, [], List, length};
-ghost use Rattle.sfu_base.specs.Answer.{is_starved};
+ghost use Rattle.std.specs.Prelude.{◌≡◌, ◌≤◌, ◌++◌, ◌∷◌, [], Err, List, OnErr, OnOk, length, true};
+ghost use Rattle.sfu_base.specs.Answer.{answer_of, is_starved};
+ghost use Rattle.sfu_script.specs.Replies.{answer_text};
+ghost use Rattle.sfu_driver.specs.declared.halt.Halt.TheVariants.{Starved};
 ghost use Rattle.sfu_driver.specs.Drive.{Judges};
 ghost use Rattle.room_core.specs.History.{Entry};
 ghost use Rattle.room_core.specs.Serves.{Stands};
@@ -12,7 +14,7 @@ use crate::call_reader::CallReader;
 use crate::form::Form;
 use crate::texts::{add_fault, add_record_fault, add_reply, add_unit_fault};
 use room_core::{KeepNone, Room};
-use sfu_base::{Blob, NoMemory, PacketBuf, Refusal, Reply, Scratch, SeqList};
+use sfu_base::{Blob, Call, NoMemory, PacketBuf, Refusal, Reply, Scratch, SeqList};
 use sfu_driver::{Ending, Halt, Judge};
 use sfu_script::is_skipped;
 use std::alloc::Global;
@@ -30,6 +32,21 @@ fn wants_memory(reply: &Reply) -> bool
     ensures { result ≡ is_starved reply.now }
 {
     matches!(reply, Reply::Refused(Refusal::NoMemory))
+}
+
+// Puts the line of a reply behind the texts that are ready.
+#[inline(always)]
+fn answer(reply: &Reply, scratch: &Scratch, ready: &mut Blob) -> Result<(), Halt>
+    ensures starved { is_starved reply.now ≡ true → result ≡ Err Starved }
+    ensures ok { OnOk result (ready.new ≡ ready.old ++ (answer_text (answer_of reply.now scratch.now.packet scratch.now.names) ++ 10 ∷ [])) }
+    ensures err { OnErr result (ready.new ≡ ready.old) }
+    ensures only { OnErr result (result ≡ Err Starved) }
+{
+    if wants_memory(reply) {
+        return Err(Halt::Starved);
+    }
+    add_reply(reply, scratch, ready)?;
+    Ok(())
 }
 
 impl CallServer {
@@ -59,12 +76,13 @@ impl CallServer {
             add_unit_fault(form, u64::from(number), ready)?;
             return Err(Halt::Ended(Ending::Outside));
         };
-        let reply = self.room.serve(0, call, &mut self.scratch);
-        if wants_memory(&reply) {
-            return Err(Halt::Starved);
+        // Most calls are takes. The reply to one is written from where it is made: each way that it can come by moves it.
+        if let Call::Take { subscriber } = call {
+            let reply = self.room.take(0, *subscriber, &mut self.scratch);
+            return answer(&reply, &self.scratch, ready);
         }
-        add_reply(&reply, &self.scratch, ready)?;
-        Ok(())
+        let reply = self.room.serve(0, call, &mut self.scratch);
+        answer(&reply, &self.scratch, ready)
     }
 }
 
