@@ -4,11 +4,14 @@ ghost use Rattle.sfu_base.specs.Answer.{answer_of, is_starved};
 ghost use Rattle.sfu_script.specs.Replies.{answer_text};
 ghost use Rattle.sfu_driver.specs.declared.halt.Halt.TheVariants.{Starved};
 ghost use Rattle.sfu_driver.specs.Drive.{Judges};
+ghost use Rattle.sfu_driver.specs.Outcome.{writes};
 ghost use Rattle.room_core.specs.History.{Entry};
 ghost use Rattle.room_core.specs.Serves.{Stands};
+ghost use Rattle.room_core.specs.declared.recorder.KeepNone.{KeepNone};
+ghost use Rattle.room_core.specs.declared.room.Room.{Room};
 ghost use Rattle.sfu_commands.specs.declared.form.Form.TheVariants.{Lines, Records};
 ghost use Rattle.sfu_commands.specs.Run.{reply_to, served, untold};
-ghost use Rattle.sfu_commands.specs.Script.{call_in, fault_line, record_fault_line};
+ghost use Rattle.sfu_commands.specs.Script.{call_in, entry_of, fault_line, record_fault_line, reply_line};
 
 use crate::call_reader::CallReader;
 use crate::form::Form;
@@ -49,6 +52,22 @@ fn answer(reply: &Reply, scratch: &Scratch, ready: &mut Blob) -> Result<(), Halt
     Ok(())
 }
 
+// Serves a call of any kind. Apart, since each way that a reply can come by moves it, and the reply to a take is written from where it is made.
+#[inline(never)]
+fn serve_any(
+    room: &mut Room<KeepNone>,
+    call: &Call,
+    scratch: &mut Scratch,
+    ready: &mut Blob,
+) -> Result<(), Halt>
+    ensures judges { (history : List Entry) → Stands untold room.old history
+        → Judges (λ (room : Room KeepNone) (later : List Entry). Stands untold room later) (writes (reply_line history call.now) (history ++ entry_of call.now ∷ [])) room.new ready.old ready.new result }
+    ensures grows { length ready.old ≤ length ready.new }
+{
+    let reply = room.serve(0, call, scratch);
+    answer(&reply, scratch, ready)
+}
+
 impl CallServer {
     /// A server that has served nothing.
     pub fn new(alloc: Global) -> CallServer
@@ -76,13 +95,16 @@ impl CallServer {
             add_unit_fault(form, u64::from(number), ready)?;
             return Err(Halt::Ended(Ending::Outside));
         };
-        // Most calls are takes. The reply to one is written from where it is made: each way that it can come by moves it.
+        // Most calls are takes.
         if let Call::Take { subscriber } = call {
-            let reply = self.room.take(0, *subscriber, &mut self.scratch);
-            return answer(&reply, &self.scratch, ready);
+            let subscriber = *subscriber;
+            return answer(
+                &self.room.take(0, subscriber, &mut self.scratch),
+                &self.scratch,
+                ready,
+            );
         }
-        let reply = self.room.serve(0, call, &mut self.scratch);
-        answer(&reply, &self.scratch, ready)
+        serve_any(&mut self.room, call, &mut self.scratch, ready)
     }
 }
 
