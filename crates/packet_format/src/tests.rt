@@ -3,7 +3,7 @@
 mod remasking;
 
 use crate::{PayloadFlags, Shown, begins_epoch, show};
-use dd_descriptor::Descriptor;
+use dd_descriptor::NewestDescriptor;
 use std::test::Fail;
 
 // One descriptor in the one-byte form, with id 4: a key descriptor of one target, and a frame by its template 1.
@@ -47,17 +47,17 @@ fn elements(continues: bool, carries: bool) -> Shown {
 #[test]
 fn packets_show_what_their_bytes_say(rt: HostRuntime) -> Result<(), Fail> {
     let key = rtp_packet::read(&KEY)?;
-    let mut first = Descriptor::new();
+    let mut first = NewestDescriptor::new();
     assert_eq!(rt; show(&key, 4, None, &mut first), elements(false, false));
-    assert!(rt; first.ref_count <= 16);
-    assert!(rt; begins_epoch(&first));
+    assert!(rt; first.get().ref_count <= 16);
+    assert!(rt; begins_epoch(first.get()));
     let part = rtp_packet::read(&PART)?;
-    let mut newest = Descriptor::new();
+    let mut newest = NewestDescriptor::new();
     assert_eq!(rt;
-        show(&part, 4, first.structure.as_ref(), &mut newest),
+        show(&part, 4, first.get().structure.as_ref(), &mut newest),
         elements(false, true)
     );
-    let force = first.structure.as_ref();
+    let force = first.get().structure.as_ref();
     let rows: [(&[u8], u8, Shown); 7] = [
         (&KEY, 4, elements(false, false)),
         (&KEY, 3, Shown::Unread),
