@@ -19,7 +19,7 @@ use crate::texts::{add_fault, add_record_fault, add_reply, add_unit_fault};
 use room_core::{KeepNone, Room};
 use sfu_base::{Blob, Call, NoMemory, PacketBuf, Refusal, Reply, Scratch, SeqList};
 use sfu_driver::{Ending, Halt, Judge};
-use sfu_script::is_skipped;
+use sfu_script::{DigitBuf, is_skipped};
 use std::alloc::Global;
 
 /// Serves each call of a script by seat 0 on a room that keeps nothing.
@@ -28,6 +28,7 @@ pub struct CallServer {
     pub reader: CallReader,
     pub room: Room<KeepNone>,
     pub scratch: Scratch,
+    pub digits: DigitBuf,
 }
 
 // Whether a reply is want of memory.
@@ -39,7 +40,12 @@ fn wants_memory(reply: &Reply) -> bool
 
 // Puts the line of a reply behind the texts that are ready.
 #[inline(always)]
-fn answer(reply: &Reply, scratch: &Scratch, ready: &mut Blob) -> Result<(), Halt>
+fn answer(
+    reply: &Reply,
+    scratch: &Scratch,
+    digits: &mut DigitBuf,
+    ready: &mut Blob,
+) -> Result<(), Halt>
     ensures starved { is_starved reply.now ≡ true → result ≡ Err Starved }
     ensures ok { OnOk result (ready.new ≡ ready.old ++ (answer_text (answer_of reply.now scratch.now.packet scratch.now.names) ++ 10 ∷ [])) }
     ensures err { OnErr result (ready.new ≡ ready.old) }
@@ -48,7 +54,7 @@ fn answer(reply: &Reply, scratch: &Scratch, ready: &mut Blob) -> Result<(), Halt
     if wants_memory(reply) {
         return Err(Halt::Starved);
     }
-    add_reply(reply, scratch, ready)?;
+    add_reply(reply, scratch, digits, ready)?;
     Ok(())
 }
 
@@ -58,6 +64,7 @@ fn serve_any(
     room: &mut Room<KeepNone>,
     call: &Call,
     scratch: &mut Scratch,
+    digits: &mut DigitBuf,
     ready: &mut Blob,
 ) -> Result<(), Halt>
     ensures judges { (history : List Entry) → Stands untold room.old history
@@ -65,7 +72,7 @@ fn serve_any(
     ensures grows { length ready.old ≤ length ready.new }
 {
     let reply = room.serve(0, call, scratch);
-    answer(&reply, scratch, ready)
+    answer(&reply, scratch, digits, ready)
 }
 
 impl CallServer {
@@ -80,6 +87,7 @@ impl CallServer {
                 packet: PacketBuf::new(),
                 names: SeqList::new(),
             },
+            digits: DigitBuf::new(),
         }
     }
 
@@ -101,10 +109,17 @@ impl CallServer {
             return answer(
                 &self.room.take(0, subscriber, &mut self.scratch),
                 &self.scratch,
+                &mut self.digits,
                 ready,
             );
         }
-        serve_any(&mut self.room, call, &mut self.scratch, ready)
+        serve_any(
+            &mut self.room,
+            call,
+            &mut self.scratch,
+            &mut self.digits,
+            ready,
+        )
     }
 }
 

@@ -6,7 +6,7 @@ ghost use Rattle.sfu_commands.specs.Script.{fault_in, fault_line, record_fault_l
 
 use crate::form::Form;
 use sfu_base::{Blob, NoMemory, Reply, Scratch};
-use sfu_script::{write_line_fault, write_record_fault, write_reply};
+use sfu_script::{DigitBuf, write_line_fault, write_record_fault, write_reply_in};
 
 /// Puts a line end behind a text that begins at this place, or takes the text away again.
 pub fn end_line(start: usize, ready: &mut Blob) -> Result<(), NoMemory>
@@ -21,12 +21,17 @@ pub fn end_line(start: usize, ready: &mut Blob) -> Result<(), NoMemory>
 }
 
 /// Puts the line of a reply behind the texts that are ready. After `NoMemory` all is as before.
-pub fn add_reply(reply: &Reply, scratch: &Scratch, ready: &mut Blob) -> Result<(), NoMemory>
+pub fn add_reply(
+    reply: &Reply,
+    scratch: &Scratch,
+    digits: &mut DigitBuf,
+    ready: &mut Blob,
+) -> Result<(), NoMemory>
     ensures ok { OnOk result (ready.new ≡ ready.old ++ (answer_text (answer_of reply.now scratch.now.packet scratch.now.names) ++ 10 ∷ [])) }
     ensures err { OnErr result (ready.new ≡ ready.old) }
 {
     let start = ready.bytes().len();
-    write_reply(reply, scratch, ready)?;
+    write_reply_in(reply, scratch, digits, ready)?;
     end_line(start, ready)
 }
 

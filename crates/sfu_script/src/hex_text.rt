@@ -13,7 +13,7 @@ pub const MOST_BYTES: usize = 2048;
 
 const MOST_DIGITS: usize = 2 * MOST_BYTES;
 
-// How many bytes are written at once: few enough that clearing the room for their digits costs little.
+// How many bytes are written at once: few enough that room for their digits is small.
 const CHUNK: usize = 256;
 
 // The two digits of each byte: one look-up writes both, where two would cost twice as much for each byte that is sent on.
@@ -56,16 +56,30 @@ fn write_digits(bytes: &[u8], pairs: &[u8; 512], digits: &mut [u8])
     }
 }
 
-/// Appends the bytes in hex digits. After `NoMemory` a front of them may stand there.
-pub fn append_hex(bytes: &[u8], out: &mut Blob) -> Result<(), NoMemory>
+/// Room for the digits of some bytes, which may be kept from one text to the next: then it is cleared once, not for each.
+#[derive(Drop)]
+pub struct DigitBuf {
+    bytes: [u8; 2 * CHUNK],
+}
+
+impl DigitBuf {
+    /// Room for digits.
+    pub fn new() -> DigitBuf {
+        DigitBuf {
+            bytes: [0; 2 * CHUNK],
+        }
+    }
+}
+
+/// Appends the bytes in hex digits. What stood in their room before counts for nothing. After `NoMemory` a front of them may stand there.
+pub fn append_hex(bytes: &[u8], digits: &mut DigitBuf, out: &mut Blob) -> Result<(), NoMemory>
     ensures ok { OnOk result (out.new ≡ out.old ++ encode_lower bytes.now) }
     ensures begun { GoesOn out.old out.new }
 {
-    let mut digits = [0u8; 2 * CHUNK];
     let mut rest = bytes;
     'chunks: while !rest.is_empty() {
         let (chunk, after) = rest.split_at(rest.len().min(CHUNK));
-        let text = &mut digits[..2 * chunk.len()];
+        let text = &mut digits.bytes[..2 * chunk.len()];
         write_digits(chunk, PAIRS, text);
         out.append(text)?;
         rest = after;

@@ -36,6 +36,7 @@ pub use complaints::write_complaint;
 pub use ends::write_end;
 pub use entries::write_entry;
 pub use fields::{Field, read_fields};
+pub use hex_text::DigitBuf;
 pub use journal::{Actors, Calls, Entry, Journal};
 pub use laws::{
     lines_read_back, lines_say_one_call, reads_exactly_the_actors_lines, reads_exactly_the_lines,
@@ -48,7 +49,7 @@ pub use obu_fault::write_obu;
 pub use packet_line::read_packet;
 pub use ports::{PortLine, PortRole, read_port};
 pub use record_fault::write_record_fault;
-pub use replies::write_reply;
+pub use replies::{write_reply, write_reply_in};
 pub use short::write_short;
 pub use skipped::is_skipped;
 pub use words::split;
