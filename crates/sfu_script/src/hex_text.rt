@@ -71,18 +71,39 @@ impl DigitBuf {
     }
 }
 
-/// Appends the bytes in hex digits. What stood in their room before counts for nothing. After `NoMemory` a front of them may stand there.
-pub fn append_hex(bytes: &[u8], digits: &mut DigitBuf, out: &mut Blob) -> Result<(), NoMemory>
+// Appends the bytes of one chunk in hex digits.
+fn append_chunk(chunk: &[u8], digits: &mut DigitBuf, out: &mut Blob) -> Result<(), NoMemory>
+    requires { length chunk.now ≤ CHUNK }
+    ensures ok { OnOk result (out.new ≡ out.old ++ encode_lower chunk.now) }
+    ensures begun { GoesOn out.old out.new }
+{
+    let text = &mut digits.bytes[..2 * chunk.len()];
+    write_digits(chunk, PAIRS, text);
+    out.append(text)
+}
+
+// Appends the bytes of several chunks in hex digits. Apart, so that what fits one chunk, as most packets do, keeps no count of what is left.
+#[inline(never)]
+fn append_chunks(bytes: &[u8], digits: &mut DigitBuf, out: &mut Blob) -> Result<(), NoMemory>
     ensures ok { OnOk result (out.new ≡ out.old ++ encode_lower bytes.now) }
     ensures begun { GoesOn out.old out.new }
 {
     let mut rest = bytes;
     'chunks: while !rest.is_empty() {
         let (chunk, after) = rest.split_at(rest.len().min(CHUNK));
-        let text = &mut digits.bytes[..2 * chunk.len()];
-        write_digits(chunk, PAIRS, text);
-        out.append(text)?;
+        append_chunk(chunk, digits, out)?;
         rest = after;
     }
     Ok(())
+}
+
+/// Appends the bytes in hex digits. What stood in their room before counts for nothing. After `NoMemory` a front of them may stand there.
+pub fn append_hex(bytes: &[u8], digits: &mut DigitBuf, out: &mut Blob) -> Result<(), NoMemory>
+    ensures ok { OnOk result (out.new ≡ out.old ++ encode_lower bytes.now) }
+    ensures begun { GoesOn out.old out.new }
+{
+    if bytes.len() <= CHUNK {
+        return append_chunk(bytes, digits, out);
+    }
+    append_chunks(bytes, digits, out)
 }

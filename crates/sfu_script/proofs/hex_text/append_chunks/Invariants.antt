@@ -1,7 +1,7 @@
 use Rattle.std.proofs.Common.{◌≡◌, ◌++◌, length}
 use Rattle.hex.specs.Hex.{encode_lower}
 use Rattle.sfu_script.specs.Texts.{GoesOn}
-use Rattle.sfu_script.proofs.hex_text.append_hex.Given as goal
+use Rattle.sfu_script.proofs.hex_text.append_chunks.Given as goal
 
 abbrev pub invariant-chunks : goal.invariant-chunks
 invariant-chunks l = record { written : l.out ++ encode_lower l.rest ≡ l.initial.out ++ encode_lower l.bytes; begun : GoesOn l.initial.out l.out }
