@@ -18,6 +18,12 @@ struct port {
   uint32_t waits[FINEST + 1];  // how many packets took so many microseconds
 };
 
+// The first packets of the first port, which are written at the end alone, so that those behind them don't wait for it.
+static struct {
+  size_t length;
+  uint8_t bytes[ROOM];
+} kept[DUMPED];
+
 static volatile sig_atomic_t stopped;
 
 static void stop(int number) {
@@ -128,9 +134,8 @@ int main(int words, char **word) {
       while ((got = recv(ports[i].socket, bytes, sizeof bytes, MSG_DONTWAIT)) >= 0) {
         judge(&ports[i], bytes, (size_t)got, now(), nacked);
         if (dump == NULL || i != 0 || dumped == DUMPED) continue;
-        for (ssize_t at = 0; at < got; at++) fprintf(dump, "%02x", bytes[at]);
-        fputc('\n', dump);
-        dumped++;
+        kept[dumped].length = (size_t)got;
+        memcpy(kept[dumped++].bytes, bytes, (size_t)got);
       }
     }
     if (apart != 0 && now() - pleaded >= apart) {
@@ -141,6 +146,10 @@ int main(int words, char **word) {
         send_to(ports[i].socket, pli, sizeof pli, &ports[i].peer);
       }
     }
+  }
+  for (uint64_t i = 0; i < dumped; i++) {
+    for (size_t at = 0; at < kept[i].length; at++) fprintf(dump, "%02x", kept[i].bytes[at]);
+    fputc('\n', dump);
   }
   if (dump != NULL) fclose(dump);
   for (int i = 0; i < count; i++) {
