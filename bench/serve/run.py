@@ -376,6 +376,8 @@ def ports():
     for place, row in enumerate(rows, 1):
         sound(row, f'subscriber {place}')
         check(row['first'] == 0 and (row['gaps'] == row['skipped'] == 0 or any(lost)), f'subscriber {place} misses {row["skipped"]} packets')
+    # Each track has two subscribers.
+    check(sum(lost) * 100 <= sum(row['received'] for row in rows) / 2, f'the system dropped {sum(lost)} packets, since the sessions don\'t keep up')
     print(f'ports: 64 for {took:.1f} s, {rest:.2f} processors while nothing came, {cost:.2f} in all; the system dropped {sum(lost)}; each of 42 received '
           f'{min(row["received"] for row in rows)} packets or more, p50 {milliseconds(rows, "p50"):.2f} ms, p99 {milliseconds(rows, "p99"):.2f} ms, '
           f'worst {milliseconds(rows, "worst"):.2f} ms; {out.count(" all")} sessions made all turns')
