@@ -82,7 +82,7 @@ fn append_chunk(chunk: &[u8], digits: &mut DigitBuf, out: &mut Blob) -> Result<(
     out.append(text)
 }
 
-// Appends the bytes of several chunks in hex digits. Apart, so that what fits one chunk, as most packets do, keeps no count of what is left.
+// Appends the bytes of several chunks in hex digits. Apart, so that what fits one chunk, as short packets do, keeps no count of what is left.
 #[inline(never)]
 fn append_chunks(bytes: &[u8], digits: &mut DigitBuf, out: &mut Blob) -> Result<(), NoMemory>
     ensures ok { OnOk result (out.new ≡ out.old ++ encode_lower bytes.now) }

@@ -1,5 +1,5 @@
 //! The lock, its seats, and the steps of a turn.
-ghost use Rattle.std.specs.Prelude.{◌≡◌, ◌+◌, ◌^◌, ◌<◌, ◌≤◌, [], ◌∷◌, ◌++◌, length, List, ℕ, Some, IfSome, IfNone, IfOk, IfErr};
+ghost use Rattle.std.specs.Prelude.{◌≡◌, ◌+◌, ◌%◌, ◌^◌, ◌<◌, ◌≤◌, [], ◌∷◌, ◌++◌, length, List, ℕ, Some, IfSome, IfNone, IfOk, IfErr};
 ghost use mathlib.Core.List.{IsPrefix};
 ghost use Rattle.turn_lock.specs.declared.history.Entry.{Entry};
 ghost use Rattle.turn_lock.specs.declared.view.Stage.TheVariants.{Waiting, Holding};
@@ -13,8 +13,10 @@ use crate::plays::{Both, Draw, Look, Next, Serve, Tell, Ticketed};
 use crate::view::View;
 use atomic_table::Table;
 use crossbeam_utils::Backoff;
+use crossbeam_utils::sync::EventCount;
 use sfu_base::NoMemory;
 use std::alloc::Global;
+use std::array;
 use std::marker::{Brand, Model};
 use std::sync::Wait;
 use thiserror::Error;
@@ -25,8 +27,19 @@ const NEXT_TICKET: usize = 0;
 /// The word with the ticket that is served.
 const SERVED_TICKET: usize = 1;
 
+/// How many gates there are. Who waits for a ticket sleeps at the gate `ticket % GATES`, so where no more than so many wait, a turn that
+/// is over wakes the one whose turn it is then.
+const GATES: usize = 64;
+
 /// Tickets lie below this number.
 const TICKET_LIMIT: u64 = 1 << 63;
+
+/// The gate at which a ticket is waited for.
+fn gate_of(ticket: u64) -> usize
+    ensures { result ≡ ticket % GATES }
+{
+    (ticket % GATES as u64) as usize
+}
 
 /// What a turn gives.
 #[derive(Debug, Drop)]
@@ -45,6 +58,7 @@ pub struct Worn;
 #[derive(Drop)]
 pub struct Turns<H: Held> {
     table: Table<Option<H>, View<H::Call>, u64, Ticketed<H>, Global>,
+    gates: [EventCount; GATES],
 }
 
 impl<H: Held> Model for Turns<H> {
@@ -103,7 +117,8 @@ impl<H: Held> Turns<H> {
             number: 0,
             count: 1,
         };
-        Ok((Turns { table }, seat))
+        let gates = array::from_fn(|_| EventCount::new());
+        Ok((Turns { table, gates }, seat))
     }
 
     /// Makes a seat for one more thread, by the first seat, which may count 1,024 seats with itself. The new seat has the next number
@@ -178,7 +193,7 @@ impl<H: Held> Turns<H> {
         ensures stands { H.stands result seat.seen }
         ensures found { seat.found ≤ seat.first + length seat.seen }
     {
-        let Turns { table } = self;
+        let Turns { table, gates: _ } = self;
         let Seat {
             inner,
             number: _,
@@ -220,8 +235,7 @@ impl<H: Held> Turns<H> {
         unreachable!()
     }
 
-    /// Waits until the ticket is served, and takes the value: spins and yields for a short time, then sleeps until the served ticket
-    /// changes.
+    /// Waits until the ticket is served, and takes the value: spins and yields for a short time, then sleeps at its gate.
     fn wait<W: Wait>(
         &self,
         rt: &W,
@@ -237,16 +251,19 @@ impl<H: Held> Turns<H> {
     {
         let backoff = Backoff::new();
         for _ in rt.forever() {
+            // What is announced before the look isn't missed by who serves the ticket after it.
+            let key = if backoff.is_completed() {
+                Some(self.gates[gate_of(ticket)].prepare_wait())
+            } else {
+                None
+            };
             let serving = self.table.shared.load::<Look<H>>(inner, SERVED_TICKET);
             if serving == ticket {
                 return;
             }
-            if backoff.is_completed() {
-                self.table
-                    .shared
-                    .park(rt, SERVED_TICKET, (serving % (1 << 32)) as u32);
-            } else {
-                backoff.snooze();
+            match key {
+                Some(key) => key.wait(rt),
+                None => backoff.snooze(),
             }
         }
         unreachable!()
@@ -271,7 +288,7 @@ impl<H: Held> Turns<H> {
             .fetch_add::<Serve<J>>(inner, SERVED_TICKET, 1)
     }
 
-    /// Serves the call on the value that the seat has, gives the value back, and wakes those who sleep.
+    /// Serves the call on the value that the seat has, gives the value back, and wakes who sleeps at the gate of the next ticket.
     fn serve(
         &self,
         inner: &mut atomic_table::Seat<Option<H>, View<H::Call>>,
@@ -294,11 +311,7 @@ impl<H: Held> Turns<H> {
         let reply = value.serve(number, call, scratch);
         let _none = self.table.shared.exchange(inner, 0, Some(value));
         let place = self.give_back::<Brand>(inner, call, &reply);
-        // Where no other ticket is drawn nobody sleeps, and who draws one from now on finds this ticket over. The next in turn may be
-        // any of those who sleep, so all are woken.
-        if self.table.shared.peek(NEXT_TICKET).wrapping_sub(place) != 1 {
-            self.table.shared.wake_all(SERVED_TICKET);
-        }
+        self.gates[gate_of(place.wrapping_add(1))].notify_all();
         (place, reply)
     }
 }

@@ -61,9 +61,10 @@ fn a_lock_is_worn_at_2_to_the_63(rt: HostRuntime) -> Result<(), Fail> {
     Ok(())
 }
 
-const THREADS: u32 = 8;
+/// More than there are gates, so that some sleep at the same one.
+const THREADS: u32 = 80;
 
-const TURNS_EACH: u64 = 10_000;
+const TURNS_EACH: u64 = 1000;
 
 /// Seats for so many threads.
 fn seats_for(
@@ -107,7 +108,7 @@ fn count<W: Wait + Sync>(
 }
 
 #[test]
-fn eight_threads_make_each_place_once(rt: HostRuntime) -> Result<(), Fail> {
+fn eighty_threads_make_each_place_once(rt: HostRuntime) -> Result<(), Fail> {
     let alloc = rt.alloc();
     let (turns, mut seat) = Turns::new(alloc, Total { sum: 0 }, 0)?;
     let seats = seats_for(alloc, &turns, &mut seat, THREADS)?;
@@ -126,7 +127,7 @@ fn eight_threads_make_each_place_once(rt: HostRuntime) -> Result<(), Fail> {
         let Some(places) = list else {
             panic!(rt; "a turn failed, or had the reply of another place")
         };
-        assert_eq!(rt; places.len(), 10_000);
+        assert_eq!(rt; places.len(), 1000);
         for place in places {
             let here = made.get_mut(place as usize);
             assert_eq!(rt; here, Some(&mut false), "place {place}");
