@@ -353,7 +353,7 @@ def ports():
         opening += [f'join {s} {track} 222222{s:02x} 0 1 1' for s in (2 * track - 1, 2 * track)]
         roles.append(f'publisher {track} 111111{track:02x}')
     roles += [f'subscriber {s} 222222{s:02x}' for s in range(1, 43)] + ['control']
-    turns, least = 180000, 65      # a turn takes some 0.45 ms
+    turns, least = 180000, 65      # a turn takes some 0.55 ms
     serving = Serving(opening, roles, turns)
     begin = time.monotonic()
     time.sleep(5)
