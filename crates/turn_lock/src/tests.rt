@@ -3,9 +3,11 @@ ghost use Rattle.std.specs.Prelude.{◌≡◌, ◌+◌, ◌≤◌, All, IfOk};
 
 use crate::{Held, Seat, Turns};
 use std::alloc::{AllocError, Global};
+use std::rt::Clock;
 use std::sync::Wait;
 use std::test::Fail;
 use std::thread;
+use std::time::Duration;
 
 /// The sum of all amounts, modulo 2^64.
 #[derive(Drop)]
@@ -67,12 +69,12 @@ const THREADS: u32 = 80;
 const TURNS_EACH: u64 = 1000;
 
 /// Seats for so many threads.
-fn seats_for(
+fn seats_for<H: Held>(
     alloc: Global,
-    turns: &Turns<Total>,
-    first: &mut Seat<Total>,
+    turns: &Turns<H>,
+    first: &mut Seat<H>,
     threads: u32,
-) -> Result<Vec<Seat<Total>>, AllocError>
+) -> Result<Vec<Seat<H>>, AllocError>
     requires lock { first.old.lock ≡ turns.now }
     requires first { first.old.number ≡ 0 }
     requires room { first.old.count + threads ≤ 1024 }
@@ -138,5 +140,78 @@ fn eighty_threads_make_each_place_once(rt: HostRuntime) -> Result<(), Fail> {
     }
     let after = turns.turn(&rt, &mut seat, &1, &mut ())?;
     assert_eq!(rt; (after.place, after.reply), (80_000, 80_001));
+    Ok(())
+}
+
+/// Counts its calls. Each takes a tenth of a millisecond, so that who waits for its turn falls asleep.
+#[derive(Drop)]
+struct Slow<R: Clock + Drop> {
+    made: u64,
+    clock: R,
+}
+
+impl<R: Clock + Drop> Held for Slow<R> {
+    type Call = ();
+
+    type Reply = u64;
+
+    type Scratch = ();
+
+    ghost use Rattle.std.specs.Prelude.{◌≡◌, ◌+◌, ◌%◌, ◌^◌, length, false};
+
+    ghost stands = { λ slow h. slow.made ≡ length h % 2 ^ 64 };
+
+    ghost gives = { λ h seat call reply scratch. reply ≡ (length h + 1) % 2 ^ 64 };
+
+    ghost starves = { λ reply. false };
+
+    fn serve(&mut self, _seat: u32, _call: &(), _scratch: &mut ()) -> u64 {
+        thread::sleep(&self.clock, Duration::from_micros(100));
+        self.made = self.made.wrapping_add(1);
+        self.made
+    }
+}
+
+/// Makes four turns, and answers whether each had the reply of its place.
+fn wait_for_four<R: Clock + Drop, W: Wait + Sync>(
+    rt: &W,
+    turns: &Turns<Slow<R>>,
+    mut seat: Seat<Slow<R>>,
+) -> bool
+    requires { seat.lock ≡ turns.now }
+{
+    for _ in 0..4 {
+        let Ok(turn) = turns.turn(rt, &mut seat, &(), &mut ()) else {
+            return false;
+        };
+        if turn.reply.wrapping_sub(turn.place) != 1 {
+            return false;
+        }
+    }
+    true
+}
+
+#[test]
+fn each_of_eighty_that_sleep_is_woken(rt: HostRuntime) -> Result<(), Fail> {
+    let alloc = rt.alloc();
+    let slow = Slow {
+        made: 0,
+        clock: rt.clone()?,
+    };
+    let (turns, mut seat) = Turns::new(alloc, slow, 0)?;
+    let seats = seats_for(alloc, &turns, &mut seat, THREADS)?;
+    let ended = {
+        let (rt, turns) = (&rt, &turns);
+        thread::map_vec(
+            rt,
+            seats,
+            &move |seat: Seat<Slow<HostRuntime>>| -> bool
+                requires { seat.lock ≡ turns.now }
+            { wait_for_four(rt, turns, seat) },
+        )?
+    };
+    assert!(rt; ended.iter().all(|done| *done));
+    let after = turns.turn(&rt, &mut seat, &(), &mut ())?;
+    assert_eq!(rt; (after.place, after.reply), (320, 321));
     Ok(())
 }
