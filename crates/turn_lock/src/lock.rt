@@ -251,7 +251,7 @@ impl<H: Held> Turns<H> {
     {
         let backoff = Backoff::new();
         for _ in rt.forever() {
-            // What is announced before the look isn't missed by who serves the ticket after it.
+            // Announced first, then looked: who serves the ticket after this look finds it announced, and wakes.
             let key = if backoff.is_completed() {
                 Some(self.gates[gate_of(ticket)].prepare_wait())
             } else {

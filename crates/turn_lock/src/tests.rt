@@ -63,10 +63,9 @@ fn a_lock_is_worn_at_2_to_the_63(rt: HostRuntime) -> Result<(), Fail> {
     Ok(())
 }
 
-/// More than there are gates, so that some sleep at the same one.
-const THREADS: u32 = 80;
+const THREADS: u32 = 8;
 
-const TURNS_EACH: u64 = 1000;
+const TURNS_EACH: u64 = 10_000;
 
 /// Seats for so many threads.
 fn seats_for<H: Held>(
@@ -110,7 +109,7 @@ fn count<W: Wait + Sync>(
 }
 
 #[test]
-fn eighty_threads_make_each_place_once(rt: HostRuntime) -> Result<(), Fail> {
+fn eight_threads_make_each_place_once(rt: HostRuntime) -> Result<(), Fail> {
     let alloc = rt.alloc();
     let (turns, mut seat) = Turns::new(alloc, Total { sum: 0 }, 0)?;
     let seats = seats_for(alloc, &turns, &mut seat, THREADS)?;
@@ -129,7 +128,7 @@ fn eighty_threads_make_each_place_once(rt: HostRuntime) -> Result<(), Fail> {
         let Some(places) = list else {
             panic!(rt; "a turn failed, or had the reply of another place")
         };
-        assert_eq!(rt; places.len(), 1000);
+        assert_eq!(rt; places.len(), 10_000);
         for place in places {
             let here = made.get_mut(place as usize);
             assert_eq!(rt; here, Some(&mut false), "place {place}");
@@ -142,6 +141,9 @@ fn eighty_threads_make_each_place_once(rt: HostRuntime) -> Result<(), Fail> {
     assert_eq!(rt; (after.place, after.reply), (80_000, 80_001));
     Ok(())
 }
+
+/// More than there are gates.
+const SLEEPERS: u32 = 80;
 
 /// Counts its calls. Each takes a tenth of a millisecond, so that who waits for its turn falls asleep.
 #[derive(Drop)]
@@ -199,7 +201,7 @@ fn each_of_eighty_that_sleep_is_woken(rt: HostRuntime) -> Result<(), Fail> {
         clock: rt.clone()?,
     };
     let (turns, mut seat) = Turns::new(alloc, slow, 0)?;
-    let seats = seats_for(alloc, &turns, &mut seat, THREADS)?;
+    let seats = seats_for(alloc, &turns, &mut seat, SLEEPERS)?;
     let ended = {
         let (rt, turns) = (&rt, &turns);
         thread::map_vec(
