@@ -14,7 +14,7 @@ const MORE: u8 = 0x80;
 
 /// The length at the front (AV1 Bitstream Specification, section 4.10.5) and the bytes behind it, or `None` where there
 /// is none.
-pub(crate) fn split_length<'a>(bytes: &'a [u8]) -> Option<(usize, &'a [u8])>
+pub fn split_length<'a>(bytes: &'a [u8]) -> Option<(usize, &'a [u8])>
     ensures { MatchOption result (length_at bytes.now ≡ None) (λ x. length_at bytes.now ≡ Some (x.0, x.1.now)) }
 {
     let mut value: u64 = 0;

@@ -16,4 +16,5 @@ pub use fault::PayloadFault;
 pub use laws::{
     a_payload_has_one_reading, each_faultless_payload_is_in_the_grammar, faults_are_what_they_say,
 };
+pub use leb::split_length;
 pub use payload::{Payload, read};

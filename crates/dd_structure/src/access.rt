@@ -119,4 +119,12 @@ impl Structure {
         let columns = &self.columns;
         &columns.guards[..guarded_targets(columns.chain_count, columns.target_count) as usize]
     }
+
+    /// The width and height of each spatial id, from 0 to the greatest; none where they aren't told.
+    pub fn resolutions(&self) -> &[(u32, u32)]
+        ensures { result.now ≡ self.now.resolutions }
+    {
+        let resolutions = &self.columns.resolutions;
+        &resolutions.items[..resolutions.count as usize]
+    }
 }

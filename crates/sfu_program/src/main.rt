@@ -6,7 +6,7 @@ mod serve;
 mod sfu;
 mod together;
 
-use sfu_base::{StdSink, StdSource, SysClock, UdpPorts};
+use sfu_edge::{StdSink, StdSource, SysClock, UdpPorts};
 use std::process::ExitCode;
 use std::{env, io};
 

@@ -2,7 +2,6 @@
 mod acting;
 mod cast;
 mod command;
-mod copies;
 mod gate;
 mod lists;
 mod reader;

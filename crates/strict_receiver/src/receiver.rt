@@ -1,11 +1,14 @@
 // A strict receiver.
 
-ghost use Rattle.std.specs.Prelude.{◌≡◌, ◌++◌, ◌∷◌, ◌+◌, [], ℕ, List, IfOk, OnErr, if◌then◌else◌, is_ok, min};
+ghost use Rattle.std.specs.Prelude.{◌≡◌, ◌++◌, ◌∷◌, ◌+◌, [], ℕ, List, IfOk, OnErr, if◌then◌else◌, is_ok, min, option_copied};
 ghost use Rattle.forwarding_model.specs.declared.complaint.Complaint.{Complaint};
-ghost use Rattle.forwarding_model.specs.Receiver.{complaint_of};
+ghost use Rattle.forwarding_model.specs.Receiver.{Reception, complaint_of, ends_frame};
+ghost use Rattle.forwarding_model.specs.Receiver.Receiver.{Receiving};
+ghost use Rattle.dd_structure.specs.TemplateStructure.{TemplateStructure};
 ghost use Rattle.strict_receiver.specs.Receivers.{StandsFor, complaint_in, complaint_over, greatest_count};
 
 use crate::state::State;
+use dd_structure::Structure;
 use forwarding_model::Complaint;
 use sfu_base::NoMemory;
 use std::alloc::Global;
@@ -80,5 +83,19 @@ impl Receiver {
         ensures { result ≡ self.now.packets }
     {
         self.packets
+    }
+
+    /// Whether the last packet was accepted and ended a frame.
+    pub fn has_ended_a_frame(&self) -> bool
+        ensures { (if result then 1 else 0) ≡ ends_frame self.now.receiver }
+    {
+        self.state.has_ended_a_frame()
+    }
+
+    /// The template structure in force, where all packets were accepted; none before the first.
+    pub fn structure(&self) -> Option<&Structure>
+        ensures { (r : Reception TemplateStructure) → self.now.receiver ≡ Receiving r → option_copied result ≡ r.structure }
+    {
+        self.state.structure.as_ref()
     }
 }

@@ -4,13 +4,10 @@ ghost use Rattle.sfu_base.specs.Links.{IsFresh};
 
 use crate::{
     Address, CalmLink, CalmPorts, Clock, Failed, Link, MemLink, MemPorts, PacketBuf, Ports,
-    StepClock, SysClock, UdpPorts,
+    StepClock,
 };
 use std::alloc::{AllocError, Global};
-use std::net::{Ipv4Addr, Net, SocketAddr, UdpSocket};
 use std::test::Fail;
-use std::time::Duration;
-use std::{io, time};
 
 const LOCAL: Address = Address {
     ip: 0x7f00_0001,
@@ -107,84 +104,4 @@ fn a_step_clock_begins_at_its_start_and_adds_its_step_once_a_call(rt: HostRuntim
     assert_eq!(rt; (clock.now(), clock.now(), clock.now()), (5, 25, 45));
     let clock = StepClock::new(u64::MAX, 2);
     assert_eq!(rt; (clock.now(), clock.now(), clock.now()), (u64::MAX, 1, 3));
-}
-
-// A socket on a free port of this machine, and its address.
-fn open(net: &impl Net) -> io::Result<(UdpSocket, SocketAddr, Address)> {
-    let socket = UdpSocket::bind(net, SocketAddr::from((Ipv4Addr::LOCALHOST, 0)))?;
-    let at = socket.local_addr()?;
-    let port = at.port();
-    Ok((socket, at, Address { ip: LOCAL.ip, port }))
-}
-
-// What the first receive that isn't `Ok(false)` answers, of at most a hundred.
-fn heard_soon<L: Link>(link: &mut L) -> (Result<bool, Failed>, Option<u8>) {
-    for _ in 0..100 {
-        let heard = heard(link);
-        if heard.0 != Ok(false) {
-            return heard;
-        }
-    }
-    heard(link)
-}
-
-#[test]
-fn a_link_over_udp_hears_its_peer_alone_and_misses_nobody_that_is_not_there(
-    rt: HostRuntime,
-) -> Result<(), Fail> {
-    let (far, _, peer) = open(&rt)?;
-    let (stranger, _, _) = open(&rt)?;
-    let (free, at, local) = open(&rt)?;
-    drop(free);
-    let mut ports = UdpPorts::new(&rt);
-    let mut link = ports.bind(local, peer)?;
-    assert_eq!(rt; ports.bind(local, peer).is_err(), true);
-    assert_eq!(rt; heard(&mut link), (Ok(false), Some(9)));
-    assert_eq!(rt; link.send(&packet(7)), Ok(()));
-    let mut buf = [0u8; 4];
-    assert_eq!(rt; far.recv_from(&mut buf)?, (1, at));
-    assert_eq!(rt; buf[0], 7);
-    stranger.send_to(&[1], at)?;
-    far.send_to(&[2], at)?;
-    assert_eq!(rt; heard_soon(&mut link), (Ok(true), Some(2)));
-    assert_eq!(rt; heard(&mut link), (Ok(false), Some(9)));
-    far.send_to(&[3; 3000], at)?;
-    let mut long = PacketBuf::new();
-    for _ in 0..100 {
-        if link.receive(&mut long)? {
-            break;
-        }
-    }
-    assert_eq!(rt; long.bytes(), [3u8; 2048].as_slice());
-    drop(far);
-    assert_eq!(rt; link.send(&packet(8)), Ok(()));
-    assert_eq!(rt; heard(&mut link), (Ok(false), Some(9)));
-    assert_eq!(rt; link.send(&packet(8)), Ok(()));
-    ports.back(link);
-    Ok(())
-}
-
-// A clock of the system's that reads so many milliseconds, or can't be read.
-struct Reads(Option<u64>);
-
-impl time::Clock for Reads {
-    fn monotonic(&self) -> io::Result<Duration> {
-        match self.0 {
-            Some(milliseconds) => Ok(Duration::from_millis(milliseconds)),
-            None => Err(io::Error::from(io::ErrorKind::Unsupported)),
-        }
-    }
-
-    fn since_1970(&self) -> io::Result<Duration> {
-        self.monotonic()
-    }
-}
-
-#[test]
-fn the_clock_of_the_system_tells_milliseconds_or_zero_where_it_cannot_be_read(rt: HostRuntime) {
-    let first = SysClock::new(&rt).now();
-    assert!(rt; first > 0);
-    assert!(rt; SysClock::new(&rt).now() >= first);
-    assert_eq!(rt; SysClock::new(&Reads(Some(61_234))).now(), 61_234);
-    assert_eq!(rt; SysClock::new(&Reads(None)).now(), 0);
 }

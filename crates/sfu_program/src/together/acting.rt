@@ -5,7 +5,6 @@ ghost use Rattle.sfu_script.specs.Replies.{answer_text};
 ghost use Rattle.turn_lock.specs.Known.{Fits};
 ghost use Rattle.sfu_program.specs.TogetherActing.{Acts};
 
-use super::copies::copied;
 use super::gate::Gate;
 use super::lists::put_last;
 use room_core::KeepNone;
@@ -41,7 +40,7 @@ fn told(
     write_reply(reply, scratch, &mut text)?;
     Ok(Entry {
         actor,
-        call: copied(call),
+        call: call.copied(),
         reply: text,
     })
 }

@@ -4,7 +4,7 @@ ghost use Rattle.sfu_base.specs.Faults.{CountsFaults, HasCause};
 ghost use Rattle.sfu_base.specs.Links.{FillsOnlyWhere, after_receive, after_send};
 ghost use Rattle.sfu_base.specs.Ports.{after_bind, tells_nothing_yet};
 
-use crate::{Address, Failed, Link, PacketBuf, Ports};
+use sfu_base::{Address, Failed, Link, PacketBuf, Ports};
 use std::io::ErrorKind;
 use std::net::{Ipv4Addr, Net, SocketAddr, SocketAddrV4, UdpSocket};
 use std::time::Duration;

@@ -1,0 +1,172 @@
+// The adapters, each used once through its trait: over bytes, over a reader and a writer that fail, over sockets of this machine, and over clocks.
+use crate::{StdSink, StdSource, SysClock, UdpPorts};
+use sfu_base::{Address, Blob, Clock, Failed, Link, NoMemory, PacketBuf, Ports, Sink, Source};
+use std::alloc::Global;
+use std::io::{Read, Write};
+use std::net::{Ipv4Addr, Net, SocketAddr, UdpSocket};
+use std::test::Fail;
+use std::time::Duration;
+use std::{io, time};
+
+// A packet of one byte.
+fn packet(byte: u8) -> PacketBuf {
+    let mut packet = PacketBuf::new();
+    packet.fill(&[byte]);
+    packet
+}
+
+// What three reads by a buffer of three bytes answer, and what they give laid end to end.
+fn drained<S: Source>(
+    alloc: Global,
+    source: &mut S,
+) -> Result<([Result<usize, Failed>; 3], Blob), NoMemory> {
+    let mut answers = [Err(Failed); 3];
+    let mut all = Blob::new(alloc);
+    for answer in &mut answers {
+        let mut buf = [0u8; 3];
+        *answer = source.read(&mut buf);
+        if let Ok(count) = *answer {
+            all.append(&buf[..count])?;
+        }
+    }
+    Ok((answers, all))
+}
+
+// A reader and a writer of std that always fail.
+#[derive(Drop)]
+struct Broken;
+
+impl Read for Broken {
+    fn read(&mut self, _buf: &mut [u8]) -> io::Result<usize> {
+        Err(io::Error::from(io::ErrorKind::BrokenPipe))
+    }
+}
+
+impl Write for Broken {
+    fn write(&mut self, _buf: &[u8]) -> io::Result<usize> {
+        Err(io::Error::from(io::ErrorKind::BrokenPipe))
+    }
+
+    fn flush(&mut self) -> io::Result<()> {
+        Ok(())
+    }
+}
+
+#[test]
+fn a_source_over_a_reader_gives_its_bytes_in_order_and_fails_where_it_does(
+    rt: HostRuntime,
+) -> Result<(), Fail> {
+    let bytes = [7u8, 1, 4, 1, 30];
+    let mut source = StdSource::new(bytes.as_slice());
+    let (answers, all) = drained(rt.alloc(), &mut source)?;
+    assert_eq!(rt; answers, [Ok(3), Ok(2), Ok(0)]);
+    assert_eq!(rt; all.bytes(), bytes.as_slice());
+    let (answers, _) = drained(rt.alloc(), &mut StdSource::new(Broken))?;
+    assert_eq!(rt; answers, [Err(Failed); 3]);
+    Ok(())
+}
+
+// What a sink answers to a piece of three bytes and one of two.
+fn filled<K: Sink>(sink: &mut K) -> (Result<usize, Failed>, Result<usize, Failed>) {
+    (sink.write(&[1, 2, 3]), sink.write(&[4, 5]))
+}
+
+#[test]
+fn a_sink_over_a_writer_takes_what_is_written_and_fails_where_it_does(rt: HostRuntime) {
+    let mut sink = StdSink::new(Vec::new(rt.alloc()));
+    assert_eq!(rt; filled(&mut sink), (Ok(3), Ok(2)));
+    assert_eq!(rt;
+        filled(&mut StdSink::new(Broken)),
+        (Err(Failed), Err(Failed))
+    );
+}
+
+// What a receive answers, and the first byte of the buffer, which held 9 before.
+fn heard<L: Link>(link: &mut L) -> (Result<bool, Failed>, Option<u8>) {
+    let mut buf = packet(9);
+    let answer = link.receive(&mut buf);
+    (answer, buf.bytes().first().copied())
+}
+
+// The address 127.0.0.1.
+const LOOPBACK: u32 = 0x7f00_0001;
+
+// A socket on a free port of this machine, and its address.
+fn open(net: &impl Net) -> io::Result<(UdpSocket, SocketAddr, Address)> {
+    let socket = UdpSocket::bind(net, SocketAddr::from((Ipv4Addr::LOCALHOST, 0)))?;
+    let at = socket.local_addr()?;
+    let port = at.port();
+    Ok((socket, at, Address { ip: LOOPBACK, port }))
+}
+
+// What the first receive that isn't `Ok(false)` answers, of at most a hundred.
+fn heard_soon<L: Link>(link: &mut L) -> (Result<bool, Failed>, Option<u8>) {
+    for _ in 0..100 {
+        let heard = heard(link);
+        if heard.0 != Ok(false) {
+            return heard;
+        }
+    }
+    heard(link)
+}
+
+#[test]
+fn a_link_over_udp_hears_its_peer_alone_and_misses_nobody_that_is_not_there(
+    rt: HostRuntime,
+) -> Result<(), Fail> {
+    let (far, _, peer) = open(&rt)?;
+    let (stranger, _, _) = open(&rt)?;
+    let (free, at, local) = open(&rt)?;
+    drop(free);
+    let mut ports = UdpPorts::new(&rt);
+    let mut link = ports.bind(local, peer)?;
+    assert_eq!(rt; ports.bind(local, peer).is_err(), true);
+    assert_eq!(rt; heard(&mut link), (Ok(false), Some(9)));
+    assert_eq!(rt; link.send(&packet(7)), Ok(()));
+    let mut buf = [0u8; 4];
+    assert_eq!(rt; far.recv_from(&mut buf)?, (1, at));
+    assert_eq!(rt; buf[0], 7);
+    stranger.send_to(&[1], at)?;
+    far.send_to(&[2], at)?;
+    assert_eq!(rt; heard_soon(&mut link), (Ok(true), Some(2)));
+    assert_eq!(rt; heard(&mut link), (Ok(false), Some(9)));
+    far.send_to(&[3; 3000], at)?;
+    let mut long = PacketBuf::new();
+    for _ in 0..100 {
+        if link.receive(&mut long)? {
+            break;
+        }
+    }
+    assert_eq!(rt; long.bytes(), [3u8; 2048].as_slice());
+    drop(far);
+    assert_eq!(rt; link.send(&packet(8)), Ok(()));
+    assert_eq!(rt; heard(&mut link), (Ok(false), Some(9)));
+    assert_eq!(rt; link.send(&packet(8)), Ok(()));
+    ports.back(link);
+    Ok(())
+}
+
+// A clock of the system's that reads so many milliseconds, or can't be read.
+struct Reads(Option<u64>);
+
+impl time::Clock for Reads {
+    fn monotonic(&self) -> io::Result<Duration> {
+        match self.0 {
+            Some(milliseconds) => Ok(Duration::from_millis(milliseconds)),
+            None => Err(io::Error::from(io::ErrorKind::Unsupported)),
+        }
+    }
+
+    fn since_1970(&self) -> io::Result<Duration> {
+        self.monotonic()
+    }
+}
+
+#[test]
+fn the_clock_of_the_system_tells_milliseconds_or_zero_where_it_cannot_be_read(rt: HostRuntime) {
+    let first = SysClock::new(&rt).now();
+    assert!(rt; first > 0);
+    assert!(rt; SysClock::new(&rt).now() >= first);
+    assert_eq!(rt; SysClock::new(&Reads(Some(61_234))).now(), 61_234);
+    assert_eq!(rt; SysClock::new(&Reads(None)).now(), 0);
+}
