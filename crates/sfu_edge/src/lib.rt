@@ -4,6 +4,7 @@
 
 mod standard;
 mod system_clock;
+mod trouble;
 mod udp;
 
 pub use standard::{StdSink, StdSource};

@@ -1,4 +1,5 @@
 // The adapters, each used once through its trait: over bytes, over a reader and a writer that fail, over sockets of this machine, and over clocks.
+use crate::trouble::{Trouble, trouble_of};
 use crate::{StdSink, StdSource, SysClock, UdpPorts};
 use sfu_base::{Address, Blob, Clock, Failed, Link, NoMemory, PacketBuf, Ports, Sink, Source};
 use std::alloc::Global;
@@ -7,6 +8,58 @@ use std::net::{Ipv4Addr, Net, SocketAddr, UdpSocket};
 use std::test::Fail;
 use std::time::Duration;
 use std::{io, time};
+
+// Linux's numbers of errors (errno(3)).
+const EPERM: i32 = 1;
+
+const EINTR: i32 = 4;
+
+const EBADF: i32 = 9;
+
+const EAGAIN: i32 = 11;
+
+const EACCES: i32 = 13;
+
+const EINVAL: i32 = 22;
+
+const ENOTSOCK: i32 = 88;
+
+const EMSGSIZE: i32 = 90;
+
+const EADDRNOTAVAIL: i32 = 99;
+
+const ENETDOWN: i32 = 100;
+
+const ENETUNREACH: i32 = 101;
+
+const ENOBUFS: i32 = 105;
+
+const ECONNREFUSED: i32 = 111;
+
+const EHOSTUNREACH: i32 = 113;
+
+#[test]
+fn what_the_network_loses_passes_and_a_socket_of_no_use_lasts(rt: HostRuntime) {
+    let rows = [
+        (EINTR, Trouble::Interrupted),
+        (EAGAIN, Trouble::Waits),
+        (EPERM, Trouble::Passes),
+        (EACCES, Trouble::Passes),
+        (EMSGSIZE, Trouble::Passes),
+        (EADDRNOTAVAIL, Trouble::Passes),
+        (ENETDOWN, Trouble::Passes),
+        (ENETUNREACH, Trouble::Passes),
+        (ENOBUFS, Trouble::Passes),
+        (ECONNREFUSED, Trouble::Passes),
+        (EHOSTUNREACH, Trouble::Passes),
+        (EBADF, Trouble::Lasts),
+        (EINVAL, Trouble::Lasts),
+        (ENOTSOCK, Trouble::Lasts),
+    ];
+    for (code, wanted) in rows {
+        assert_eq!(rt; trouble_of(&io::Error::from_raw_os_error(code)), wanted);
+    }
+}
 
 // A packet of one byte.
 fn packet(byte: u8) -> PacketBuf {
@@ -52,17 +105,62 @@ impl Write for Broken {
     }
 }
 
+// A reader and a writer whose every third call gets through: before it a signal came, and a pipe wasn't ready.
+#[derive(Drop)]
+struct Wavering {
+    calls: u8,
+}
+
+impl Wavering {
+    fn waver(&mut self) -> io::Result<()> {
+        self.calls = self.calls.wrapping_add(1);
+        match self.calls % 3 {
+            1 => Err(io::Error::from_raw_os_error(EINTR)),
+            2 => Err(io::Error::from_raw_os_error(EAGAIN)),
+            _ => Ok(()),
+        }
+    }
+}
+
+impl Read for Wavering {
+    fn read(&mut self, buf: &mut [u8]) -> io::Result<usize> {
+        self.waver()?;
+        match buf.first_mut() {
+            Some(first) => {
+                *first = self.calls;
+                Ok(1)
+            }
+            None => Ok(0),
+        }
+    }
+}
+
+impl Write for Wavering {
+    fn write(&mut self, buf: &[u8]) -> io::Result<usize> {
+        self.waver()?;
+        Ok(buf.len())
+    }
+
+    fn flush(&mut self) -> io::Result<()> {
+        Ok(())
+    }
+}
+
 #[test]
 fn a_source_over_a_reader_gives_its_bytes_in_order_and_fails_where_it_does(
     rt: HostRuntime,
 ) -> Result<(), Fail> {
     let bytes = [7u8, 1, 4, 1, 30];
-    let mut source = StdSource::new(bytes.as_slice());
+    let mut source = StdSource::new(&rt, bytes.as_slice());
     let (answers, all) = drained(rt.alloc(), &mut source)?;
     assert_eq!(rt; answers, [Ok(3), Ok(2), Ok(0)]);
     assert_eq!(rt; all.bytes(), bytes.as_slice());
-    let (answers, _) = drained(rt.alloc(), &mut StdSource::new(Broken))?;
+    let (answers, _) = drained(rt.alloc(), &mut StdSource::new(&rt, Broken))?;
     assert_eq!(rt; answers, [Err(Failed); 3]);
+    let mut wavering = Wavering { calls: 0 };
+    let (answers, all) = drained(rt.alloc(), &mut StdSource::new(&rt, &mut wavering))?;
+    assert_eq!(rt; answers, [Ok(1), Ok(1), Ok(1)]);
+    assert_eq!(rt; all.bytes(), [3u8, 6, 9].as_slice());
     Ok(())
 }
 
@@ -73,12 +171,14 @@ fn filled<K: Sink>(sink: &mut K) -> (Result<usize, Failed>, Result<usize, Failed
 
 #[test]
 fn a_sink_over_a_writer_takes_what_is_written_and_fails_where_it_does(rt: HostRuntime) {
-    let mut sink = StdSink::new(Vec::new(rt.alloc()));
+    let mut sink = StdSink::new(&rt, Vec::new(rt.alloc()));
     assert_eq!(rt; filled(&mut sink), (Ok(3), Ok(2)));
     assert_eq!(rt;
-        filled(&mut StdSink::new(Broken)),
+        filled(&mut StdSink::new(&rt, Broken)),
         (Err(Failed), Err(Failed))
     );
+    let wavering = Wavering { calls: 0 };
+    assert_eq!(rt; filled(&mut StdSink::new(&rt, wavering)), (Ok(3), Ok(2)));
 }
 
 // What a receive answers, and the first byte of the buffer, which held 9 before.
@@ -111,7 +211,7 @@ fn heard_soon<L: Link>(link: &mut L) -> (Result<bool, Failed>, Option<u8>) {
 }
 
 #[test]
-fn a_link_over_udp_hears_its_peer_alone_and_misses_nobody_that_is_not_there(
+fn a_link_over_udp_hears_its_peer_alone_and_outlasts_one_that_goes_and_comes_back(
     rt: HostRuntime,
 ) -> Result<(), Fail> {
     let (far, _, peer) = open(&rt)?;
@@ -139,9 +239,16 @@ fn a_link_over_udp_hears_its_peer_alone_and_misses_nobody_that_is_not_there(
     }
     assert_eq!(rt; long.bytes(), [3u8; 2048].as_slice());
     drop(far);
-    assert_eq!(rt; link.send(&packet(8)), Ok(()));
-    assert_eq!(rt; heard(&mut link), (Ok(false), Some(9)));
-    assert_eq!(rt; link.send(&packet(8)), Ok(()));
+    for _ in 0..3 {
+        assert_eq!(rt; link.send(&packet(8)), Ok(()));
+        assert_eq!(rt; heard(&mut link), (Ok(false), Some(9)));
+    }
+    let far = UdpSocket::bind(&rt, SocketAddr::from((Ipv4Addr::LOCALHOST, peer.port)))?;
+    assert_eq!(rt; link.send(&packet(6)), Ok(()));
+    assert_eq!(rt; far.recv_from(&mut buf)?, (1, at));
+    assert_eq!(rt; buf[0], 6);
+    far.send_to(&[5], at)?;
+    assert_eq!(rt; heard_soon(&mut link), (Ok(true), Some(5)));
     ports.back(link);
     Ok(())
 }

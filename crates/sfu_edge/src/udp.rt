@@ -4,15 +4,21 @@ ghost use Rattle.sfu_base.specs.Faults.{CountsFaults, HasCause};
 ghost use Rattle.sfu_base.specs.Links.{FillsOnlyWhere, after_receive, after_send};
 ghost use Rattle.sfu_base.specs.Ports.{after_bind, tells_nothing_yet};
 
+use crate::trouble::{Trouble, trouble_of};
 use sfu_base::{Address, Failed, Link, PacketBuf, Ports};
-use std::io::ErrorKind;
 use std::net::{Ipv4Addr, Net, SocketAddr, SocketAddrV4, UdpSocket};
 use std::time::Duration;
 use std::{io, thread, time};
 
-/// How long a receive waits for a datagram, in microseconds. A packet waits for its subscriber's receive as for its publisher's, so twice this
-/// stays below a millisecond.
+/// How long a receive of a port in use waits for a datagram, in microseconds. A packet waits for its subscriber's receive as for its publisher's,
+/// so twice this stays below a millisecond.
 const RECEIVE_WAIT: u64 = 400;
+
+/// How long a receive of a quiet port waits, in microseconds: no more than 5 milliseconds with what the system adds to a sleep.
+const QUIET_WAIT: u64 = 4500;
+
+/// After how many receives in a row that brought nothing, with nothing sent between them, a port is quiet: some second.
+const QUIET_AFTER: u32 = 2000;
 
 /// How long a send waits for room in the system's buffer before it tries again, in milliseconds.
 const SEND_WAIT: u64 = 1;
@@ -26,12 +32,16 @@ const SEND_TRIES: u32 = 100;
 /// How many bytes of a datagram are seen.
 const DATAGRAM_ROOM: usize = 2048;
 
-/// A link over a UDP socket, which hears its peer alone. It doesn't connect the socket, so a peer that isn't there is no fault.
+/// A link over a UDP socket, which hears its peer alone. The socket is connected to the peer, so that the system drops what strangers send; where
+/// no way leads to the peer yet, that is tried again with each send. What the network loses is no fault.
 #[derive(Drop)]
 pub struct UdpLink<'a, R> {
     system: &'a R,
     socket: UdpSocket,
     peer: SocketAddr,
+    is_connected: bool,
+    // how many receives in a row brought nothing, with nothing sent between them
+    idle: u32,
     room: [u8; DATAGRAM_ROOM],
     faults: u64,
 }
@@ -44,10 +54,14 @@ impl<'a, R: Net + time::Clock> UdpLink<'a, R> {
     {
         let socket = UdpSocket::bind(system, socket_address(local))?;
         socket.set_nonblocking(true)?;
+        let peer = socket_address(peer);
+        let is_connected = connects(&socket, peer)?;
         Ok(UdpLink {
             system,
             socket,
-            peer: socket_address(peer),
+            peer,
+            is_connected,
+            idle: 0,
             room: [0; DATAGRAM_ROOM],
             faults: 0,
         })
@@ -59,34 +73,71 @@ impl<'a, R: Net + time::Clock> UdpLink<'a, R> {
         ensures faults { self.new.faults ≡ self.old.faults }
     {
         if let Some(count) = poll(&self.socket, self.peer, &mut self.room)? {
+            self.idle = 0;
             return Ok(Some(count));
         }
-        thread::sleep(self.system, Duration::from_micros(RECEIVE_WAIT));
-        poll(&self.socket, self.peer, &mut self.room)
+        let is_quiet = self.idle >= QUIET_AFTER;
+        let wait = if is_quiet { QUIET_WAIT } else { RECEIVE_WAIT };
+        thread::sleep(self.system, Duration::from_micros(wait));
+        let found = poll(&self.socket, self.peer, &mut self.room)?;
+        self.idle = if found.is_some() {
+            0
+        } else {
+            self.idle.saturating_add(1)
+        };
+        Ok(found)
     }
 
-    // Hands the bytes to the system, and tries again where its buffer is full.
-    fn post(&self, bytes: &[u8]) -> io::Result<()> {
-        for _ in 1..SEND_TRIES {
-            match self.socket.send_to(bytes, self.peer) {
+    // Hands the bytes to the system. An error that an earlier datagram met on its way may be told in place of sending this one, so that it is tried
+    // once more; after that, and where the system's buffer stays full, it is lost.
+    fn post(&mut self, bytes: &[u8]) -> io::Result<()>
+        ensures faults { self.new.faults ≡ self.old.faults }
+    {
+        self.idle = 0;
+        if !self.is_connected {
+            self.is_connected = connects(&self.socket, self.peer)?;
+        }
+        let mut is_told = false;
+        for _ in 0..SEND_TRIES {
+            match self.hand_over(bytes) {
                 Ok(_) => return Ok(()),
-                Err(error) => match error.kind() {
-                    ErrorKind::WouldBlock => thread::sleep(
-                        self.system,
-                        Duration::from_millis(SEND_WAIT),
-                    ),
-                    ErrorKind::Interrupted => {}
-                    _ => return Err(error),
+                Err(error) => match trouble_of(&error) {
+                    Trouble::Interrupted => {}
+                    Trouble::Waits => {
+                        thread::sleep(self.system, Duration::from_millis(SEND_WAIT))
+                    }
+                    Trouble::Passes if is_told => return Ok(()),
+                    Trouble::Passes => is_told = true,
+                    Trouble::Lasts => return Err(error),
                 },
             }
         }
-        self.socket.send_to(bytes, self.peer)?;
         Ok(())
+    }
+
+    // One send.
+    fn hand_over(&self, bytes: &[u8]) -> io::Result<usize> {
+        if self.is_connected {
+            self.socket.send(bytes)
+        } else {
+            self.socket.send_to(bytes, self.peer)
+        }
+    }
+}
+
+// Whether the socket is connected to the peer now; it isn't where no way leads there yet.
+fn connects(socket: &UdpSocket, peer: SocketAddr) -> io::Result<bool> {
+    match socket.connect(peer) {
+        Ok(()) => Ok(true),
+        Err(error) => match trouble_of(&error) {
+            Trouble::Lasts => Err(error),
+            _ => Ok(false),
+        },
     }
 }
 
 // The length of the peer's next datagram, which then stands at the front of the room; none where none is there now. What strangers sent
-// is passed over.
+// before the socket was connected is passed over, and so is what an earlier datagram met on its way.
 fn poll(socket: &UdpSocket, peer: SocketAddr, room: &mut [u8]) -> io::Result<Option<usize>>
     ensures { IfOk result (λ found. IfSome found (λ count. count ≤ length room.new)) }
 {
@@ -97,10 +148,10 @@ fn poll(socket: &UdpSocket, peer: SocketAddr, room: &mut [u8]) -> io::Result<Opt
                     return Ok(Some(count));
                 }
             }
-            Err(error) => match error.kind() {
-                ErrorKind::WouldBlock => return Ok(None),
-                ErrorKind::Interrupted => {}
-                _ => return Err(error),
+            Err(error) => match trouble_of(&error) {
+                Trouble::Waits => return Ok(None),
+                Trouble::Interrupted | Trouble::Passes => {}
+                Trouble::Lasts => return Err(error),
             },
         }
     }
@@ -116,7 +167,7 @@ impl<'a, R: Net + time::Clock> Link for UdpLink<'a, R> {
 
     ghost faults = { λ s. s.faults };
 
-    /// Waits about half a millisecond, and at most 5, where no datagram of the peer's is there.
+    /// Waits about half a millisecond, and at most 5 where nothing came or went for a second, while no datagram of the peer's is there.
     fn receive(&mut self, buf: &mut PacketBuf) -> Result<bool, Failed>
         ensures buffer { FillsOnlyWhere result buf.old buf.new }
         ensures told { None ≡ after_receive result buf.new None }
@@ -137,7 +188,7 @@ impl<'a, R: Net + time::Clock> Link for UdpLink<'a, R> {
         }
     }
 
-    /// A full buffer of the system is waited for, about 100 milliseconds at most.
+    /// A full buffer of the system is waited for, about 100 milliseconds at most; then, and where the network doesn't take the datagram, it is lost.
     fn send(&mut self, packet: &PacketBuf) -> Result<(), Failed>
         ensures told { None ≡ after_send result packet.now None }
         ensures cause { HasCause (⟦<UdpLink<'a, R> as Link>⟧.faults self.old) (⟦<UdpLink<'a, R> as Link>⟧.faults self.new) result }

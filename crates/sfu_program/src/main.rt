@@ -27,8 +27,8 @@ fn main(rt: HostRuntime) -> ExitCode {
     let Ok(words) = arguments(&rt) else {
         return ExitCode::from(6);
     };
-    let mut source = StdSource::new(rt.stdin());
-    let mut sink = StdSink::new(rt.stdout());
+    let mut source = StdSource::new(&rt, rt.stdin());
+    let mut sink = StdSink::new(&rt, rt.stdout());
     let mut ports = UdpPorts::new(&rt);
     let clock = SysClock::new(&rt);
     ExitCode::from(sfu::sfu(
