@@ -317,18 +317,10 @@ impl FrameTable {
     }
 }
 
-// How many frames back each frame is that a descriptor refers to.
-fn references(descriptor: &Descriptor) -> &[u16]
-    requires { descriptor.now.ref_count ≤ 16 }
-    ensures { result.now ≡ take descriptor.now.ref_count descriptor.now.refs }
-{
-    &descriptor.refs[..descriptor.ref_count as usize]
-}
-
-// Whether a descriptor begins a key frame: it carries a structure, has the start bit and refers to nothing.
+// Whether a descriptor begins an epoch: it begins a key frame.
 fn begins_epoch(descriptor: &Descriptor) -> bool
     requires { descriptor.now.ref_count ≤ 16 }
     ensures { (force : Option TemplateStructure) → result ≡ is_key_start (said_of force descriptor.now) }
 {
-    descriptor.structure.is_some() && descriptor.start && references(descriptor).is_empty()
+    descriptor.begins_key_frame()
 }
