@@ -1,3 +1,4 @@
+ghost use Rattle.std.specs.Prelude.{◌≡◌, ◌≤◌, ◌&&◌, ◌==◌, is_some, length, take};
 ghost use Rattle.dd_descriptor.specs.Seen.{IsBlank};
 
 use dd_structure::Structure;
@@ -70,6 +71,22 @@ impl Descriptor {
             refs: [0; 16],
             links: [0; 32],
         }
+    }
+
+    // How many frames back each frame is that this one refers to.
+    fn references(&self) -> &[u16]
+        requires { self.now.ref_count ≤ 16 }
+        ensures { result.now ≡ take self.now.ref_count self.now.refs }
+    {
+        &self.refs[..self.ref_count as usize]
+    }
+
+    /// Whether it begins a key frame: it carries a structure, is the first of its frame, and the frame refers to nothing (own rule).
+    pub fn begins_key_frame(&self) -> bool
+        requires { self.now.ref_count ≤ 16 }
+        ensures { result ≡ (is_some self.now.structure && (self.now.start && length (take self.now.ref_count self.now.refs) == 0)) }
+    {
+        self.structure.is_some() && self.start && self.references().is_empty()
     }
 }
 

@@ -141,7 +141,7 @@ fn held_body(
 }
 
 /// What a structure keeps, where one is in force.
-pub fn force_is_well_formed(force: Option<&Structure>)
+pub fn lemma_force_is_well_formed(force: Option<&Structure>)
     ensures { IfSome (option_copied force.entry) IsWellFormed }
 {
     if let Some(structure) = force {
@@ -195,7 +195,7 @@ pub fn read_into(
     ensures writable { OnOk result (IsWritableBy (holding out.new.structure (option_copied force.entry)) (content_of (option_copied force.entry) out.new)) }
     ensures few { OnOk result (out.new.ref_count ≤ 16) }
 {
-    force_is_well_formed(force);
+    lemma_force_is_well_formed(force);
     fill(bytes, force, out)
 }
 

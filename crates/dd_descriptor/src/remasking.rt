@@ -17,7 +17,7 @@ use crate::fault::DdFault;
 use crate::parts::Flags;
 use crate::reading::fields::{flags, head};
 use crate::reading::frame::{fill_frame, index};
-use crate::reading::{force_is_well_formed, mask, put_carried};
+use crate::reading::{lemma_force_is_well_formed, mask, put_carried};
 use crate::writing::MOST;
 use crate::writing::fields::put_flags;
 use dd_bits::{BitReader, BitWriter, NoRoom};
@@ -218,6 +218,6 @@ pub fn remask(
     ensures reads { (c : Content) → descriptor_at bytes.now (option_copied force.entry) ≡ Ok c → OnOk result (descriptor_at out.new (option_copied force.entry) ≡ Ok (with_new_mask c mask)) }
     ensures unchanged { OnErr result (out.new ≡ out.old) }
 {
-    force_is_well_formed(force);
+    lemma_force_is_well_formed(force);
     remask_lowest(bytes, force, mask, &mut RemaskRoom::new(), out)
 }

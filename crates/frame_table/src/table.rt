@@ -124,7 +124,7 @@ impl FrameTable {
         ensures force { self.new ≡ seen_by self.old descriptor.now }
         ensures near { self.new.newest ≤ self.old.newest + 65536 }
     {
-        self.is_well_formed();
+        self.lemma_is_well_formed();
         let key = begins_epoch(descriptor);
         match &descriptor.structure {
             None => {
@@ -164,7 +164,7 @@ impl FrameTable {
         ensures head { result ≡ head_of (said_of self.now.structure first.now) }
         ensures references { HasReferences result }
     {
-        self.is_well_formed();
+        self.lemma_is_well_formed();
         let key = begins_epoch(first);
         self.fields(first, key)
     }
@@ -221,8 +221,8 @@ impl FrameTable {
         }
     }
 
-    // The structure in force is one that bits spell.
-    fn is_well_formed(&self)
+    // A lemma, which does nothing: the structure in force is one that bits spell.
+    fn lemma_is_well_formed(&self)
         ensures { IfSome self.now.structure IsWellFormed }
     {
         let _ = &self.structure;
@@ -317,18 +317,10 @@ impl FrameTable {
     }
 }
 
-// How many frames back each frame is that a descriptor refers to.
-fn references(descriptor: &Descriptor) -> &[u16]
-    requires { descriptor.now.ref_count ≤ 16 }
-    ensures { result.now ≡ take descriptor.now.ref_count descriptor.now.refs }
-{
-    &descriptor.refs[..descriptor.ref_count as usize]
-}
-
-// Whether a descriptor begins a key frame: it carries a structure, has the start bit and refers to nothing.
+// Whether a descriptor begins an epoch: it begins a key frame.
 fn begins_epoch(descriptor: &Descriptor) -> bool
     requires { descriptor.now.ref_count ≤ 16 }
     ensures { (force : Option TemplateStructure) → result ≡ is_key_start (said_of force descriptor.now) }
 {
-    descriptor.structure.is_some() && descriptor.start && references(descriptor).is_empty()
+    descriptor.begins_key_frame()
 }

@@ -95,6 +95,8 @@ impl OutRing {
         ensures gives { (h : History) → IsAfter self.old h
             → IfOk result (λ n. Gives h h.takes (record { number = n; bytes = out.new })) }
         ensures empty { (h : History) → IsAfter self.old h → (result ≡ Err Refusal.Empty) ↔ (h.takes ≡ length h.pushes) }
+        ensures reads { OnOk result (first_fault out.new ≡ None) }
+        ensures fits { OnOk result (length out.new ≤ 1536) }
         ensures unchanged { OnErr result (self.new ≡ self.old) }
     {
         if self.queued == 0 {
@@ -122,6 +124,8 @@ impl OutRing {
         ensures first_bytes { (h : History) → IsAfter self.now h
             → OnOk result (GaveLately h (record { number = seq; bytes = out.new })) }
         ensures not_kept { (h : History) → IsAfter self.now h → OnErr result (GaveNoneLately h seq) }
+        ensures reads { OnOk result (first_fault out.new ≡ None) }
+        ensures fits { OnOk result (length out.new ≤ 1536) }
     {
         let takes_ago = self.next.wrapping_sub(seq);
         if takes_ago == 0 || takes_ago > self.kept {
@@ -183,7 +187,9 @@ fn give(
     requires place { place < length places.now.items }
     requires below { AllByRecursion (IsBelow 1536) places.now.items }
     requires slots { length slots.now ≡ 1536 }
-    ensures { SendsFrom (packets_in slots.now places.now.items) place seq ssrc out.new }
+    ensures sends { SendsFrom (packets_in slots.now places.now.items) place seq ssrc out.new }
+    ensures reads { first_fault out.new ≡ None }
+    ensures fits { length out.new ≤ 1536 }
 {
     if let Some(slot) = places.get(place) {
         slots[usize::from(*slot)].send(seq, ssrc, out);

@@ -55,9 +55,11 @@ impl Slot {
         self.marker = marker;
     }
 
-    /// Copies the packet out and gives it this sequence number and SSRC, and its marker.
+    /// Copies the packet out and gives it this sequence number and SSRC, and its marker. RTP still reads it, and it is as long.
     pub fn send(&self, seq: u16, ssrc: u32, out: &mut PacketBuf)
-        ensures { out.new ≡ (sent seq ssrc self.now).bytes }
+        ensures sent { out.new ≡ (sent seq ssrc self.now).bytes }
+        ensures reads { first_fault out.new ≡ None }
+        ensures fits { length out.new ≤ 1536 }
     {
         out.fill(&self.room[..self.count]);
         rewrite(out, seq, ssrc, self.marker);

@@ -1,9 +1,18 @@
 // What the definitions say together.
 
-ghost use Rattle.std.specs.Prelude.{ℕ};
+ghost use Rattle.std.specs.Prelude.{◌≡◌, ℕ, List, Ok, Option, Some, is_some};
+ghost use Rattle.sfu_base.specs.Bytes.{AreBytes};
 ghost use Rattle.forwarding_model.specs.frames.Reading.{IsFormat};
+ghost use Rattle.dd_structure.specs.TemplateStructure.{TemplateStructure};
+ghost use Rattle.dd_descriptor.specs.Content.{Content};
+ghost use Rattle.dd_descriptor.specs.Laid.{IsDescriptor};
+ghost use Rattle.dd_descriptor.specs.Reading.{descriptor_at};
+ghost use Rattle.dd_descriptor.specs.Remasking.{remasked as remasked_bits};
 ghost use Rattle.packet_format.specs.Formats.{format_of};
 ghost use Rattle.packet_format.specs.Packets.{PacketsAreSent, RestsSayTheSame};
+ghost use Rattle.packet_format.specs.Remasked.{new_value};
+ghost use Rattle.packet_format.specs.WholeBytes.{whole_bytes};
+ghost use Rattle.packet_format.specs.Telling.{tells_in};
 ghost use Rattle.packet_format.specs.RemaskedReads.{CarriedStructuresDecide, FirstPacketsShow, PacketsAreRemasked, RemaskedPacketsShow, RestsAreRemasked, RestsTell};
 
 /// Whatever the id, its packets are read by a format that has all the facts on which the laws of forwarding rest.
@@ -26,4 +35,16 @@ pub fn remasked_packets_show_the_new_mask()
     ensures carried { CarriedStructuresDecide }
     ensures rests { RestsAreRemasked }
     ensures tells { RestsTell }
+{}
+
+/// A law: a descriptor that reads tells which decode targets there are exactly where it has a mask: one that it carries, or that of all the
+/// targets of a structure that it carries.
+pub fn descriptors_tell_their_mask()
+    ensures { (bytes : List ℕ) (force : Option TemplateStructure) (c : Content) → AreBytes bytes → descriptor_at bytes force ≡ Ok c → tells_in (Some bytes) ≡ is_some c.mask }
+{}
+
+/// A law: the new value of a packet's element is the descriptor with another mask, as the bits of descriptors are laid end to end, and zero
+/// bits to a whole byte.
+pub fn new_values_are_remasked_descriptors()
+    ensures { (bytes : List ℕ) (force : Option TemplateStructure) (c : Content) (mask : ℕ) → (d : IsDescriptor bytes force c) → new_value force mask (Some bytes) ≡ Some (whole_bytes (remasked_bits d mask)) }
 {}

@@ -104,12 +104,12 @@ fn fill_value(
     ensures err { OnErr result (at_most 255 (new_value (option_copied force.entry) mask (Some descriptor.now)) ≡ None) }
 {
     let result = remask_lowest(descriptor, force, mask, room, out);
-    are_bytes(out.bytes());
+    lemma_are_bytes(out.bytes());
     result
 }
 
-/// What bytes are.
-fn are_bytes(bytes: &[u8])
+/// A lemma, which does nothing: what bytes are.
+fn lemma_are_bytes(bytes: &[u8])
     ensures { AreBytes bytes.now }
 {
     let _ = bytes;

@@ -85,18 +85,10 @@ fn is_in_force(structure: &Structure, force: Option<&Structure>) -> bool
     }
 }
 
-/// How many frames back each frame is that a descriptor refers to.
-fn references(descriptor: &Descriptor) -> &[u16]
-    requires { descriptor.now.ref_count ≤ 16 }
-    ensures { result.now ≡ take descriptor.now.ref_count descriptor.now.refs }
-{
-    &descriptor.refs[..descriptor.ref_count as usize]
-}
-
 /// Whether a descriptor begins a key frame: it carries a structure, has the start bit and refers to nothing.
 pub fn begins_epoch(descriptor: &Descriptor) -> bool
     requires { descriptor.now.ref_count ≤ 16 }
     ensures { (force : Option TemplateStructure) → result ≡ is_key_start (said (content_of force descriptor.now)) }
 {
-    descriptor.structure.is_some() && descriptor.start && references(descriptor).is_empty()
+    descriptor.begins_key_frame()
 }

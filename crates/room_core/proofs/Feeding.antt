@@ -33,7 +33,8 @@ use Rattle.cause_book.proofs.Modelled.{keeps_causes}
 use Rattle.target_selector.specs.Seen.{Seen as Selecting}
 use Rattle.track_core.specs.Track.{Seen}
 use Rattle.target_selector.specs.Stands.{IsAboveAll, StandsFor, is_opening_at}
-use Rattle.room_core.specs.Sent.{mask_for, opens, sent}
+use Rattle.room_core.specs.Sent.{opens, sent}
+use Rattle.target_selector.specs.Masks.{mask_for}
 use Rattle.room_core.specs.declared.feed.Feed.{Feed}
 use Rattle.room_core.specs.Follows.{Follows, FollowsFrame, FollowsPacket, Happened, IsRingOf, PushesFrame, frame_by, pushed_all, tells_by}
 use Rattle.room_core.proofs.Rings.{pushed_is, ring_grows}

@@ -1,4 +1,4 @@
--- The mask that a subscriber is told has no bit past the last target; and a frame opens its target exactly where the selector says so.
+-- A frame opens its target exactly where the selector says so.
 use Rattle.std.proofs.Common.{◌≡◌, ◌<◌, ◌≤◌, ℕ, zero, suc, ◌+◌, ◌*◌, ◌^◌, Bool, true, false, cond, List, [], ◌∷◌, ◌++◌, inl, inr, refl, sym, ap, subst, arith, Option, Some, None}
 use Rattle.std.proofs.lemmas.Bool.{eq-eqb, ne_eqb}
 use Rattle.std.proofs.lemmas.Nat.{pow-add, pow_pos}
@@ -20,35 +20,7 @@ use Rattle.forwarding_laws.proofs.Members.{each_member}
 use Rattle.forwarding_laws.proofs.Openings.{openings_hold}
 use Rattle.target_selector.specs.Stands.{is_opening_at, is_something}
 use Rattle.room_core.specs.Follows.{Happened}
-use Rattle.room_core.specs.Sent.{mask_for, mask_within, opens, targets_within}
-
--- ---- the mask
-
-two_pow : (n : ℕ) → 2 ^ suc n ≡ 2 * 2 ^ n
-two_pow n = let one : suc n ≡ n + 1 = omega arith in rw one (omega (arith, pow-add 2 n 1))
-
-pub targets_small : (most : Wish) (f : FrameMeaning) (n : ℕ) → targets_within most f n < 2 ^ n
-targets_small most f zero = omega arith
-targets_small most f (suc n) = go (is_allowed most f n) (targets_small most f n)
-  where
-    go : (b : Bool) → targets_within most f n < 2 ^ n → targets_within most f n + cond b (2 ^ n) 0 < 2 ^ suc n
-    go true few = omega (arith, few, two_pow n)
-    go false few = omega (arith, few, two_pow n)
-
-raised : (t : ℕ) → t < 32 → 2 ^ suc t ≤ 2 ^ 32
-raised t few = pow-le-pow_right {n = 2} (omega arith) {i = suc t} {j = 32} (omega (arith, few))
-
--- one more bit stands in 32
-pub next_fits : (most : Wish) (f : FrameMeaning) (t : ℕ) → t < 32 → targets_within most f (suc t) < 2 ^ 32
-next_fits most f t few = omega (arith, targets_small most f (suc t), raised t few)
-
-pub mask_small : (f : FrameMeaning) (target : Option ℕ) → mask_for f target < 2 ^ f.target_count
-mask_small f None = pow_pos f.target_count
-mask_small f (Some target) = go (layers f target)
-  where
-    go : (o : Option Wish) → mask_within f o < 2 ^ f.target_count
-    go None = pow_pos f.target_count
-    go (Some most) = targets_small most f f.target_count
+use Rattle.room_core.specs.Sent.{opens}
 
 -- ---- the opening
 

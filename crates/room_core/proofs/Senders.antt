@@ -23,9 +23,10 @@ use Rattle.packet_format.specs.RemaskedReads.{telling}
 use Rattle.packet_format.proofs.Remasked.{first_shows, packets_remasked}
 use Rattle.packet_format.proofs.RemaskedRests.{rests_remasked}
 use Rattle.room_core.specs.Formats.{format_of}
-use Rattle.room_core.specs.Sent.{layered_sent, mask_for, opens, remasked_first, sent, tells_first}
+use Rattle.room_core.specs.Sent.{layered_sent, opens, remasked_first, sent, tells_first}
+use Rattle.target_selector.specs.Masks.{mask_for}
 use Rattle.room_core.proofs.CameIn.{CameIn}
-use Rattle.room_core.proofs.Masks.{mask_small}
+use Rattle.target_selector.proofs.TargetBits.{mask_small}
 use Rattle.room_core.proofs.SentMarked.{with_told}
 use Rattle.room_core.proofs.Stepping.{format_is}
 

@@ -17,7 +17,8 @@ use Rattle.out_ring.specs.Ring.{Ring}
 use Rattle.track_core.specs.declared.layers.Layers.{Layers}
 use Rattle.track_core.specs.Track.{Seen, structure_in}
 use Rattle.room_core.specs.Follows.{PushesFrame, frame_by, pushed_all, remasked_by, tells_by}
-use Rattle.room_core.specs.Sent.{layered_sent, mask_for, opens, remasked_first, sent, tells_first}
+use Rattle.room_core.specs.Sent.{layered_sent, opens, remasked_first, sent, tells_first}
+use Rattle.target_selector.specs.Masks.{mask_for}
 use Rattle.room_core.specs.Stepping.{kind_by}
 
 -- the frame with the packets that are sent of it, but for the mark

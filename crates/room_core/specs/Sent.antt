@@ -1,36 +1,19 @@
 -- What is sent of a frame of a track of this kind to a subscriber with a target, before it is numbered. Own rules, over AV1 RTP payload
 -- format, Appendix A (active_decode_targets_bitmask). This is the one place that says it: all that is told of a subscriber cites it, and so
 -- does the code that queues a frame. On a plain track there are no frames.
-use Rattle.std.specs.Prelude.{ℕ, zero, suc, ◌+◌, ◌^◌, ◌==◌, ◌||◌, Bool, false, if◌then◌else◌, List, [], ◌∷◌, Option, None, Some}
+use Rattle.std.specs.Prelude.{ℕ, ◌==◌, ◌||◌, Bool, false, if◌then◌else◌, List, [], ◌∷◌, Option, None, Some}
 use Rattle.sfu_base.specs.declared.call.Kind.{Kind}
 use Rattle.sfu_base.specs.declared.call.Kind.TheVariants.{Plain, Layered}
 use Rattle.sfu_base.specs.declared.frame.FrameMeaning.{FrameMeaning}
-use Rattle.sfu_base.specs.declared.frame.Wish.{Wish}
 use Rattle.forwarding_model.specs.declared.target.CurrentTarget.{CurrentTarget}
 use Rattle.forwarding_model.specs.declared.target.CurrentTarget.TheVariants.{Open, Closed}
-use Rattle.forwarding_model.specs.forwarding.Targets.{is_allowed, layers}
 use Rattle.forwarding_model.specs.forwarding.Selection.{open_target}
 use Rattle.forwarding_model.specs.forwarding.Timeline.{Packet}
 use Rattle.forwarding_model.specs.forwarding.Outgoing.{Sender, send_marked}
 use Rattle.dd_structure.specs.TemplateStructure.{TemplateStructure}
+use Rattle.target_selector.specs.Masks.{mask_for}
 use Rattle.packet_format.specs.Remasked.{remasked_packet}
 use Rattle.packet_format.specs.Telling.{tells}
-
--- ---- the mask of the targets that the subscriber gets
-
--- of the targets below n those that the frame's mask has, and whose layers exist and are both at most these; bit t says it of target t
-abbrev pub targets_within : Wish → FrameMeaning → ℕ → ℕ
-targets_within most f zero = 0
-targets_within most f (suc t) = targets_within most f t + (if is_allowed most f t then 2 ^ t else 0)
-
-abbrev pub mask_within : FrameMeaning → Option Wish → ℕ
-mask_within f None = 0
-mask_within f (Some most) = targets_within most f f.target_count
-
--- the layers of the subscriber's own target are the most that it gets
-abbrev pub mask_for : FrameMeaning → Option ℕ → ℕ
-mask_for f None = 0
-mask_for f (Some target) = mask_within f (layers f target)
 
 -- ---- the first packet
 

@@ -5,14 +5,13 @@ ghost use Rattle.sfu_base.specs.Frame.{IsValid};
 ghost use Rattle.room_core.specs.Follows.{FollowsAim, FollowsFrame, FollowsPacket, FollowsTake, HasNoTarget, IsFed, IsFresh, Resends, Tells, tells_by};
 ghost use Rattle.room_core.specs.Told.{TellsFirst};
 
-use crate::mask::mask_for;
 use crate::sending::{own_marker, push_from, push_remasked};
 use crate::told::Told;
 use cause_book::CauseBook;
 use out_ring::OutRing;
 use sfu_base::{FrameMeaning, Kind, NoMemory, PacketBuf, Refusal, Verdict, Wish};
 use std::alloc::Global;
-use target_selector::Selector;
+use target_selector::{Selector, mask_for};
 use track_core::Track;
 
 /// How many packets are queued at most (own rule).

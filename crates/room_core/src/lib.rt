@@ -7,7 +7,6 @@ mod content;
 mod feed;
 mod keep_all;
 mod live;
-mod mask;
 mod note;
 mod passing;
 mod recorder;

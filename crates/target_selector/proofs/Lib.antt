@@ -2,3 +2,4 @@ pub mod Bests
 pub mod Stepping
 pub mod Validity
 pub mod Verdicts
+pub mod TargetBits

@@ -3,6 +3,8 @@
 #![tactic(auto)]
 
 mod decision;
+mod laws;
+mod masks;
 mod opening;
 mod selector;
 mod targets;
@@ -10,5 +12,7 @@ mod targets;
 mod tests;
 mod verdict;
 
+pub use laws::masks_have_the_bits_that_are_got;
+pub use masks::mask_for;
 pub use selector::Selector;
 pub use targets::is_allowed;

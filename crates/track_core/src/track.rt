@@ -102,6 +102,7 @@ impl Track {
         ensures ssrc { IfOk result (λ track. track.ssrc ≡ ssrc) }
         ensures hold { IfOk result (λ track. track.window.hold ≡ hold) }
         ensures kind { IfOk result (λ track. HasKind track.layers kind) }
+        ensures nothing { IfOk result (λ track. track.packets ≡ []) }
     {
         let layers = layers_of(alloc, kind)?;
         Ok(Track {
@@ -262,12 +263,12 @@ impl Track {
         ensures reads { first_fault result.now ≡ None }
         ensures fits { length result.now ≤ 1500 }
     {
-        self.are_taken();
+        self.lemma_are_taken();
         self.packet_at(place)
     }
 
-    // Each packet that the last step made was taken in.
-    fn are_taken(&self)
+    // A lemma, which does nothing: each packet that the last step made was taken in.
+    fn lemma_are_taken(&self)
         ensures { AllByRecursion IsTaken self.now.packets }
     {
         let _ = &self.given;

@@ -12,4 +12,4 @@ returns-clause-full c content d =
 
 pub returns-clause-reads : goal.returns-clause-reads
 returns-clause-reads c content reads =
-    made_reads c.args.bytes.now c.remask_lowest.new.out (option_copied c.args.force) c.args.mask content c.remask_lowest.result c.force_is_well_formed.ensures c.requires c.remask_lowest.ensures.ok reads
+    made_reads c.args.bytes.now c.remask_lowest.new.out (option_copied c.args.force) c.args.mask content c.remask_lowest.result c.lemma_force_is_well_formed.ensures c.requires c.remask_lowest.ensures.ok reads

@@ -16,7 +16,7 @@ where_err (Err e) f p = f p
 pub returns-clause-ok : goal.returns-clause-ok
 returns-clause-ok c =
     on_ok c.remask_lowest-result.result
-    (value_filled c.args.descriptor.now (option_copied c.args.force) c.args.mask c.remask_lowest-result.new.out (subst AreBytes c.bytes.ensures.bytes c.are_bytes.ensures))
+    (value_filled c.args.descriptor.now (option_copied c.args.force) c.args.mask c.remask_lowest-result.new.out (subst AreBytes c.bytes.ensures.bytes c.lemma_are_bytes.ensures))
     c.remask_lowest-result.ensures.ok
 
 pub returns-clause-err : goal.returns-clause-err

@@ -41,7 +41,7 @@ found c =
     let i = c.self.invariant in
     let sends : SendsFrom (packets_in a.slots.items a.places.items) (1536 - (a.queued + (a.next + (65536 - c.args.seq)) % 65536)) c.args.seq a.ssrc c.give.new.out =
     subst (λ (n : ℕ). SendsFrom (packets_in a.slots.items a.places.items) (1536 - n) c.args.seq a.ssrc c.give.new.out) c.from.ensures
-    (subst (λ (slots : List Pushed). SendsFrom (packets_in slots a.places.items) (1536 - c.from.result) c.args.seq a.ssrc c.give.new.out) c.deref.ensures.value c.give.ensures) in
+    (subst (λ (slots : List Pushed). SendsFrom (packets_in slots a.places.items) (1536 - c.from.result) c.args.seq a.ssrc c.give.new.out) c.deref.ensures.value c.give.ensures.sends) in
     subst (λ (r : Ring). find (λ p. p.number == c.args.seq) r.kept ≡ Some (record { number = c.args.seq; bytes = c.give.new.out })) c.self.view_is
     (resend_found (packets_in a.slots.items a.places.items) a.ssrc a.next a.queued a.kept (size_of_places a.slots.items a.places.items ∙ i.places) i.next i.queued i.kept c.args.seq c.give.new.out (omega arith)
     c.if-takes_ago-eq0.false c.if-takes_ago-self.false sends)

@@ -25,7 +25,7 @@ taken_now c =
     let i = c.self.invariant in
     let sends : SendsFrom (packets_in a.slots.items a.places.items) (1536 - a.queued) a.next a.ssrc c.give.new.out =
     subst (λ (n : ℕ). SendsFrom (packets_in a.slots.items a.places.items) (1536 - n) a.next a.ssrc c.give.new.out) c.from.ensures
-    (subst (λ (slots : List Pushed). SendsFrom (packets_in slots a.places.items) (1536 - c.from.result) c.self.inside.next a.ssrc c.give.new.out) c.deref.ensures.value c.give.ensures) in
+    (subst (λ (slots : List Pushed). SendsFrom (packets_in slots a.places.items) (1536 - c.from.result) c.self.inside.next a.ssrc c.give.new.out) c.deref.ensures.value c.give.ensures.sends) in
     let fields = take_fields (packets_in a.slots.items a.places.items) a.ssrc a.next a.queued a.kept (size_of_places a.slots.items a.places.items ∙ i.places) i.next i.queued i.kept c.min-self-inside.result c.give.new.out
     (omega (arith, c.if-self-eq0.false)) c.min-self-inside.ensures sends in
     subst (λ (r : Ring). TakesOne r (ring_of a.ssrc ((a.next + 1) % 65536) c.min-self-inside.result

@@ -1,5 +1,5 @@
 use Rattle.std.proofs.Common.{◌∙◌, ◌||◌, true, false, ap, ap₂, refl, sym, true≢false}
-use Rattle.room_core.specs.Sent.{mask_for}
+use Rattle.target_selector.specs.Masks.{mask_for}
 use Rattle.room_core.proofs.Feeding.{frame_is_withheld, frame_passes}
 use Rattle.room_core.proofs.feed.Feed.pass_frame.Goals as goal
 

@@ -1,6 +1,6 @@
 use Rattle.std.proofs.Common.{arith}
-use Rattle.room_core.proofs.Masks.{next_fits}
-use Rattle.room_core.proofs.mask.targets_within.Goals as goal
+use Rattle.target_selector.proofs.TargetBits.{next_fits}
+use Rattle.target_selector.proofs.masks.targets_within.Goals as goal
 
 pub overflow_add-mask : goal.overflow_add-mask
 overflow_add-mask c =

@@ -1,5 +1,5 @@
 use Rattle.std.proofs.Common.{arith}
-use Rattle.packet_format.proofs.remasking.are_bytes.Goals as goal
+use Rattle.packet_format.proofs.remasking.lemma_are_bytes.Goals as goal
 
 pub returns : goal.returns
 returns c = λ i. omega (arith, c.type_inv.bytes i)

@@ -1,11 +1,11 @@
 // The mask of the decode targets that a subscriber gets (AV1 RTP payload format, Appendix A, active_decode_targets_bitmask; own rule).
 ghost use Rattle.std.specs.Prelude.{◌≡◌, ◌≤◌, ◌<◌, ◌^◌, if◌then◌else◌};
 ghost use Rattle.forwarding_model.specs.forwarding.Targets.{is_allowed};
+ghost use Rattle.target_selector.specs.Masks.{mask_for, mask_within, targets_within};
 ghost use Rattle.target_selector.specs.Targets.{IsBelow};
-ghost use Rattle.room_core.specs.Sent.{mask_for, mask_within, targets_within};
 
+use crate::targets::is_allowed;
 use sfu_base::{FrameMeaning, Wish};
-use target_selector::is_allowed;
 
 /// The mask of the targets that a subscriber with this target gets of a frame: those that the frame's mask has, and whose layers are at most
 /// the target's own. Bit i, the lowest first, is target i.
