@@ -11,7 +11,7 @@ use Rattle.strict_receiver.proofs.Histories.{received_one}
 use Rattle.ivf_recorder.specs.declared.fault.RecordFault.TheVariants as fault
 use Rattle.ivf_recorder.specs.declared.file.IvfFile.{IvfFile}
 use Rattle.ivf_recorder.specs.declared.frame.OpenFrame.{OpenFrame}
-use Rattle.ivf_recorder.specs.declared.recorder.IvfRecorder.{IvfRecorder}
+use Rattle.ivf_recorder.specs.declared.recording.Recording.{Recording}
 use Rattle.ivf_recorder.specs.Added.{Adds, content, timestamp_in}
 use Rattle.ivf_recorder.specs.Elements.{no_elements}
 use Rattle.ivf_recorder.specs.Files.{HasNewest, IsFileOf}
@@ -143,7 +143,7 @@ adds_false timestamp (Some obus) size contents new h = absurd h
 
 -- ---- a packet that was accepted
 
-module _ (mid : IvfRecorder) (history : List (List ℕ)) (packet : List ℕ) (fed : IsFed mid history packet) where
+module _ (mid : Recording) (history : List (List ℕ)) (packet : List ℕ) (fed : IsFed mid history packet) where
   abbrev id : ℕ
   id = mid.receiver.id
 
@@ -214,7 +214,7 @@ module _ (mid : IvfRecorder) (history : List (List ℕ)) (packet : List ℕ) (fe
     unsound_size [] at = ap (λ (o : Option RecordedFrame). size_in (cond (is_some o) frame.structure None)) no_content
     unsound_size (f ∷ frames) at = refl
 
-    pub stands_unsound : (new : IvfRecorder) → new.receiver ≡ mid.receiver → new.fault ≡ Some fault.Obu → IsFileOf new.file (size_over id history) (contents_over id history)
+    pub stands_unsound : (new : Recording) → new.receiver ≡ mid.receiver → new.fault ≡ Some fault.Obu → IsFileOf new.file (size_over id history) (contents_over id history)
         → StandsFor new (history ++ packet ∷ [])
     stands_unsound new receiver faulty file =
         let same_id : new.receiver.id ≡ id = ap (λ x. x.id) receiver in

@@ -17,7 +17,7 @@ use Rattle.ivf_recorder.specs.declared.fault.RecordFault.{RecordFault}
 use Rattle.ivf_recorder.specs.declared.fault.RecordFault.TheVariants as fault
 use Rattle.ivf_recorder.specs.declared.file.IvfFile.{IvfFile}
 use Rattle.ivf_recorder.specs.declared.frame.OpenFrame.{OpenFrame}
-use Rattle.ivf_recorder.specs.declared.recorder.IvfRecorder.{IvfRecorder}
+use Rattle.ivf_recorder.specs.declared.recording.Recording.{Recording}
 use Rattle.ivf_recorder.specs.Elements.{Part, add_elements, elements_over, joined_onto, no_elements, part_of}
 use Rattle.ivf_recorder.specs.Files.{HasNewest, IsFileOf, IsSameBut}
 use Rattle.ivf_recorder.specs.Frames.{AreShort, Gathered, WholeFrame, are_sound, before_fault, content_of, contents_of, contents_over, fault_by, fault_over, gather, gathered_over, size_over, structure_of}
@@ -207,7 +207,7 @@ never true None e = cc
 never true (Some c) e = cc
 
 -- after a fault
-pub feeds_again : (now : IvfRecorder) (history : List (List ℕ)) (packet : List ℕ) (f : RecordFault) → length packet ≤ 2048 → now.fault ≡ Some f → StandsFor now history
+pub feeds_again : (now : Recording) (history : List (List ℕ)) (packet : List ℕ) (f : RecordFault) → length packet ≤ 2048 → now.fault ≡ Some f → StandsFor now history
     → Feeds now.fault now.receiver.id now history packet (Err f)
 feeds_again now history packet f few at stands = go f (sym stands.fault ∙ at) (fault_stays now.receiver.id history packet f (sym stands.fault ∙ at))
   where
@@ -227,7 +227,7 @@ feeds_again now history packet f few at stands = go f (sym stands.fault ∙ at) 
     go fault.NoMemory e stays = absurd (never (are_sound (gathered_over now.receiver.id history).frames) (complaint_over now.receiver.id history) e)
 
 -- the complaint that was answered
-pub feeds_complaint : (new : IvfRecorder) (old_fault : Option RecordFault) (id : ℕ) (history : List (List ℕ)) (packet : List ℕ) (c : Complaint) (f : RecordFault) → f ≡ fault.Complaint c
+pub feeds_complaint : (new : Recording) (old_fault : Option RecordFault) (id : ℕ) (history : List (List ℕ)) (packet : List ℕ) (c : Complaint) (f : RecordFault) → f ≡ fault.Complaint c
     → new.receiver.id ≡ id → new.fault ≡ Some f → IsFileOf new.file (size_over id history) (contents_over id history) → are_sound (gathered_over id history).frames ≡ true
     → complaint_over id (history ++ packet ∷ []) ≡ Some c → AreShort (history ++ packet ∷ []) → Feeds old_fault id new history packet (Err f)
 feeds_complaint new old_fault id history packet c f is same faulty file sound complaint short =

@@ -4,14 +4,14 @@ use Rattle.sfu_base.specs.declared.NoMemory.{NoMemory}
 use Rattle.std.proofs.lemmas.List.{length-append, take_at}
 use Rattle.strict_receiver.specs.Receivers.{Seen, StandsFor as ReceiverStandsFor, complaint_over}
 use Rattle.ivf_recorder.specs.declared.fault.RecordFault.{RecordFault}
-use Rattle.ivf_recorder.specs.declared.recorder.IvfRecorder.{IvfRecorder}
+use Rattle.ivf_recorder.specs.declared.recording.Recording.{Recording}
 use Rattle.ivf_recorder.specs.Files.{IsFileOf}
 use Rattle.ivf_recorder.specs.Frames.{are_sound, contents_over, fault_over, gathered_over, size_over}
 use Rattle.ivf_recorder.specs.Recorders.{Feeds, Holds}
 use Rattle.ivf_recorder.specs.Taken.{HasTaken, IsReadable}
 use Rattle.ivf_recorder.proofs.SmallUnits.{packet_pushed}
 use Rattle.ivf_recorder.proofs.Feeding.{back_items, feeds_again, feeds_complaint, holds_back, holds_more, reads, same_file, sound_before}
-use Rattle.ivf_recorder.proofs.recorder.IvfRecorder.feed.Goals as goal
+use Rattle.ivf_recorder.proofs.recording.Recording.feed.Goals as goal
 
 no_some : (o : Option RecordFault) → ((f : RecordFault) → o ≡ Some f → ⊥) → o ≡ None
 no_some None h = refl
@@ -106,7 +106,7 @@ returns-in-Err-clause-feeds c = λ history stands.
     ap (λ (s : Seen). complaint_over s.id (history ++ packet ∷ [])) (sym made.receiver) ∙ sym (c.in-Err.ensures.answer history there) in
     let new = c.fail.new.self in
     feeds_complaint new old.fault old.receiver.id history packet c.in-Err.complaint c.fail.result c.fail.ensures.result
-    (ap (λ (r : IvfRecorder). r.receiver.id) c.fail.ensures.rest ∙ i) (c.fail.ensures.fault ∙ ap (λ (f : RecordFault). Some f) (sym c.fail.ensures.result))
-    (subst (λ (r : IvfRecorder). IsFileOf r.file (size_over old.receiver.id history) (contents_over old.receiver.id history)) (sym c.fail.ensures.rest)
+    (ap (λ (r : Recording). r.receiver.id) c.fail.ensures.rest ∙ i) (c.fail.ensures.fault ∙ ap (λ (f : RecordFault). Some f) (sym c.fail.ensures.result))
+    (subst (λ (r : Recording). IsFileOf r.file (size_over old.receiver.id history) (contents_over old.receiver.id history)) (sym c.fail.ensures.rest)
     (same_file old.file mid.file (size_over old.receiver.id history) (contents_over old.receiver.id history) made.file stands.file))
     (sound_before old.receiver.id history packet (sym stands.fault ∙ none)) complaint (packet_pushed history packet stands.short c.requires)

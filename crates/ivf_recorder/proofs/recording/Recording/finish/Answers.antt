@@ -3,7 +3,7 @@ use Rattle.ivf_recorder.specs.Frames.{obus_over}
 use Rattle.ivf_recorder.specs.ReadFiles.{IsFileWith}
 use Rattle.ivf_recorder.proofs.ReadBack.{read_back}
 use Rattle.ivf_recorder.proofs.SmallUnits.{units_small}
-use Rattle.ivf_recorder.proofs.recorder.IvfRecorder.finish.Goals as goal
+use Rattle.ivf_recorder.proofs.recording.Recording.finish.Goals as goal
 
 pub returns-clause-reads : goal.returns-clause-reads
 returns-clause-reads c = λ history stands.
