@@ -1,0 +1,13 @@
+pub mod Leb
+pub mod Elements
+pub mod Obus
+pub mod Units
+pub mod Frames
+pub mod Segments
+pub mod Laid
+pub mod Taken
+pub mod Files
+pub mod Added
+pub mod Recorders
+pub mod ReadFiles
+pub mod FirstStructure

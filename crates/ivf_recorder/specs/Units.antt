@@ -1,0 +1,99 @@
+-- An IVF file: a header, and units of frames with one RTP timestamp. The form is the one that `dav1d`, `ffmpeg` and libvpx read and write; its
+-- numbers have the lowest byte first. RTP Payload Format For AV1, section 5: the frames with one timestamp are one temporal unit, which a
+-- temporal delimiter begins. The code keeps the whole file, and changes the two counts where a frame ends.
+use Rattle.std.specs.Prelude.{ℕ, ◌+◌, ◌-◌, ◌%◌, ◌^◌, ◌==◌, ◌&&◌, Bool, nat_le, if◌then◌else◌, List, [], ◌∷◌, ◌++◌, length, codes, Option, Some, None}
+use Rattle.std.specs.Int.{to_le_bytes, w16, w32, w64}
+use Rattle.std.specs.List.{flat_map}
+use Rattle.dd_structure.specs.TemplateStructure.{TemplateStructure}
+
+-- ---- units
+
+-- what is recorded of a frame: its timestamp, and the bytes of its OBUs
+pub record RecordedFrame : Type 0 where
+  pub timestamp : ℕ
+  pub bytes : List ℕ
+
+-- the frames with one timestamp: that, when they are shown, and a temporal delimiter with their OBUs
+pub record TemporalUnit : Type 0 where
+  pub timestamp : ℕ
+  pub time : ℕ
+  pub bytes : List ℕ
+
+-- a temporal delimiter with a size field, which is 0
+abbrev pub delimiter : List ℕ
+delimiter = 18 ∷ 0 ∷ []
+
+-- the most bytes of a unit of more than one frame (own rule)
+abbrev pub most_unit : ℕ
+most_unit = 16777216
+
+abbrev pub begins : ℕ → RecordedFrame → TemporalUnit
+begins time content = record { timestamp = content.timestamp; time = time; bytes = delimiter ++ content.bytes }
+
+abbrev pub grown : TemporalUnit → RecordedFrame → TemporalUnit
+grown unit content = record { timestamp = unit.timestamp; time = unit.time; bytes = unit.bytes ++ content.bytes }
+
+-- the frame has the unit's timestamp, and the unit doesn't get too long
+abbrev pub joins : TemporalUnit → RecordedFrame → Bool
+joins unit content = unit.timestamp == content.timestamp && nat_le (length unit.bytes + length content.bytes) most_unit
+
+-- by how much a timestamp is after another, modulo 2^32
+abbrev pub ticks_after : ℕ → ℕ → ℕ
+ticks_after before later = (later + 2 ^ 32 - before) % 2 ^ 32
+
+-- the time of the next unit is modulo 2^64 (own rule)
+abbrev pub next_time : TemporalUnit → RecordedFrame → ℕ
+next_time unit content = (unit.time + ticks_after unit.timestamp content.timestamp) % 2 ^ 64
+
+-- the unit that goes on with these frames, and those behind it
+abbrev pub units_from : TemporalUnit → List RecordedFrame → List TemporalUnit
+units_from unit [] = unit ∷ []
+units_from unit (content ∷ more) =
+    if joins unit content then units_from (grown unit content) more else unit ∷ units_from (begins (next_time unit content) content) more
+
+-- the first unit's time is 0
+abbrev pub units_of : List RecordedFrame → List TemporalUnit
+units_of [] = []
+units_of (content ∷ more) = units_from (begins 0 content) more
+
+-- ---- the file
+
+-- a unit's size, its time, and its bytes
+abbrev pub unit_bytes : TemporalUnit → List ℕ
+unit_bytes unit = to_le_bytes w32 (length unit.bytes % 2 ^ 32) ++ (to_le_bytes w64 unit.time ++ unit.bytes)
+
+-- a width and a height in pixels
+pub record Size : Type 0 where
+  pub width : ℕ
+  pub height : ℕ
+
+abbrev pub no_size : Size
+no_size = record { width = 0; height = 0 }
+
+-- the resolution of the greatest spatial id, which is the last; none is told where there is none (own rule)
+abbrev pub last_size : List (ℕ × ℕ) → Size
+last_size [] = no_size
+last_size (r ∷ []) = record { width = r.0; height = r.1 }
+last_size (r ∷ q ∷ others) = last_size (q ∷ others)
+
+abbrev pub size_in : Option TemplateStructure → Size
+size_in None = no_size
+size_in (Some structure) = last_size structure.resolutions
+
+-- DKIF, version 0, the length of the header, AV01
+abbrev pub signature : List ℕ
+signature = codes "DKIF" ++ to_le_bytes w16 0 ++ to_le_bytes w16 32 ++ codes "AV01"
+
+-- 90,000 ticks in a second
+abbrev pub rate_bytes : List ℕ
+rate_bytes = to_le_bytes w32 90000 ++ to_le_bytes w32 1
+
+-- width and height modulo 65,536, the rate, how many units there are modulo 2^32 (own rule), and four zero bytes
+abbrev pub header : Size → ℕ → List ℕ → List ℕ
+header size count rest =
+    signature ++ (to_le_bytes w16 (size.width % 65536) ++ (to_le_bytes w16 (size.height % 65536)
+    ++ (rate_bytes ++ (to_le_bytes w32 (count % 2 ^ 32) ++ (to_le_bytes w32 0 ++ rest)))))
+
+-- the whole file
+abbrev pub ivf : Size → List RecordedFrame → List ℕ
+ivf size contents = header size (length (units_of contents)) (flat_map unit_bytes (units_of contents))

@@ -1,0 +1,225 @@
+// The file that grows.
+ghost use Rattle.std.specs.Prelude.{◌≡◌, ◌+◌, ◌%◌, ◌^◌, ◌<◌, ◌≤◌, ◌++◌, length, ℕ, List, IfOk, OnOk, Some, [], true};
+ghost use Rattle.std.specs.Vec.{vec_capacity, vec_len};
+ghost use Rattle.std.specs.Int.{to_le_bytes, w32, w64};
+ghost use Rattle.ivf_recorder.specs.Units.{delimiter};
+
+use crate::frame::OpenFrame;
+use sfu_base::NoMemory;
+use std::alloc::Global;
+
+/// The most bytes of a unit of more than one frame.
+const MOST_UNIT: usize = 16_777_216;
+
+/// Where the width, and behind it the height, stands in the header.
+const SIZE_AT: usize = 12;
+
+/// Where the number of units stands.
+const COUNT_AT: usize = 24;
+
+/// The bytes of a unit's size and time.
+const UNIT_HEADER: usize = 12;
+
+/// The bytes of a new unit before its first frame: its size, its time, and a temporal delimiter.
+const UNIT_FRONT: usize = 14;
+
+/// The header, with no width, height and units.
+const HEADER: [u8; 32] = [
+    b'D', b'K', b'I', b'F', 0, 0, 32, 0, b'A', b'V', b'0', b'1', 0, 0, 0, 0, 0x90, 0x5f, 0x01, 0,
+    1, 0, 0, 0, 0, 0, 0, 0, 0, 0, 0, 0,
+];
+
+/// What a frame more makes of the newest unit.
+#[derive(Clone, Copy)]
+pub enum Growth {
+    Grown,
+    /// It would get too long, and is as before.
+    TooLong,
+    /// An element isn't an OBU, and all is as before.
+    Unsound,
+}
+
+/// A file with the frames so far.
+#[derive(Drop)]
+pub struct IvfFile {
+    pub bytes: Vec<u8>,
+    /// Whether there is a unit.
+    pub begun: bool,
+    /// Where the newest unit begins, its timestamp, and its time.
+    pub at: usize,
+    pub timestamp: u32,
+    pub time: u64,
+    /// How many units there are, modulo 2^32.
+    pub count: u32,
+    ghost header: { 32 ≤ vec_len bytes },
+    ghost unit: { at + 12 ≤ vec_len bytes },
+}
+
+// Bytes stand in place of as many others.
+fn put_at(bytes: &mut Vec<u8>, at: usize, new: &[u8])
+    requires within { at + length new.now ≤ vec_len bytes.old }
+    ensures put { (front old rest : List ℕ) → bytes.old.items ≡ front ++ (old ++ rest) → length front ≡ at → length old ≡ length new.now
+        → bytes.new.items ≡ front ++ (new.now ++ rest) }
+    ensures len { vec_len bytes.new ≡ vec_len bytes.old }
+{
+    bytes[at..at + new.len()].copy_from_slice(new);
+}
+
+// A unit before its first frame, with no size yet.
+fn unit_front(time: u64) -> [u8; UNIT_FRONT]
+    ensures { result ≡ to_le_bytes w32 0 ++ (to_le_bytes w64 time ++ delimiter) }
+{
+    let [a, b, c, d, e, f, g, h] = time.to_le_bytes();
+    [0, 0, 0, 0, a, b, c, d, e, f, g, h, 0x12, 0]
+}
+
+impl IvfFile {
+    ghost use Rattle.ivf_recorder.specs.Added.{Adds, BeginsUnit, Grows, HasSameUnit, IsNextTime, TellsUnit, TellsUnitSize, content, timestamp_in};
+    ghost use Rattle.ivf_recorder.specs.declared.file.Growth.TheVariants as Growth;
+    ghost use Rattle.ivf_recorder.specs.Files.{IsFileOf, IsSameBut};
+    ghost use Rattle.ivf_recorder.specs.Laid.{most_bytes, segments_in};
+    ghost use Rattle.ivf_recorder.specs.Obus.{Obu, obus_in};
+    ghost use Rattle.ivf_recorder.specs.Units.{RecordedFrame, Size, no_size};
+
+    /// A file with no frames.
+    pub fn new(alloc: Global) -> Result<IvfFile, NoMemory>
+        ensures { IfOk result (λ file. IsFileOf file no_size []) }
+    {
+        Ok(IvfFile {
+            bytes: HEADER.to_vec(alloc).map_err(|_| NoMemory)?,
+            begun: false,
+            at: 0,
+            timestamp: 0,
+            time: 0,
+            count: 0,
+        })
+    }
+
+    /// Makes room for a frame whose OBUs have at most so many bytes.
+    pub fn reserve(&mut self, most: usize) -> Result<(), NoMemory>
+        requires { UNIT_FRONT + most < 2 ^ 64 }
+        ensures ok { OnOk result (vec_len self.new.bytes + (UNIT_FRONT + most) ≤ vec_capacity self.new.bytes) }
+        ensures same { IsSameBut self.old self.new }
+    {
+        match self.bytes.reserve(UNIT_FRONT + most) {
+            Ok(()) => Ok(()),
+            Err(_) => Err(NoMemory),
+        }
+    }
+
+    /// A frame more, for which there is room; false, and all as before, where an element isn't an OBU.
+    pub fn add(&mut self, frame: &OpenFrame) -> bool
+        requires room { vec_len self.old.bytes + (UNIT_FRONT + most_bytes frame.now) ≤ vec_capacity self.old.bytes }
+        ensures { (size : Size) (contents : List RecordedFrame) → IsFileOf self.old size contents
+            → Adds result frame.now.timestamp (obus_in (segments_in frame.now)) size contents self.new }
+    {
+        let timestamp = frame.timestamp.unwrap_or(0);
+        if !self.begun || self.timestamp != timestamp {
+            return self.add_apart(timestamp, frame);
+        }
+        match self.grow(frame) {
+            Growth::Grown => true,
+            Growth::TooLong => self.add_apart(timestamp, frame),
+            Growth::Unsound => false,
+        }
+    }
+
+    // A frame more in the newest unit, whose timestamp it has.
+    fn grow(&mut self, frame: &OpenFrame) -> Growth
+        requires room { vec_len self.old.bytes + most_bytes frame.now ≤ vec_capacity self.old.bytes }
+        requires begun { self.old.begun ≡ true }
+        requires timestamp { timestamp_in frame.now.timestamp ≡ self.old.timestamp }
+        ensures grows { (size : Size) (contents : List RecordedFrame) → IsFileOf self.old size contents
+            → Grows result frame.now.timestamp (obus_in (segments_in frame.now)) size contents self.new }
+        ensures capacity { result ≡ Growth.TooLong → (vec_len self.new.bytes ≡ vec_len self.old.bytes) × (vec_capacity self.old.bytes ≤ vec_capacity self.new.bytes) }
+    {
+        let start = self.bytes.len();
+        if !frame.lay(&[], &mut self.bytes) {
+            return Growth::Unsound;
+        }
+        if self.bytes.len() - self.at - UNIT_HEADER > MOST_UNIT {
+            self.bytes.truncate(start);
+            return Growth::TooLong;
+        }
+        self.tell_unit_size();
+        Growth::Grown
+    }
+
+    // A frame more in a unit of its own.
+    fn add_apart(&mut self, timestamp: u32, frame: &OpenFrame) -> bool
+        requires room { vec_len self.old.bytes + (UNIT_FRONT + most_bytes frame.now) ≤ vec_capacity self.old.bytes }
+        requires timestamp { timestamp_in frame.now.timestamp ≡ timestamp }
+        ensures { (size : Size) (contents : List RecordedFrame) → IsFileOf self.old size contents
+            → ((obus : List Obu) → obus_in (segments_in frame.now) ≡ Some obus → BeginsUnit contents (content frame.now.timestamp obus))
+            → Adds result frame.now.timestamp (obus_in (segments_in frame.now)) size contents self.new }
+    {
+        let start = self.bytes.len();
+        let time = self.next_time(timestamp);
+        if !frame.lay(&unit_front(time), &mut self.bytes) {
+            return false;
+        }
+        self.begin(start, timestamp, time);
+        true
+    }
+
+    // The size of the newest unit.
+    fn tell_unit_size(&mut self)
+        ensures told { TellsUnitSize self.old.at self.old.bytes.items self.new.bytes.items }
+        ensures same { HasSameUnit self.old self.new }
+        ensures len { vec_len self.new.bytes ≡ vec_len self.old.bytes }
+    {
+        let size = self.bytes.len() - self.at - UNIT_HEADER;
+        put_at(
+            &mut self.bytes,
+            self.at,
+            &((size % 0x1_0000_0000) as u32).to_le_bytes(),
+        );
+    }
+
+    // The time of the next unit.
+    fn next_time(&self, timestamp: u32) -> u64
+        ensures { (size : Size) (contents : List RecordedFrame) → IsFileOf self.now size contents → IsNextTime contents timestamp result }
+    {
+        if !self.begun {
+            return 0;
+        }
+        let ticks = timestamp.wrapping_sub(self.timestamp);
+        self.time.wrapping_add(u64::from(ticks))
+    }
+
+    // The unit from this place on is the newest.
+    fn begin(&mut self, at: usize, timestamp: u32, time: u64)
+        requires within { at + UNIT_FRONT ≤ vec_len self.old.bytes }
+        ensures told { TellsUnit at self.old.count self.old.bytes.items self.new.bytes.items }
+        ensures begun { self.new.begun ≡ true }
+        ensures at { self.new.at ≡ at }
+        ensures timestamp { self.new.timestamp ≡ timestamp }
+        ensures time { self.new.time ≡ time }
+        ensures count { self.new.count ≡ (self.old.count + 1) % 2 ^ 32 }
+    {
+        self.begun = true;
+        self.at = at;
+        self.timestamp = timestamp;
+        self.time = time;
+        self.tell_unit_size();
+        self.count = self.count.wrapping_add(1);
+        put_at(&mut self.bytes, COUNT_AT, &self.count.to_le_bytes());
+    }
+
+    /// Tells a width and a height, each modulo 65,536.
+    pub fn tell_size(&mut self, width: u32, height: u32)
+        ensures told { (size : Size) (contents : List RecordedFrame) → IsFileOf self.old size contents
+            → IsFileOf self.new (record { width = width; height = height }) contents }
+    {
+        put_at(
+            &mut self.bytes,
+            SIZE_AT,
+            &((width % 65_536) as u16).to_le_bytes(),
+        );
+        put_at(
+            &mut self.bytes,
+            SIZE_AT + 2,
+            &((height % 65_536) as u16).to_le_bytes(),
+        );
+    }
+}

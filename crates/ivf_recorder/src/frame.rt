@@ -1,0 +1,204 @@
+// The elements of the frame that is open.
+ghost use Rattle.std.specs.Prelude.{◌≡◌, ◌+◌, ◌-◌, ◌^◌, ◌*◌, ◌≤◌, ◌<◌, ◌++◌, ◌∷◌, [], None, Some, OnErr, OnOk, length, take, true, ℕ, List};
+ghost use Rattle.std.specs.Vec.{vec_capacity, vec_len};
+ghost use Rattle.ivf_recorder.specs.Segments.{are_cuts};
+
+use crate::obu::{MORE_BYTES, append_obu, append_reserved};
+use av1_payload::PayloadElements;
+use sfu_base::NoMemory;
+use std::alloc::Global;
+
+/// The elements of the packets of the frame that has begun and not ended: their bytes end to end, and where each begins. What is in front of
+/// the first is empty.
+#[derive(Drop)]
+pub struct OpenFrame {
+    /// That of the first packet, if one came.
+    pub timestamp: Option<u32>,
+    pub bytes: Vec<u8>,
+    pub cuts: Vec<usize>,
+    ghost within: { are_cuts 0 cuts.items (vec_len bytes) ≡ true },
+}
+
+/// How far an open frame had come.
+#[derive(Clone, Copy)]
+pub struct Mark {
+    pub timestamp: Option<u32>,
+    pub bytes: usize,
+    pub cuts: usize,
+}
+
+impl OpenFrame {
+    ghost use Rattle.rtp_packet.specs.Faults.{first_fault};
+    ghost use Rattle.ivf_recorder.specs.Elements.{add_elements, no_elements, onto_last};
+    ghost use Rattle.ivf_recorder.specs.Laid.{Lays, LaysOr, most_bytes, segments_in};
+    ghost use Rattle.ivf_recorder.specs.Obus.{obus_in};
+    ghost use Rattle.ivf_recorder.specs.Taken.{Grown, HasTaken, IsReadable, with_element};
+
+    /// No packet yet; takes no memory.
+    pub fn new(alloc: Global) -> OpenFrame
+        ensures timestamp { result.timestamp ≡ None }
+        ensures elements { segments_in result ≡ no_elements }
+    {
+        OpenFrame {
+            timestamp: None,
+            bytes: Vec::new(alloc),
+            cuts: Vec::new(alloc),
+        }
+    }
+
+    /// The next packet, where RTP reads it and its payload reads; else nothing is taken of it. After `NoMemory` a part of it may stand there.
+    pub fn take(&mut self, packet: &[u8]) -> Result<(), NoMemory>
+        ensures taken { OnOk result (IsReadable packet.now → HasTaken self.old self.new packet.now) }
+        ensures grown { Grown self.old self.new }
+    {
+        let Ok(rtp) = rtp_packet::read(packet) else {
+            return Ok(());
+        };
+        let Ok(payload) = av1_payload::read(rtp.payload) else {
+            return Ok(());
+        };
+        self.append(payload.continues, payload.elements())?;
+        if self.timestamp.is_none() {
+            self.timestamp = Some(rtp.timestamp);
+        }
+        Ok(())
+    }
+
+    // Elements of a packet, of which the first may go on with the last one before.
+    fn append(&mut self, continues: bool, elements: PayloadElements) -> Result<(), NoMemory>
+        ensures added { OnOk result (segments_in self.new ≡ add_elements continues (segments_in self.old) elements.entry) }
+        ensures grown { Grown self.old self.new }
+        ensures timestamp { self.new.timestamp ≡ self.old.timestamp }
+    {
+        let mut left = elements;
+        let mut goes_on = continues;
+        while let Some(element) = left.next() {
+            self.add(goes_on, element)?;
+            goes_on = false;
+        }
+        Ok(())
+    }
+
+    // One element, or the rest of the last one.
+    fn add(&mut self, goes_on: bool, element: &[u8]) -> Result<(), NoMemory>
+        ensures added { OnOk result (segments_in self.new ≡ with_element goes_on (segments_in self.old) element.now) }
+        ensures grown { Grown self.old self.new }
+        ensures timestamp { self.new.timestamp ≡ self.old.timestamp }
+    {
+        if goes_on {
+            return self.go_on(element);
+        }
+        self.begin()?;
+        self.go_on(element)
+    }
+
+    // An element with no bytes yet.
+    fn begin(&mut self) -> Result<(), NoMemory>
+        ensures begun { OnOk result (segments_in self.new ≡ segments_in self.old ++ [] ∷ []) }
+        ensures grown { Grown self.old self.new }
+        ensures timestamp { self.new.timestamp ≡ self.old.timestamp }
+    {
+        match self.cuts.push(self.bytes.len()) {
+            Ok(()) => Ok(()),
+            Err(_) => Err(NoMemory),
+        }
+    }
+
+    // Bytes that the last element goes on with.
+    fn go_on(&mut self, bytes: &[u8]) -> Result<(), NoMemory>
+        ensures more { OnOk result (segments_in self.new ≡ onto_last (segments_in self.old) bytes.now) }
+        ensures grown { Grown self.old self.new }
+        ensures timestamp { self.new.timestamp ≡ self.old.timestamp }
+    {
+        match self.bytes.extend_from_slice(bytes) {
+            Ok(()) => Ok(()),
+            Err(_) => Err(NoMemory),
+        }
+    }
+
+    /// How far it has come.
+    pub fn mark(&self) -> Mark
+        ensures timestamp { result.timestamp ≡ self.now.timestamp }
+        ensures bytes { result.bytes ≡ vec_len self.now.bytes }
+        ensures cuts { result.cuts ≡ vec_len self.now.cuts }
+    {
+        Mark {
+            timestamp: self.timestamp,
+            bytes: self.bytes.len(),
+            cuts: self.cuts.len(),
+        }
+    }
+
+    /// It is again as it was at this mark.
+    pub fn back_to(&mut self, mark: Mark)
+        requires within { are_cuts 0 (take mark.cuts self.old.cuts.items) mark.bytes ≡ true }
+        requires bytes { mark.bytes ≤ vec_len self.old.bytes }
+        ensures timestamp { self.new.timestamp ≡ mark.timestamp }
+        ensures bytes { self.new.bytes.items ≡ take mark.bytes self.old.bytes.items }
+        ensures cuts { self.new.cuts.items ≡ take mark.cuts self.old.cuts.items }
+    {
+        self.timestamp = mark.timestamp;
+        self.cuts.truncate(mark.cuts);
+        self.bytes.truncate(mark.bytes);
+    }
+
+    /// No packet of the next frame yet.
+    pub fn clear(&mut self)
+        ensures timestamp { self.new.timestamp ≡ None }
+        ensures elements { segments_in self.new ≡ no_elements }
+    {
+        self.timestamp = None;
+        self.cuts.clear();
+        self.bytes.clear();
+    }
+
+    /// How many bytes its OBUs have at most.
+    pub fn most_bytes(&self) -> usize
+        ensures most { result ≡ most_bytes self.now }
+        ensures small { result < 2 ^ 64 - 2 ^ 32 }
+    {
+        // As slices, since these are known to have less than 2^63 bytes.
+        let bytes = self.bytes.as_slice();
+        let cuts = self.cuts.as_slice();
+        bytes.len() + (cuts.len() + 1) * MORE_BYTES
+    }
+
+    // Puts its OBUs behind the bytes, up to the first element that isn't one.
+    fn lay_all(&self, out: &mut Vec<u8>) -> bool
+        requires room { vec_len out.old + most_bytes self.now ≤ vec_capacity out.old }
+        ensures lays { LaysOr result (obus_in (segments_in self.now)) out.old.items out.new.items }
+        ensures grown { vec_len out.old ≤ vec_len out.new }
+        ensures most { vec_len out.new ≤ vec_len out.old + most_bytes self.now }
+        ensures capacity { vec_capacity out.old ≤ vec_capacity out.new }
+    {
+        let mut left = self.bytes.as_slice();
+        let mut from = 0;
+        for cut in &self.cuts {
+            let (element, others) = left.split_at(*cut - from);
+            if !append_obu(element, out) {
+                return false;
+            }
+            left = others;
+            from = *cut;
+        }
+        append_obu(left, out)
+    }
+
+    /// Puts a head and its OBUs behind the bytes, where there is room; nothing where an element isn't an OBU.
+    pub fn lay(&self, head: &[u8], out: &mut Vec<u8>) -> bool
+        requires room { vec_len out.old + length head.now + most_bytes self.now ≤ vec_capacity out.old }
+        ensures lays { Lays result head.now (obus_in (segments_in self.now)) out.old.items out.new.items }
+        ensures grown { vec_len out.old ≤ vec_len out.new }
+        ensures head { result ≡ true → vec_len out.old + length head.now ≤ vec_len out.new }
+        ensures most { vec_len out.new ≤ vec_len out.old + length head.now + most_bytes self.now }
+        ensures capacity { vec_capacity out.old ≤ vec_capacity out.new }
+    {
+        let start = out.len();
+        append_reserved(head, out);
+        if !self.lay_all(out) {
+            out.truncate(start);
+            return false;
+        }
+        true
+    }
+}

@@ -1,0 +1,33 @@
+// What the definitions say together.
+ghost use Rattle.std.specs.Prelude.{◌≡◌, ◌<◌, ◌^◌, [], List, length, ℕ};
+ghost use Rattle.std.specs.List.{AllByRecursion};
+ghost use Rattle.strict_receiver.specs.Receivers.{frames_over};
+ghost use Rattle.ivf_recorder.specs.FirstStructure.{IsFirstSize};
+ghost use Rattle.ivf_recorder.specs.Frames.{AreShort, contents_over, gathered_over, ivf_over, obus_over, size_over};
+ghost use Rattle.ivf_recorder.specs.Obus.{Obu};
+ghost use Rattle.ivf_recorder.specs.ReadFiles.{IsFileWith};
+ghost use Rattle.ivf_recorder.specs.Units.{no_size, units_of};
+
+/// A law: a file is read as one list of OBUs, delimiters and size fields aside.
+pub fn files_have_one_reading()
+    ensures one { (bytes : List ℕ) (obus others : List Obu) → IsFileWith bytes obus → IsFileWith bytes others → obus ≡ others }
+{}
+
+/// A law: what is recorded of packets of at most 2,048 bytes is read back as the OBUs of the recorded frames, each once and in order. The size of
+/// each unit fits the four bytes that tell it.
+pub fn files_read_back()
+    ensures read { (id : ℕ) (history : List (List ℕ)) → AreShort history → IsFileWith (ivf_over id history) (obus_over id history) }
+    ensures sizes { (id : ℕ) (history : List (List ℕ)) → AreShort history
+        → AllByRecursion (λ unit. length unit.bytes < 2 ^ 32) (units_of (contents_over id history)) }
+{}
+
+/// A law: the frames of packets are as many as a strict receiver counts.
+pub fn frames_are_those_that_are_accepted()
+    ensures count { (id : ℕ) (history : List (List ℕ)) → length (gathered_over id history).frames ≡ frames_over id history }
+{}
+
+/// A law: where a frame is recorded, the first packet begins a key frame, and the width and height are those of the structure that it carries.
+pub fn sizes_are_of_the_first_structure()
+    ensures none { (id : ℕ) (history : List (List ℕ)) → contents_over id history ≡ [] → size_over id history ≡ no_size }
+    ensures first { (id : ℕ) (history : List (List ℕ)) → (contents_over id history ≡ [] → ⊥) → IsFirstSize id history }
+{}

@@ -1,0 +1,22 @@
+//! Records the packets of one layered AV1 track as an IVF file: the OBUs of the frames that a strict receiver accepts of them. RTP Payload Format
+//! For AV1, section 4.4 (elements) and 5 (temporal units); AV1 Bitstream Specification, sections 5.3.1 to 5.3.3 (OBUs) and 4.10.5 (leb128). IVF
+//! has no standard: what is written is what `dav1d` and `ffmpeg` read.
+#![tactic(auto)]
+
+mod fault;
+mod file;
+mod frame;
+mod laws;
+mod leb;
+mod obu;
+mod recorder;
+mod recording;
+#[cfg(test)]
+mod tests;
+
+pub use fault::RecordFault;
+pub use laws::{
+    files_have_one_reading, files_read_back, frames_are_those_that_are_accepted,
+    sizes_are_of_the_first_structure,
+};
+pub use recorder::IvfRecorder;

@@ -1,0 +1,62 @@
+// A recorder.
+ghost use Rattle.std.specs.Prelude.{◌≡◌, ◌≤◌, [], ℕ, List, IfOk, Err, Some, length};
+
+use crate::fault::RecordFault;
+use crate::recording::Recording;
+use sfu_base::{Blob, NoMemory};
+use std::alloc::Global;
+use std::marker::Model;
+
+/// Records the packets of one layered AV1 track as an IVF file (own rule): the OBUs of the frames that a strict receiver accepts, of which those
+/// with one RTP timestamp are a temporal unit. It takes memory for the file, and for the elements of the frame that hasn't ended.
+#[derive(Drop)]
+pub struct IvfRecorder {
+    recording: Recording,
+}
+
+impl Model for IvfRecorder {
+    ghost use Rattle.ivf_recorder.specs.declared.recording.Recording.{Recording};
+
+    ghost Value = { Recording };
+
+    ghost view = { λ recorder. recorder.recording };
+}
+
+impl IvfRecorder {
+    ghost use Rattle.ivf_recorder.specs.Frames.{ivf_over, obus_over};
+    ghost use Rattle.ivf_recorder.specs.ReadFiles.{IsFileWith};
+    ghost use Rattle.ivf_recorder.specs.Recorders.{Feeds, StandsFor};
+    ghost use Rattle.ivf_recorder.specs.declared.fault.RecordFault.{RecordFault as FaultOf};
+
+    /// A recorder that no packet came to yet, of dependency descriptors under this header extension id.
+    pub fn new(alloc: Global, id: u8) -> Result<IvfRecorder, NoMemory>
+        ensures id { IfOk result (λ recorder. recorder.receiver.id ≡ id) }
+        ensures stands { IfOk result (λ recorder. StandsFor recorder []) }
+    {
+        Ok(IvfRecorder {
+            recording: Recording::new(alloc, id)?,
+        })
+    }
+
+    /// The next packet's bytes, at most 2,048 of them. The first fault that stands is answered: a complaint of the strict receiver; `Obu`,
+    /// where the packet ends a frame one of whose elements isn't an OBU, which isn't recorded then. From then on each call answers that one
+    /// and changes nothing. Before, `NoMemory` may come instead, after which all is as before.
+    pub fn feed(&mut self, packet: &[u8]) -> Result<(), RecordFault>
+        requires { length packet.now ≤ 2048 }
+        ensures id { self.new.receiver.id ≡ self.old.receiver.id }
+        ensures again { (fault : FaultOf) → self.old.fault ≡ Some fault → result ≡ Err fault }
+        ensures unchanged { (fault : FaultOf) → self.old.fault ≡ Some fault → self.new ≡ self.old }
+        ensures feeds { (history : List (List ℕ)) → StandsFor self.old history
+            → Feeds self.old.fault self.old.receiver.id self.new history packet.now result }
+    {
+        self.recording.feed(packet)
+    }
+
+    /// The file of the frames so far. One that hasn't ended is left out, and so is one with an element that isn't an OBU. No memory is taken.
+    pub fn finish(self) -> Blob
+        ensures file { (history : List (List ℕ)) → StandsFor self history → result ≡ ivf_over self.receiver.id history }
+        ensures reads { (history : List (List ℕ)) → StandsFor self history → IsFileWith result (obus_over self.receiver.id history) }
+    {
+        self.recording.finish()
+    }
+}
