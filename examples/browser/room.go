@@ -1,0 +1,97 @@
+package main
+
+import (
+	"fmt"
+	"log"
+	"net"
+	"os"
+	"os/exec"
+	"strings"
+	"sync"
+	"syscall"
+	"time"
+)
+
+const (
+	descriptorID = 4  // of the header extension in the room
+	payloadType  = 45 // in the room
+	trackSSRC    = 0x10000000
+	playerSSRC   = 0x20000000
+	reserved     = 100 // lines of -also may have subscribers up to this number, and tracks above it
+)
+
+var (
+	control *net.UDPConn
+	asking  sync.Mutex
+)
+
+// The room's configuration: all ports that it will ever have, the controller's as the first, and tracks that wait for their browsers.
+func configuration() string {
+	var tracks, ports strings.Builder
+	port := func(n int, role string, words ...interface{}) {
+		fmt.Fprintf(&ports, "port 127.0.0.1:%d 127.0.0.1:%d "+role+"\n", append([]interface{}{*base + n, *base + 500 + n}, words...)...)
+	}
+	port(0, "control")
+	for n := 1; n <= *forPublishers; n++ {
+		fmt.Fprintf(&tracks, "publish %d layered %08x %d %d\n", n, trackSSRC+n, *hold, descriptorID)
+		port(n, "publisher %d %08x", n, trackSSRC+n)
+	}
+	for n := 1; n <= *forPlayers; n++ {
+		port(*forPublishers+n, "subscriber %d %08x", reserved+n, playerSSRC+n)
+	}
+	more, err := os.ReadFile(*also)
+	must(err)
+	return tracks.String() + string(more) + ports.String()
+}
+
+// Starts the room, which ends with this program, and waits until it answers: the first call of sfu builds it.
+func startRoom() {
+	room := exec.Command(*sfu, "serve", "1000000000000")
+	room.Stdin, room.Stdout, room.Stderr = strings.NewReader(configuration()), os.Stderr, os.Stderr
+	room.SysProcAttr = &syscall.SysProcAttr{Pdeathsig: syscall.SIGTERM}
+	must(room.Start())
+	go func() {
+		log.Fatal("the room has ended (5: a line of -also is wrong, 7: a port is taken): ", room.Wait())
+	}()
+	for control = peerOf(0); ask("key 1") == "no answer"; {
+		time.Sleep(100 * time.Millisecond)
+	}
+}
+
+// The socket that is the peer of the room's port n.
+func peerOf(n int) *net.UDPConn {
+	at := func(port int) *net.UDPAddr { return &net.UDPAddr{IP: net.IPv4(127, 0, 0, 1), Port: *base + port} }
+	conn, err := net.DialUDP("udp4", at(500+n), at(n))
+	must(err)
+	return conn
+}
+
+// Each datagram of the room, until the socket is closed. A read fails, too, while nobody has the room's port.
+func fromRoom(room *net.UDPConn, each func([]byte)) {
+	for bytes := make([]byte, 2000); ; {
+		n, err := room.Read(bytes)
+		if err == nil && *dump {
+			fmt.Printf("%s %x\n", room.RemoteAddr(), bytes[:n])
+		}
+		if err == nil {
+			each(bytes[:n])
+		} else if strings.Contains(err.Error(), "closed") {
+			return
+		}
+	}
+}
+
+// One line to the control port, and its answer. An answer doesn't say which line it is for, so one is asked after the other.
+func ask(format string, words ...interface{}) string {
+	asking.Lock()
+	defer asking.Unlock()
+	line, answer := fmt.Sprintf(format, words...), make([]byte, 200)
+	control.Write([]byte(line))
+	control.SetReadDeadline(time.Now().Add(3 * time.Second))
+	n, err := control.Read(answer)
+	if err != nil {
+		return "no answer"
+	}
+	log.Printf("%s: %s", line, answer[:n])
+	return string(answer[:n])
+}
