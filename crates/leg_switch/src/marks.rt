@@ -1,0 +1,42 @@
+// What a packet of a leg says to the switch: whether it is a key start, and whether it ends its frame.
+ghost use Rattle.std.specs.Prelude.{◌≡◌, None};
+ghost use Rattle.rtp_packet.specs.Faults.{first_fault};
+ghost use Rattle.leg_switch.specs.Marks.{ends_frame, starts_key};
+
+use dd_descriptor::{NewestDescriptor, edges};
+use packet_format::{begins_epoch, descriptor_bytes};
+
+/// Whether a packet is a key start: it carries a template dependency structure, has the start bit and refers to nothing (AV1 RTP payload
+/// format, Appendix A). `newest` may say anything afterwards.
+pub fn starts_key(packet: &[u8], id: u8, newest: &mut NewestDescriptor) -> bool
+    requires { first_fault packet.now ≡ None }
+    ensures { result ≡ starts_key id packet.now }
+{
+    let Ok(parts) = rtp_packet::read(packet) else {
+        unreachable!()
+    };
+    let Some(descriptor) = descriptor_bytes(&parts, id) else {
+        return false;
+    };
+    match newest.read(descriptor, None) {
+        Ok(()) => begins_epoch(newest.get()),
+        Err(_) => false,
+    }
+}
+
+/// Whether a packet ends its frame: end_of_frame, the second bit of its descriptor (AV1 RTP payload format, Appendix A).
+pub fn ends_frame(packet: &[u8], id: u8) -> bool
+    requires { first_fault packet.now ≡ None }
+    ensures { result ≡ ends_frame id packet.now }
+{
+    let Ok(parts) = rtp_packet::read(packet) else {
+        unreachable!()
+    };
+    let Some(descriptor) = descriptor_bytes(&parts, id) else {
+        return false;
+    };
+    match edges(descriptor) {
+        Ok(edges) => edges.end,
+        Err(_) => false,
+    }
+}

@@ -1,0 +1,128 @@
+// Which leg goes out.
+ghost use Rattle.std.specs.Prelude.{◌≡◌, None};
+ghost use Rattle.rtp_packet.specs.Faults.{first_fault};
+ghost use Rattle.leg_switch.specs.Switching.{begun};
+
+use crate::marks::{ends_frame, starts_key};
+use dd_descriptor::NewestDescriptor;
+use std::marker::Model;
+
+/// What the timestamps of a stream rise by at a change of leg, in ticks of the media's clock (own rule).
+const STEP: u32 = 3000;
+
+/// Which of a bundle's legs, counted from 1, is chosen, and which is active. The packets of the active leg go out. The chosen one becomes
+/// active with a packet that is a key start, where the last packet that went out ended its frame, or none did go out yet. Timestamps go on
+/// over a change of leg.
+#[derive(Debug, Drop)]
+pub struct Switch {
+    chosen: u8,
+    active: Option<u8>,
+    // What is added to the timestamps of the active leg.
+    offset: u32,
+    // Of the last packet that went out: whether it ended its frame, and its timestamp.
+    ended: bool,
+    timestamp: u32,
+}
+
+impl Model for Switch {
+    ghost use Rattle.leg_switch.specs.Switching.{Standing};
+
+    ghost Value = { Standing };
+
+    ghost view = { λ s. record { chosen = s.chosen; active = s.active; offset = s.offset; ended = s.ended; timestamp = s.timestamp } };
+}
+
+impl Switch {
+    ghost use Rattle.std.specs.Prelude.{◌≡◌, ◌==◌, ◌&&◌, None};
+    ghost use Rattle.rtp_packet.specs.Faults.{first_fault};
+    ghost use Rattle.leg_switch.specs.Marks.{marks_of};
+    ghost use Rattle.leg_switch.specs.Switching.{after_packet, begun, may_change, offset_for, stamp_of};
+
+    /// The first leg is chosen, and none is active.
+    pub fn new() -> Switch
+        ensures { result ≡ begun }
+    {
+        Switch {
+            chosen: 1,
+            active: None,
+            offset: 0,
+            ended: false,
+            timestamp: 0,
+        }
+    }
+
+    /// The leg that is chosen.
+    pub fn chosen(&self) -> u8
+        ensures { result ≡ self.now.chosen }
+    {
+        self.chosen
+    }
+
+    /// The leg that is active, if a packet went out.
+    pub fn active(&self) -> Option<u8>
+        ensures { result ≡ self.now.active }
+    {
+        self.active
+    }
+
+    /// Chooses a leg.
+    pub fn choose(&mut self, leg: u8)
+        ensures { self.new ≡ record self.old { chosen = leg } }
+    {
+        self.chosen = leg;
+    }
+
+    /// Decides on a packet that was taken from a leg: the timestamp that it goes out with, or `None` where it is dropped. Its dependency
+    /// descriptor has this header extension id (RFC 8285), and RTP reads it. `newest` may say anything afterwards.
+    pub fn pass(
+        &mut self,
+        id: u8,
+        leg: u8,
+        packet: &[u8],
+        newest: &mut NewestDescriptor,
+    ) -> Option<u32>
+        requires { first_fault packet.now ≡ None }
+        ensures stands { self.new ≡ after_packet (marks_of id) self.old leg packet.now }
+        ensures passes { result ≡ stamp_of (marks_of id) self.old leg packet.now }
+    {
+        let Ok(parts) = rtp_packet::read(packet) else {
+            unreachable!()
+        };
+        let is_active = self.active == Some(leg);
+        if !is_active {
+            if !self.may_change_to(leg) || !starts_key(packet, id, newest) {
+                return None;
+            }
+            self.offset = self.offset_for(parts.timestamp);
+        }
+        self.active = Some(leg);
+        self.ended = ends_frame(packet, id);
+        self.timestamp = parts.timestamp.wrapping_add(self.offset);
+        Some(self.timestamp)
+    }
+
+    // Whether a key start of this leg would become active.
+    fn may_change_to(&self, leg: u8) -> bool
+        ensures { result ≡ (self.now.chosen == leg && may_change self.now.active self.now.ended) }
+    {
+        self.chosen == leg && (self.active.is_none() || self.ended)
+    }
+
+    // The offset of a leg that becomes active with a packet of this timestamp.
+    fn offset_for(&self, timestamp: u32) -> u32
+        ensures { result ≡ offset_for self.now.active self.now.timestamp timestamp }
+    {
+        match self.active {
+            None => 0,
+            Some(_) => self.timestamp.wrapping_add(STEP).wrapping_sub(timestamp),
+        }
+    }
+}
+
+impl Default for Switch {
+    fn default() -> Switch
+        ensures { result ≡ begun }
+    {
+        Switch::new()
+    }
+}

@@ -1,0 +1,147 @@
+// Packets of two legs, and which of them go out. The wanted timestamps are worked out by hand from the rule: own plus offset, and 3,000 behind
+// the last one at a change of leg.
+
+use crate::Switch;
+use dd_descriptor::NewestDescriptor;
+use rtp_packet::read;
+use std::test::Fail;
+
+#[test]
+fn legs_change_between_frames_at_key_frames(rt: HostRuntime) -> Result<(), Fail> {
+    // The leg that is chosen before, the leg that the packet was taken from, the packet, and the timestamp that it goes out with.
+    let rows: [(u8, u8, &[u8], Option<u32>); 17] = [
+        // a key frame of a leg that is not chosen, and no key frame of the chosen one
+        (
+            1,
+            2,
+            b"\x90\xe0\x00\x01\x00\x00\x00\x64\x44\x44\x44\x44\xbe\xde\x00\x03\x48\xc0\x00\x01\x80\x00\x3a\x41\x01\x00\x00\x00\x18\x30\x00",
+            None,
+        ),
+        (
+            1,
+            1,
+            b"\x90\xe0\x00\x01\x00\x00\x00\x06\x11\x11\x11\x11\xbe\xde\x00\x01\x42\xc1\x00\x02\x10\x30\x00",
+            None,
+        ),
+        // the first key frame of the chosen one, with its own timestamp
+        (
+            1,
+            1,
+            b"\x90\xe0\x00\x02\x00\x00\x00\x07\x11\x11\x11\x11\xbe\xde\x00\x03\x48\xc0\x00\x03\x80\x00\x3a\x41\x01\x00\x00\x00\x18\x30\x00",
+            Some(7),
+        ),
+        (
+            1,
+            2,
+            b"\x90\xe0\x00\x01\x00\x00\x00\x64\x44\x44\x44\x44\xbe\xde\x00\x03\x48\xc0\x00\x01\x80\x00\x3a\x41\x01\x00\x00\x00\x18\x30\x00",
+            None,
+        ),
+        // leg 2 is chosen in the midst of a frame of leg 1
+        (
+            1,
+            1,
+            b"\x90\x60\x00\x03\x00\x00\x00\x08\x11\x11\x11\x11\xbe\xde\x00\x01\x42\x81\x00\x04\x50\x30\x00",
+            Some(8),
+        ),
+        (
+            2,
+            2,
+            b"\x90\xe0\x00\x02\x00\x00\x00\x64\x44\x44\x44\x44\xbe\xde\x00\x03\x48\xc0\x00\x02\x80\x00\x3a\x41\x01\x00\x00\x00\x18\x30\x00",
+            None,
+        ),
+        (
+            2,
+            1,
+            b"\x90\xe0\x00\x04\x00\x00\x00\x08\x11\x11\x11\x11\xbe\xde\x00\x01\x42\x41\x00\x04\x90\x00\x00",
+            Some(8),
+        ),
+        // a frame of leg 2 that is no key frame, then a key frame: 3,000 behind 8
+        (
+            2,
+            2,
+            b"\x90\xe0\x00\x03\x00\x00\x00\x63\x44\x44\x44\x44\xbe\xde\x00\x01\x42\xc1\x00\x03\x10\x30\x00",
+            None,
+        ),
+        (
+            2,
+            2,
+            b"\x90\xe0\x00\x04\x00\x00\x00\x64\x44\x44\x44\x44\xbe\xde\x00\x03\x48\xc0\x00\x04\x80\x00\x3a\x41\x01\x00\x00\x00\x18\x30\x00",
+            Some(3008),
+        ),
+        (
+            2,
+            1,
+            b"\x90\xe0\x00\x05\x00\x00\x00\x09\x11\x11\x11\x11\xbe\xde\x00\x01\x42\xc1\x00\x05\x10\x30\x00",
+            None,
+        ),
+        // the active leg goes on where another is chosen
+        (
+            1,
+            2,
+            b"\x90\xe0\x00\x05\x00\x00\x00\x66\x44\x44\x44\x44\xbe\xde\x00\x01\x42\xc1\x00\x05\x10\x30\x00",
+            Some(3010),
+        ),
+        // back to leg 1, whose timestamps wrap: an offset of its own
+        (
+            1,
+            1,
+            b"\x90\xe0\x00\x06\xff\xff\xff\xfa\x11\x11\x11\x11\xbe\xde\x00\x03\x48\xc0\x00\x06\x80\x00\x3a\x41\x01\x00\x00\x00\x18\x30\x00",
+            Some(6010),
+        ),
+        (
+            1,
+            1,
+            b"\x90\xe0\x00\x07\x00\x00\x00\x04\x11\x11\x11\x11\xbe\xde\x00\x01\x42\xc1\x00\x07\x10\x30\x00",
+            Some(6020),
+        ),
+        // a packet without a descriptor, and one with two bytes of it: of the active leg both go out, and end no frame
+        (
+            2,
+            1,
+            b"\x80\x60\x00\x08\x00\x00\x00\x05\x11\x11\x11\x11\x10\x30\x00",
+            Some(6021),
+        ),
+        (
+            2,
+            2,
+            b"\x80\xe0\x00\x06\x00\x00\x00\x67\x44\x44\x44\x44\x18\x30\x00",
+            None,
+        ),
+        (
+            2,
+            1,
+            b"\x90\x60\x00\x09\x00\x00\x00\x06\x11\x11\x11\x11\xbe\xde\x00\x01\x41\xc0\x00\x00\x10\x30\x00",
+            Some(6022),
+        ),
+        (
+            2,
+            2,
+            b"\x90\xe0\x00\x07\x00\x00\x00\x64\x44\x44\x44\x44\xbe\xde\x00\x03\x48\xc0\x00\x08\x80\x00\x3a\x41\x01\x00\x00\x00\x18\x30\x00",
+            None,
+        ),
+    ];
+    let mut switch = Switch::new();
+    let mut newest = NewestDescriptor::new();
+    for (chosen, leg, packet, wanted) in rows {
+        switch.choose(chosen);
+        let _ = read(packet)?;
+        assert_eq!(rt; switch.pass(4, leg, packet, &mut newest), wanted);
+    }
+    assert_eq!(rt; switch.chosen(), 2);
+    assert_eq!(rt; switch.active(), Some(1));
+    Ok(())
+}
+
+#[test]
+fn a_leg_is_chosen_and_becomes_active(rt: HostRuntime) {
+    let key_of_leg_2 =
+        b"\x90\xe0\x00\x01\x00\x00\x00\x64\x44\x44\x44\x44\xbe\xde\x00\x03\x48\xc0\x00\x01\x80\x00\x3a\x41\x01\x00\x00\x00\x18\x30\x00";
+    let mut switch = Switch::new(); // leg 1 is chosen, none is active
+    let mut newest = NewestDescriptor::new();
+    if read(key_of_leg_2).is_ok() {
+        assert_eq!(rt; switch.pass(4, 2, key_of_leg_2, &mut newest), None); // dropped
+        switch.choose(2);
+        assert_eq!(rt; switch.pass(4, 2, key_of_leg_2, &mut newest), Some(100)); // its own timestamp
+    }
+    assert_eq!(rt; switch.active(), Some(2));
+}
