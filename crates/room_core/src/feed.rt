@@ -11,11 +11,8 @@ use cause_book::CauseBook;
 use out_ring::OutRing;
 use sfu_base::{FrameMeaning, Kind, NoMemory, PacketBuf, Refusal, Verdict, Wish};
 use std::alloc::Global;
-use target_selector::{Selector, mask_for};
+use target_selector::{MOST_QUEUED, Selector, mask_for};
 use track_core::Track;
-
-/// How many packets are queued at most (own rule).
-const MOST_QUEUED: u16 = 512;
 
 /// The kind of the subscriber's track, the selection of frames, the packets that wait or are kept, and the verdicts on frames. All its
 /// memory is taken when it is made.

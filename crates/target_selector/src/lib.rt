@@ -16,3 +16,4 @@ pub use laws::masks_have_the_bits_that_are_got;
 pub use masks::mask_for;
 pub use selector::Selector;
 pub use targets::is_allowed;
+pub use verdict::MOST_QUEUED;

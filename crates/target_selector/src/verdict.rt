@@ -9,8 +9,8 @@ use crate::targets::{is_present, is_present_in};
 use forwarding_model::{CurrentTarget, Reason};
 use sfu_base::{FrameMeaning, Verdict, Wish};
 
-/// How many packets a subscriber's queue has at most.
-const QUEUE: u32 = 512;
+/// How many packets a subscriber's queue has at most (own rule).
+pub const MOST_QUEUED: u16 = 512;
 
 /// The verdict on a frame, by its first reference that wasn't passed, if there is one, and the best target that it can open, else the one
 /// that is open.
@@ -117,5 +117,5 @@ fn candidate_verdict(candidate: CurrentTarget, packets: u16, queued: u16) -> Ver
 fn has_room(packets: u16, queued: u16) -> bool
     ensures { result ≡ has_room queued packets }
 {
-    u32::from(queued) + u32::from(packets) <= QUEUE
+    u32::from(queued) + u32::from(packets) <= u32::from(MOST_QUEUED)
 }

@@ -15,6 +15,7 @@ ghost use Rattle.std.specs.Option.{option_map};
 
 use crate::layers::{Layers, work_off};
 use dd_structure::Structure;
+use packet_slot::PACKET_BYTES;
 use reorder_window::{Arrival, Item as OrderItem, Window};
 use sfu_base::{Dti, FrameMeaning, Kind, NoMemory, PacketBuf, Refusal, SeqList};
 use std::alloc::Global;
@@ -73,9 +74,6 @@ impl Model for Track {
     ghost invariant = { IsKept };
 }
 
-/// The longest packet that is taken in.
-const MOST_BYTES: usize = 1500;
-
 /// What stands where no frame was made yet.
 const NO_MEANING: FrameMeaning = FrameMeaning {
     number: 0,
@@ -127,7 +125,7 @@ impl Track {
         ensures stays { Stays self.old self.new }
         ensures packets { self.new.packets ≡ self.old.packets }
     {
-        if bytes.len() > MOST_BYTES {
+        if bytes.len() > PACKET_BYTES {
             return Err(Refusal::TooBig {
                 len: bytes.len() as u32,
             });

@@ -28,7 +28,7 @@ invariant_of-self c =
 
 pub returns-clause-refusal : goal.returns-clause-refusal
 returns-clause-refusal c =
-    let small = le-ltb 1500 _ c.if-bytes-gt-MOST_BYTES.false in
+    let small = le-ltb 1500 _ c.if-bytes-gt-PACKET_BYTES.false in
     let source = eq-eqb _ _ (sym (ap (λ (p : RtpPacket). p.ssrc) c.in-Ok.ensures.parts) ∙ c.if-packet-self.false ∙ ap (λ (t : Seen). t.ssrc) c.self.view_is) in
     let same = ap (λ (p : RtpPacket). p.sequence) c.in-Ok.ensures.parts in
     elim c.match-arrive.branch [
