@@ -60,9 +60,10 @@ first_flags x y rest f e0 =
     bind_then (flag_at d.1) _ f e4 (λ g eg e5.
     let is = ok_is {E = DdFault} (record { structure = a.0; mask = b.0; dtis = c.0; fdiffs = d.0; chains = g.0 }, g.1) f e5 in
     let first = ok_is {E = DdFault} a (x, y ∷ rest) (sym ea ∙ one_flag x (y ∷ rest)) in
-    let second = ok_is {E = DdFault} b (y, rest) (sym eb ∙ ap (λ (p : Bool × List Bool). flag_at p.1) first ∙ one_flag y rest) in
-    (ap (λ (p : Flags × List Bool). p.0.structure) (sym is) ∙ ap (λ (p : Bool × List Bool). p.0) first,
-    ap (λ (p : Flags × List Bool). p.0.mask) (sym is) ∙ ap (λ (p : Bool × List Bool). p.0) second))))))
+    let second = ok_is {E = DdFault} b (y, rest) (sym eb ∙ ap (λ (p : Bool × List Bool). flag_at p.1) first ∙ one_flag y rest) in (
+      ap (λ (p : Flags × List Bool). p.0.structure) (sym is) ∙ ap (λ (p : Bool × List Bool). p.0) first,
+      ap (λ (p : Flags × List Bool). p.0.mask) (sym is) ∙ ap (λ (p : Bool × List Bool). p.0) second,
+    ))))))
 
 -- the two highest bits of a byte say whether it is at least 64
 two_bits : (d : ℕ) → d < 256 → nat_le 64 d ≡ (eqb (d / 64 % 2) 1 || eqb (d / 128 % 2) 1)

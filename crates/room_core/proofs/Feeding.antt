@@ -38,7 +38,7 @@ use Rattle.target_selector.specs.Masks.{mask_for}
 use Rattle.room_core.specs.declared.feed.Feed.{Feed}
 use Rattle.room_core.specs.Follows.{Follows, FollowsFrame, FollowsPacket, Happened, IsRingOf, PushesFrame, frame_by, pushed_all, tells_by}
 use Rattle.room_core.proofs.Rings.{pushed_is, ring_grows}
-use Rattle.room_core.proofs.Masks.{opens_here, target_here}
+use Rattle.room_core.proofs.Opened.{opens_here, target_here}
 use Rattle.room_core.proofs.SentMarked.{queued_by, sends_frame, sent_keeps_count}
 
 -- the selector doesn't know what is queued

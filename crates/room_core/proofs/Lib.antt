@@ -1,6 +1,6 @@
 pub mod Rings
 pub mod SentMarked
-pub mod Masks
+pub mod Opened
 pub mod Pushing
 pub mod Feeding
 pub mod HandingOut

@@ -4,6 +4,7 @@ pub mod Items
 pub mod TrackHistory
 pub mod Targets
 pub mod Sent
+pub mod Openings
 pub mod Views
 pub mod Replies
 pub mod Noted
@@ -15,6 +16,7 @@ pub mod Given
 pub mod Headline
 pub mod Serves
 pub mod Silent
+pub mod Sendable
 pub mod Follows
 pub mod Told
 pub mod Stepping

@@ -1,8 +1,9 @@
 // Tracks and subscribers begin. What needs memory is done before anything changes.
-ghost use Rattle.std.specs.Prelude.{◌≡◌, [], IfOk, List, OnErr, false, ℕ};
+ghost use Rattle.std.specs.Prelude.{◌≡◌, ◌≢◌, [], IfOk, List, OnErr, false, ℕ};
 ghost use Rattle.sfu_base.specs.Answer.{is_starved};
 ghost use Rattle.sfu_base.specs.declared.call.Call.{Call};
 ghost use Rattle.sfu_base.specs.declared.call.Call.TheVariants as call;
+ghost use Rattle.sfu_base.specs.declared.call.Reply.TheVariants as reply;
 ghost use Rattle.sfu_base.specs.declared.frame.Wish.{Wish};
 ghost use Rattle.room_core.specs.Content.{DoesSilently, IsAcceptedAfter, IsAfter, IsReady, TakesMemory};
 ghost use Rattle.room_core.specs.WellFormed.{IsValue};
@@ -126,6 +127,7 @@ impl Content {
         ensures does { (ssrc hold : ℕ) → IsReady self.old (call.Publish track kind ssrc hold) ready
             → DoesSilently self.old self.new (call.Publish track kind ssrc hold) result }
         ensures fed { is_starved result ≡ false }
+        ensures sends_none { result ≢ reply.Packet }
     {
         match ready {
             Ready::Pipeline(pipeline, told) => {
@@ -159,6 +161,7 @@ impl Content {
         ensures does { (ssrc first : ℕ) (wish : Wish) → IsReady self.old (call.Join subscriber track ssrc first wish) ready
             → DoesSilently self.old self.new (call.Join subscriber track ssrc first wish) result }
         ensures fed { is_starved result ≡ false }
+        ensures sends_none { result ≢ reply.Packet }
     {
         match ready {
             Ready::Sent(feed) => match self

@@ -1,8 +1,9 @@
 // What one subscriber is sent.
-ghost use Rattle.std.specs.Prelude.{◌≡◌, ◌≤◌, ◌||◌, false, IfOk, OnErr, length};
+ghost use Rattle.std.specs.Prelude.{◌≡◌, ◌≤◌, ◌||◌, false, true, IfOk, OnErr, OnOk, length};
 ghost use Rattle.rtp_packet.specs.Faults.{first_fault};
 ghost use Rattle.sfu_base.specs.Frame.{IsValid};
 ghost use Rattle.room_core.specs.Follows.{FollowsAim, FollowsFrame, FollowsPacket, FollowsTake, HasNoTarget, IsFed, IsFresh, Resends, Tells, tells_by};
+ghost use Rattle.room_core.specs.Sendable.{IsSendable};
 ghost use Rattle.room_core.specs.Told.{TellsFirst};
 
 use crate::sending::{own_marker, push_from, push_remasked};
@@ -91,6 +92,7 @@ impl Feed {
         ensures follows { FollowsTake self.old self.new result out.old out.new }
         ensures unchanged { result ≡ false → self.new ≡ self.old }
         ensures untouched { result ≡ false → out.new ≡ out.old }
+        ensures sendable { result ≡ true → IsSendable out.new }
     {
         self.ring.take(out).is_ok()
     }
@@ -115,6 +117,7 @@ impl Feed {
         ensures resends { Resends self.now seq result out.old out.new }
         ensures fed { IsFed result }
         ensures untouched { OnErr result (out.new ≡ out.old) }
+        ensures sendable { OnOk result (IsSendable out.new) }
     {
         self.ring.resend(seq, out)
     }

@@ -6,6 +6,7 @@ mod beginning;
 mod content;
 mod feed;
 mod keep_all;
+mod laws;
 mod live;
 mod note;
 mod passing;
@@ -22,5 +23,6 @@ mod told;
 mod tracks;
 
 pub use keep_all::KeepAll;
+pub use laws::frames_open_their_targets;
 pub use recorder::{KeepNone, Recorder};
 pub use room::Room;

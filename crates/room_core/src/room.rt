@@ -27,6 +27,7 @@ impl<R: Recorder> Room<R> {
     ghost use Rattle.room_core.specs.Noted.{Noted};
     ghost use Rattle.room_core.specs.History.{Entry, kept};
     ghost use Rattle.room_core.specs.Serves.{DoesAsServe, MemoryHasCause, MemoryIsLast, Serves, Stands, StandsHeadline, recorder_may_refuse};
+    ghost use Rattle.room_core.specs.Sendable.{IsSendable};
     ghost use Rattle.room_core.specs.Silent.{IsSilent};
     ghost use Rattle.room_core.specs.Kinds.{IsKindOf};
 
@@ -53,6 +54,7 @@ impl<R: Recorder> Room<R> {
         ensures recorder { recorder_may_refuse R.may_refuse self.new ≡ recorder_may_refuse R.may_refuse self.old }
         ensures packet { result ≢ reply.Packet → scratch.new.packet ≡ scratch.old.packet }
         ensures names { result ≢ reply.Names → scratch.new.names ≡ scratch.old.names }
+        ensures sendable { result ≡ reply.Packet → IsSendable scratch.new.packet }
     {
         match call {
             // These three are most calls, and need nothing to be made ready.
@@ -76,6 +78,7 @@ impl<R: Recorder> Room<R> {
         ensures recorder { recorder_may_refuse R.may_refuse self.new ≡ recorder_may_refuse R.may_refuse self.old }
         ensures packet { result ≢ reply.Packet → scratch.new.packet ≡ scratch.old.packet }
         ensures names { result ≢ reply.Names → scratch.new.names ≡ scratch.old.names }
+        ensures sendable { result ≡ reply.Packet → IsSendable scratch.new.packet }
     {
         match self.content.prepare(self.alloc, call) {
             Ok(ready) => match self.recorder.note(seat, call) {
@@ -94,6 +97,7 @@ impl<R: Recorder> Room<R> {
         ensures memory { MemoryHasCause R.may_refuse self.old call.now result }
         ensures last { MemoryIsLast R.noted R.may_refuse self.old call.now result }
         ensures recorder { recorder_may_refuse R.may_refuse self.new ≡ recorder_may_refuse R.may_refuse self.old }
+        ensures sends_none { result ≢ reply.Packet }
     {
         match self.content.prepare(self.alloc, call) {
             Ok(ready) => match self.recorder.note(seat, call) {
@@ -152,6 +156,7 @@ impl<R: Recorder> Room<R> {
         ensures memory { MemoryHasCause R.may_refuse self.old (call.Packet track moment bytes.now) result }
         ensures last { MemoryIsLast R.noted R.may_refuse self.old (call.Packet track moment bytes.now) result }
         ensures recorder { recorder_may_refuse R.may_refuse self.new ≡ recorder_may_refuse R.may_refuse self.old }
+        ensures sends_none { result ≢ reply.Packet }
     {
         match self.recorder.note(seat, made) {
             Ok(()) => self.content.packet(track, moment, bytes),
@@ -193,6 +198,7 @@ impl<R: Recorder> Room<R> {
         ensures memory { MemoryHasCause R.may_refuse self.old (call.Tick track moment) result }
         ensures last { MemoryIsLast R.noted R.may_refuse self.old (call.Tick track moment) result }
         ensures recorder { recorder_may_refuse R.may_refuse self.new ≡ recorder_may_refuse R.may_refuse self.old }
+        ensures sends_none { result ≢ reply.Packet }
     {
         match self.recorder.note(seat, &Call::Tick { track, moment }) {
             Ok(()) => self.content.tick(track, moment),
@@ -249,6 +255,7 @@ impl<R: Recorder> Room<R> {
         ensures recorder { recorder_may_refuse R.may_refuse self.new ≡ recorder_may_refuse R.may_refuse self.old }
         ensures packet { result ≢ reply.Packet → scratch.new.packet ≡ scratch.old.packet }
         ensures names { result ≢ reply.Names → scratch.new.names ≡ scratch.old.names }
+        ensures sendable { result ≡ reply.Packet → IsSendable scratch.new.packet }
     {
         match self.recorder.note(seat, &Call::Take { subscriber }) {
             Ok(()) => self.content.take(subscriber, &mut scratch.packet),
@@ -266,6 +273,7 @@ impl<R: Recorder> Room<R> {
         ensures recorder { recorder_may_refuse R.may_refuse self.new ≡ recorder_may_refuse R.may_refuse self.old }
         ensures packet { result ≢ reply.Packet → scratch.new.packet ≡ scratch.old.packet }
         ensures names { result ≢ reply.Names → scratch.new.names ≡ scratch.old.names }
+        ensures sendable { result ≡ reply.Packet → IsSendable scratch.new.packet }
     {
         self.serve(seat, &Call::Resend { subscriber, seq }, scratch)
     }

@@ -3,11 +3,12 @@ ghost use Rattle.std.specs.Prelude.{◌≡◌, ◌≢◌, false};
 ghost use Rattle.sfu_base.specs.Answer.{is_starved};
 ghost use Rattle.sfu_base.specs.declared.call.Reply.TheVariants as reply;
 ghost use Rattle.room_core.specs.Content.{Does, DoesSilently, IsReady};
+ghost use Rattle.room_core.specs.Sendable.{IsSendable};
 ghost use Rattle.room_core.specs.Silent.{IsSilent};
 
 use crate::content::Content;
 use crate::live::Ready;
-use sfu_base::{Call, Refusal, Reply, Scratch};
+use sfu_base::{Call, Reply, Scratch};
 
 impl Content {
     /// Does a call and answers it, with what was made ready for it.
@@ -17,6 +18,7 @@ impl Content {
         ensures fed { is_starved result ≡ false }
         ensures packet { result ≢ reply.Packet → scratch.new.packet ≡ scratch.old.packet }
         ensures names { result ≢ reply.Names → scratch.new.names ≡ scratch.old.names }
+        ensures sendable { result ≡ reply.Packet → IsSendable scratch.new.packet }
     {
         match call {
             Call::Take { subscriber } => self.take(*subscriber, &mut scratch.packet),
@@ -34,6 +36,7 @@ impl Content {
         requires ready { IsReady self.old call.now ready }
         ensures does { DoesSilently self.old self.new call.now result }
         ensures fed { is_starved result ≡ false }
+        ensures sends_none { result ≢ reply.Packet }
     {
         match call {
             Call::Publish { track, kind, .. } => self.publish(*track, *kind, ready),
@@ -55,9 +58,7 @@ impl Content {
             Call::Plead { subscriber } => self.plead(*subscriber),
             Call::Why { subscriber, number } => self.why(*subscriber, *number),
             // These leave a packet or names in a scratch.
-            Call::Take { .. } | Call::Resend { .. } | Call::Missing { .. } => {
-                Reply::Refused(Refusal::NoMemory)
-            }
+            Call::Take { .. } | Call::Resend { .. } | Call::Missing { .. } => unreachable!(),
         }
     }
 }

@@ -7,6 +7,7 @@ ghost use Rattle.sfu_base.specs.declared.call.Call.{Call};
 ghost use Rattle.room_core.specs.Content.{Does, DoesSilently, IsAfter};
 ghost use Rattle.room_core.specs.Kinds.{kind_joined};
 ghost use Rattle.room_core.specs.Live.{joined};
+ghost use Rattle.room_core.specs.Sendable.{IsSendable};
 
 use crate::content::Content;
 use crate::table::place_of;
@@ -17,6 +18,7 @@ impl Content {
     pub fn leave(&mut self, subscriber: u32) -> Reply
         ensures does { DoesSilently self.old self.new (call.Leave subscriber) result }
         ensures fed { is_starved result ≡ false }
+        ensures sends_none { result ≢ reply.Packet }
     {
         match self.subscribers.swap_remove(&subscriber) {
             Some(_) => Reply::Done,
@@ -28,6 +30,7 @@ impl Content {
     pub fn aim(&mut self, subscriber: u32, wish: Wish) -> Reply
         ensures does { DoesSilently self.old self.new (call.Aim subscriber wish) result }
         ensures fed { is_starved result ≡ false }
+        ensures sends_none { result ≢ reply.Packet }
     {
         match self.subscribers.get_mut(&subscriber) {
             Some(known) => {
@@ -43,6 +46,7 @@ impl Content {
         ensures does { (numbers : List ℕ) → Does self.old self.new (call.Take subscriber) result out.new numbers }
         ensures fed { is_starved result ≡ false }
         ensures untouched { result ≢ reply.Packet → out.new ≡ out.old }
+        ensures sendable { result ≡ reply.Packet → IsSendable out.new }
     {
         let Some(place) = place_of(&self.subscribers, self.last_taker, subscriber) else {
             return Reply::Refused(Refusal::NoSubscriber);
@@ -66,6 +70,7 @@ impl Content {
         ensures does { (numbers : List ℕ) → Does self.now self.now (call.Resend subscriber seq) result out.new numbers }
         ensures fed { is_starved result ≡ false }
         ensures untouched { result ≢ reply.Packet → out.new ≡ out.old }
+        ensures sendable { result ≡ reply.Packet → IsSendable out.new }
     {
         match self.subscribers.get(&subscriber) {
             Some(known) => match known.feed.resend(seq, out) {
@@ -80,6 +85,7 @@ impl Content {
     pub fn plead(&mut self, subscriber: u32) -> Reply
         ensures does { DoesSilently self.old self.new (call.Plead subscriber) result }
         ensures fed { is_starved result ≡ false }
+        ensures sends_none { result ≢ reply.Packet }
     {
         let track = match self.subscribers.get(&subscriber) {
             Some(known) => known.track,
@@ -101,6 +107,7 @@ impl Content {
     pub fn why(&self, subscriber: u32, number: u64) -> Reply
         ensures does { DoesSilently self.now self.now (call.Why subscriber number) result }
         ensures fed { is_starved result ≡ false }
+        ensures sends_none { result ≢ reply.Packet }
     {
         match self.subscribers.get(&subscriber) {
             Some(known) => match known.feed.why(number) {

@@ -17,6 +17,7 @@ impl Content {
     pub fn unpublish(&mut self, track: u32) -> Reply
         ensures does { DoesSilently self.old self.new (call.Unpublish track) result }
         ensures fed { is_starved result ≡ false }
+        ensures sends_none { result ≢ reply.Packet }
     {
         match self.tracks.swap_remove(&track) {
             Some(_) => Reply::Done,
@@ -28,6 +29,7 @@ impl Content {
     pub fn packet(&mut self, track: u32, moment: u64, bytes: &PacketBuf) -> Reply
         ensures does { DoesSilently self.old self.new (call.Packet track moment bytes.now) result }
         ensures fed { is_starved result ≡ false }
+        ensures sends_none { result ≢ reply.Packet }
     {
         let Some(place) = place_of(&self.tracks, self.last_track, track) else {
             return Reply::Refused(Refusal::NoTrack);
@@ -56,6 +58,7 @@ impl Content {
     pub fn tick(&mut self, track: u32, moment: u64) -> Reply
         ensures does { DoesSilently self.old self.new (call.Tick track moment) result }
         ensures fed { is_starved result ≡ false }
+        ensures sends_none { result ≢ reply.Packet }
     {
         let Some(place) = place_of(&self.tracks, self.last_track, track) else {
             return Reply::Refused(Refusal::NoTrack);
@@ -82,6 +85,7 @@ impl Content {
     pub fn missing(&self, track: u32, out: &mut SeqList) -> Reply
         ensures does { (bytes : List ℕ) → Does self.now self.now (call.Missing track) result bytes out.new }
         ensures fed { is_starved result ≡ false }
+        ensures sends_none { result ≢ reply.Packet }
         ensures untouched { result ≢ reply.Names → out.new ≡ out.old }
     {
         match self.tracks.get(&track) {
@@ -97,6 +101,7 @@ impl Content {
     pub fn key_wanted(&self, track: u32) -> Reply
         ensures does { DoesSilently self.now self.now (call.KeyWanted track) result }
         ensures fed { is_starved result ≡ false }
+        ensures sends_none { result ≢ reply.Packet }
     {
         match self.tracks.get(&track) {
             Some(known) => match known.kind {

@@ -1,5 +1,5 @@
 -- A frame opens its target exactly where the selector says so.
-use Rattle.std.proofs.Common.{◌≡◌, ◌<◌, ◌≤◌, ℕ, zero, suc, ◌+◌, ◌*◌, ◌^◌, Bool, true, false, cond, List, [], ◌∷◌, ◌++◌, inl, inr, refl, sym, ap, subst, arith, Option, Some, None}
+use Rattle.std.proofs.Common.{◌≡◌, ◌<◌, ◌≤◌, ℕ, zero, suc, ◌+◌, ◌*◌, ◌^◌, Bool, true, false, cond, List, [], ◌∷◌, ◌++◌, inl, inr, refl, sym, ap, ◌∙◌, subst, arith, Option, Some, None}
 use Rattle.std.proofs.lemmas.Bool.{eq-eqb, ne_eqb}
 use Rattle.std.proofs.lemmas.Nat.{pow-add, pow_pos}
 use Rattle.std.proofs.Math.Nat.{pow-le-pow_right}
@@ -20,6 +20,7 @@ use Rattle.forwarding_laws.proofs.Members.{each_member}
 use Rattle.forwarding_laws.proofs.Openings.{openings_hold}
 use Rattle.target_selector.specs.Stands.{is_opening_at, is_something}
 use Rattle.room_core.specs.Follows.{Happened}
+use Rattle.room_core.specs.Openings.{FramesOpenTheirTargets}
 use Rattle.room_core.specs.Sent.{opens}
 
 -- ---- the opening
@@ -71,3 +72,7 @@ opens_here wish events f track = go (opening (has_passed s f) (key_passed s f) s
 -- where f passes, the target after it is the candidate
 pub target_here : (s : Standing) (f : FrameMeaning) (packets : ℕ) → passes_at s f packets ≡ true → (after_frame s f packets).target ≡ candidate_at s f
 target_here s f packets passes = ap (λ (b : Bool). (admitted b s f packets).target) passes
+
+pub frames_open : FramesOpenTheirTargets
+frames_open wish events f packets track passes =
+    ap (opens f) (target_here (standing wish events) f packets passes) ∙ sym (opens_here wish events f track)
