@@ -5,8 +5,8 @@ use Rattle.std.specs.Str.{bytes_eq}
 use Rattle.std.proofs.lemmas.Bool.{and_parts}
 use Rattle.std.proofs.lemmas.Slice.Eq.{bytes_eq-Decides}
 use Rattle.sfu_base.specs.declared.call.Call.{Call}
-use Rattle.sfu_script.specs.Grammar.{Spells}
-use Rattle.sfu_script.specs.Lines.{IsLine}
+use Rattle.script_texts.specs.Grammar.{Spells}
+use Rattle.script_texts.specs.Lines.{IsLine}
 use Rattle.sfu_script.specs.Fields.{fields_of, field_of, places_of}
 use Rattle.sfu_script.specs.Reading.{◌>>=◌, cut, cut_at, onto_first}
 use Rattle.sfu_script.specs.ReadLines.{call_of, of_two}

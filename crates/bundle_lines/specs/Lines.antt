@@ -1,7 +1,7 @@
 -- What lines say where there are bundles: the table of lines. Own rule.
 use Rattle.std.specs.Prelude.{◌≡◌, ℕ, ◌⊎◌, List, [], ◌∷◌, map, take, codes}
-use Rattle.sfu_script.specs.Grammar.{Place, Word, Number, Ssrc, Spells}
-use Rattle.sfu_script.specs.Lines.{places}
+use Rattle.script_texts.specs.Grammar.{Place, Word, Number, Ssrc, Spells}
+use Rattle.script_texts.specs.Lines.{places}
 use Rattle.bundle_lines.specs.declared.line.BundleLine.{BundleLine}
 use Rattle.bundle_lines.specs.declared.line.BundleLine.TheVariants.{Room, Bundle, Choose, Pump, Draw, Redraw}
 

@@ -1,7 +1,7 @@
 // What is true of lines, for every line and all that it may say. The functions have no effect: their contracts are the laws.
 ghost use Rattle.std.specs.Prelude.{◌≡◌, ◌↔◌, List, Some, ℕ};
 ghost use Rattle.sfu_base.specs.declared.call.Call.{Call};
-ghost use Rattle.sfu_script.specs.Lines.{IsLine};
+ghost use Rattle.script_texts.specs.Lines.{IsLine};
 ghost use Rattle.bundle_lines.specs.declared.line.BundleLine.{BundleLine};
 ghost use Rattle.bundle_lines.specs.Lines.{IsBundleLine};
 ghost use Rattle.bundle_lines.specs.ReadLines.{line_of};

@@ -1,6 +1,6 @@
 // Lines as tables.
 ghost use Rattle.std.specs.Prelude.{◌≡◌, true};
-ghost use Rattle.sfu_script.specs.Lines.{HasBytes};
+ghost use Rattle.script_texts.specs.Lines.{HasBytes};
 
 use crate::{BundleLine, read_bundle_line};
 use sfu_base::{Blob, Call};

@@ -8,7 +8,7 @@ use Rattle.byteorder.specs.Endian.{big_bytes, big_number}
 use Rattle.byteorder.specs.Numbers.{big_from-lt, big_number-reads_back}
 use Rattle.sfu_base.specs.Bytes.{AreBytes}
 use Rattle.sfu_script.specs.Fields.{bits_of, place_of, places_of, AreWithin}
-use Rattle.sfu_script.specs.Grammar.{AllWithin}
+use Rattle.script_texts.specs.Grammar.{AllWithin}
 use Rattle.sfu_script.specs.declared.fields.Field.{Field}
 use Rattle.sfu_script.specs.declared.fields.Field.TheVariants as kind
 use Rattle.script_records.specs.Records.{place_bytes}

@@ -10,9 +10,9 @@ use Rattle.sfu_base.specs.Bytes.{AreBytes}
 use Rattle.sfu_base.specs.declared.call.Call.{Call}
 use Rattle.sfu_base.specs.declared.call.Call.TheVariants as call
 use Rattle.sfu_base.specs.declared.call.Kind.TheVariants.{Plain, Layered}
-use Rattle.sfu_script.specs.Grammar.{Place, Word, Number, Hex, Address, IsWithin, AllWithin, Fills, Spells}
-use Rattle.sfu_script.specs.Grammar.{Ssrc as SsrcPlace}
-use Rattle.sfu_script.specs.Lines.{HasLine, IsLine, places}
+use Rattle.script_texts.specs.Grammar.{Place, Word, Number, Hex, Address, IsWithin, AllWithin, Fills, Spells}
+use Rattle.script_texts.specs.Grammar.{Ssrc as SsrcPlace}
+use Rattle.script_texts.specs.Lines.{HasLine, IsLine, places}
 use Rattle.sfu_script.specs.Fields.{places_of}
 use Rattle.sfu_script.specs.Reading.{◌>>=◌}
 use Rattle.sfu_script.specs.ReadLines.{of_one, of_two, of_three, of_six}

@@ -5,8 +5,8 @@ use Rattle.byteorder.specs.Endian.{big_bytes}
 use Rattle.sfu_base.specs.declared.call.Call.{Call}
 use Rattle.sfu_base.specs.declared.call.Call.TheVariants.{Publish, Unpublish, Packet, Tick, Join, Leave, Aim, Take, Resend, Missing, KeyWanted, Plead, Why}
 use Rattle.sfu_base.specs.declared.call.Kind.TheVariants.{Plain, Layered}
-use Rattle.sfu_script.specs.Grammar.{Place, Word, Number, Ssrc, Hex, Address}
-use Rattle.sfu_script.specs.Lines.{HasLine, places}
+use Rattle.script_texts.specs.Grammar.{Place, Word, Number, Ssrc, Hex, Address}
+use Rattle.script_texts.specs.Lines.{HasLine, places}
 
 -- the number that a call's body begins with
 abbrev pub kind_of : Call → ℕ

@@ -3,7 +3,7 @@ ghost use Rattle.std.specs.Prelude.{◌≡◌, ◌↔◌, List, Some, true, leng
 ghost use Rattle.byteorder.specs.Endian.{big_number};
 ghost use Rattle.sfu_base.specs.Bytes.{AreBytes};
 ghost use Rattle.sfu_base.specs.declared.call.Call.{Call};
-ghost use Rattle.sfu_script.specs.Lines.{HasLine, IsLine};
+ghost use Rattle.script_texts.specs.Lines.{HasLine, IsLine};
 ghost use Rattle.script_records.specs.Kinds.{is_in_table};
 ghost use Rattle.script_records.specs.ReadRecords.{call_of};
 ghost use Rattle.script_records.specs.Records.{IsBody, body_of, record_of};

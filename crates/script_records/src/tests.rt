@@ -1,6 +1,6 @@
 // Records and lines as tables. The records are the format's table by hand.
 ghost use Rattle.std.specs.Prelude.{◌≡◌, true};
-ghost use Rattle.sfu_script.specs.Lines.{HasBytes};
+ghost use Rattle.script_texts.specs.Lines.{HasBytes};
 
 use crate::{NoRecord, RecordReader, may_have_length, read_record, write_record};
 use sfu_base::{Blob, Call, PacketBuf};

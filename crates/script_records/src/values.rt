@@ -1,6 +1,6 @@
 // The values of a body that is written, and the one writer over lists of them.
 ghost use Rattle.std.specs.Prelude.{◌≡◌, ◌<◌, ◌^◌, ◌++◌, length, OnOk};
-ghost use Rattle.sfu_script.specs.Texts.{GoesOn};
+ghost use Rattle.script_texts.specs.Texts.{GoesOn};
 ghost use Rattle.script_records.specs.Values.{value_bytes, values_bytes};
 
 use sfu_base::{Blob, NoMemory};

@@ -1,8 +1,8 @@
 // Records, written.
 ghost use Rattle.std.specs.Prelude.{◌≡◌, ◌<◌, ◌≤◌, ◌++◌, ◌∷◌, length, OnErr, OnOk};
 ghost use Rattle.sfu_base.specs.declared.call.Call.{Call};
-ghost use Rattle.sfu_script.specs.Lines.{HasBytes, HasLine};
-ghost use Rattle.sfu_script.specs.Texts.{GoesOn};
+ghost use Rattle.script_texts.specs.Lines.{HasBytes, HasLine};
+ghost use Rattle.script_texts.specs.Texts.{GoesOn};
 ghost use Rattle.script_records.specs.Kinds.{code_of};
 ghost use Rattle.script_records.specs.Records.{IsBody, body_of, framed, record_of};
 ghost use Rattle.script_records.specs.Values.{values_bytes};

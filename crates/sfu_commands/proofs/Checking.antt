@@ -15,7 +15,7 @@ use Rattle.strict_receiver.proofs.Complaints.{complaint_stays}
 use Rattle.strict_receiver.proofs.Histories.{received_one}
 use Rattle.sfu_driver.specs.declared.halt.Ending.{Ending}
 use Rattle.sfu_driver.specs.declared.halt.Ending.TheVariants as ending
-use Rattle.sfu_driver.specs.Drive.{end_by}
+use Rattle.sfu_driver.specs.Drive.{end_by, outside_end}
 use Rattle.sfu_driver.specs.Outcome.{End, Outcome, goes_on, takes, then_due}
 use Rattle.sfu_driver.specs.Scan.{Scan, More, Whole, NoUnit}
 use Rattle.sfu_driver.specs.Lines.{line_scan, line_scan_end}
@@ -27,8 +27,7 @@ use Rattle.sfu_driver.proofs.Cutting.{at}
 use Rattle.sfu_driver.proofs.LineInputs.{due_is_lines, judged_is_lines}
 use Rattle.sfu_script.specs.Reading.{bytes_of}
 use Rattle.sfu_script.specs.Skipped.{is_skipped}
-use Rattle.sfu_commands.specs.Script.{fault_line}
-use Rattle.sfu_commands.specs.Run.{fault_end}
+use Rattle.script_texts.specs.WholeLines.{fault_line}
 use Rattle.sfu_commands.specs.PacketScript.{NumberedPacket, PacketScript, breaks_at, numbered, packets_of, with_packet, with_packet_line}
 use Rattle.sfu_commands.specs.Check.{Checks, HasReceived, IsCheckStatus, Reception, bytes_in, check_due, check_end, check_part, checked, complaint_line, counted, due_for_packets, first_end, first_refused, judged_as, ok_line, receives, unless_ended, with_one}
 
@@ -132,7 +131,7 @@ module _ (id : ℕ) (past : List NumberedPacket) (n : ℕ) (bytes : List ℕ) (o
 
 -- nothing of what came is complained of
 calm_end : (id : ℕ) (past : List NumberedPacket) (fault : Option ℕ) → complaint_over id (bytes_in past) ≡ None
-    → check_end id (record { packets = past ++ []; fault = fault }) ≡ fault_end fault
+    → check_end id (record { packets = past ++ []; fault = fault }) ≡ outside_end fault_line fault
 calm_end id past fault calm =
     ap (λ (o : Option Complaint). first_end o (first_refused id (past ++ [])) fault) (ap (λ (packets : List NumberedPacket). complaint_over id (bytes_in packets)) (append-nil past) ∙ calm)
 

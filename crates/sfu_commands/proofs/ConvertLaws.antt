@@ -15,7 +15,7 @@ use Rattle.sfu_driver.specs.Drive.{end_by}
 use Rattle.sfu_driver.specs.Input.{Line, last_unit, lines_of, onto_line, said, units_of, with_unit}
 use Rattle.sfu_driver.specs.Lines.{ends_in_cr, without_cr}
 use Rattle.sfu_driver.specs.Scan.{AllMore, EndsAt, Scan, More, NoUnit, Whole}
-use Rattle.sfu_script.specs.Lines.{HasLine, IsLine}
+use Rattle.script_texts.specs.Lines.{HasLine, IsLine}
 use Rattle.sfu_script.specs.ReadLines.{call_of}
 use Rattle.sfu_script.specs.Skipped.{is_skipped}
 use Rattle.sfu_script.proofs.LineLaws.{call_found}

@@ -7,7 +7,7 @@ use Rattle.sfu_base.specs.declared.call.Call.{Call}
 use Rattle.sfu_base.specs.declared.call.Call.TheVariants as call
 use Rattle.sfu_driver.specs.Scan.{Scan, More, Whole, NoUnit}
 use Rattle.sfu_driver.specs.Input.{judged_lines, last_unit, lines_of, said, units_of, with_unit}
-use Rattle.sfu_script.specs.Lines.{HasLine, IsLine}
+use Rattle.script_texts.specs.Lines.{HasLine, IsLine}
 use Rattle.sfu_script.proofs.LineLaws.{call_found}
 use Rattle.script_records.specs.Kinds.{may_have}
 use Rattle.script_records.proofs.RecordLaws as records

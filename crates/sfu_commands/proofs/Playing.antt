@@ -17,7 +17,7 @@ use Rattle.stream_maker.specs.Stream.{Stream, counts_of, events, fate, turns, wa
 use Rattle.stream_maker.specs.Turn.{Given, sent, sent_event, tick_event, turn}
 use Rattle.sfu_commands.specs.Trial.{after_event, after_given, after_takes, and_call, made, opened, trial_calls}
 use Rattle.sfu_commands.specs.Staged.{IsStaged}
-use Rattle.sfu_commands.specs.declared.trial.stage.Stage.{Stage}
+use Rattle.sfu_commands.specs.declared.stream_trial.stage.Stage.{Stage}
 
 -- ---- what a stream gives: packets with their places, and ticks
 

@@ -19,7 +19,8 @@ use Rattle.sfu_driver.proofs.UnitInputs.{due_is_units, judged_is_units}
 use Rattle.sfu_commands.specs.declared.form.Form.{Form}
 use Rattle.sfu_commands.specs.declared.form.Form.TheVariants.{Lines, Records}
 use Rattle.sfu_commands.specs.Records.{record_scan, record_scan_end}
-use Rattle.sfu_commands.specs.Script.{Script, call_in, calls_of, fault_in, fault_line, form_of, is_silent, record_fault_line, reply_line, script_in, script_of, stops_at, with_call, with_unit}
+use Rattle.sfu_commands.specs.Script.{Script, call_in, calls_of, fault_in, form_of, is_silent, reply_line, script_in, script_of, stops_at, with_call, with_unit}
+use Rattle.script_texts.specs.WholeLines.{fault_line, record_fault_line}
 use Rattle.sfu_commands.specs.Run.{IsRunStatus, Runs, due_for, due_in, end_in, part_in, reply_to, run_due, run_part, served}
 use Rattle.sfu_commands.proofs.Alike.{IsDue, statuses_alike}
 

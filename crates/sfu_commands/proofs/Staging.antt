@@ -24,8 +24,8 @@ use Rattle.sfu_commands.specs.Run.{untold}
 use Rattle.sfu_base.specs.declared.call.Scratch.{Scratch}
 use Rattle.sfu_commands.specs.Trial.{after_takes, and_call, opened, queued_for, received, takes}
 use Rattle.sfu_commands.specs.Staged.{AllJoined, HasJoined, IsFedAfter, IsStaged, StandsAfter, TakesOne, WasFed}
-use Rattle.sfu_commands.specs.declared.trial.stage.Stage.{Stage}
-use Rattle.sfu_commands.specs.declared.trial.viewer.Viewer.{Viewer}
+use Rattle.sfu_commands.specs.declared.stream_trial.stage.Stage.{Stage}
+use Rattle.sfu_commands.specs.declared.stream_trial.viewer.Viewer.{Viewer}
 use Rattle.sfu_commands.proofs.Viewers.{Stays, other_stays, own_stays, packet_stays, queue_is_short, seen, take_finds, take_finds_none, take_is_answered, tick_stays, to_of}
 
 -- a call that takes no memory finds it

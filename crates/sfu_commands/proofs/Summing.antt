@@ -4,7 +4,7 @@ use Rattle.std.specs.Prelude.{is_some, min}
 use Rattle.strict_receiver.specs.Receivers.{complaint_over, frames_over, greatest_count, packets_over}
 use Rattle.sfu_commands.specs.Trial.{counts_text, subscriber_text}
 use Rattle.sfu_commands.specs.Staged.{WasFed}
-use Rattle.sfu_commands.specs.declared.trial.viewer.Viewer.{Viewer}
+use Rattle.sfu_commands.specs.declared.stream_trial.viewer.Viewer.{Viewer}
 
 pub line_is : (viewer : Viewer) (n frames packets complaints : ℕ) (taken : List (List ℕ)) → WasFed viewer taken → frames ≡ viewer.receiver.frames
     → packets ≡ viewer.receiver.packets → complaints ≡ cond viewer.complains 1 0 → counts_text n frames packets complaints ≡ subscriber_text n taken

@@ -4,15 +4,14 @@ use Rattle.std.specs.Prelude.{◌≡◌, ◌⊎◌, ◌≤◌, ℕ, if◌then◌
 use Rattle.forwarding_model.specs.declared.complaint.Complaint.{Complaint}
 use Rattle.strict_receiver.specs.Receivers.{Seen, StandsFor, complaint_over, frames_over, greatest_count, packets_over}
 use Rattle.sfu_driver.specs.declared.halt.Ending.TheVariants as ending
-use Rattle.sfu_driver.specs.Drive.{end_by}
+use Rattle.sfu_driver.specs.Drive.{end_by, outside_end}
 use Rattle.sfu_driver.specs.Outcome.{End, Outcome, ends_with, goes_on}
 use Rattle.sfu_driver.specs.Statuses.{Due, Statuses}
-use Rattle.sfu_script.specs.Complaints.{complaint_text}
+use Rattle.script_texts.specs.Complaints.{complaint_text}
 use Rattle.sfu_script.specs.Reading.{bytes_of}
 use Rattle.sfu_script.specs.Skipped.{is_skipped}
 use Rattle.sfu_commands.specs.PacketScript.{NumberedPacket, PacketScript, packets_in, packets_so_far}
-use Rattle.sfu_commands.specs.Run.{fault_end}
-use Rattle.sfu_commands.specs.Script.{fault_line}
+use Rattle.script_texts.specs.WholeLines.{fault_line}
 
 -- the id is 1 to 255, in decimal digits without a leading zero
 abbrev pub IsCheck : List (List ℕ) → ℕ → Type 0
@@ -39,7 +38,7 @@ first_refused id packets = slice_index (map (λ packet. packet.number) packets) 
 
 -- a complaint ends the command at the line of its packet; else the first line outside the grammar does
 abbrev pub first_end : Option Complaint → ℕ → Option ℕ → Option End
-first_end None refused fault = fault_end fault
+first_end None refused fault = outside_end fault_line fault
 first_end (Some complaint) refused fault = Some (end_by ending.Complaint (complaint_line refused complaint))
 
 -- why a script ends the command, if it does

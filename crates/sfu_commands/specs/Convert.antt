@@ -3,7 +3,7 @@ use Rattle.std.specs.Prelude.{◌≡◌, ◌⊎◌, ℕ, if◌then◌else◌, Li
 use Rattle.std.specs.List.{flat_map}
 use Rattle.sfu_base.specs.declared.call.Call.{Call}
 use Rattle.sfu_driver.specs.declared.halt.Ending.TheVariants.{Outside}
-use Rattle.sfu_driver.specs.Drive.{end_by}
+use Rattle.sfu_driver.specs.Drive.{outside_end}
 use Rattle.sfu_driver.specs.Outcome.{End, Outcome, ends_with, goes_on, writes}
 use Rattle.sfu_driver.specs.Statuses.{Due, Statuses, text_before}
 use Rattle.sfu_script.specs.ReadLines.{call_of}
@@ -38,8 +38,7 @@ convert_text calls = header ++ records_of calls
 
 -- a line outside the grammar ends the command, and nothing says which it is
 abbrev pub silent_end : Option ℕ → Option End
-silent_end None = None
-silent_end (Some number) = Some (end_by Outside [])
+silent_end fault = outside_end (λ _. []) fault
 
 abbrev pub records_due : Script → Due
 records_due script = record { text = records_of script.calls; end = silent_end script.fault }

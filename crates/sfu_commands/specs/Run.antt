@@ -6,11 +6,11 @@ use Rattle.room_core.specs.History.{Entry}
 use Rattle.room_core.specs.Noted.{Noted}
 use Rattle.room_core.specs.declared.recorder.KeepNone.{KeepNone}
 use Rattle.sfu_driver.specs.declared.halt.Ending.TheVariants.{Outside}
-use Rattle.sfu_driver.specs.Drive.{end_by}
+use Rattle.sfu_driver.specs.Drive.{outside_end}
 use Rattle.sfu_driver.specs.Outcome.{End, Outcome, ends_with, goes_on, writes}
 use Rattle.sfu_driver.specs.Statuses.{Due, Statuses}
 use Rattle.sfu_commands.specs.declared.form.Form.{Form}
-use Rattle.sfu_commands.specs.Script.{Script, call_in, entry_of, fault_in, fault_line, form_of, is_silent, judged_in, reply_line, run_text, script_in}
+use Rattle.sfu_commands.specs.Script.{Script, call_in, entry_of, fault_in, form_of, is_silent, judged_in, reply_line, run_text, script_in}
 
 abbrev pub IsRun : List (List ℕ) → Type 0
 IsRun words = words ≡ codes "run" ∷ []
@@ -32,15 +32,9 @@ served form history number text = if is_silent form number text then goes_on his
 
 -- ---- the whole script
 
--- which line is outside the grammar
-abbrev pub fault_end : Option ℕ → Option End
-fault_end None = None
-fault_end (Some number) = Some (end_by Outside (fault_line number))
-
--- which line or record is
+-- which line or record is outside the grammar
 abbrev pub end_in : Form → Option ℕ → Option End
-end_in form None = None
-end_in form (Some number) = Some (end_by Outside (fault_in form number))
+end_in form fault = outside_end (fault_in form) fault
 
 -- the replies to the calls of a script after this history, and then which line or record is outside the grammar
 abbrev pub due_for : Form → Script → List Entry → Due

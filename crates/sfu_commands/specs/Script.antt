@@ -6,7 +6,8 @@ use Rattle.room_core.specs.History.{Entry, reply_of}
 use Rattle.sfu_driver.specs.Input.{judged_lines, judged_units, lines_of, said, units_of}
 use Rattle.sfu_driver.specs.Scan.{Scan, More, Whole, NoUnit}
 use Rattle.sfu_script.specs.ReadLines.{call_of}
-use Rattle.sfu_script.specs.Replies.{answer_text, line_fault_text, record_fault_text}
+use Rattle.script_texts.specs.Replies.{answer_text}
+use Rattle.script_texts.specs.WholeLines.{fault_line, record_fault_line}
 use Rattle.sfu_script.specs.Skipped.{is_skipped}
 use Rattle.script_records.specs.ReadRecords as records
 use Rattle.sfu_commands.specs.declared.form.Form.{Form}
@@ -107,14 +108,7 @@ abbrev pub run_text : List Call → List Entry → List ℕ
 run_text [] history = []
 run_text (call ∷ calls) history = reply_line history call ++ run_text calls (history ++ entry_of call ∷ [])
 
--- the line that says which line is outside the grammar
-abbrev pub fault_line : ℕ → List ℕ
-fault_line number = line_fault_text number ++ 10 ∷ []
-
--- the line that says which record is
-abbrev pub record_fault_line : ℕ → List ℕ
-record_fault_line number = record_fault_text number ++ 10 ∷ []
-
+-- the line that says which line or record is outside the grammar
 abbrev pub fault_in : Form → ℕ → List ℕ
 fault_in Lines number = fault_line number
 fault_in Records number = record_fault_line number

@@ -14,8 +14,8 @@ use Rattle.room_core.specs.TrackHistory.{entries_of}
 use Rattle.strict_receiver.specs.Receivers.{StandsFor, complaint_over}
 use Rattle.sfu_commands.specs.Run.{untold}
 use Rattle.sfu_commands.specs.Trial.{and_call, queued_for, received}
-use Rattle.sfu_commands.specs.declared.trial.viewer.Viewer.{Viewer}
-use Rattle.sfu_commands.specs.declared.trial.stage.Stage.{Stage}
+use Rattle.sfu_commands.specs.declared.stream_trial.viewer.Viewer.{Viewer}
+use Rattle.sfu_commands.specs.declared.stream_trial.stage.Stage.{Stage}
 
 -- the room stands for some history in which these calls were accepted
 pub record StandsAfter (room : Room KeepNone) (past : List Call) : Type 0 where

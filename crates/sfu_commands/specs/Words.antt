@@ -28,7 +28,3 @@ Reads words None = ¬ (IsForm words)
 -- which command a single word is
 abbrev pub ReadsWord : List ℕ → Option Command → Type 0
 ReadsWord word command = Reads (word ∷ []) command
-
--- the statuses of the commands that wait for nobody
-abbrev pub IsStatus : ℕ → Type 0
-IsStatus status = (status ≡ 0) ⊎ (status ≡ 2) ⊎ (status ≡ 3) ⊎ (status ≡ 4) ⊎ (status ≡ 5) ⊎ (status ≡ 6) ⊎ (status ≡ 8)

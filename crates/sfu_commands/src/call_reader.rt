@@ -1,6 +1,6 @@
 // The calls that the units of a script say.
 ghost use Rattle.std.specs.Prelude.{◌≡◌, IfSome, MatchOption, None, Some};
-ghost use Rattle.sfu_script.specs.Lines.{IsLine};
+ghost use Rattle.script_texts.specs.Lines.{IsLine};
 ghost use Rattle.sfu_script.specs.ReadLines.{call_of};
 ghost use Rattle.sfu_commands.specs.Script.{call_in};
 

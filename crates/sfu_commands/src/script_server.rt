@@ -1,7 +1,7 @@
 // Serving the calls of a script.
 ghost use Rattle.std.specs.Prelude.{◌≡◌, ◌≤◌, ◌++◌, ◌∷◌, [], Err, List, OnErr, OnOk, length, true};
 ghost use Rattle.sfu_base.specs.Answer.{answer_of, is_starved};
-ghost use Rattle.sfu_script.specs.Replies.{answer_text};
+ghost use Rattle.script_texts.specs.Replies.{answer_text};
 ghost use Rattle.sfu_driver.specs.declared.halt.Halt.TheVariants.{Starved};
 ghost use Rattle.sfu_driver.specs.Drive.{Judges};
 ghost use Rattle.sfu_driver.specs.Outcome.{writes};
@@ -11,15 +11,17 @@ ghost use Rattle.room_core.specs.declared.recorder.KeepNone.{KeepNone};
 ghost use Rattle.room_core.specs.declared.room.Room.{Room};
 ghost use Rattle.sfu_commands.specs.declared.form.Form.TheVariants.{Lines, Records};
 ghost use Rattle.sfu_commands.specs.Run.{reply_to, served, untold};
-ghost use Rattle.sfu_commands.specs.Script.{call_in, entry_of, fault_line, record_fault_line, reply_line};
+ghost use Rattle.sfu_commands.specs.Script.{call_in, entry_of, reply_line};
+ghost use Rattle.script_texts.specs.WholeLines.{fault_line, record_fault_line};
 
 use crate::call_reader::CallReader;
 use crate::form::Form;
-use crate::texts::{add_fault, add_record_fault, add_reply, add_unit_fault};
+use crate::texts::add_unit_fault;
 use room_core::{KeepNone, Room};
-use sfu_base::{Blob, Call, NoMemory, PacketBuf, Refusal, Reply, Scratch, SeqList};
+use script_texts::{DigitBuf, add_fault, add_record_fault, add_reply, wants_memory};
+use sfu_base::{Blob, Call, NoMemory, PacketBuf, Reply, Scratch, SeqList};
 use sfu_driver::{Ending, Halt, Judge};
-use sfu_script::{DigitBuf, is_skipped};
+use sfu_script::is_skipped;
 use std::alloc::Global;
 
 /// Serves each call of a script by seat 0 on a room that keeps nothing.
@@ -29,13 +31,6 @@ pub struct CallServer {
     pub room: Room<KeepNone>,
     pub scratch: Scratch,
     pub digits: DigitBuf,
-}
-
-// Whether a reply is want of memory.
-fn wants_memory(reply: &Reply) -> bool
-    ensures { result ≡ is_starved reply.now }
-{
-    matches!(reply, Reply::Refused(Refusal::NoMemory))
 }
 
 // Puts the line of a reply behind the texts that are ready.

@@ -4,7 +4,7 @@ ghost use Rattle.std.specs.String.{string_bytes};
 ghost use Rattle.sfu_commands.specs.Words.{Reads, ReadsWord};
 
 use crate::check_words::read_check;
-use crate::trial::read_trial;
+use crate::stream_trial::read_trial;
 
 /// A command that waits for nobody.
 #[derive(Clone, Copy, Debug, PartialEq, Eq)]

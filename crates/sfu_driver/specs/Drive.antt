@@ -1,8 +1,9 @@
 -- What a command takes of its source and writes to its sink.
-use Rattle.std.specs.Prelude.{◌≡◌, ◌⊎◌, ℕ, ◌<◌, ◌≤◌, List, [], ◌++◌, length, take, Option, IsOk, Result, Ok, Err}
+use Rattle.std.specs.Prelude.{◌≡◌, ◌⊎◌, ℕ, ◌<◌, ◌≤◌, List, [], ◌++◌, length, take, Option, Some, None, IsOk, Result, Ok, Err}
 use Rattle.std.specs.Io.KnownBytes.{Appends, Consumes, IsAtEnd}
 use Rattle.sfu_base.specs.Faults.{Rose}
 use Rattle.sfu_driver.specs.declared.halt.Ending.{Ending}
+use Rattle.sfu_driver.specs.declared.halt.Ending.TheVariants.{Outside}
 use Rattle.sfu_driver.specs.declared.halt.Halt.{Halt}
 use Rattle.sfu_driver.specs.declared.halt.Halt.TheVariants.{Ended, Starved}
 use Rattle.sfu_driver.specs.declared.halt.Stop.{Stop}
@@ -36,6 +37,11 @@ pub record WritesEnd (written written' : Option (List ℕ)) (faults faults' : �
 -- why a command ends, and its last text
 abbrev pub end_by : Ending → List ℕ → End
 end_by why text = record { why = why; text = text }
+
+-- the end at the unit outside the grammar, if there is one: its number says the last text
+abbrev pub outside_end : (ℕ → List ℕ) → Option ℕ → Option End
+outside_end text None = None
+outside_end text (Some number) = Some (end_by Outside (text number))
 
 -- The text that is due was put behind those that are ready, and the object stands for the state that is left. Or the command ends, and its
 -- last text alone was put there. Or memory was wanting, and nothing was.

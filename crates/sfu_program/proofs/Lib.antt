@@ -1,14 +1,7 @@
-pub mod TogetherParts
-pub mod TogetherJudging
-pub mod TogetherDue
-pub mod ServeJudging
-pub mod ServeDue
 pub mod TogetherPlacing
-pub mod TogetherSorting
 pub mod TogetherCounting
 pub mod TogetherHistories
 pub mod TogetherEnding
-pub mod TogetherCalls
 pub mod TogetherTurning
 pub mod TogetherSeating
 pub mod TogetherStatuses
@@ -19,5 +12,4 @@ pub mod ServeLines
 pub mod ServeBacks
 pub mod ServeRun
 pub mod ServeActing
-pub mod ServeCounts
 pub mod ServeForms

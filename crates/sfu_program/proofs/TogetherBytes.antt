@@ -4,12 +4,13 @@ use Rattle.std.specs.List.{All, AllByRecursion}
 use mathlib.Core.Option.{some, some-injective, some-ne-none}
 use lib.ListN.{get_elem?}
 use Rattle.sfu_base.specs.declared.call.Call.{Call}
-use Rattle.sfu_script.specs.declared.journal.Actors.{Actors}
-use Rattle.sfu_script.specs.declared.journal.Entry as journal
-use Rattle.sfu_script.specs.Lines.{HasBytes}
+use Rattle.script_texts.specs.declared.journal.Actors.{Actors}
+use Rattle.script_texts.specs.declared.journal.Entry as journal
+use Rattle.script_texts.specs.Lines.{HasBytes}
 use Rattle.room_core.specs.History.{Entry}
 use Rattle.turn_lock.proofs.Lists.{there}
-use Rattle.sfu_program.specs.TogetherHistory.{HaveBytes, IsJournal, journal_from, made_by, own}
+use Rattle.sfu_program.specs.TogetherHistory.{IsJournal, journal_from, made_by, own}
+use Rattle.actor_script.specs.Counts.{HaveBytes}
 
 abbrev Written : List Entry → Type 0
 Written h = AllByRecursion (λ e. HasBytes e.call) h

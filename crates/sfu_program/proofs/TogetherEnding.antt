@@ -9,8 +9,8 @@ use lib.ListN.{get_elem?}
 use Rattle.atomic_table.specs.Seated.{TableId}
 use Rattle.atomic_table.proofs.Lists.{at_map}
 use Rattle.sfu_base.specs.declared.call.Call.{Call}
-use Rattle.sfu_script.specs.declared.journal.Actors.{Actors}
-use Rattle.sfu_script.specs.declared.journal.Entry as journal
+use Rattle.script_texts.specs.declared.journal.Actors.{Actors}
+use Rattle.script_texts.specs.declared.journal.Entry as journal
 use Rattle.room_core.specs.WellFormed.{AreWellFormed}
 use Rattle.room_core.proofs.Promising.{headline}
 use Rattle.room_core.specs.History.{Entry as RoomEntry, accepted}
@@ -21,14 +21,16 @@ use Rattle.turn_lock.specs.Known.{AllJoinedIn, Fits, Known, opened}
 use Rattle.turn_lock.proofs.Lists.{prefix_trans, there}
 use Rattle.turn_lock.proofs.Histories.{below_left, below_more, own_above, own_append}
 use Rattle.sfu_serve.specs.History.{entries_of, entry_of}
-use Rattle.sfu_program.specs.declared.together.acting.Placed.{Placed}
+use Rattle.actor_script.specs.declared.turns.Placed.{Placed}
 use Rattle.sfu_program.specs.declared.together.cast.Done.{Done}
-use Rattle.sfu_program.specs.TogetherHistory.{IsJournal, IsMadeBy, count_of, made_by}
-use Rattle.sfu_program.specs.TogetherActing.{Acts, AreDone, AtPlaces, HasJoined, counting, joined_as, kept_by, mine, placed, turn_of}
+use Rattle.sfu_program.specs.TogetherHistory.{IsJournal, IsMadeBy, made_by}
+use Rattle.actor_script.specs.Counts.{count_of}
+use Rattle.sfu_program.specs.TogetherActing.{Acts, AreDone, HasJoined, counting, joined_as, kept_by, placed, turn_of}
+use Rattle.actor_script.specs.Places.{AtPlaces, mine}
 use Rattle.sfu_program.proofs.TogetherCounting.{few}
 use Rattle.sfu_program.proofs.TogetherHistories.{made_entries, no_first, no_longer, only_first, own_entries, own_whole}
 use Rattle.sfu_program.proofs.TogetherPlacing.{all_at_places, journal_placed, mine_none, mine_same, nothing, placed_below}
-use Rattle.sfu_program.proofs.TogetherSorting.{parts, parts_all}
+use Rattle.actor_script.proofs.Sorting.{parts, parts_all}
 
 below_right : (n : ℕ) (xs ys : List (Entry Call)) → AllBelow n (xs ++ ys) → AllBelow n ys
 below_right n [] ys low = low

@@ -8,7 +8,8 @@ use Rattle.sfu_commands.specs.Convert.{IsConvert}
 use Rattle.sfu_commands.specs.Help.{IsHelp}
 use Rattle.sfu_commands.specs.Trial.{IsTrial}
 use Rattle.stream_maker.specs.Stream.{Stream}
-use Rattle.sfu_commands.specs.Words.{IsForm, IsStatus, Says}
+use Rattle.sfu_commands.specs.Words.{IsForm, Says}
+use Rattle.sfu_program.specs.Forms.{IsStatus}
 use Rattle.sfu_program.specs.Together.{IsTogether}
 
 clash : (a b : ℕ) → a ≡ b → a < b → ⊥

@@ -3,16 +3,17 @@ use Rattle.std.proofs.Common.{◌≡◌, ℕ, ◌+◌, Bool, true, false, cond, 
 use Rattle.std.proofs.lemmas.List.{append_cancel_right, map-append}
 use mathlib.Core.List.{IsPrefix}
 use Rattle.sfu_base.specs.declared.call.Call.{Call}
-use Rattle.sfu_script.specs.declared.journal.Entry as journal
+use Rattle.script_texts.specs.declared.journal.Entry as journal
 use Rattle.room_core.specs.History.{Entry as RoomEntry}
 use Rattle.turn_lock.specs.declared.history.Entry.{Entry}
 use Rattle.turn_lock.specs.History.{AllBelow, own_of}
 use Rattle.turn_lock.proofs.Histories.{own_append, own_here}
 use Rattle.sfu_serve.specs.History.{entries_of, entry_of}
-use Rattle.sfu_program.specs.declared.together.acting.Placed.{Placed}
+use Rattle.actor_script.specs.declared.turns.Placed.{Placed}
 use Rattle.sfu_program.specs.TogetherHistory.{journal_from, told_of}
-use Rattle.sfu_program.proofs.TogetherSorting.{AreBelow}
-use Rattle.sfu_program.specs.TogetherActing.{AtPlaces, mine, placed, placed_at, placed_from}
+use Rattle.actor_script.proofs.Sorting.{AreBelow}
+use Rattle.sfu_program.specs.TogetherActing.{placed, placed_at, placed_from}
+use Rattle.actor_script.specs.Places.{AtPlaces, mine}
 
 pushed : (b : Bool) (p : Placed) (xs ys : List Placed) → cond b (p ∷ xs ++ ys) (xs ++ ys) ≡ cond b (p ∷ xs) xs ++ ys
 pushed true p xs ys = refl

@@ -10,14 +10,14 @@ use lib.ListN.{get_elem?}
 use Rattle.atomic_table.specs.Seated.{TableId}
 use Rattle.sfu_base.specs.declared.NoMemory.{NoMemory}
 use Rattle.sfu_base.specs.declared.call.Call.{Call}
-use Rattle.sfu_script.specs.declared.journal.Actors.{Actors}
+use Rattle.script_texts.specs.declared.journal.Actors.{Actors}
 use Rattle.turn_lock.specs.declared.history.Joined.{Joined}
 use Rattle.turn_lock.specs.Known.{Fits, Known, another, together}
 use Rattle.turn_lock.proofs.Lists.{at_end, prefix_self, prefix_trans, there, within}
-use Rattle.sfu_program.specs.declared.together.acting.Placed.{Placed}
+use Rattle.actor_script.specs.declared.turns.Placed.{Placed}
 use Rattle.sfu_program.specs.declared.together.cast.Done.{Done}
 use Rattle.sfu_program.specs.declared.together.cast.Job.{Job}
-use Rattle.sfu_program.specs.TogetherHistory.{count_of}
+use Rattle.actor_script.specs.Counts.{count_of}
 use Rattle.sfu_program.proofs.TogetherHistories.{no_longer}
 use Rattle.sfu_program.specs.TogetherActing.{Acts, AreDone, AreJobs, HasActed, HasJoined, IsDone, IsReady, IsJob, counting, joined_as, kept_by}
 

@@ -6,17 +6,17 @@ use Rattle.std.proofs.KnownBytes.{Appends-trans, Consumes-whole}
 use Rattle.sfu_base.specs.Faults.{Rose}
 use Rattle.sfu_driver.specs.declared.halt.Ending.{Ending}
 use Rattle.sfu_driver.specs.declared.halt.Ending.TheVariants as ending
-use Rattle.sfu_driver.specs.Drive.{WritesPart}
+use Rattle.sfu_driver.specs.Drive.{WritesPart, outside_end}
 use Rattle.sfu_driver.specs.Statuses.{Completes, Due, full_text, status_of}
 use Rattle.sfu_driver.proofs.Meanings.{statuses_same}
-use Rattle.sfu_script.specs.declared.journal.Actors.{Actors}
+use Rattle.script_texts.specs.declared.journal.Actors.{Actors}
 use Rattle.room_core.specs.History.{Entry, accepted}
 use Rattle.room_core.specs.Headline.{Headline}
 use Rattle.room_core.proofs.Promising.{headline}
-use Rattle.sfu_commands.specs.Run.{fault_end}
+use Rattle.script_texts.specs.WholeLines.{fault_line}
 use Rattle.sfu_program.specs.TogetherHistory.{IsMadeBy}
-use Rattle.sfu_program.specs.TogetherReading.{ReadsActors, ReadsNone, read_due, read_part}
-use Rattle.sfu_program.specs.TogetherScript.{together_script}
+use Rattle.actor_script.specs.Reading.{ReadsActors, ReadsNone, read_due, read_part}
+use Rattle.actor_script.specs.Script.{together_script}
 use Rattle.sfu_program.specs.Together.{IsPlayed, Plays, journal_text, text_unless, together_due}
 
 if_some : (left : Option (List ℕ)) (P Q : List ℕ → Type 0) → ((b : List ℕ) → P b → Q b) → IfSome left P → IfSome left Q
@@ -31,12 +31,12 @@ no_journal : (fault : Option ℕ) → text_unless fault [] ≡ []
 no_journal None = refl
 no_journal (Some line) = refl
 
-no_fault : (fault : Option ℕ) → fault_end fault ≡ None → fault ≡ None
+no_fault : (fault : Option ℕ) → outside_end fault_line fault ≡ None → fault ≡ None
 no_fault None is = refl
 no_fault (Some line) is = absurd cc
 
 same_due : (bytes : List ℕ) → read_due bytes ≡ together_due [] bytes
-same_due bytes = ap (λ (t : List ℕ). record { text = t; end = fault_end (together_script bytes).fault }) (sym (no_journal (together_script bytes).fault))
+same_due bytes = ap (λ (t : List ℕ). record { text = t; end = outside_end fault_line (together_script bytes).fault }) (sym (no_journal (together_script bytes).fault))
 
 -- no status of an ending is 0, 4 or 6
 no_status : (status : ℕ) (why : Ending) → (status ≡ 0) ⊎ (status ≡ 4) ⊎ (status ≡ 6) → status ≡ status_of why → ⊥
@@ -74,7 +74,7 @@ plays_none left left' w w' g g' f f' status reads = record {
 -- ---- a script was read
 
 journal_due : (h : List Entry) (bytes : List ℕ) → (together_script bytes).fault ≡ None → together_due h bytes ≡ record { text = journal_text h; end = None }
-journal_due h bytes none = ap (λ (x : Option ℕ). record { text = text_unless x h; end = fault_end x }) none
+journal_due h bytes none = ap (λ (x : Option ℕ). record { text = text_unless x h; end = outside_end fault_line x }) none
 
 module _ (left left' w w1 : Option (List ℕ)) (g g' f f1 : ℕ) (actors : Actors) (reads : ReadsActors left left' w w1 g g' f f1 actors) where
   read_whole : IfSome left (λ b. IsAtEnd left' × ((together_script b).fault ≡ None))

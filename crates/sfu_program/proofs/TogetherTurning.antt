@@ -3,15 +3,16 @@ use Rattle.std.proofs.Common.{◌≡◌, ℕ, ◌+◌, ◌^◌, ◌<◌, ◌≤�
 use Rattle.std.proofs.lemmas.List.{map-append, take_more, take_all}
 use mathlib.Core.List.{IsPrefix}
 use Rattle.sfu_base.specs.declared.call.Call.{Call}
-use Rattle.sfu_script.specs.declared.journal.Entry as journal
+use Rattle.script_texts.specs.declared.journal.Entry as journal
 use Rattle.turn_lock.specs.declared.history.Entry.{Entry}
 use Rattle.turn_lock.specs.History.{entry, own_of}
 use Rattle.turn_lock.specs.Known.{FindsWorn, Fits, KeepsSeat, Known, MakesTurn}
 use Rattle.turn_lock.proofs.Lists.{prefix_self, prefix_trans}
 use Rattle.sfu_serve.specs.History.{entries_of}
-use Rattle.sfu_program.specs.declared.together.acting.Placed.{Placed}
+use Rattle.actor_script.specs.declared.turns.Placed.{Placed}
 use Rattle.sfu_program.specs.TogetherHistory.{told_of}
-use Rattle.sfu_program.specs.TogetherActing.{Acts, mine, placed, placed_at, turn_of}
+use Rattle.sfu_program.specs.TogetherActing.{Acts, placed, placed_at, turn_of}
+use Rattle.actor_script.specs.Places.{mine}
 use Rattle.sfu_program.proofs.TogetherPlacing.{mine_turn}
 
 -- the seat has made the first calls, and kept its turns

@@ -1,6 +1,6 @@
 -- Which words are a command of the program, and the statuses with which it ends. Own rule.
 use Rattle.std.specs.Prelude.{◌≡◌, ◌⊎◌, ℕ, List}
-use Rattle.sfu_commands.specs.Words.{IsForm, IsStatus}
+use Rattle.sfu_commands.specs.Words.{IsForm}
 use Rattle.sfu_program.specs.ServeWords.{IsServe}
 use Rattle.sfu_program.specs.Together.{IsTogether}
 
@@ -11,6 +11,10 @@ IsServing words = (turns : ℕ) × IsServe words turns
 -- the words are one of the commands: one that a single thread does, `together`, or `serve`
 abbrev pub IsCommand : List (List ℕ) → Type 0
 IsCommand words = IsForm words ⊎ IsTogether words ⊎ IsServing words
+
+-- the statuses of the commands that wait for nobody
+abbrev pub IsStatus : ℕ → Type 0
+IsStatus status = (status ≡ 0) ⊎ (status ≡ 2) ⊎ (status ≡ 3) ⊎ (status ≡ 4) ⊎ (status ≡ 5) ⊎ (status ≡ 6) ⊎ (status ≡ 8)
 
 -- the statuses of the program: 7 is that of ports alone
 abbrev pub IsEnd : ℕ → Type 0

@@ -1,9 +1,3 @@
-pub mod TogetherScript
-pub mod TogetherReader
-pub mod TogetherReading
-pub mod ServeScript
-pub mod ServeReader
-pub mod ServeReading
 pub mod TogetherHistory
 pub mod TogetherActing
 pub mod Together

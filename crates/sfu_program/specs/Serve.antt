@@ -15,9 +15,9 @@ use Rattle.sfu_driver.specs.Drive.{WritesPart}
 use Rattle.sfu_program.specs.ServeEnds.{AreUnworn, all_made, ends_of, ends_text}
 use Rattle.sfu_program.specs.ServeOpening.{first_text, made_first}
 use Rattle.sfu_program.specs.ServePorts.{AreFresh, PortsSeen, WasUnbound, after_backs}
-use Rattle.sfu_program.specs.ServeReading.{ReadsNoSetup}
+use Rattle.port_config.specs.Reading.{ReadsNoSetup}
 use Rattle.sfu_script.specs.declared.ports.PortLine.{PortLine}
-use Rattle.sfu_program.specs.ServeScript.{configuration_of}
+use Rattle.port_config.specs.Script.{configuration_of}
 
 -- sessions that ended: how, and what their links tell and count
 abbrev pub afters : {L : Type 0} → (L → Option Traffic) → (L → ℕ) → List (Ended L) → List After

@@ -1,6 +1,6 @@
 -- The lines of sessions that ended. Own rule.
 use Rattle.std.specs.Prelude.{ℕ, ◌+◌, ◌&&◌, Bool, true, false, List, [], ◌∷◌, ◌++◌, map, Option, Some, None}
-use Rattle.sfu_script.specs.Ends.{end_text}
+use Rattle.script_texts.specs.Ends.{end_text}
 use Rattle.sfu_serve.specs.declared.ends.SessionEnd.{SessionEnd}
 use Rattle.sfu_serve.specs.declared.ends.SessionEnd.TheVariants.{AllTurns, LinkFault, Worn}
 use Rattle.sfu_serve.specs.declared.run.Ended.{Ended}

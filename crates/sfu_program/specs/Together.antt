@@ -2,14 +2,15 @@
 use Rattle.std.specs.Prelude.{◌≡◌, ◌⊎◌, ℕ, List, [], ◌∷◌, Option, Some, None, IfSome, codes}
 use Rattle.std.specs.List.{flat_map}
 use Rattle.sfu_driver.specs.Statuses.{Due, Statuses}
-use Rattle.sfu_script.specs.declared.journal.Actors.{Actors}
-use Rattle.sfu_script.specs.Entries.{entry_text}
+use Rattle.script_texts.specs.declared.journal.Actors.{Actors}
+use Rattle.script_texts.specs.Entries.{entry_text}
 use Rattle.room_core.specs.Headline.{Headline}
 use Rattle.room_core.specs.History.{Entry, accepted}
-use Rattle.sfu_commands.specs.Run.{fault_end}
+use Rattle.sfu_driver.specs.Drive.{outside_end}
+use Rattle.script_texts.specs.WholeLines.{fault_line}
 use Rattle.sfu_program.specs.TogetherHistory.{IsMadeBy, journal_of}
-use Rattle.sfu_program.specs.TogetherReading.{read_part}
-use Rattle.sfu_program.specs.TogetherScript.{AreActors, together_script}
+use Rattle.actor_script.specs.Reading.{read_part}
+use Rattle.actor_script.specs.Script.{AreActors, together_script}
 
 abbrev pub IsTogether : List (List ℕ) → Type 0
 IsTogether words = words ≡ codes "together" ∷ []
@@ -25,7 +26,7 @@ text_unless (Some line) history = []
 
 -- all that is due for a script whose actors made this history: its journal, or which line is outside the grammar
 abbrev pub together_due : List Entry → List ℕ → Due
-together_due history bytes = record { text = text_unless (together_script bytes).fault history; end = fault_end (together_script bytes).fault }
+together_due history bytes = record { text = text_unless (together_script bytes).fault history; end = outside_end fault_line (together_script bytes).fault }
 
 -- The bytes are a script whose actors made this history.
 pub record IsPlayed (history : List Entry) (bytes : List ℕ) : Type 0 where

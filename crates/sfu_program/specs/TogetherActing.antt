@@ -1,5 +1,5 @@
 -- What a seat of `together` makes, and what it keeps of its turns.
-use Rattle.std.specs.Prelude.{◌≡◌, ◌⊎◌, ℕ, ◌+◌, ◌^◌, ◌<◌, ◌≤◌, ◌==◌, if◌then◌else◌, false, List, [], ◌∷◌, ◌++◌, length, map}
+use Rattle.std.specs.Prelude.{◌≡◌, ◌⊎◌, ℕ, ◌+◌, ◌^◌, ◌<◌, ◌≤◌, false, List, [], ◌∷◌, ◌++◌, length, map}
 use Rattle.std.specs.List.{flat_map}
 use mathlib.Core.List.{IsPrefix}
 use mathlib.Core.Option.{some}
@@ -11,7 +11,8 @@ use Rattle.turn_lock.specs.declared.history.Joined.{Joined}
 use Rattle.turn_lock.specs.History.{entry}
 use Rattle.turn_lock.specs.Known.{Fits, KeepsSeat, Known, another}
 use Rattle.sfu_serve.specs.History.{entries_of}
-use Rattle.sfu_program.specs.declared.together.acting.Placed.{Placed}
+use Rattle.actor_script.specs.declared.turns.Placed.{Placed}
+use Rattle.actor_script.specs.Places.{mine}
 use Rattle.sfu_program.specs.declared.together.cast.Done.{Done}
 use Rattle.sfu_program.specs.declared.together.cast.Job.{Job}
 use Rattle.sfu_program.specs.TogetherHistory.{told_of}
@@ -30,16 +31,6 @@ placed_from past (e ∷ es) = placed_at past e ∷ placed_from (past ++ e ∷ []
 -- what is kept of all turns of a history
 abbrev pub placed : List (Entry Call) → List Placed
 placed history = placed_from [] history
-
--- those that a seat made
-abbrev pub mine : ℕ → List Placed → List Placed
-mine seat [] = []
-mine seat (p ∷ ps) = if p.entry.actor == seat then p ∷ mine seat ps else mine seat ps
-
--- The places count up from this one.
-abbrev pub AtPlaces : ℕ → List Placed → Type 0
-AtPlaces n [] = Unit {0}
-AtPlaces n (p ∷ ps) = (p.place ≡ n) × AtPlaces (n + 1) ps
 
 -- ---- a seat's calls
 

@@ -6,20 +6,10 @@ use lib.ListN.{get_elem?}
 use Rattle.sfu_base.specs.declared.call.Call.{Call}
 use Rattle.room_core.specs.Headline.{Headline}
 use Rattle.room_core.specs.History.{Entry, accepted, reply_of}
-use Rattle.sfu_script.specs.declared.journal.Actors.{Actors}
-use Rattle.sfu_script.specs.declared.journal.Entry as journal
-use Rattle.sfu_script.specs.Lines.{HasBytes}
-use Rattle.sfu_script.specs.Replies.{answer_text}
-
--- how many calls a script has
-abbrev pub count_of : Actors → ℕ
-count_of script = length script.opening + (sum_by length script.actors + length script.closing)
-
--- Each call can be written: a packet has a byte at least.
-pub record HaveBytes (script : Actors) : Type 0 where
-  pub opening : AllByRecursion HasBytes script.opening
-  pub acts : AllByRecursion (AllByRecursion HasBytes) script.actors
-  pub closing : AllByRecursion HasBytes script.closing
+use Rattle.script_texts.specs.declared.journal.Actors.{Actors}
+use Rattle.script_texts.specs.declared.journal.Entry as journal
+use Rattle.script_texts.specs.Lines.{HasBytes}
+use Rattle.script_texts.specs.Replies.{answer_text}
 
 -- ---- the history
 

@@ -2,8 +2,11 @@
 //! system's clock.
 #![tactic(auto)]
 
+mod alone;
 mod serve;
 mod sfu;
+#[cfg(test)]
+mod tests;
 mod together;
 
 use sfu_edge::{StdSink, StdSource, SysClock, UdpPorts};

@@ -14,10 +14,10 @@ ghost use Rattle.sfu_program.specs.ServePorts.{seen_ports};
 ghost use Rattle.sfu_program.specs.ServeWords.{IsServe};
 ghost use Rattle.sfu_program.specs.Together.{IsTogether, Plays};
 
+use crate::alone::sfu_alone;
 use crate::serve::{read_serve, serve};
 use crate::together::play_script;
 use sfu_base::{Clock, Ports, Sink, Source};
-use sfu_commands::sfu_alone;
 use std::alloc::Global;
 use std::sync::Wait;
 use std::thread::Threads;

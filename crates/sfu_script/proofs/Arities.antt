@@ -1,7 +1,7 @@
 -- Calls of one, two, three or six numbers, from the numbers that are read.
 use Rattle.std.proofs.Common.{◌≡◌, ℕ, List, [], ◌∷◌, refl, subst, Some}
 use Rattle.sfu_base.specs.declared.call.Call.{Call}
-use Rattle.sfu_script.specs.Grammar.{Spells}
+use Rattle.script_texts.specs.Grammar.{Spells}
 use Rattle.sfu_script.specs.Fields.{fields_of, places_of}
 use Rattle.sfu_script.specs.Reading.{◌>>=◌}
 use Rattle.sfu_script.specs.ReadLines.{of_one, of_two, of_three, of_six}

@@ -1,6 +1,6 @@
 -- What the fields of a text are read as is spelled there, and what is spelled there is read.
 use Rattle.std.proofs.Common.{◌≡◌, ◌<◌, ℕ, ◌^◌, true, List, [], ◌∷◌, length, refl, ap, ◌∙◌, arith, subst, Some}
-use Rattle.sfu_script.specs.Grammar.{Fills, Spells}
+use Rattle.script_texts.specs.Grammar.{Fills, Spells}
 use Rattle.sfu_script.specs.Fields.{field_of, fields_of, place_of, places_of, bits_of, AreWithin}
 use Rattle.sfu_script.specs.Reading.{◌>>=◌, field}
 use Rattle.sfu_script.specs.declared.fields.Field.{Field}

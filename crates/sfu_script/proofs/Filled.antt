@@ -13,7 +13,7 @@ use Rattle.std.proofs.lemmas.Nat.{from_be_bytes-to_be_bytes_4, be_bytes_4}
 use Rattle.hex.specs.Hex.{decode_of, decode_sized, is_hex_digit, IsBytes}
 use Rattle.hex.proofs.HexLemmas.{decode_of-ok, decode_sized-ok, decode_sized-twice}
 use Rattle.hex.specs.declared.error.FromHexError.{FromHexError}
-use Rattle.sfu_script.specs.Grammar.{Number, Ssrc, Hex, Fills, IsHex}
+use Rattle.script_texts.specs.Grammar.{Number, Ssrc, Hex, Fills, IsHex}
 use Rattle.sfu_script.specs.Reading.{number_of, ssrc_of, bytes_of, is_numeral}
 use Rattle.sfu_script.proofs.Options.{chosen, some_same}
 use Rattle.sfu_script.proofs.Parsing.{own}

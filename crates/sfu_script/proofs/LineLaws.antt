@@ -7,7 +7,7 @@ use Rattle.std.proofs.lemmas.Slice.Eq.{bytes_eq-Decides}
 use Rattle.sfu_base.specs.declared.call.Call.{Call}
 use Rattle.sfu_base.specs.declared.call.Call.TheVariants.{Publish, Unpublish, Packet, Tick, Join, Leave, Aim, Take, Resend, Missing, KeyWanted, Plead, Why}
 use Rattle.sfu_base.specs.declared.call.Kind.TheVariants.{Plain, Layered}
-use Rattle.sfu_script.specs.Lines.{IsLine}
+use Rattle.script_texts.specs.Lines.{IsLine}
 use Rattle.sfu_script.specs.Commands.{track_command_of, subscriber_command_of}
 use Rattle.sfu_script.specs.Reading.{◌>>=◌, cut}
 use Rattle.sfu_script.specs.ReadLines.{track_call_of, subscriber_call_of, command_of, call_of, of_one, of_two, of_three, of_six}

@@ -3,8 +3,8 @@ use Rattle.std.proofs.Common.{◌≡◌, ℕ, List, [], ◌∷◌, ◌++◌, ref
 use Rattle.std.specs.Prelude.{codes}
 use Rattle.sfu_base.specs.declared.call.Call.{Call}
 use Rattle.sfu_base.specs.declared.call.Call.TheVariants.{Packet}
-use Rattle.sfu_script.specs.Grammar.{Number, Hex, Spells}
-use Rattle.sfu_script.specs.Lines.{IsLine}
+use Rattle.script_texts.specs.Grammar.{Number, Hex, Spells}
+use Rattle.script_texts.specs.Lines.{IsLine}
 use Rattle.sfu_script.specs.Reading.{field, number_of, bytes_of}
 use Rattle.sfu_script.specs.ReadLines.{packet_head_of, packet_of}
 use Rattle.sfu_script.proofs.Options.{bind_some, some_same}

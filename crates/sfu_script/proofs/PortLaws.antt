@@ -8,8 +8,8 @@ use Rattle.std.proofs.lemmas.Fmt.{digits_decimal}
 use Rattle.std.proofs.lemmas.Nat.{from_be_bytes-to_be_bytes_4, be_bytes_4}
 use Rattle.std.proofs.lemmas.Slice.Eq.{bytes_eq-Decides}
 use Rattle.sfu_base.specs.declared.address.Address.{Address}
-use Rattle.sfu_script.specs.Grammar.{Place, Fills, Spells, address_text}
-use Rattle.sfu_script.specs.Grammar.{Address as AddressPlace}
+use Rattle.script_texts.specs.Grammar.{Place, Fills, Spells, address_text}
+use Rattle.script_texts.specs.Grammar.{Address as AddressPlace}
 use Rattle.sfu_script.specs.Ports.{ip_of, address_of, publisher_of, subscriber_of, named_role_of, role_of, addressed, port_of, role_places, IsPortLine}
 use Rattle.sfu_script.specs.Reading.{◌>>=◌, cut, cut_at, field, number_of}
 use Rattle.sfu_script.specs.declared.fields.Field.TheVariants.{Number32, Ssrc}
@@ -22,7 +22,7 @@ use Rattle.sfu_script.proofs.Filled.{number_found, number_again, four_bytes}
 use Rattle.sfu_script.proofs.Options.{bind_some, chosen, some_same}
 use Rattle.sfu_script.proofs.Parsing.{own}
 use Rattle.sfu_script.proofs.Spaces.{lacks, lacks_digits, lacks_both, cut_at_found, cut_at_again, cut_found, no_space}
-use Rattle.sfu_script.proofs.Written.{four_below}
+use Rattle.script_texts.proofs.Written.{four_below}
 use Rattle.sfu_script.proofs.Steps.{field_found, field_again}
 use Rattle.hex.specs.Hex.{IsBytes}
 

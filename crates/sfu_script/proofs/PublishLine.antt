@@ -6,9 +6,9 @@ use Rattle.std.proofs.lemmas.Slice.Eq.{bytes_eq-Decides}
 use Rattle.sfu_base.specs.declared.call.Call.{Call}
 use Rattle.sfu_base.specs.declared.call.Call.TheVariants.{Publish}
 use Rattle.sfu_base.specs.declared.call.Kind.TheVariants.{Plain, Layered}
-use Rattle.sfu_script.specs.Grammar.{Word, Number, Spells}
-use Rattle.sfu_script.specs.Grammar.{Ssrc as SsrcPlace}
-use Rattle.sfu_script.specs.Lines.{IsLine}
+use Rattle.script_texts.specs.Grammar.{Word, Number, Spells}
+use Rattle.script_texts.specs.Grammar.{Ssrc as SsrcPlace}
+use Rattle.script_texts.specs.Lines.{IsLine}
 use Rattle.sfu_script.specs.Reading.{cut, field, number_of}
 use Rattle.sfu_script.specs.ReadLines.{publish_of, kind_of}
 use Rattle.sfu_script.specs.declared.fields.Field.TheVariants.{Number8, Number32, Ssrc}

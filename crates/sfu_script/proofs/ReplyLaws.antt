@@ -16,13 +16,13 @@ use Rattle.sfu_base.specs.declared.call.Refusal.TheVariants as refusal
 use Rattle.sfu_base.specs.declared.call.RtpFault.TheVariants.{Short, Version, Csrc, Extension, Padding}
 use Rattle.sfu_base.specs.declared.frame.Verdict.{Verdict}
 use Rattle.sfu_base.specs.declared.frame.Verdict.TheVariants.{Passed, NotOfTarget, Behind, Reference, Full, Link, Unopened, Hole}
-use Rattle.sfu_script.specs.Grammar.{Place, Word, Number, Ssrc, Hex, Address, AllWithin, word_of, text_of}
+use Rattle.script_texts.specs.Grammar.{Place, Word, Number, Ssrc, Hex, Address, AllWithin, word_of, text_of}
 use Rattle.sfu_script.specs.Reading.{◌>>=◌, number_of, ssrc_of}
-use Rattle.sfu_script.specs.Replies.{verdict_places, refusal_places, answer_places, answer_text, HasText}
+use Rattle.script_texts.specs.Replies.{verdict_places, refusal_places, answer_places, answer_text, HasText}
 use Rattle.sfu_script.proofs.Options.{some_same}
 use Rattle.sfu_script.proofs.Filled.{number_again, ssrc_again, hex_no_space, le_of}
 use Rattle.sfu_script.proofs.Spaces.{no_space}
-use Rattle.sfu_script.proofs.Written.{word_fills}
+use Rattle.script_texts.proofs.Written.{word_fills}
 
 -- ---- words
 

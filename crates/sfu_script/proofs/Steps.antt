@@ -1,6 +1,6 @@
 -- One word of a line, read and spelled.
 use Rattle.std.proofs.Common.{◌≡◌, ◌≤◌, ℕ, ◌^◌, true, List, ◌∷◌, ◌++◌, refl, ap, ◌∙◌, Option, Some}
-use Rattle.sfu_script.specs.Grammar.{Place, Word, Number, Ssrc, Spells}
+use Rattle.script_texts.specs.Grammar.{Place, Word, Number, Ssrc, Spells}
 use Rattle.sfu_script.specs.Reading.{◌>>=◌, cut, field, number_of, ssrc_of}
 use Rattle.sfu_script.proofs.Options.{bind_some}
 use Rattle.sfu_script.proofs.Spaces.{no_space, cut_found, cut_again}

@@ -1,7 +1,7 @@
 -- The lines of actors that run at the same time: `@K` with a call's line, K from 1 to 8. Own rule.
 use Rattle.std.specs.Prelude.{◌≡◌, ℕ, ◌-◌, ◌≤◌, ◌==◌, ◌&&◌, nat_le, if◌then◌else◌, List, [], ◌∷◌, ◌++◌, Option, Some, None, codes, decimal}
 use Rattle.sfu_base.specs.declared.call.Call.{Call}
-use Rattle.sfu_script.specs.Lines.{IsLine}
+use Rattle.script_texts.specs.Lines.{IsLine}
 use Rattle.sfu_script.specs.Reading.{◌>>=◌, cut}
 use Rattle.sfu_script.specs.ReadLines.{call_of}
 

@@ -1,7 +1,7 @@
 -- The numbers that the words of a text say, as functions that compute, and what they are as places of a line.
 -- The code goes over an array of fields with an index.
 use Rattle.std.specs.Prelude.{ℕ, ◌^◌, ◌<◌, List, [], ◌∷◌, Option, Some, None}
-use Rattle.sfu_script.specs.Grammar.{Place, Number, Ssrc}
+use Rattle.script_texts.specs.Grammar.{Place, Number, Ssrc}
 use Rattle.sfu_script.specs.Reading.{◌>>=◌, field, number_of, ssrc_of}
 use Rattle.sfu_script.specs.declared.fields.Field.{Field}
 use Rattle.sfu_script.specs.declared.fields.Field.TheVariants as kind

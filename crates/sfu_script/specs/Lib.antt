@@ -1,17 +1,9 @@
 pub mod ActorLines
 pub mod Commands
-pub mod Complaints
-pub mod Ends
-pub mod Entries
 pub mod Fields
-pub mod Grammar
 pub mod Kept
-pub mod Lines
-pub mod Pieces
 pub mod Ports
 pub mod ReadLines
 pub mod Reading
 pub mod Replies
-pub mod Sizes
 pub mod Skipped
-pub mod Texts

@@ -6,8 +6,8 @@ use Rattle.sfu_base.specs.declared.address.Address.{Address}
 use Rattle.sfu_script.specs.declared.ports.PortLine.{PortLine}
 use Rattle.sfu_script.specs.declared.ports.PortRole.{PortRole}
 use Rattle.sfu_script.specs.declared.ports.PortRole.TheVariants.{Publisher, Subscriber, Control}
-use Rattle.sfu_script.specs.Grammar.{Place, Word, Number, Spells}
-use Rattle.sfu_script.specs.Grammar.{Ssrc as SsrcPlace, Address as AddressPlace}
+use Rattle.script_texts.specs.Grammar.{Place, Word, Number, Spells}
+use Rattle.script_texts.specs.Grammar.{Ssrc as SsrcPlace, Address as AddressPlace}
 use Rattle.sfu_script.specs.Fields.{fields_of}
 use Rattle.sfu_script.specs.declared.fields.Field.TheVariants.{Number32, Ssrc}
 use Rattle.sfu_script.specs.Reading.{◌>>=◌, cut, cut_at, field, number_of}

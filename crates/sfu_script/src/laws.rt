@@ -3,13 +3,13 @@ ghost use Rattle.std.specs.Prelude.{◌≡◌, ◌↔◌, ℕ, List, Some};
 ghost use Rattle.sfu_base.specs.declared.call.Call.{Call};
 ghost use Rattle.sfu_base.specs.Answer.{Answer};
 ghost use Rattle.sfu_script.specs.ActorLines.{actor_call_of, IsActorLine};
-ghost use Rattle.sfu_script.specs.Grammar.{Fills, Hex};
-ghost use Rattle.sfu_script.specs.Lines.{IsLine, line_of, HasLine};
+ghost use Rattle.script_texts.specs.Grammar.{Fills, Hex};
+ghost use Rattle.script_texts.specs.Lines.{IsLine, line_of, HasLine};
 ghost use Rattle.sfu_script.specs.ReadLines.{call_of};
 ghost use Rattle.sfu_script.specs.Ports.{port_of, IsPortLine};
 ghost use Rattle.sfu_script.specs.declared.ports.PortLine.{PortLine};
 ghost use Rattle.sfu_script.specs.Reading.{bytes_of};
-ghost use Rattle.sfu_script.specs.Replies.{answer_text, HasText};
+ghost use Rattle.script_texts.specs.Replies.{answer_text, HasText};
 
 /// A line is read as a call exactly when the grammar says that the line says that call.
 pub fn reads_exactly_the_lines()

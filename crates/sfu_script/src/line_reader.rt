@@ -2,7 +2,7 @@
 ghost use Rattle.std.specs.Prelude.{◌≡◌, IfOk, IsTrue, MatchResult, None, OnErr, Some};
 ghost use Rattle.sfu_base.specs.declared.call.Call.{Call};
 ghost use Rattle.sfu_script.specs.Kept.{is_packet, is_take, is_tick};
-ghost use Rattle.sfu_script.specs.Lines.{IsLine};
+ghost use Rattle.script_texts.specs.Lines.{IsLine};
 ghost use Rattle.sfu_script.specs.ReadLines.{call_of, packet_of, subscriber_call_of, track_call_of};
 
 use crate::commands::{SubscriberCommand, TrackCommand};

@@ -2,7 +2,7 @@
 ghost use Rattle.std.specs.Prelude.{◌≡◌, IfOk, OnErr, List, ℕ};
 ghost use Rattle.std.specs.Result.{result_ok};
 ghost use Rattle.sfu_base.specs.declared.call.Call.{Call};
-ghost use Rattle.sfu_script.specs.Lines.{IsLine};
+ghost use Rattle.script_texts.specs.Lines.{IsLine};
 ghost use Rattle.sfu_script.specs.ReadLines.{call_of, command_of};
 
 pub mod packet;

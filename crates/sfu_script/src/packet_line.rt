@@ -1,6 +1,6 @@
 // A line that is a packet.
 ghost use Rattle.std.specs.Prelude.{◌≡◌, List, MatchResult, None, OnErr, OnOk, Some, ℕ};
-ghost use Rattle.sfu_script.specs.Grammar.{Fills, Hex};
+ghost use Rattle.script_texts.specs.Grammar.{Fills, Hex};
 ghost use Rattle.sfu_script.specs.Reading.{bytes_of};
 
 use crate::NoLine;

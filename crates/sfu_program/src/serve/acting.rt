@@ -7,8 +7,8 @@ ghost use Rattle.sfu_program.specs.ServePorts.{seen_ports};
 
 use super::opening::{Unmade, make_calls};
 use super::ports::{Unbound, bind_all};
-use super::reader::Served;
 use super::running::{end_all, run_all};
+use port_config::Served;
 use room_core::{KeepNone, Room};
 use sfu_base::{Blob, Call, Clock, NoMemory, Ports, Sink};
 use sfu_driver::write_all;

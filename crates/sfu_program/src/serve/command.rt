@@ -4,7 +4,7 @@ ghost use Rattle.sfu_program.specs.Serve.{Serves};
 ghost use Rattle.sfu_program.specs.ServePorts.{seen_ports};
 
 use super::acting::act;
-use super::reading::read_served;
+use port_config::read_served;
 use sfu_base::{Clock, Ports, Sink, Source};
 use std::alloc::Global;
 use std::sync::Wait;

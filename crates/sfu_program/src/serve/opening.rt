@@ -1,15 +1,13 @@
 // The calls that are made before any session starts, and their replies.
 ghost use Rattle.std.specs.Prelude.{◌≡◌, ◌^◌, ◌∷◌, ◌++◌, [], List, IfErr, OnOk};
-ghost use Rattle.sfu_base.specs.Answer.{answer_of, is_starved};
-ghost use Rattle.sfu_script.specs.Replies.{answer_text};
 ghost use Rattle.sfu_base.specs.declared.call.Call.{Call};
 ghost use Rattle.turn_lock.specs.Known.{Fits};
 ghost use Rattle.sfu_program.specs.ServeOpening.{HasMade, IsWornOut, first_text, next_line};
 ghost use Rattle.sfu_program.specs.declared.serve.opening.Unmade.TheVariants.{Worn};
 
 use room_core::KeepNone;
-use sfu_base::{Blob, Call, NoMemory, PacketBuf, Refusal, Reply, Scratch, SeqList};
-use sfu_script::write_reply;
+use script_texts::{DigitBuf, add_reply, wants_memory};
+use sfu_base::{Blob, Call, NoMemory, PacketBuf, Scratch, SeqList};
 use sfu_serve::SharedRoom;
 use std::sync::Wait;
 use turn_lock::{Seat, Turns};
@@ -21,21 +19,6 @@ pub enum Unmade {
     Starved,
     /// The lock gave no ticket.
     Worn,
-}
-
-// Whether a reply is want of memory.
-fn wants_memory(reply: &Reply) -> bool
-    ensures { result ≡ is_starved reply.now }
-{
-    matches!(reply, Reply::Refused(Refusal::NoMemory))
-}
-
-// Puts the line of a reply behind the texts that are ready.
-fn add_line(reply: &Reply, scratch: &Scratch, ready: &mut Blob) -> Result<(), NoMemory>
-    ensures { OnOk result (ready.new ≡ ready.old ++ (answer_text (answer_of reply.now scratch.now.packet scratch.now.names) ++ 10 ∷ [])) }
-{
-    write_reply(reply, scratch, ready)?;
-    ready.append(b"\n")
 }
 
 // Makes one call by the first seat, and puts the line of its reply behind the texts that are ready.
@@ -59,7 +42,7 @@ fn make_call<W: Wait + Sync>(
     if wants_memory(&turn.reply) {
         return Err(Unmade::Starved);
     }
-    match add_line(&turn.reply, scratch, ready) {
+    match add_reply(&turn.reply, scratch, &mut DigitBuf::new(), ready) {
         Ok(()) => Ok(()),
         Err(NoMemory) => Err(Unmade::Starved),
     }

@@ -1,49 +1,16 @@
-// The calls of one seat, and what is kept of them.
-ghost use Rattle.std.specs.Prelude.{◌≡◌, ◌≤◌, length, IfOk, false};
-ghost use Rattle.sfu_base.specs.Answer.{answer_of, is_starved};
-ghost use Rattle.sfu_script.specs.Replies.{answer_text};
+// The calls of one seat.
+ghost use Rattle.std.specs.Prelude.{◌≡◌, ◌≤◌, length, IfOk};
 ghost use Rattle.turn_lock.specs.Known.{Fits};
 ghost use Rattle.sfu_program.specs.TogetherActing.{Acts};
 
 use super::gate::Gate;
-use super::lists::put_last;
+use actor_script::{Placed, put_last, told};
 use room_core::KeepNone;
-use sfu_base::{Blob, Call, NoMemory, PacketBuf, Refusal, Reply, Scratch, SeqList};
-use sfu_script::{Entry, write_reply};
+use sfu_base::{Call, NoMemory, PacketBuf, Scratch, SeqList};
 use sfu_serve::SharedRoom;
 use std::alloc::Global;
 use std::sync::Wait;
 use turn_lock::{Seat, Turns};
-
-/// A turn's place in the history, and what the journal says of it.
-#[derive(Drop)]
-pub struct Placed {
-    pub place: u64,
-    pub entry: Entry,
-}
-
-// What the journal says of a call with this reply; want of memory has no entry.
-fn told(
-    alloc: Global,
-    actor: u8,
-    call: &Call,
-    reply: &Reply,
-    scratch: &Scratch,
-) -> Result<Entry, NoMemory>
-    ensures entry { IfOk result (λ entry. entry ≡ record { actor = actor; call = call.now; reply = answer_text (answer_of reply.now scratch.now.packet scratch.now.names) }) }
-    ensures fed { IfOk result (λ entry. is_starved reply.now ≡ false) }
-{
-    if let Reply::Refused(Refusal::NoMemory) = reply {
-        return Err(NoMemory);
-    }
-    let mut text = Blob::new(alloc);
-    write_reply(reply, scratch, &mut text)?;
-    Ok(Entry {
-        actor,
-        call: call.copied(),
-        reply: text,
-    })
-}
 
 /// Makes a seat's calls in their order, and keeps each turn's place with what it told. The gate hears of each.
 pub fn act<W: Wait + Sync, G: Gate>(

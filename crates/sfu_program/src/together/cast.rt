@@ -3,14 +3,14 @@ ghost use Rattle.std.specs.Prelude.{◌≡◌, ◌++◌, ◌≤◌, ◌<◌, ◌
 ghost use Rattle.std.specs.List.{All};
 ghost use Rattle.turn_lock.specs.Known.{Fits};
 ghost use Rattle.sfu_program.specs.TogetherActing.{AreDone, AreJobs, HasActed, HasJoined, IsReady, counting, kept_by};
-ghost use Rattle.sfu_program.specs.TogetherHistory.{count_of};
+ghost use Rattle.actor_script.specs.Counts.{count_of};
 
-use super::acting::{Placed, act};
+use super::acting::act;
 use super::gate::Gate;
-use super::lists::{put_all, put_last};
+use actor_script::{Placed, put_all, put_last};
 use room_core::KeepNone;
+use script_texts::Actors;
 use sfu_base::NoMemory;
-use sfu_script::Actors;
 use sfu_serve::SharedRoom;
 use std::alloc::Global;
 use std::sync::Wait;

@@ -2,9 +2,8 @@
 ghost use Rattle.sfu_program.specs.Together.{Plays};
 
 use super::gate::OpenGate;
-use super::reading::read_actors;
 use super::running::run_together;
-use super::writing::text_of;
+use actor_script::{read_actors, text_of};
 use sfu_base::{Sink, Source};
 use sfu_driver::write_all;
 use std::alloc::Global;

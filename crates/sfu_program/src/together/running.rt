@@ -1,16 +1,15 @@
 // A script's calls, and their journal.
-ghost use Rattle.std.specs.Prelude.{◌≡◌, ◌≤◌, IfOk, List, map, IsPermutation};
-ghost use Rattle.sfu_program.specs.declared.together.acting.Placed.{Placed};
-ghost use Rattle.sfu_program.specs.TogetherActing.{AtPlaces};
-ghost use Rattle.sfu_program.specs.TogetherHistory.{IsJournal, count_of};
+ghost use Rattle.std.specs.Prelude.{◌≤◌, IfOk};
+ghost use Rattle.sfu_program.specs.TogetherHistory.{IsJournal};
+ghost use Rattle.actor_script.specs.Counts.{count_of};
 
-use super::acting::{Placed, act};
+use super::acting::act;
 use super::cast::{gather, play};
 use super::gate::{Gate, OpenGate};
-use super::lists::{put_all, put_last};
+use actor_script::{in_order, put_all};
 use room_core::{KeepNone, Room};
+use script_texts::{Actors, Journal};
 use sfu_base::NoMemory;
-use sfu_script::{Actors, Entry, Journal};
 use sfu_serve::SharedRoom;
 use std::alloc::Global;
 use std::sync::Wait;
@@ -23,29 +22,6 @@ use turn_lock::Turns;
 pub enum TogetherFault {
     #[error("want of memory")]
     NoMemory,
-}
-
-// What the journal says of turns.
-fn entries(alloc: Global, kept: Vec<Placed>) -> Result<Vec<Entry>, NoMemory>
-    ensures { IfOk result (λ entries. entries.items ≡ map (λ turn. turn.entry) kept.items) }
-{
-    let mut entries = Vec::new(alloc);
-    for turn in kept {
-        let Placed { place: _, entry } = turn;
-        put_last(&mut entries, entry)?;
-    }
-    Ok(entries)
-}
-
-// The journal of turns that were kept, in the order of their places.
-fn in_order(alloc: Global, mut kept: Vec<Placed>) -> Result<Journal, NoMemory>
-    ensures { IfOk result (λ journal. (all : List Placed) → IsPermutation all kept.items → AtPlaces 0 all → journal ≡ map (λ turn. turn.entry) all) }
-{
-    let Ok(()) = kept.sort_by_key(|turn| turn.place) else {
-        return Err(NoMemory);
-    };
-    let entries = entries(alloc, kept)?;
-    Ok(Journal::of(entries))
 }
 
 // Makes a script's calls on a room that keeps nothing: the opening part's by seat 0, then those of the actors, each by a seat of its own,

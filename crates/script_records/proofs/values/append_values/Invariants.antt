@@ -1,5 +1,5 @@
 use Rattle.std.proofs.Common.{◌≡◌, ◌++◌, drop}
-use Rattle.sfu_script.specs.Texts.{GoesOn}
+use Rattle.script_texts.specs.Texts.{GoesOn}
 use Rattle.script_records.specs.Values.{values_bytes}
 use Rattle.script_records.proofs.values.append_values.Given as goal
 

@@ -2,7 +2,7 @@ use Rattle.std.proofs.Common.{◌≡◌, sym, Result, Ok, Err, List, ℕ}
 use Rattle.sfu_base.specs.declared.call.Call.{Call}
 use Rattle.std.specs.Prelude.{IfOk, OnErr}
 use Rattle.std.specs.Result.{result_ok}
-use Rattle.sfu_script.specs.Lines.{IsLine}
+use Rattle.script_texts.specs.Lines.{IsLine}
 use Rattle.sfu_script.specs.ReadLines.{call_of}
 use Rattle.sfu_script.proofs.LineLaws.{call_found, call_again}
 use Rattle.sfu_script.proofs.lines.read_call.Goals as goal

@@ -1,6 +1,6 @@
 use Rattle.std.proofs.Common.{◌≡◌, rules, List, ℕ, Some, Result, Ok, Err}
 use Rattle.std.specs.Prelude.{OnErr}
-use Rattle.sfu_script.specs.Grammar.{Fills, Hex}
+use Rattle.script_texts.specs.Grammar.{Fills, Hex}
 use Rattle.sfu_script.specs.Reading.{bytes_of}
 use Rattle.sfu_script.proofs.Filled.{bytes_found, bytes_again}
 use Rattle.sfu_script.proofs.Outcomes.{nothing}

@@ -3,9 +3,9 @@ use Rattle.sfu_base.specs.declared.call.Call.{Call}
 use Rattle.sfu_script.specs.declared.ports.PortLine.{PortLine}
 use Rattle.sfu_program.specs.Serve.{Acts}
 use Rattle.sfu_program.specs.ServePorts.{seen_ports}
-use Rattle.sfu_program.specs.ServeScript.{configuration_of}
+use Rattle.port_config.specs.Script.{configuration_of}
 use Rattle.sfu_program.proofs.ServeActing.{acts_before, acts_complete, acts_only}
-use Rattle.sfu_program.proofs.ServeCounts.{few_calls, few_ports}
+use Rattle.port_config.proofs.Counts.{few_calls, few_ports}
 use Rattle.sfu_program.proofs.serve.command.serve.Goals as goal
 
 pub act-requires-clause-calls : goal.act-requires-clause-calls

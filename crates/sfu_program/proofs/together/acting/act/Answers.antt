@@ -1,6 +1,6 @@
 use Rattle.std.proofs.Common.{◌∙◌, sym, refl, arith}
 use Rattle.sfu_base.specs.Answer.{is_starved}
-use Rattle.sfu_script.specs.Replies.{answer_text}
+use Rattle.script_texts.specs.Replies.{answer_text}
 use Rattle.sfu_program.proofs.TogetherTurning.{all_turned, none_turned, one_turned, worn_turned}
 use Rattle.sfu_program.proofs.together.acting.act.Goals as goal
 

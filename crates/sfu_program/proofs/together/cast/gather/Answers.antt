@@ -1,5 +1,5 @@
 use Rattle.std.proofs.Common.{ap, sym, ◌∙◌, ◌++◌, List, append-nil, append_assoc}
-use Rattle.sfu_program.specs.declared.together.acting.Placed.{Placed}
+use Rattle.actor_script.specs.declared.turns.Placed.{Placed}
 use Rattle.sfu_program.specs.TogetherActing.{kept_by}
 use Rattle.sfu_program.proofs.TogetherSeating.{kept_more, none_joined, one_joined}
 use Rattle.sfu_program.proofs.together.cast.gather.Goals as goal

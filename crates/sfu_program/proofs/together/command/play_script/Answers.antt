@@ -2,7 +2,7 @@ use Rattle.std.proofs.Common.{◌∙◌, ◌≡◌, ap, length, subst, List, ℕ
 use Rattle.std.specs.Io.KnownBytes.{Appends}
 use Rattle.std.specs.List.{flat_map}
 use Rattle.sfu_driver.specs.Drive.{WritesPart}
-use Rattle.sfu_script.specs.Entries.{entry_text}
+use Rattle.script_texts.specs.Entries.{entry_text}
 use Rattle.sfu_program.specs.Together.{journal_text}
 use Rattle.sfu_program.proofs.TogetherBytes.{all_written}
 use Rattle.sfu_program.proofs.TogetherStatuses.{plays_none, plays_part, plays_starved, plays_whole}

@@ -1,7 +1,7 @@
 use Rattle.std.proofs.Common.{◌≡◌, ◌∙◌, ◌++◌, ap, List, map}
 use Rattle.std.specs.Prelude.{IsPermutation}
-use Rattle.sfu_program.specs.declared.together.acting.Placed.{Placed}
-use Rattle.sfu_program.specs.TogetherActing.{AtPlaces}
+use Rattle.actor_script.specs.declared.turns.Placed.{Placed}
+use Rattle.actor_script.specs.Places.{AtPlaces}
 use Rattle.sfu_program.specs.TogetherHistory.{IsJournal}
 use Rattle.sfu_program.proofs.TogetherEnding.{came, ended_of, journal_told}
 use Rattle.sfu_program.proofs.TogetherSeating.{all_locks, all_others, if_ok}

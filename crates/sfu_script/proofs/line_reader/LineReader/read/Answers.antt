@@ -1,6 +1,6 @@
 use Rattle.std.proofs.Common.{Bor}
 use Rattle.sfu_base.specs.declared.call.Call.{Call}
-use Rattle.sfu_script.specs.Lines.{IsLine}
+use Rattle.script_texts.specs.Lines.{IsLine}
 use Rattle.sfu_script.specs.ReadLines.{call_of}
 use Rattle.sfu_script.proofs.LineLaws.{call_found, call_again}
 use Rattle.sfu_script.proofs.Outcomes.{lent_is, none_lent}

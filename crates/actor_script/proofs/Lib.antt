@@ -1,0 +1,5 @@
+pub mod Parts
+pub mod Calls
+pub mod Judging
+pub mod Due
+pub mod Sorting

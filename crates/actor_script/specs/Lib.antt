@@ -1,0 +1,5 @@
+pub mod Script
+pub mod Counts
+pub mod Reader
+pub mod Reading
+pub mod Places

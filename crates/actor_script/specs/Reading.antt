@@ -1,0 +1,39 @@
+-- What the reading of a script for `together` comes to. Nothing is written but the line that says which line is outside the grammar.
+use Rattle.std.specs.Prelude.{◌≡◌, ◌⊎◌, ℕ, ◌≤◌, List, [], Option, None}
+use Rattle.std.specs.Io.KnownBytes.{Appends, Consumes, IsAtEnd}
+use Rattle.sfu_driver.specs.Statuses.{Due, Statuses}
+use Rattle.script_texts.specs.declared.journal.Actors.{Actors}
+use Rattle.sfu_driver.specs.Drive.{outside_end}
+use Rattle.script_texts.specs.WholeLines.{fault_line}
+use Rattle.actor_script.specs.Counts.{HaveBytes, count_of}
+use Rattle.actor_script.specs.Script.{AreActors, Lines, together_script, together_so_far}
+
+-- nothing is due for lines, and then which is outside the grammar
+abbrev pub due_for : Lines → Due
+due_for lines = record { text = []; end = outside_end fault_line lines.fault }
+
+abbrev pub read_due : List ℕ → Due
+read_due bytes = due_for (together_script bytes)
+
+-- the same for bytes whose end hasn't been seen
+abbrev pub read_part : List ℕ → Due
+read_part bytes = due_for (together_so_far bytes)
+
+-- The source was read to its end, its bytes are a script, and these are its parts. Nothing was written.
+pub record ReadsActors (left left' written written' : Option (List ℕ)) (reads reads' writes writes' : ℕ) (actors : Actors) : Type 0 where
+  pub bytes : List ℕ
+  pub consumed : Consumes left left' bytes
+  pub at_end : IsAtEnd left'
+  pub whole : (together_script bytes).fault ≡ None
+  pub parts : AreActors (together_script bytes).said actors
+  pub unwritten : Appends written written' []
+  -- what a status of 0 says of the reading
+  pub statuses : Statuses read_due read_part left left' written written' reads reads' writes writes' 0
+  -- there are at most 100,000 calls, and each can be written
+  pub few : count_of actors ≤ 100000
+  pub lines : HaveBytes actors
+
+-- The source was not read to an end, or its bytes are no script, or memory was wanting.
+pub record ReadsNone (left left' written written' : Option (List ℕ)) (reads reads' writes writes' status : ℕ) : Type 0 where
+  pub statuses : Statuses read_due read_part left left' written written' reads reads' writes writes' status
+  pub only : (status ≡ 3) ⊎ (status ≡ 5) ⊎ (status ≡ 6)

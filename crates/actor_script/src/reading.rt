@@ -1,0 +1,36 @@
+// The script of `together`, read to its end.
+ghost use Rattle.std.specs.Prelude.{◌≤◌, IfErr, IfOk};
+ghost use Rattle.actor_script.specs.Reading.{ReadsActors, ReadsNone};
+
+use crate::reader::ActorsReader;
+use script_texts::Actors;
+use sfu_base::{Sink, Source};
+use sfu_driver::{Lines, Units, drive, status};
+use std::alloc::Global;
+
+/// Who makes which calls, by the source's lines; or the status of the command where these are no script or can't be read. Only the line
+/// that says which line is outside the grammar is written.
+pub fn read_actors<S: Source, K: Sink>(
+    alloc: Global,
+    source: &mut S,
+    sink: &mut K,
+) -> Result<Actors, u8>
+    ensures ok { IfOk result (λ actors. ReadsActors (S.left source.old) (S.left source.new) (K.written sink.old) (K.written sink.new) (S.faults source.old) (S.faults source.new)
+        (K.faults sink.old) (K.faults sink.new) actors) }
+    ensures err { IfErr result (λ status. ReadsNone (S.left source.old) (S.left source.new) (K.written sink.old) (K.written sink.new) (S.faults source.old) (S.faults source.new)
+        (K.faults sink.old) (K.faults sink.new) status) }
+    ensures never_falls { K.faults sink.old ≤ K.faults sink.new }
+{
+    let mut units = Units::new(Lines, ActorsReader::new(alloc), 1);
+    let came_out = drive(alloc, &mut units, source, sink);
+    if came_out.is_err() {
+        return Err(status(came_out));
+    }
+    let Units {
+        cut: _,
+        judge,
+        number: _,
+        kept: _,
+    } = units;
+    Ok(judge.into_actors())
+}

@@ -1,0 +1,34 @@
+-- What the reading of a configuration for `serve` comes to. Nothing is written but the line that says which line is outside the grammar.
+use Rattle.std.specs.Prelude.{◌≡◌, ◌⊎◌, ℕ, List, [], Option, None}
+use Rattle.std.specs.Io.KnownBytes.{Appends, Consumes, IsAtEnd}
+use Rattle.sfu_driver.specs.Statuses.{Due, Statuses}
+use Rattle.sfu_driver.specs.Drive.{outside_end}
+use Rattle.script_texts.specs.WholeLines.{fault_line}
+use Rattle.port_config.specs.declared.reader.Served.{Served}
+use Rattle.port_config.specs.Reader.{IsSetup}
+use Rattle.port_config.specs.Script.{Configured, configuration_of, configuration_so_far}
+
+-- nothing is due for lines, and then which is outside the grammar
+abbrev pub due_for : Configured → Due
+due_for configured = record { text = []; end = outside_end fault_line configured.fault }
+
+abbrev pub read_due : List ℕ → Due
+read_due bytes = due_for (configuration_of bytes)
+
+-- the same for bytes whose end hasn't been seen
+abbrev pub read_part : List ℕ → Due
+read_part bytes = due_for (configuration_so_far bytes)
+
+-- The source was read to its end, its bytes are a configuration, and these are its calls and ports. Nothing was written.
+pub record ReadsSetup (left left' written written' : Option (List ℕ)) (served : Served) : Type 0 where
+  pub bytes : List ℕ
+  pub consumed : Consumes left left' bytes
+  pub at_end : IsAtEnd left'
+  pub whole : (configuration_of bytes).fault ≡ None
+  pub setup : IsSetup (configuration_of bytes).setup served
+  pub unwritten : Appends written written' []
+
+-- The source was not read to an end, or its bytes are no configuration, or memory was wanting.
+pub record ReadsNoSetup (left left' written written' : Option (List ℕ)) (reads reads' writes writes' status : ℕ) : Type 0 where
+  pub statuses : Statuses read_due read_part left left' written written' reads reads' writes writes' status
+  pub only : (status ≡ 3) ⊎ (status ≡ 5) ⊎ (status ≡ 6)

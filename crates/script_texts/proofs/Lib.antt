@@ -1,0 +1,5 @@
+pub mod HexText
+pub mod NamesText
+pub mod PieceSteps
+pub mod Ranges
+pub mod Written

@@ -1,0 +1,10 @@
+pub mod Grammar
+pub mod Lines
+pub mod Replies
+pub mod WholeLines
+pub mod Pieces
+pub mod Sizes
+pub mod Texts
+pub mod Entries
+pub mod Ends
+pub mod Complaints

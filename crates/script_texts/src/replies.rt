@@ -1,0 +1,103 @@
+// The texts of replies.
+ghost use Rattle.std.specs.Prelude.{◌≡◌, ◌++◌, map, OnErr, OnOk};
+ghost use Rattle.std.specs.List.{flat_map};
+ghost use Rattle.sfu_base.specs.Answer.{answer_of, Named, Refused, Sent, Told};
+ghost use Rattle.script_texts.specs.Replies.{answer_text, HasText};
+ghost use Rattle.script_texts.specs.Texts.{GoesOn};
+
+use crate::byte_ranges::are_bytes;
+use crate::hex_text::{DigitBuf, append_hex};
+use crate::number_text::append_number;
+use crate::pieces::append_pieces;
+use crate::refusals::refusal_pieces;
+use crate::undo::whole_or_nothing;
+use crate::verdicts::verdict_pieces;
+use sfu_base::{Blob, NoMemory, Refusal, Reply, Scratch, Verdict};
+
+fn append_packet(bytes: &[u8], digits: &mut DigitBuf, out: &mut Blob) -> Result<(), NoMemory>
+    ensures ok { OnOk result (out.new ≡ out.old ++ answer_text (Sent bytes.now)) }
+    ensures says { HasText (Sent bytes.now) }
+    ensures begun { GoesOn out.old out.new }
+{
+    are_bytes(bytes);
+    out.append(b"packet ")?;
+    append_hex(bytes, digits, out)
+}
+
+fn append_names(numbers: &[u16], out: &mut Blob) -> Result<(), NoMemory>
+    ensures ok { OnOk result (out.new ≡ out.old ++ answer_text (Named numbers.now)) }
+    ensures says { OnOk result (HasText (Named numbers.now)) }
+    ensures begun { GoesOn out.old out.new }
+{
+    out.append(b"missing")?;
+    for number in numbers {
+        out.append(b" ")?;
+        append_number(u64::from(*number), out)?;
+    }
+    Ok(())
+}
+
+// Apart, as the next one is, so that the replies that come most often need no room for words.
+#[inline(never)]
+fn append_cause(verdict: &Verdict, out: &mut Blob) -> Result<(), NoMemory>
+    ensures ok { OnOk result (out.new ≡ out.old ++ answer_text (Told verdict.now)) }
+    ensures says { HasText (Told verdict.now) }
+    ensures begun { GoesOn out.old out.new }
+{
+    append_pieces(verdict_pieces(verdict).words(), out)
+}
+
+#[inline(never)]
+fn append_refusal(why: &Refusal, out: &mut Blob) -> Result<(), NoMemory>
+    ensures ok { OnOk result (out.new ≡ out.old ++ answer_text (Refused why.now)) }
+    ensures says { HasText (Refused why.now) }
+    ensures begun { GoesOn out.old out.new }
+{
+    append_pieces(refusal_pieces(why).words(), out)
+}
+
+fn append_reply(
+    reply: &Reply,
+    scratch: &Scratch,
+    digits: &mut DigitBuf,
+    out: &mut Blob,
+) -> Result<(), NoMemory>
+    ensures ok { OnOk result (out.new ≡ out.old ++ answer_text (answer_of reply.now scratch.now.packet scratch.now.names)) }
+    ensures says { OnOk result (HasText (answer_of reply.now scratch.now.packet scratch.now.names)) }
+    ensures begun { GoesOn out.old out.new }
+{
+    match reply {
+        Reply::Done => out.append(b"ok"),
+        Reply::Packet => append_packet(scratch.packet.bytes(), digits, out),
+        Reply::Names => append_names(scratch.names.numbers(), out),
+        Reply::Key { wanted: true } => out.append(b"key yes"),
+        Reply::Key { wanted: false } => out.append(b"key no"),
+        Reply::Cause(verdict) => append_cause(verdict, out),
+        Reply::Refused(why) => append_refusal(why, out),
+    }
+}
+
+/// Appends the text of a reply, whose bytes and numbers stand in the scratch, without a line end. After `NoMemory` all is as before.
+pub fn write_reply(reply: &Reply, scratch: &Scratch, out: &mut Blob) -> Result<(), NoMemory>
+    ensures ok { OnOk result (out.new ≡ out.old ++ answer_text (answer_of reply.now scratch.now.packet scratch.now.names)) }
+    ensures says { OnOk result (HasText (answer_of reply.now scratch.now.packet scratch.now.names)) }
+    ensures err { OnErr result (out.new ≡ out.old) }
+{
+    write_reply_in(reply, scratch, &mut DigitBuf::new(), out)
+}
+
+/// Does the same in room for digits that the caller keeps for the next reply.
+pub fn write_reply_in(
+    reply: &Reply,
+    scratch: &Scratch,
+    digits: &mut DigitBuf,
+    out: &mut Blob,
+) -> Result<(), NoMemory>
+    ensures ok { OnOk result (out.new ≡ out.old ++ answer_text (answer_of reply.now scratch.now.packet scratch.now.names)) }
+    ensures says { OnOk result (HasText (answer_of reply.now scratch.now.packet scratch.now.names)) }
+    ensures err { OnErr result (out.new ≡ out.old) }
+{
+    let start = out.bytes().len();
+    let written = append_reply(reply, scratch, digits, out);
+    whole_or_nothing(written, start, out)
+}

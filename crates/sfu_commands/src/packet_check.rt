@@ -1,0 +1,120 @@
+// The command `check`.
+ghost use Rattle.std.specs.Prelude.{◌≡◌, ◌++◌, ℕ, [], IfOk, OnErr, OnOk};
+ghost use Rattle.script_texts.specs.Texts.{GoesOn};
+ghost use Rattle.sfu_commands.specs.Check.{Checks, HasReceived, IsCheckStatus, Reception, checked, complaint_line, counted, nothing_received, ok_line};
+ghost use Rattle.script_texts.specs.WholeLines.{fault_line};
+
+use itoa::Buffer;
+use script_texts::{add_fault, end_line, write_complaint};
+use sfu_base::{Blob, NoMemory, PacketBuf, Sink, Source};
+use sfu_driver::{Ending, Halt, Judge, Lines, Stop, Units, answer, status};
+use sfu_script::{is_skipped, read_packet};
+use std::alloc::Global;
+use strict_receiver::{Complaint, Receiver};
+
+/// Feeds the packet of each line to a strict receiver.
+#[derive(Drop)]
+pub struct PacketJudge {
+    pub receiver: Receiver,
+    pub packet: PacketBuf,
+}
+
+// Puts the line of a complaint behind the texts that are ready. After `NoMemory` all is as before.
+fn add_complaint(number: u32, complaint: &Complaint, ready: &mut Blob) -> Result<(), NoMemory>
+    ensures ok { OnOk result (ready.new ≡ ready.old ++ complaint_line number complaint.now) }
+    ensures err { OnErr result (ready.new ≡ ready.old) }
+{
+    let start = ready.bytes().len();
+    write_complaint(number, complaint, ready)?;
+    end_line(start, ready)
+}
+
+fn append_counts(packets: u64, frames: u64, ready: &mut Blob) -> Result<(), NoMemory>
+    ensures ok { OnOk result (ready.new ≡ ready.old ++ ok_line packets frames) }
+    ensures begun { GoesOn ready.old ready.new }
+{
+    let mut digits = Buffer::new();
+    ready.append(b"ok ")?;
+    ready.append(digits.format(packets).as_bytes())?;
+    ready.append(b" packets ")?;
+    ready.append(digits.format(frames).as_bytes())?;
+    ready.append(b" frames\n")
+}
+
+// Puts the line of the counts behind the texts that are ready. After `NoMemory` all is as before.
+fn add_counts(packets: u64, frames: u64, ready: &mut Blob) -> Result<(), NoMemory>
+    ensures ok { OnOk result (ready.new ≡ ready.old ++ ok_line packets frames) }
+    ensures err { OnErr result (ready.new ≡ ready.old) }
+{
+    let start = ready.bytes().len();
+    if append_counts(packets, frames, ready).is_err() {
+        ready.truncate(start);
+        return Err(NoMemory);
+    }
+    Ok(())
+}
+
+impl PacketJudge {
+    /// A judge that no packet came to yet, for this id of the descriptors' header extension.
+    pub fn new(alloc: Global, id: u8) -> Result<PacketJudge, NoMemory>
+        ensures { IfOk result (λ judge. HasReceived judge.receiver (nothing_received id)) }
+    {
+        Ok(PacketJudge {
+            receiver: Receiver::new(alloc, id)?,
+            packet: PacketBuf::new(),
+        })
+    }
+}
+
+impl Judge for PacketJudge {
+    ghost State = { Reception };
+
+    ghost stands = { λ judge reception. HasReceived judge.receiver reception };
+
+    ghost step = { checked };
+
+    ghost outside = { fault_line };
+
+    ghost closing = { counted };
+
+    fn judge(&mut self, number: u32, line: &[u8], ready: &mut Blob) -> Result<(), Halt> {
+        if is_skipped(line) {
+            return Ok(());
+        }
+        if read_packet(line, &mut self.packet).is_err() {
+            add_fault(u64::from(number), ready)?;
+            return Err(Halt::Ended(Ending::Outside));
+        }
+        match self.receiver.feed(self.packet.bytes()) {
+            Ok(()) => Ok(()),
+            Err(complaint) => {
+                add_complaint(number, &complaint, ready)?;
+                Err(Halt::Ended(Ending::Complaint))
+            }
+        }
+    }
+
+    fn refuse(&self, number: u64, ready: &mut Blob) -> Result<(), NoMemory> {
+        add_fault(number, ready)
+    }
+
+    fn close(&mut self, ready: &mut Blob) -> Result<(), NoMemory> {
+        add_counts(self.receiver.packets(), self.receiver.frames(), ready)
+    }
+}
+
+// Apart, so that the loop of `run` keeps its counts in registers.
+/// Judges the packets of the source's lines as a strict receiver with this id of the descriptors' header extension does, and answers the
+/// status.
+#[inline(never)]
+pub fn check<S: Source, K: Sink>(alloc: Global, id: u8, source: &mut S, sink: &mut K) -> u8
+    ensures checks { Checks id (S.left source.old) (S.left source.new) (K.written sink.old) (K.written sink.new) (S.faults source.old) (S.faults source.new)
+        (K.faults sink.old) (K.faults sink.new) result }
+    ensures only { IsCheckStatus result }
+{
+    let Ok(judge) = PacketJudge::new(alloc, id) else {
+        return status(Err(Stop::Halted(Halt::Starved)));
+    };
+    let mut units = Units::new(Lines, judge, 1);
+    answer(alloc, &mut units, source, sink)
+}

@@ -1,0 +1,55 @@
+// The command `trial`.
+ghost use Rattle.std.specs.Prelude.{◌≡◌, ◌≤◌, IfOk};
+ghost use Rattle.std.specs.String.{string_bytes};
+ghost use Rattle.sfu_commands.specs.Trial.{ShowsTrial, trial_text};
+
+mod stage;
+mod summary;
+mod viewer;
+mod words;
+
+use sfu_base::{NoMemory, PacketBuf, Sink};
+use sfu_driver::write_all;
+use stage::Stage;
+use std::alloc::Global;
+use stream_maker::{Event, Maker};
+use summary::summary;
+pub use words::read_trial;
+
+// The summary of a trial.
+fn play(alloc: Global, frames: u32, start: u64, loss: u8) -> Result<String, NoMemory>
+    requires some_frames { 1 ≤ frames }
+    requires few_frames { frames ≤ 1000000 }
+    requires loss { loss ≤ 50 }
+    ensures { IfOk result (λ text. string_bytes text ≡ trial_text (record { frames = frames; start = start; loss = loss })) }
+{
+    let mut stage = Stage::new(alloc)?;
+    let mut maker = Maker::new(frames, start, loss);
+    let mut packet = PacketBuf::new();
+    'events: loop {
+        match maker.next_event(&mut packet) {
+            Event::Packet { moment } => stage.packet(moment, &packet),
+            Event::Tick { moment } => stage.tick(moment),
+            Event::End => break 'events,
+        }
+    }
+    let text = summary(alloc, maker.counts(), &stage)?;
+    Ok(text)
+}
+
+/// The command `trial`: sends a stream of so many frames, made from a number, of which so many packets of a hundred are lost, through a room
+/// to three subscribers, writes what a strict receiver finds in what each of them takes, and answers the status.
+pub fn trial<K: Sink>(alloc: Global, frames: u32, start: u64, loss: u8, sink: &mut K) -> u8
+    requires some_frames { 1 ≤ frames }
+    requires few_frames { frames ≤ 1000000 }
+    requires loss { loss ≤ 50 }
+    ensures { ShowsTrial (record { frames = frames; start = start; loss = loss }) (K.written sink.old) (K.written sink.new) (K.faults sink.old) (K.faults sink.new) result }
+{
+    let Ok(text) = play(alloc, frames, start, loss) else {
+        return 6;
+    };
+    match write_all(sink, text.as_bytes()) {
+        Ok(()) => 0,
+        Err(_) => 4,
+    }
+}

@@ -1,0 +1,62 @@
+// What the words say, where the command waits for nobody.
+ghost use Rattle.std.specs.Prelude.{◌≡◌, ◌↔◌, ℕ, map};
+ghost use Rattle.std.specs.String.{string_bytes};
+ghost use Rattle.sfu_commands.specs.Check.{Checks, IsCheck};
+ghost use Rattle.sfu_commands.specs.Convert.{Converts, IsConvert};
+ghost use Rattle.stream_maker.specs.Stream.{Stream};
+ghost use Rattle.sfu_commands.specs.Help.{Helps, IsHelp, Refuses};
+ghost use Rattle.sfu_commands.specs.Promise.{AreServed};
+ghost use Rattle.sfu_commands.specs.Run.{IsRun, Runs};
+ghost use Rattle.sfu_commands.specs.Trial.{IsTrial, Tries};
+ghost use Rattle.sfu_commands.specs.Words.{IsForm};
+ghost use Rattle.sfu_program.specs.Forms.{IsStatus};
+
+use sfu_base::{Sink, Source};
+use sfu_commands::{Command, check, convert, help, read_words, refuse, run, trial};
+use std::alloc::Global;
+
+/// Does what the words say where the command waits for nobody, and answers the program's status. It always returns.
+///
+/// Status 0: the source was read to its end, where the command reads it, and all that is due was written. 2: the words are no command;
+/// nothing was read, and the usage line was written. 3 and 4: the source or the sink failed. 5: a line is outside the grammar; what is due
+/// before it and `line N` were written, or `record N` in a script of records; `convert` doesn't write which it is. 6: want of memory. 8: the strict receiver of `check` complains; `line N` and the complaint were
+/// written. The first that is met ends the call; 2, 5 and 8 stay where the sink fails in their own text.
+pub fn sfu_alone<S: Source, K: Sink>(
+    alloc: Global,
+    words: &[String],
+    source: &mut S,
+    sink: &mut K,
+) -> u8
+    ensures run { IsRun (map string_bytes words.now)
+        → Runs (S.left source.old) (S.left source.new) (K.written sink.old) (K.written sink.new) (S.faults source.old) (S.faults source.new)
+        (K.faults sink.old) (K.faults sink.new) result }
+    ensures headline { IsRun (map string_bytes words.now) → AreServed (S.left source.old) }
+    ensures check { (id : ℕ) → IsCheck (map string_bytes words.now) id
+        → Checks id (S.left source.old) (S.left source.new) (K.written sink.old) (K.written sink.new) (S.faults source.old) (S.faults source.new)
+        (K.faults sink.old) (K.faults sink.new) result }
+    ensures convert { IsConvert (map string_bytes words.now)
+        → Converts (S.left source.old) (S.left source.new) (K.written sink.old) (K.written sink.new) (S.faults source.old) (S.faults source.new)
+        (K.faults sink.old) (K.faults sink.new) result }
+    ensures help { IsHelp (map string_bytes words.now) → Helps source.old source.new (K.written sink.old) (K.written sink.new) (K.faults sink.old) (K.faults sink.new) result }
+    ensures trial { (s : Stream) → IsTrial (map string_bytes words.now) s
+        → Tries source.old source.new s (K.written sink.old) (K.written sink.new) (K.faults sink.old) (K.faults sink.new) result }
+    ensures other { ¬ (IsForm (map string_bytes words.now))
+        → Refuses source.old source.new (K.written sink.old) (K.written sink.new) (K.faults sink.old) (K.faults sink.new) result }
+    ensures form { (result ≡ 2) ↔ ¬ (IsForm (map string_bytes words.now)) }
+    ensures only { IsStatus result }
+{
+    match read_words(words) {
+        Some(Command::Run) => run(alloc, source, sink),
+        Some(Command::Convert) => convert(alloc, source, sink),
+        Some(Command::Help) => help(sink),
+        Some(Command::Check(id)) => check(alloc, id, source, sink),
+        Some(
+            Command::Trial {
+                frames,
+                start,
+                loss,
+            },
+        ) => trial(alloc, frames, start, loss, sink),
+        None => refuse(sink),
+    }
+}

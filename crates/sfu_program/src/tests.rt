@@ -1,0 +1,10 @@
+// What the program does, by the words that it is given.
+mod check;
+mod gate;
+mod meeting;
+mod records;
+mod run;
+mod serve;
+mod together;
+mod trial;
+mod words;

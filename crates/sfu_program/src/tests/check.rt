@@ -1,0 +1,160 @@
+// The command `check` over sources and sinks in memory: packets with what a strict receiver says of them, and each fault of the outside.
+use super::run::{ByteSource, words};
+use crate::alone::sfu_alone;
+use sfu_base::{MemSink, MemSource, Source};
+use std::alloc::{AllocError, Global};
+use std::test::Fail;
+
+// The two packets that go out for the layered track of `run.rt`: a key frame of one packet, and a frame that refers to it.
+const KEY: &str = "90e0ffff0000000022222222bede000348c00001c0003a4101400000183000\n";
+
+const NEXT: &str = "90e000000000000022222222bede000142c10002103000\n";
+
+// The first packet of a frame that isn't finished.
+const BEGUN: &str = "906000000000000011111111bede00034880000180003a4101000000183000\n";
+
+// The status of `check` with this id, and what was written.
+fn check(alloc: Global, id: &str, script: &str) -> Result<(u8, Vec<u8>), AllocError> {
+    let words = words(alloc, &["check", id])?;
+    let mut source = MemSource::new(script.as_bytes().to_vec(alloc)?, Vec::new(alloc));
+    let mut sink = MemSink::new(alloc, Vec::new(alloc));
+    let status = sfu_alone(alloc, words.as_slice(), &mut source, &mut sink);
+    Ok((status, sink.written().to_vec(alloc)?))
+}
+
+// The same of a script that comes byte by byte, where these reads and writes fail; and whether the next read fails.
+fn check_bytes(
+    alloc: Global,
+    script: &str,
+    read_fails: &[u64],
+    write_fails: &[u64],
+) -> Result<(u8, Vec<u8>, bool), AllocError> {
+    let words = words(alloc, &["check", "4"])?;
+    let inner = MemSource::new(script.as_bytes().to_vec(alloc)?, read_fails.to_vec(alloc)?);
+    let mut source = ByteSource { inner };
+    let mut sink = MemSink::new(alloc, write_fails.to_vec(alloc)?);
+    let status = sfu_alone(alloc, words.as_slice(), &mut source, &mut sink);
+    let fails = source.read(&mut [0u8; 1]).is_err();
+    Ok((status, sink.written().to_vec(alloc)?, fails))
+}
+
+#[test]
+fn packets_are_counted_or_complained_of(rt: HostRuntime) -> Result<(), Fail> {
+    let alloc = rt.alloc();
+    for (lines, status, text) in [
+        ([].as_slice(), 0, "ok 0 packets 0 frames\n"),
+        (&[KEY, NEXT], 0, "ok 2 packets 2 frames\n"),
+        (&[NEXT], 8, "line 1 nostructure\n"),
+        (&[KEY, KEY], 8, "line 2 sequence 65535 65535\n"),
+        (
+            &[
+                "90e000000000000011111111bede000348c0000180003a4101000000183000\n",
+                "90e000010000000011111111bede000142c10003103000\n",
+            ],
+            8,
+            "line 2 missingreference 3 1\n",
+        ),
+        (
+            &[
+                BEGUN,
+                "90e000010000000011111111bede000348c0000280003a4101000000183000\n",
+            ],
+            8,
+            "line 2 notwhole\n",
+        ),
+        (
+            &[KEY, "90e000000000000033333333bede000142c10002103000\n"],
+            8,
+            "line 2 othersource 22222222 33333333\n",
+        ),
+        (&["80\n"], 8, "line 1 unread\n"),
+        // The packet of an unfinished frame is counted, and the frame isn't.
+        (&[BEGUN], 0, "ok 1 packets 0 frames\n"),
+        // Upper case is read, the last line may lack its LF, and a CR directly before an LF is dropped.
+        (
+            &[
+                "90E0FFFF0000000022222222BEDE000348C0000180003A4101000000183000\r\n",
+                "90e000000000000022222222bede000142c10002103000",
+            ],
+            0,
+            "ok 2 packets 2 frames\n",
+        ),
+        // Skipped lines are counted and fed to nobody.
+        (
+            &["# a\n", "\n", KEY, "#80\n", "\r\n", NEXT],
+            0,
+            "ok 2 packets 2 frames\n",
+        ),
+        (
+            &["# a\n", "\n", KEY, "\n", KEY],
+            8,
+            "line 5 sequence 65535 65535\n",
+        ),
+        // A line outside the grammar, and what comes behind it isn't judged; nor is what comes behind a complaint.
+        (&[KEY, "take 1\n", KEY], 5, "line 2\n"),
+        (&[KEY, "8\n"], 5, "line 2\n"),
+        (&[KEY, "# a\n", "80 "], 5, "line 3\n"),
+        (&[KEY, KEY, "take 1\n"], 8, "line 2 sequence 65535 65535\n"),
+        (&[KEY, KEY, NEXT], 8, "line 2 sequence 65535 65535\n"),
+    ] {
+        let mut script = String::new(alloc);
+        for line in lines {
+            script.push_str(line)?;
+        }
+        let (got, written) = check(alloc, "4", script.as_str())?;
+        assert_eq!(rt; got, status, "{script}");
+        assert_eq!(rt; written.as_slice(), text.as_bytes(), "{script}");
+    }
+    Ok(())
+}
+
+#[test]
+fn the_id_is_that_of_the_words(rt: HostRuntime) -> Result<(), Fail> {
+    let alloc = rt.alloc();
+    // The same packet with its descriptor under the ids 1 and 255, the second in the two-byte form.
+    let one = "90e0ffff0000000022222222bede000318c0000180003a4101000000183000\n";
+    let last = "90e0ffff000000002222222210000003ff09c0000180003a41010000183000\n";
+    for (id, script, status, text) in [
+        ("1", one, 0, "ok 1 packets 1 frames\n"),
+        ("4", one, 8, "line 1 unread\n"),
+        ("255", last, 0, "ok 1 packets 1 frames\n"),
+        ("254", last, 8, "line 1 unread\n"),
+    ] {
+        let (got, written) = check(alloc, id, script)?;
+        assert_eq!(rt; got, status, "{id}");
+        assert_eq!(rt; written.as_slice(), text.as_bytes(), "{id}");
+    }
+    Ok(())
+}
+
+#[test]
+fn each_fault_of_the_outside_ends_the_check(rt: HostRuntime) -> Result<(), Fail> {
+    let alloc = rt.alloc();
+    let whole = format!(in alloc; "{KEY}{NEXT}")?;
+    let refused = format!(in alloc; "{KEY}{KEY}{NEXT}")?;
+    let bad = format!(in alloc; "{KEY}80 \n{NEXT}")?;
+    // Byte by byte. The reads, the status where none fails, the one text, and the status where the sink fails in it: the counts are no
+    // ending's own text. The packets have 63 and 47 bytes with their LF; one more read finds the end of input, and behind the line that
+    // ends the command nothing is read.
+    for (script, reads, status, text, unwritten) in [
+        (whole.as_str(), 111, 0, "ok 2 packets 2 frames\n", 4),
+        (refused.as_str(), 126, 8, "line 2 sequence 65535 65535\n", 8),
+        (bad.as_str(), 67, 5, "line 2\n", 5),
+    ] {
+        // The n-th read fails: nothing was written before.
+        for n in 0..=reads {
+            let (got, written, unread) = check_bytes(alloc, script, &[n], &[])?;
+            let (wanted, all) = if n < reads { (3, "") } else { (status, text) };
+            assert_eq!(rt; got, wanted, "read {n} of {script}");
+            assert_eq!(rt; written.as_slice(), all.as_bytes(), "read {n} of {script}");
+            assert_eq!(rt; unread, n == reads, "read {n} of {script}");
+        }
+        // The n-th write fails: there is one.
+        for (n, wanted, all) in [(0, unwritten, ""), (1, status, text)] {
+            let (got, written, _) = check_bytes(alloc, script, &[], &[n])?;
+            assert_eq!(rt; got, wanted, "write {n} of {script}");
+            assert_eq!(rt; written.as_slice(), all.as_bytes(), "write {n} of {script}");
+        }
+    }
+    Ok(())
+}

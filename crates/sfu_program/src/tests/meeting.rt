@@ -1,0 +1,140 @@
+// Two sessions that are at work at the same time.
+ghost use Rattle.std.specs.Prelude.{None};
+
+use super::serve::{CONFIGURATION, served};
+use sfu_base::{Address, Failed, Link, PacketBuf, Ports};
+use std::sync::atomic::{AtomicBool, Ordering};
+use std::test::Fail;
+use std::thread;
+use std::time::{Clock, Duration};
+
+// How often a link looks for the other one, with a millisecond between.
+const MOST_LOOKS: u32 = 10_000;
+
+// A link whose first receive raises its flag and waits until the other link's is up. It brings nothing.
+#[derive(Drop)]
+struct MeetingLink<'a, R> {
+    clock: &'a R,
+    own: &'a AtomicBool,
+    other: &'a AtomicBool,
+    has_met: bool,
+    faults: u64,
+}
+
+impl<'a, R: Clock> MeetingLink<'a, R> {
+    // Raises the flag and waits for the other one; whether it came up.
+    fn meet(&self) -> bool {
+        self.own.store(true, Ordering::SeqCst);
+        for _ in 0..MOST_LOOKS {
+            if self.other.load(Ordering::SeqCst) {
+                return true;
+            }
+            thread::sleep(self.clock, Duration::from_millis(1));
+        }
+        false
+    }
+}
+
+impl<'a, R: Clock> Link for MeetingLink<'a, R> {
+    ghost told = { λ _. None };
+
+    ghost faults = { λ s. s.faults };
+
+    fn receive(&mut self, _buf: &mut PacketBuf) -> Result<bool, Failed> {
+        let waits = !self.has_met;
+        self.has_met = true;
+        if waits && !self.meet() {
+            self.faults = self.faults.saturating_add(1);
+            return Err(Failed);
+        }
+        Ok(false)
+    }
+
+    fn send(&mut self, _packet: &PacketBuf) -> Result<(), Failed> {
+        Ok(())
+    }
+}
+
+// Whether an address is 127.0.0.1 with this port.
+fn is_local(address: Address, port: u64) -> bool {
+    address.ip == 0x7f00_0001 && u64::from(address.port) == port
+}
+
+// Ports of two links that meet. The first is bound at 127.0.0.1:5000 for 127.0.0.1:6000, and the other one port further; any other fails.
+#[derive(Drop)]
+struct MeetingPorts<'a, R> {
+    clock: &'a R,
+    one: &'a AtomicBool,
+    two: &'a AtomicBool,
+    bound: u64,
+    back_count: u64,
+    faults: u64,
+}
+
+impl<'a, R: Clock + Sync> Ports for MeetingPorts<'a, R> {
+    type Port = MeetingLink<'a, R>;
+
+    ghost returned = { λ _. None };
+
+    ghost bound = { λ s. s.bound };
+
+    ghost back_count = { λ s. s.back_count };
+
+    ghost faults = { λ s. s.faults };
+
+    fn bind(&mut self, local: Address, peer: Address) -> Result<MeetingLink<'a, R>, Failed> {
+        if !is_local(local, 5000 + self.bound) || !is_local(peer, 6000 + self.bound) {
+            self.faults = self.faults.saturating_add(1);
+            return Err(Failed);
+        }
+        let (own, other) = if self.bound == 0 {
+            (self.one, self.two)
+        } else {
+            (self.two, self.one)
+        };
+        self.bound += 1;
+        Ok(MeetingLink {
+            clock: self.clock,
+            own,
+            other,
+            has_met: false,
+            faults: 0,
+        })
+    }
+
+    fn back(&mut self, port: MeetingLink<'a, R>) {
+        self.back_count += 1;
+        if port.faults > 0 {
+            self.faults = self.faults.saturating_add(1);
+        }
+    }
+}
+
+#[test]
+fn two_sessions_are_at_work_at_the_same_time(rt: HostRuntime) -> Result<(), Fail> {
+    let one = AtomicBool::new(false);
+    let two = AtomicBool::new(false);
+    let mut ports = MeetingPorts {
+        clock: &rt,
+        one: &one,
+        two: &two,
+        bound: 0,
+        back_count: 0,
+        faults: 0,
+    };
+    let (status, written) = served(
+        &rt,
+        rt.alloc(),
+        "1",
+        CONFIGURATION.as_bytes(),
+        &mut ports,
+        &[],
+        &[],
+    )?;
+    assert_eq!(rt;
+        written.as_slice(),
+        b"ok\nok\nsession 1 all\nsession 2 all\n".as_slice()
+    );
+    assert_eq!(rt; status, 0);
+    Ok(())
+}

@@ -1,0 +1,382 @@
+// The top call over sources and sinks in memory: scripts with their replies and statuses, and each fault of the outside.
+use crate::alone::sfu_alone;
+use sfu_base::{CalmSink, CalmSource, Failed, MemSink, MemSource, Source};
+use std::alloc::{AllocError, Global};
+use std::test::Fail;
+
+const FIRST: &str =
+    "publish 1 plain 11111111 100\njoin 1 1 22222222 7 0 0\ntake 1\npacket 1 0 806000010000000011111111aabb\n";
+
+const FIRST_REPLIES: &str = "ok\nok\nempty\nok\n";
+
+// The texts of `FIRST`, one for each line, and the last text where its next line is outside the grammar.
+const TEXTS: [&str; 5] = ["ok\n", "ok\n", "empty\n", "ok\n", "line 5\n"];
+
+const USAGE: &str = "usage: run, together, trial, check, serve, convert, help\n";
+
+/// Gives a script byte by byte.
+#[derive(Drop)]
+pub struct ByteSource {
+    pub inner: MemSource,
+}
+
+impl Source for ByteSource {
+    ghost left = { λ s. ⟦<MemSource as Source>⟧.left s.inner };
+
+    ghost faults = { λ s. ⟦<MemSource as Source>⟧.faults s.inner };
+
+    fn read(&mut self, buf: &mut [u8]) -> Result<usize, Failed> {
+        if buf.is_empty() {
+            return Ok(0);
+        }
+        self.inner.read(&mut buf[..1])
+    }
+}
+
+/// Words of these texts.
+pub fn words(alloc: Global, texts: &[&str]) -> Result<Vec<String>, AllocError> {
+    let mut words = Vec::new(alloc);
+    for text in texts {
+        words.push(String::from_str(alloc, text)?)?;
+    }
+    Ok(words)
+}
+
+// The status of a script, and what was written.
+fn run(alloc: Global, script: &str) -> Result<(u8, Vec<u8>), AllocError> {
+    let words = words(alloc, &["run"])?;
+    let mut source = MemSource::new(script.as_bytes().to_vec(alloc)?, Vec::new(alloc));
+    let mut sink = MemSink::new(alloc, Vec::new(alloc));
+    let status = sfu_alone(alloc, words.as_slice(), &mut source, &mut sink);
+    Ok((status, sink.written().to_vec(alloc)?))
+}
+
+// The first of the texts, so many of them.
+fn first_texts(alloc: Global, count: usize) -> Result<String, AllocError> {
+    let mut all = String::new(alloc);
+    for text in TEXTS.iter().take(count) {
+        all.push_str(text)?;
+    }
+    Ok(all)
+}
+
+// How many lines end in the first bytes of a script.
+fn line_ends(script: &str, count: usize) -> usize {
+    script
+        .bytes()
+        .take(count)
+        .filter(|byte| *byte == b'\n')
+        .count()
+}
+
+// The status of a script that comes byte by byte, where these reads and writes fail; what was written; and whether the next read fails.
+fn run_bytes(
+    alloc: Global,
+    script: &str,
+    read_fails: &[u64],
+    write_fails: &[u64],
+) -> Result<(u8, Vec<u8>, bool), AllocError> {
+    let words = words(alloc, &["run"])?;
+    let inner = MemSource::new(script.as_bytes().to_vec(alloc)?, read_fails.to_vec(alloc)?);
+    let mut source = ByteSource { inner };
+    let mut sink = MemSink::new(alloc, write_fails.to_vec(alloc)?);
+    let status = sfu_alone(alloc, words.as_slice(), &mut source, &mut sink);
+    let fails = source.read(&mut [0u8; 1]).is_err();
+    Ok((status, sink.written().to_vec(alloc)?, fails))
+}
+
+#[test]
+fn scripts_get_their_replies_and_statuses(rt: HostRuntime) -> Result<(), Fail> {
+    let alloc = rt.alloc();
+    for (script, status, replies) in [
+        // The packet goes out under its own number and SSRC; then nothing is left.
+        (
+            "take 1\ntake 1\n",
+            0,
+            "packet 806000070000000022222222aabb\nempty\n",
+        ),
+        // A line outside the grammar, behind the replies.
+        ("packet 1 0 80605", 5, "line 5\n"),
+        ("packet 1 0 80605\ntake 1\n", 5, "line 5\n"),
+        // A gap is waited for.
+        (
+            "packet 1 0 806000030000000011111111cc\nmissing 1\npacket 1 0 806000020000000011111111cc\nmissing 1\n",
+            0,
+            "ok\nmissing 2\nok\nmissing\n",
+        ),
+        // Upper case is read, lower case is written.
+        (
+            "packet 1 0 80E000020000000011111111FF\ntake 1\ntake 1\n",
+            0,
+            "ok\npacket 806000070000000022222222aabb\npacket 80e000080000000022222222ff\n",
+        ),
+    ] {
+        let text = format!(in alloc; "{FIRST}{script}")?;
+        let wanted = format!(in alloc; "{FIRST_REPLIES}{replies}")?;
+        let (got, written) = run(alloc, text.as_str())?;
+        assert_eq!(rt; got, status, "{script}");
+        assert_eq!(rt; written.as_slice(), wanted.as_bytes(), "{script}");
+    }
+    Ok(())
+}
+
+#[test]
+fn calls_are_refused_for_their_reasons(rt: HostRuntime) -> Result<(), Fail> {
+    let alloc = rt.alloc();
+    for (script, replies) in [
+        ("publish 1 plain 11111111 100\n", "refused numberused 1\n"),
+        (
+            "publish 2 layered 11111111 100 15\n",
+            "refused badextensionid\n",
+        ),
+        ("join 2 9 22222222 0 0 0\n", "refused notrack\n"),
+        ("leave 9\n", "refused nosubscriber\n"),
+        ("packet 1 0 8060\n", "refused unreadable short\n"),
+        (
+            "packet 1 0 406000010000000011111111\n",
+            "refused unreadable version\n",
+        ),
+        (
+            "packet 1 0 806000020000000033333333\n",
+            "refused wrongssrc 33333333 11111111\n",
+        ),
+        ("unpublish 1\npacket 1 40 8060\n", "ok\nrefused notrack\n"),
+    ] {
+        let text = format!(in alloc; "{FIRST}{script}")?;
+        let wanted = format!(in alloc; "{FIRST_REPLIES}{replies}")?;
+        let (got, written) = run(alloc, text.as_str())?;
+        assert_eq!(rt; got, 0, "{script}");
+        assert_eq!(rt; written.as_slice(), wanted.as_bytes(), "{script}");
+    }
+    Ok(())
+}
+
+#[test]
+fn two_frames_of_a_layered_track_go_out_and_are_resent(rt: HostRuntime) -> Result<(), Fail> {
+    let script = "publish 1 layered 11111111 100 4\njoin 1 1 22222222 65535 0 0\n\
+        packet 1 0 90e003e80000000011111111bede000348c0000180003a4101000000183000\n\
+        packet 1 33 90e003e90000000011111111bede000142c10002103000\n\
+        take 1\ntake 1\ntake 1\nresend 1 65535\nkey 1\nwhy 1 2\n";
+    let wanted = "ok\nok\nok\nok\n\
+        packet 90e0ffff0000000022222222bede000348c00001c0003a4101400000183000\n\
+        packet 90e000000000000022222222bede000142c10002103000\nempty\n\
+        packet 90e0ffff0000000022222222bede000348c00001c0003a4101400000183000\nkey no\npassed\n";
+    let (got, written) = run(rt.alloc(), script)?;
+    assert_eq!(rt; got, 0);
+    assert_eq!(rt; written.as_slice(), wanted.as_bytes());
+    Ok(())
+}
+
+#[test]
+fn lines_are_skipped_and_end_as_they_should(rt: HostRuntime) -> Result<(), Fail> {
+    let alloc = rt.alloc();
+    for (script, status, text) in [
+        // Nothing is read, and nothing is written.
+        ("", 0, ""),
+        // The last line may lack its LF.
+        ("take 1", 0, "refused nosubscriber\n"),
+        // Skipped lines are counted and have no reply; a CR directly before an LF is dropped.
+        ("# a\n\ntake 1\r\n", 0, "refused nosubscriber\n"),
+        (
+            "# a\n\ntake 1\ntake 01",
+            5,
+            "refused nosubscriber\nline 4\n",
+        ),
+        ("\r\n#\r\n# \u{e9}\ntake 01\n", 5, "line 4\n"),
+        // A CR at the end of input stays, and so does one of two before an LF.
+        ("take 1\r", 5, "line 1\n"),
+        ("take 1\r\r\n", 5, "line 1\n"),
+        ("\r", 5, "line 1\n"),
+        (" ", 5, "line 1\n"),
+    ] {
+        let (got, written) = run(alloc, script)?;
+        assert_eq!(rt; got, status, "{script:?}");
+        assert_eq!(rt; written.as_slice(), text.as_bytes(), "{script:?}");
+    }
+    Ok(())
+}
+
+#[test]
+fn other_words_get_the_usage_line(rt: HostRuntime) -> Result<(), Fail> {
+    let alloc = rt.alloc();
+    for texts in [
+        ["run", "run"].as_slice(),
+        &[],
+        &["--help"],
+        &["--version"],
+        &["check"],
+        &["check", "0"],
+        &["check", "256"],
+        &["check", "04"],
+        &["check", "+4"],
+        &["check", "4 "],
+        &["check", ""],
+        &["check", "4a"],
+        &["check", "4", "4"],
+        &["4", "check"],
+        &["Check", "4"],
+        &["trial", "0", "7", "0"],
+        &["help", "run"],
+        &["Run"],
+        &["help "],
+    ] {
+        let words = words(alloc, texts)?;
+        let mut source = MemSource::new(FIRST.as_bytes().to_vec(alloc)?, [0u64].to_vec(alloc)?);
+        let mut sink = MemSink::new(alloc, Vec::new(alloc));
+        assert_eq!(rt;
+            sfu_alone(alloc, words.as_slice(), &mut source, &mut sink),
+            2
+        );
+        assert_eq!(rt; sink.written(), USAGE.as_bytes());
+        // The number stays where the sink fails.
+        let mut sink = MemSink::new(alloc, [0u64].to_vec(alloc)?);
+        assert_eq!(rt;
+            sfu_alone(alloc, words.as_slice(), &mut source, &mut sink),
+            2
+        );
+        assert_eq!(rt; sink.written(), b"".as_slice());
+        // Nothing was read: the first read is still to come, and fails.
+        let mut buf = [0u8; 8];
+        assert_eq!(rt; source.read(&mut buf), Err(Failed));
+    }
+    Ok(())
+}
+
+#[test]
+fn help_writes_the_usage_line(rt: HostRuntime) -> Result<(), Fail> {
+    let alloc = rt.alloc();
+    let words = words(alloc, &["help"])?;
+    for (write_fails, status, text) in [([].as_slice(), 0, USAGE), (&[0], 4, "")] {
+        let mut source = MemSource::new(FIRST.as_bytes().to_vec(alloc)?, [0u64].to_vec(alloc)?);
+        let mut sink = MemSink::new(alloc, write_fails.to_vec(alloc)?);
+        assert_eq!(rt;
+            sfu_alone(alloc, words.as_slice(), &mut source, &mut sink),
+            status
+        );
+        assert_eq!(rt; sink.written(), text.as_bytes());
+        // Nothing was read: the first read is still to come, and fails.
+        assert_eq!(rt; source.read(&mut [0u8; 8]), Err(Failed));
+    }
+    Ok(())
+}
+
+#[test]
+fn each_fault_of_the_outside_ends_the_run(rt: HostRuntime) -> Result<(), Fail> {
+    let alloc = rt.alloc();
+    let bad = format!(in alloc; "{FIRST}take 01\ntake 1\n")?;
+    // Byte by byte, so that each line is written by itself. The reads, the writes and the status where none fails: the script without a
+    // bad line has 100 bytes, and one more read finds its end; behind the eight bytes of the bad line nothing is read or written.
+    for (script, reads, writes, status) in [(FIRST, 101, 4, 0), (bad.as_str(), 108, 5, 5)] {
+        // The n-th read fails: the texts of the lines that ended before it were written.
+        for n in 0..=reads {
+            let (got, written, unread) = run_bytes(alloc, script, &[n], &[])?;
+            let wanted = first_texts(alloc, line_ends(script, n as usize))?;
+            assert_eq!(rt;
+                got,
+                if n < reads { 3 } else { status },
+                "read {n} of {script}"
+            );
+            assert_eq!(rt;
+                written.as_slice(),
+                wanted.as_bytes(),
+                "read {n} of {script}"
+            );
+            assert_eq!(rt; unread, n == reads, "read {n} of {script}");
+        }
+        // The n-th write fails: the texts before were written. In the last text, the fifth, this leaves the status as it is.
+        for n in 0..=writes {
+            let (got, written, _) = run_bytes(alloc, script, &[], &[n])?;
+            let wanted = first_texts(alloc, n as usize)?;
+            assert_eq!(rt;
+                got,
+                if n < 4 { 4 } else { status },
+                "write {n} of {script}"
+            );
+            assert_eq!(rt;
+                written.as_slice(),
+                wanted.as_bytes(),
+                "write {n} of {script}"
+            );
+        }
+    }
+    Ok(())
+}
+
+#[test]
+fn the_read_behind_a_whole_script_fails(rt: HostRuntime) -> Result<(), Fail> {
+    let alloc = rt.alloc();
+    let words = words(alloc, &["run"])?;
+    // The first read gives the whole script. All its lines have their replies, but for a last one that has no LF; behind a bad line no
+    // second read is made.
+    for (more, status, last) in [
+        ("", 3, ""),
+        (
+            "take 1\ntake 1\n",
+            3,
+            "packet 806000070000000022222222aabb\nempty\n",
+        ),
+        ("take 1", 3, ""),
+        ("take 01", 3, ""),
+        ("take 01\n", 5, "line 5\n"),
+        ("take 01\ntake 1", 5, "line 5\n"),
+    ] {
+        let script = format!(in alloc; "{FIRST}{more}")?;
+        let mut source = MemSource::new(script.as_bytes().to_vec(alloc)?, [1u64].to_vec(alloc)?);
+        let mut sink = MemSink::new(alloc, Vec::new(alloc));
+        let wanted = format!(in alloc; "{FIRST_REPLIES}{last}")?;
+        assert_eq!(rt;
+            sfu_alone(alloc, words.as_slice(), &mut source, &mut sink),
+            status,
+            "{script}"
+        );
+        assert_eq!(rt; sink.written(), wanted.as_bytes(), "{script}");
+    }
+    Ok(())
+}
+
+#[test]
+fn pieces_of_any_size_make_the_same_lines(rt: HostRuntime) -> Result<(), Fail> {
+    let alloc = rt.alloc();
+    let run_word = words(alloc, &["run"])?;
+    let text = format!(in alloc; "{FIRST}# a\r\ntake 1\r\ntake 01")?;
+    let mut source = ByteSource {
+        inner: MemSource::new(text.as_bytes().to_vec(alloc)?, Vec::new(alloc)),
+    };
+    let mut sink = MemSink::new(alloc, Vec::new(alloc));
+    assert_eq!(rt;
+        sfu_alone(alloc, run_word.as_slice(), &mut source, &mut sink),
+        5
+    );
+    let wanted = format!(in alloc; "{FIRST_REPLIES}packet 806000070000000022222222aabb\nline 7\n")?;
+    assert_eq!(rt; sink.written(), wanted.as_bytes());
+    // The calm forms never fail.
+    let mut source = CalmSource::new(text.as_bytes().to_vec(alloc)?);
+    let mut sink = CalmSink::new();
+    assert_eq!(rt;
+        sfu_alone(alloc, run_word.as_slice(), &mut source, &mut sink),
+        5
+    );
+    // A comment has at most 4,200 bytes too.
+    let mut line = [b'#'].to_vec(alloc)?;
+    for _ in 1..4200 {
+        line.push(b'a')?;
+    }
+    for (more, status, replies) in [
+        ("", 0, ""),
+        ("\n", 0, ""),
+        ("a", 5, "line 1\n"),
+        ("\r\n", 5, "line 1\n"),
+    ] {
+        let mut bytes = line.clone()?;
+        bytes.extend_from_slice(more.as_bytes())?;
+        let mut source = MemSource::new(bytes, Vec::new(alloc));
+        let mut sink = MemSink::new(alloc, Vec::new(alloc));
+        assert_eq!(rt;
+            sfu_alone(alloc, run_word.as_slice(), &mut source, &mut sink),
+            status,
+            "{more:?}"
+        );
+        assert_eq!(rt; sink.written(), replies.as_bytes(), "{more:?}");
+    }
+    Ok(())
+}

@@ -1,6 +1,0 @@
-use Rattle.std.proofs.Common.{arith}
-use Rattle.sfu_script.proofs.Ranges.{all_bytes}
-use Rattle.sfu_script.proofs.byte_ranges.are_bytes.Goals as goal
-
-pub returns : goal.returns
-returns c = all_bytes c.args.bytes.now (λ k lt. c.loop-byte.invariant k (omega arith))

@@ -1,9 +1,0 @@
-use Rattle.std.proofs.Common.{◌≡◌, ◌*◌, ◌++◌, take, drop, length}
-use Rattle.hex.specs.Hex.{encode_lower}
-use Rattle.sfu_script.proofs.hex_text.write_digits.Given as goal
-
-abbrev pub invariant-loop-i : goal.invariant-loop-i
-invariant-loop-i l = record {
-  whole : length l.digits ≡ 2 * length l.bytes;
-  written : take (2 * l.i) l.digits ++ encode_lower (drop l.i l.bytes) ≡ encode_lower l.bytes;
-}

@@ -1,8 +1,0 @@
--- The two lines of a journal's entry. Own rule.
-use Rattle.std.specs.Prelude.{ℕ, List, [], ◌∷◌, ◌++◌, codes, decimal}
-use Rattle.sfu_script.specs.declared.journal.Entry.{Entry}
-use Rattle.sfu_script.specs.Lines.{line_of}
-
--- `@K` with the call's line, and the reply, each with its line end
-abbrev pub entry_text : Entry → List ℕ
-entry_text entry = (codes "@" ++ (decimal entry.actor ++ (codes " " ++ (line_of entry.call ++ 10 ∷ [])))) ++ (entry.reply ++ 10 ∷ [])
