@@ -10,7 +10,7 @@ use Rattle.leg_switch.specs.Switching.LegEvent.{Chose, Took}
 
 -- ---- the last element
 
-last_is : {A : Type 0} (xs ys : List A) (x y : A) → xs ++ x ∷ [] ≡ ys ++ y ∷ [] → x ≡ y
+pub last_is : {A : Type 0} (xs ys : List A) (x y : A) → xs ++ x ∷ [] ≡ ys ++ y ∷ [] → x ≡ y
 last_is [] [] x y e = cc
 last_is [] (v ∷ []) x y e = absurd cc
 last_is [] (v ∷ w ∷ vs) x y e = absurd cc
@@ -67,6 +67,53 @@ module _ (marks : Marks) where
       chosen (Some k) ended h = h
   telling (Took leg packet ∷ past) =
       took (standing marks past) past leg packet (goes_out marks (standing marks past) leg packet) refl (telling past)
+
+  -- ---- the active leg gave a packet
+
+  record HasLast (packets : List (List ℕ)) : Type 0 where
+    pub front : List (List ℕ)
+    pub last : List ℕ
+    pub is : packets ≡ front ++ last ∷ []
+
+  abbrev GaveOne : Option ℕ → List LegEvent → Type 0
+  GaveOne None events = true ≡ true
+  GaveOne (Some leg) events = HasLast (taken_from leg events)
+
+  gave_more : (b : Bool) (taken : List (List ℕ)) (packet : List ℕ) → HasLast taken → HasLast (cond b (taken ++ packet ∷ []) taken)
+  gave_more true taken packet h = record { front = taken; last = packet; is = refl }
+  gave_more false taken packet h = h
+
+  gives_now : (b : Bool) (taken : List (List ℕ)) (packet : List ℕ) → b ≡ true → HasLast (cond b (taken ++ packet ∷ []) taken)
+  gives_now true taken packet e = record { front = taken; last = packet; is = refl }
+  gives_now false taken packet e = absurd (true≢false (sym e))
+
+  gave_on : (o : Option ℕ) (past : List LegEvent) (leg : ℕ) (packet : List ℕ) → GaveOne o past → GaveOne o (Took leg packet ∷ past)
+  gave_on None past leg packet h = refl
+  gave_on (Some k) past leg packet h = gave_more (eqb leg k) (taken_from k past) packet h
+
+  gave_took : (s : Standing) (past : List LegEvent) (leg : ℕ) (packet : List ℕ) (b : Bool) → GaveOne s.active past
+      → GaveOne (cond b (after_sent marks s leg packet) s).active (Took leg packet ∷ past)
+  gave_took s past leg packet true h = gives_now (eqb leg leg) (taken_from leg past) packet (eq-eqb leg leg refl)
+  gave_took s past leg packet false h = gave_on s.active past leg packet h
+
+  gave_one : (events : List LegEvent) → GaveOne (standing marks events).active events
+  gave_one [] = refl
+  gave_one (Chose leg ∷ past) = chosen (standing marks past).active (gave_one past)
+    where
+      chosen : (o : Option ℕ) → GaveOne o past → GaveOne o (Chose leg ∷ past)
+      chosen None h = refl
+      chosen (Some k) h = h
+  gave_one (Took leg packet ∷ past) = gave_took (standing marks past) past leg packet (goes_out marks (standing marks past) leg packet) (gave_one past)
+
+  pub active_gave : (events : List LegEvent) (active : ℕ) → (standing marks events).active ≡ Some active
+      → (front : List (List ℕ)) × (last : List ℕ) × (taken_from active events ≡ front ++ last ∷ [])
+  active_gave events active e = by (standing marks events).active e (gave_one events)
+    where
+      by : (o : Option ℕ) → o ≡ Some active → GaveOne o events → (front : List (List ℕ)) × (last : List ℕ) × (taken_from active events ≡ front ++ last ∷ [])
+      by None is h = absurd cc
+      by (Some k) is h =
+          let one : k ≡ active = cc in
+          (h.front, h.last, ap (λ (n : ℕ). taken_from n events) (sym one) ∙ h.is)
 
   -- ---- a key start of the chosen leg
 

@@ -1,0 +1,158 @@
+// One bundle.
+ghost use Rattle.std.specs.Prelude.{◌≤◌, length};
+
+use crate::fault::BundleFault;
+use crate::order::unless;
+use crate::taken::marker;
+use dd_descriptor::NewestDescriptor;
+use leg_switch::Switch;
+use out_ring::OutRing;
+use rtp_packet::restamp;
+use sfu_base::{NoMemory, PacketBuf, Refusal};
+use std::alloc::Global;
+
+/// So many packets of a bundle are queued at most (own rule).
+const MOST_QUEUED: u16 = 512;
+
+/// A bundle: its number, the header extension id of its legs' descriptors, the subscribers that are its legs, which of them is chosen and
+/// active, and what goes out.
+#[derive(Drop)]
+pub struct Bundle {
+    pub number: u32,
+    pub id: u8,
+    pub legs: Vec<u32>,
+    pub switch: Switch,
+    pub ring: OutRing,
+    ghost few_legs: { length legs.items ≤ 3 },
+}
+
+impl Bundle {
+    ghost use Rattle.std.specs.Prelude.{◌≡◌, ◌<◌, ◌≤◌, ◌+◌, IfErr, IfOk, OnErr, None, length, nat_le};
+    ghost use Rattle.rtp_packet.specs.Faults.{first_fault};
+    ghost use Rattle.simulcast.specs.Made.{Made, has_leg, just_made, leg_at};
+    ghost use Rattle.simulcast.specs.Pumping.{and_took, order};
+    ghost use Rattle.simulcast.specs.Bundle.{ChoosesIn, DrawsIn, IsBundle, RedrawsIn};
+
+    /// A bundle to which nothing happened yet.
+    pub fn new(
+        alloc: Global,
+        number: u32,
+        id: u8,
+        ssrc: u32,
+        first: u16,
+        legs: &[u32],
+    ) -> Result<Bundle, NoMemory>
+        requires { length legs.now ≤ 3 }
+        ensures { IfOk result (λ b. IsBundle b (just_made number id ssrc first legs.now)) }
+    {
+        let Ok(legs) = Vec::from_slice(alloc, legs) else {
+            return Err(NoMemory);
+        };
+        let Ok(ring) = OutRing::new(alloc, ssrc, first) else {
+            return Err(NoMemory);
+        };
+        Ok(Bundle {
+            number,
+            id,
+            legs,
+            switch: Switch::new(),
+            ring,
+        })
+    }
+
+    /// Whether this subscriber is a leg.
+    pub fn has(&self, subscriber: u32) -> bool
+        ensures { result ≡ has_leg subscriber self.now.legs.items }
+    {
+        self.legs.iter().any(|leg| *leg == subscriber)
+    }
+
+    /// Chooses a leg, and answers its subscriber where it isn't active.
+    pub fn choose(&mut self, leg: u8) -> Result<Option<u32>, BundleFault>
+        ensures chooses { ChoosesIn self.old self.new leg result }
+        ensures fault { IfErr result (λ why. why ≡ BundleFault.NoLeg (length self.old.legs.items)) }
+    {
+        let Some(subscriber) = self.leg(leg) else {
+            return Err(BundleFault::NoLeg {
+                legs: self.legs.len() as u8,
+            });
+        };
+        self.switch.choose(leg);
+        if self.switch.active() == Some(leg) {
+            Ok(None)
+        } else {
+            Ok(Some(subscriber))
+        }
+    }
+
+    /// Hands out the oldest queued packet. `Empty`.
+    pub fn draw(&mut self, out: &mut PacketBuf) -> Result<u16, Refusal>
+        ensures draws { DrawsIn self.old self.new out.new result }
+        ensures unchanged { OnErr result (out.new ≡ out.old) }
+    {
+        self.ring.take(out)
+    }
+
+    /// Hands out a packet again that was drawn. `NotKept`.
+    pub fn redraw(&self, seq: u16, out: &mut PacketBuf) -> Result<(), Refusal>
+        ensures redraws { RedrawsIn self.now seq out.new result }
+        ensures unchanged { OnErr result (out.new ≡ out.old) }
+    {
+        self.ring.resend(seq, out)
+    }
+
+    /// The legs in the order in which a pump takes from them.
+    pub fn order(&self) -> [Option<u8>; 5]
+        ensures { result ≡ order self.now.switch }
+    {
+        let active = self.switch.active();
+        let chosen = self.switch.chosen();
+        [
+            active,
+            unless(active == Some(chosen), chosen),
+            unless(active == Some(1) || chosen == 1, 1),
+            unless(active == Some(2) || chosen == 2, 2),
+            unless(active == Some(3) || chosen == 3, 3),
+        ]
+    }
+
+    /// The subscriber that is this leg, counted from 1.
+    pub fn leg(&self, leg: u8) -> Option<u32>
+        ensures { result ≡ leg_at leg self.now.legs.items }
+    {
+        match leg {
+            0 => None,
+            _ => self.legs.get(usize::from(leg) - 1).copied(),
+        }
+    }
+
+    /// How many packets are queued.
+    pub fn queued(&self) -> u16
+        ensures { result ≡ length self.now.ring.queued }
+    {
+        self.ring.queued()
+    }
+
+    /// Whether no more packets may be queued.
+    pub fn is_full(&self) -> bool
+        ensures { result ≡ nat_le 512 (length self.now.ring.queued) }
+    {
+        self.ring.queued() >= MOST_QUEUED
+    }
+
+    /// A packet was taken from a leg: it goes out or is dropped.
+    pub fn take_in(&mut self, leg: u8, packet: &mut PacketBuf, newest: &mut NewestDescriptor)
+        requires room { length self.old.ring.queued < 512 }
+        requires reads { first_fault packet.old ≡ None }
+        requires fits { length packet.old ≤ 1536 }
+        ensures taken { (m : Made) → IsBundle self.old m → IsBundle self.new (and_took leg packet.old m) }
+        ensures grew { length self.old.ring.queued ≤ length self.new.ring.queued }
+        ensures by { length self.new.ring.queued ≤ length self.old.ring.queued + 1 }
+    {
+        if let Some(timestamp) = self.switch.pass(self.id, leg, packet.bytes(), newest) {
+            let marker = marker(packet.bytes());
+            restamp(packet, timestamp);
+            self.ring.push(packet.bytes(), marker);
+        }
+    }
+}

@@ -1,0 +1,310 @@
+// A room with bundles.
+ghost use Rattle.std.specs.Prelude.{◌≡◌, ◌==◌, None, count_by, nat_le};
+ghost use Rattle.std.specs.Result.{result_ok};
+ghost use Rattle.simulcast.specs.Bundles.{bound_or, is_layered};
+
+use crate::bundle::Bundle;
+use crate::draining::pump;
+use crate::fault::BundleFault;
+use crate::pumped::Pumped;
+use crate::taken::is_starved;
+use dd_descriptor::NewestDescriptor;
+use room_core::{Recorder, Room};
+use sfu_base::{Call, Kind, PacketBuf, Refusal, Reply, Scratch};
+use std::alloc::Global;
+
+/// So many bundles there are at most (own rule).
+const MOST_BUNDLES: usize = 64;
+
+/// A room with bundles: each is one outgoing stream out of what two or three subscribers of the room are sent, its legs. `choose` says which
+/// leg is to go out, `pump` takes what waits for the legs, `draw` hands out what goes out, `redraw` hands it out again. Bundles live on, and
+/// so do their legs.
+#[derive(Drop)]
+pub struct Bundles<R: Recorder> {
+    alloc: Global,
+    room: Room<R>,
+    newest: NewestDescriptor,
+    bundles: Vec<Bundle>,
+}
+
+// Whether a number stands twice.
+fn stands_twice(legs: &[u32], leg: u32) -> bool
+    ensures { result ≡ nat_le 2 (count_by (λ l. l == leg) legs.now) }
+{
+    legs.iter().filter(|l| **l == leg).count() >= 2
+}
+
+// The bundle that a leg is bound to.
+fn bound_or(owner: Option<u32>, twice: bool, number: u32) -> Option<u32>
+    ensures { result ≡ bound_or owner twice number None }
+{
+    match owner {
+        Some(bundle) => Some(bundle),
+        None => { if twice { Some(number) } else { None } }
+    }
+}
+
+// Whether a track of this kind is layered, with this header extension id.
+fn is_layered(kind: Result<Kind, Refusal>, id: u8) -> bool
+    ensures { result ≡ is_layered id (result_ok kind) }
+{
+    match kind {
+        Ok(Kind::Layered { id: other }) => other == id,
+        Ok(Kind::Plain) => false,
+        Err(_) => false,
+    }
+}
+
+impl<R: Recorder> Bundles<R> {
+    ghost use Rattle.std.specs.Prelude.{◌≡◌, ◌≤◌, ◌==◌, [], List, OnErr, fold, length, max, position};
+    ghost use Rattle.std.specs.List.{find, list_all};
+    ghost use Rattle.std.specs.Option.{option_map};
+    ghost use Rattle.simulcast.specs.Made.{has_leg, just_made};
+    ghost use Rattle.room_core.specs.History.{Entry, accepted};
+    ghost use Rattle.room_core.specs.Serves.{Stands, recorder_may_refuse};
+    ghost use Rattle.simulcast.specs.Bundles.{Bundled, BundlesHeadline, Calls, CallStarvesBy, Chooses, Draws, PleasesReceivers, PumpsOne, Redraws, Simulcast, StandsFor, StarvesBy};
+    ghost use Rattle.simulcast.specs.Bundles.{bound_leg, bundle_refusal, forbids_by, has_kind, is_live, may_starve, nothing_made};
+
+    /// The room, and no bundle yet.
+    pub fn new(alloc: Global, room: Room<R>) -> Bundles<R>
+        ensures stands { (history : List Entry) → Stands R.noted room history → StandsFor R.noted result (nothing_made history) }
+        ensures recorder { may_starve R.may_refuse result ≡ recorder_may_refuse R.may_refuse room }
+    {
+        Bundles {
+            alloc,
+            room,
+            newest: NewestDescriptor::new(),
+            bundles: Vec::new(alloc),
+        }
+    }
+
+    // Where the bundle with this number stands.
+    fn place(&self, number: u32) -> Option<usize>
+        ensures { result ≡ position (λ b. b.number == number) self.now.bundles.items }
+    {
+        self.bundles
+            .iter()
+            .position(|bundle| bundle.number == number)
+    }
+
+    // The bundle that has this subscriber as a leg, if there is one.
+    fn owner(&self, subscriber: u32) -> Option<u32>
+        ensures { result ≡ option_map (λ b. b.number) (find (λ b. has_leg subscriber b.legs.items) self.now.bundles.items) }
+    {
+        match self.bundles.iter().find(|bundle| bundle.has(subscriber)) {
+            Some(bundle) => Some(bundle.number),
+            None => None,
+        }
+    }
+
+    // The highest number of a bundle, 0 before the first.
+    fn highest(&self) -> u32
+        ensures { result ≡ fold (λ h b. max h b.number) 0 self.now.bundles.items }
+    {
+        self.bundles
+            .iter()
+            .fold(0, |highest: u32, bundle| highest.max(bundle.number))
+    }
+
+    // Whether all these are live subscribers.
+    fn are_live(&self, legs: &[u32]) -> bool
+        ensures { (history : List Entry) → Stands R.noted self.now.room history → result ≡ list_all (is_live (accepted history)) legs.now }
+    {
+        for leg in legs {
+            if self.room.kind_of(*leg).is_err() {
+                return false;
+            }
+        }
+        true
+    }
+
+    // Whether the tracks of all these are layered, with this header extension id.
+    fn are_layered(&self, legs: &[u32], id: u8) -> bool
+        ensures { (history : List Entry) → Stands R.noted self.now.room history → result ≡ list_all (has_kind id (accepted history)) legs.now }
+    {
+        for leg in legs {
+            if !is_layered(self.room.kind_of(*leg), id) {
+                return false;
+            }
+        }
+        true
+    }
+
+    // The bundle that has the first of these that is a leg already, or this number where the leg stands twice.
+    fn bound(&self, number: u32, legs: &[u32]) -> Option<u32>
+        ensures { result ≡ bound_leg (λ n. option_map (λ b. b.number) (find (λ b. has_leg n b.legs.items) self.now.bundles.items)) number legs.now legs.now }
+    {
+        for leg in legs {
+            if let Some(bundle) = bound_or(self.owner(*leg), stands_twice(legs, *leg), number) {
+                return Some(bundle);
+            }
+        }
+        None
+    }
+
+    // The first refusal of a bundle with these legs that stands.
+    fn refusal(&self, number: u32, id: u8, legs: &[u32]) -> Option<BundleFault>
+        ensures { (h : Simulcast) → StandsFor R.noted self.now h → result ≡ bundle_refusal h number id legs.now }
+    {
+        let highest = self.highest();
+        if number <= highest {
+            return Some(BundleFault::NumberUsed { highest });
+        }
+        if self.bundles.len() >= MOST_BUNDLES {
+            return Some(BundleFault::TooMany { live: 64 });
+        }
+        if !self.are_live(legs) {
+            return Some(BundleFault::Room(Refusal::NoSubscriber));
+        }
+        match self.bound(number, legs) {
+            Some(bundle) => Some(BundleFault::Bound { bundle }),
+            None => {
+                if self.are_layered(legs, id) {
+                    None
+                } else {
+                    Some(BundleFault::WrongKind)
+                }
+            }
+        }
+    }
+
+    /// Begins a bundle of two or three legs, subscribers of layered tracks with this header extension id: what it sends has this SSRC, and
+    /// sequence numbers from `first` on. The first leg is chosen. `NumberUsed`: the number is at most the highest of a bundle; `TooMany`:
+    /// there are 64; `Room(NoSubscriber)`: a leg isn't live; `Bound`: a leg is one already, of that bundle, or stands twice, of this;
+    /// `WrongKind`; `NoMemory`.
+    pub fn bundle(
+        &mut self,
+        number: u32,
+        id: u8,
+        ssrc: u32,
+        first: u16,
+        legs: &[u32],
+    ) -> Result<(), BundleFault>
+        requires two { 2 ≤ length legs.now }
+        requires three { length legs.now ≤ 3 }
+        ensures bundled { Bundled R.noted self.old self.new (just_made number id ssrc first legs.now) result }
+        ensures recorder { may_starve R.may_refuse self.new ≡ may_starve R.may_refuse self.old }
+    {
+        if let Some(fault) = self.refusal(number, id, legs) {
+            return Err(fault);
+        }
+        let Ok(bundle) = Bundle::new(self.alloc, number, id, ssrc, first, legs) else {
+            return Err(BundleFault::NoMemory);
+        };
+        match self.bundles.push(bundle) {
+            Ok(()) => Ok(()),
+            Err(_) => Err(BundleFault::NoMemory),
+        }
+    }
+
+    // The bundle that forbids a call.
+    fn forbids(&self, call: &Call) -> Option<u32>
+        ensures { result ≡ forbids_by (λ n. option_map (λ b. b.number) (find (λ b. has_leg n b.legs.items) self.now.bundles.items)) call.now }
+    {
+        match call {
+            Call::Take { subscriber } => self.owner(*subscriber),
+            Call::Leave { subscriber } => self.owner(*subscriber),
+            _ => None,
+        }
+    }
+
+    /// Serves a call of a seat on the room. `Bound`: it is a `take` or a `leave` of a leg of that bundle; nothing changes then.
+    pub fn call(
+        &mut self,
+        seat: u32,
+        call: &Call,
+        scratch: &mut Scratch,
+    ) -> Result<Reply, BundleFault>
+        ensures calls { Calls R.noted self.old self.new seat call.now scratch.new.packet scratch.new.names result }
+        ensures memory { CallStarvesBy R.may_refuse self.old call.now result }
+        ensures recorder { may_starve R.may_refuse self.new ≡ may_starve R.may_refuse self.old }
+    {
+        match self.forbids(call) {
+            Some(bundle) => Err(BundleFault::Bound { bundle }),
+            None => Ok(self.room.serve(seat, call, scratch)),
+        }
+    }
+
+    /// Takes what waits for the bundle's legs: from the active leg, then from the chosen one where it is another, then from the rest in order;
+    /// from each until nothing waits for it or 512 packets of the bundle are queued. `NoBundle`; `NoMemory`: the room refused a take.
+    pub fn pump(&mut self, number: u32, scratch: &mut Scratch) -> Result<Pumped, BundleFault>
+        ensures pumps { PumpsOne R.noted self.old self.new number result }
+        ensures pleases { PleasesReceivers R.noted self.new }
+        ensures headline { BundlesHeadline R.noted self.new }
+        ensures memory { StarvesBy R.may_refuse self.old result }
+        ensures recorder { may_starve R.may_refuse self.new ≡ may_starve R.may_refuse self.old }
+    {
+        let Some(place) = self.place(number) else {
+            return Err(BundleFault::NoBundle);
+        };
+        match pump(
+            &mut self.room,
+            &mut self.bundles[place],
+            &mut self.newest,
+            scratch,
+        ) {
+            Ok(pumped) => Ok(pumped),
+            Err(_) => Err(BundleFault::NoMemory),
+        }
+    }
+
+    /// Hands out the bundle's oldest queued packet, and answers its sequence number. `NoBundle`; `Room(Empty)`: none is queued.
+    pub fn draw(&mut self, number: u32, out: &mut PacketBuf) -> Result<u16, BundleFault>
+        ensures draws { Draws R.noted self.old self.new number out.new result }
+        ensures unchanged { OnErr result (out.new ≡ out.old) }
+        ensures recorder { may_starve R.may_refuse self.new ≡ may_starve R.may_refuse self.old }
+    {
+        let Some(place) = self.place(number) else {
+            return Err(BundleFault::NoBundle);
+        };
+        match self.bundles[place].draw(out) {
+            Ok(seq) => Ok(seq),
+            Err(why) => Err(BundleFault::Room(why)),
+        }
+    }
+
+    /// Hands out a packet again that was drawn under this sequence number. `NoBundle`; `Room(NotKept)`: none of the last 1,024 that were drawn
+    /// has the number.
+    pub fn redraw(&self, number: u32, seq: u16, out: &mut PacketBuf) -> Result<(), BundleFault>
+        ensures redraws { Redraws R.noted self.now number seq out.new result }
+        ensures unchanged { OnErr result (out.new ≡ out.old) }
+    {
+        let Some(place) = self.place(number) else {
+            return Err(BundleFault::NoBundle);
+        };
+        match self.bundles[place].redraw(seq, out) {
+            Ok(()) => Ok(()),
+            Err(why) => Err(BundleFault::Room(why)),
+        }
+    }
+
+    /// Chooses a leg, counted from 1, and asks for a key frame of it where it isn't active. `NoBundle`; `NoLeg`: the bundle has no such leg;
+    /// `NoMemory`: the room refused to be asked, and the leg is chosen.
+    pub fn choose(
+        &mut self,
+        number: u32,
+        leg: u8,
+        scratch: &mut Scratch,
+    ) -> Result<(), BundleFault>
+        ensures chooses { Chooses R.noted self.old self.new number leg result }
+        ensures memory { StarvesBy R.may_refuse self.old result }
+        ensures recorder { may_starve R.may_refuse self.new ≡ may_starve R.may_refuse self.old }
+        ensures unchanged { scratch.new ≡ scratch.old }
+    {
+        let Some(place) = self.place(number) else {
+            return Err(BundleFault::NoBundle);
+        };
+        match self.bundles[place].choose(leg) {
+            Ok(None) => Ok(()),
+            Ok(Some(subscriber)) => {
+                let reply = self.room.plead(0, subscriber);
+                if is_starved(&reply) {
+                    Err(BundleFault::NoMemory)
+                } else {
+                    Ok(())
+                }
+            }
+            Err(fault) => Err(fault),
+        }
+    }
+}

@@ -1,0 +1,121 @@
+// What is taken from the legs of a bundle.
+ghost use Rattle.std.specs.Prelude.{◌≡◌, ◌≤◌, ◌+◌, ◌∷◌, [], IfOk, IsErr, IsTrue, length};
+ghost use Rattle.room_core.specs.Serves.{recorder_may_refuse};
+ghost use Rattle.simulcast.specs.Pumping.{Pumping};
+ghost use Rattle.simulcast.specs.Bundle.{AreAt, Drains, Pumps, PumpsWhole};
+
+use crate::bundle::Bundle;
+use crate::pumped::Pumped;
+use crate::taken::{is_packet, is_starved};
+use dd_descriptor::NewestDescriptor;
+use room_core::{Recorder, Room};
+use sfu_base::{NoMemory, Scratch};
+
+/// So many takes of one leg find no packet more: one more than are queued for a subscriber.
+const MOST_TAKES: u32 = 513;
+
+// Takes what waits for a leg, until nothing does or 512 packets are queued, and says how many were taken.
+fn drain<R: Recorder>(
+    room: &mut Room<R>,
+    bundle: &mut Bundle,
+    leg: u8,
+    subscriber: u32,
+    newest: &mut NewestDescriptor,
+    scratch: &mut Scratch,
+) -> Result<u32, NoMemory>
+    ensures drains { Drains R.noted room.old room.new bundle.old bundle.new leg subscriber result }
+    ensures few { IfOk result (λ count. count ≤ 513) }
+    ensures memory { IsErr result → IsTrue (recorder_may_refuse R.may_refuse room.old) }
+    ensures recorder { recorder_may_refuse R.may_refuse room.new ≡ recorder_may_refuse R.may_refuse room.old }
+    ensures grew { length bundle.old.ring.queued ≤ length bundle.new.ring.queued }
+    ensures by { IfOk result (λ count. length bundle.new.ring.queued ≤ length bundle.old.ring.queued + count) }
+{
+    for count in 0..MOST_TAKES {
+        if bundle.is_full() {
+            return Ok(count);
+        }
+        let reply = room.take(0, subscriber, scratch);
+        if is_starved(&reply) {
+            return Err(NoMemory);
+        }
+        if !is_packet(&reply, &scratch.packet) {
+            return Ok(count);
+        }
+        bundle.take_in(leg, &mut scratch.packet, newest);
+    }
+    Ok(MOST_TAKES)
+}
+
+// The same of this leg, if there is such a leg.
+fn drain_leg<R: Recorder>(
+    room: &mut Room<R>,
+    bundle: &mut Bundle,
+    leg: Option<u8>,
+    newest: &mut NewestDescriptor,
+    scratch: &mut Scratch,
+) -> Result<u32, NoMemory>
+    ensures pumps { Pumps R.noted room.old room.new bundle.old bundle.new (leg ∷ []) result }
+    ensures few { IfOk result (λ count. count ≤ 513) }
+    ensures memory { IsErr result → IsTrue (recorder_may_refuse R.may_refuse room.old) }
+    ensures recorder { recorder_may_refuse R.may_refuse room.new ≡ recorder_may_refuse R.may_refuse room.old }
+    ensures grew { length bundle.old.ring.queued ≤ length bundle.new.ring.queued }
+    ensures by { IfOk result (λ count. length bundle.new.ring.queued ≤ length bundle.old.ring.queued + count) }
+{
+    let Some(leg) = leg else {
+        return Ok(0);
+    };
+    match bundle.leg(leg) {
+        Some(subscriber) => drain(room, bundle, leg, subscriber, newest, scratch),
+        None => Ok(0),
+    }
+}
+
+// The same of legs one after another.
+fn drain_legs<R: Recorder>(
+    room: &mut Room<R>,
+    bundle: &mut Bundle,
+    legs: &[Option<u8>; 5],
+    newest: &mut NewestDescriptor,
+    scratch: &mut Scratch,
+) -> Result<u32, NoMemory>
+    ensures pumps { Pumps R.noted room.old room.new bundle.old bundle.new legs.now result }
+    ensures memory { IsErr result → IsTrue (recorder_may_refuse R.may_refuse room.old) }
+    ensures recorder { recorder_may_refuse R.may_refuse room.new ≡ recorder_may_refuse R.may_refuse room.old }
+    ensures grew { length bundle.old.ring.queued ≤ length bundle.new.ring.queued }
+    ensures by { IfOk result (λ count. length bundle.new.ring.queued ≤ length bundle.old.ring.queued + count) }
+{
+    let mut taken = 0;
+    for leg in legs {
+        match drain_leg(room, bundle, *leg, newest, scratch) {
+            Ok(count) => taken += count,
+            Err(fault) => return Err(fault),
+        }
+    }
+    Ok(taken)
+}
+
+/// Takes what waits for the legs of a bundle: from the active leg, then from the chosen one where it is another, then from the rest in order;
+/// from each until nothing waits for it or 512 packets of the bundle are queued.
+pub fn pump<R: Recorder>(
+    room: &mut Room<R>,
+    bundle: &mut Bundle,
+    newest: &mut NewestDescriptor,
+    scratch: &mut Scratch,
+) -> Result<Pumped, NoMemory>
+    ensures pumps { (s : Pumping) → AreAt R.noted room.old bundle.old s → PumpsWhole R.noted room.new bundle.new s result }
+    ensures memory { IsErr result → IsTrue (recorder_may_refuse R.may_refuse room.old) }
+    ensures recorder { recorder_may_refuse R.may_refuse room.new ≡ recorder_may_refuse R.may_refuse room.old }
+{
+    let before = bundle.queued();
+    let order = bundle.order();
+    match drain_legs(room, bundle, &order, newest, scratch) {
+        Ok(taken) => {
+            let forwarded = u32::from(bundle.queued() - before);
+            Ok(Pumped {
+                forwarded,
+                dropped: taken - forwarded,
+            })
+        }
+        Err(fault) => Err(fault),
+    }
+}

@@ -1,0 +1,14 @@
+// What follows from the definitions of what goes out and what is drawn.
+ghost use Rattle.simulcast.specs.Changes.{KeyStartsGoOut};
+ghost use Rattle.simulcast.specs.Drawn.{DrawsAdd, DrawsStay};
+
+/// What was drawn of a bundle is a front of all that goes out, as long as there were draws: a draw adds its packet, and nothing takes one away.
+pub fn what_was_drawn_stays()
+    ensures adds { DrawsAdd }
+    ensures stays { DrawsStay }
+{}
+
+/// A key start of the chosen leg goes out once nothing waits for the active leg.
+pub fn key_starts_go_out_once_the_active_leg_is_drained()
+    ensures { KeyStartsGoOut }
+{}

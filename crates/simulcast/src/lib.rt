@@ -1,0 +1,16 @@
+//! Simulcast: one outgoing stream out of what two or three subscribers of a room are sent.
+#![tactic(auto)]
+
+mod bundle;
+mod bundles;
+mod draining;
+mod fault;
+mod laws;
+mod order;
+mod pumped;
+mod taken;
+
+pub use bundles::Bundles;
+pub use fault::BundleFault;
+pub use laws::{key_starts_go_out_once_the_active_leg_is_drained, what_was_drawn_stays};
+pub use pumped::Pumped;

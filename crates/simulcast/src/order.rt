@@ -1,0 +1,10 @@
+// A leg in the order in which a pump takes from them.
+ghost use Rattle.std.specs.Prelude.{◌≡◌};
+ghost use Rattle.simulcast.specs.Pumping.{unless};
+
+/// This leg, or none where it stands earlier.
+pub fn unless(is_taken: bool, leg: u8) -> Option<u8>
+    ensures { result ≡ unless is_taken leg }
+{
+    if is_taken { None } else { Some(leg) }
+}
