@@ -13,11 +13,12 @@ import (
 )
 
 const (
-	descriptorID = 4  // of the header extension in the room
-	payloadType  = 45 // in the room
-	trackSSRC    = 0x10000000
-	playerSSRC   = 0x20000000
-	reserved     = 100 // lines of -also may have subscribers up to this number, and tracks above it
+	descriptorURI = "https://aomediacodec.github.io/av1-rtp-spec/#dependency-descriptor-rtp-header-extension"
+	descriptorID  = 4  // in the room
+	payloadType   = 45 // in the room
+	trackSSRC     = 0x10000000
+	playerSSRC    = 0x20000000
+	reserved      = 100 // lines of -also may have subscribers up to this number, and tracks above it
 )
 
 var (
@@ -53,8 +54,7 @@ func startRoom() {
 	go func() {
 		log.Fatal("the room has ended (5: a line of -also is wrong, 7: a port is taken): ", room.Wait())
 	}()
-	for control = peerOf(0); ask("key 1") == "no answer"; {
-		time.Sleep(100 * time.Millisecond)
+	for control = peerOf(0); ask("key 1") == "no answer"; time.Sleep(100 * time.Millisecond) {
 	}
 }
 
