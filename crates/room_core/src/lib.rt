@@ -4,6 +4,7 @@
 
 mod beginning;
 mod content;
+mod current_target;
 mod feed;
 mod keep_all;
 mod live;
@@ -22,6 +23,7 @@ mod tests;
 mod told;
 mod tracks;
 
+pub use current_target::DecodeTarget;
 pub use keep_all::KeepAll;
 pub use recorder::{KeepNone, Recorder};
 pub use room::Room;

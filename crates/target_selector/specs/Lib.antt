@@ -1,3 +1,4 @@
+pub mod Targets
 pub mod Seen
 pub mod Stands
-pub mod Targets
+pub mod Reaching

@@ -1,24 +1,26 @@
 // The standing of a subscriber, as far as it decides on frames.
-ghost use Rattle.std.specs.Prelude.{◌≡◌, ◌+◌, ◌≤◌, ◌||◌, ◌∷◌, false};
+ghost use Rattle.std.specs.Prelude.{◌≡◌, ◌+◌, ◌≤◌, ◌||◌, ◌∷◌, Some, false};
 ghost use Rattle.sfu_base.specs.Frame.{IsValid};
 ghost use Rattle.sfu_base.specs.declared.frame.Verdict.TheVariants.{Passed};
 ghost use Rattle.forwarding_model.specs.forwarding.Outgoing.{is_top_layer};
 ghost use Rattle.forwarding_model.specs.forwarding.Selection.{open_target};
 ghost use Rattle.forwarding_model.specs.forwarding.Standing.{Standing, after_frame, candidate_at, joined, verdict_at};
 ghost use Rattle.ref_window.specs.Numbers.{IsAboveAll as IsAboveAllNumbers, held_of};
+ghost use Rattle.target_selector.specs.Reaching.{reaches, target_layers};
 ghost use Rattle.target_selector.specs.Seen.{begun};
 ghost use Rattle.target_selector.specs.Stands.{IsAboveAll, StandsAt, StandsFor, is_opening_at};
 ghost use Rattle.target_selector.specs.Targets.{IsBelow, IsIndexBelow};
 
 use crate::decision::{Decision, decide};
-use crate::targets::is_top_layer;
+use crate::opening::aim;
+use crate::targets::{is_top_layer, layers};
 use forwarding_model::{CurrentTarget, Reason};
 use ref_window::RefWindow;
 use sfu_base::{FrameMeaning, Verdict, Wish};
 use std::marker::Model;
 
 /// Which frames a subscriber is sent. Clauses see its wish, the epoch, the target or why there is none, which of the epoch's frames were
-/// passed, as far as a later frame can refer to them, and two facts about the last frame.
+/// passed, as far as a later frame can refer to them, the last frame, and two facts about it.
 #[derive(Debug, Drop)]
 pub struct Selector {
     wish: Wish,
@@ -27,13 +29,14 @@ pub struct Selector {
     // whether a key frame of the epoch was passed: the window forgets it
     key_passed: bool,
     passed: RefWindow,
+    // the last frame, by which later questions are answered
+    newest: Option<FrameMeaning>,
     top: bool,
     opened: bool,
 }
 
 impl Model for Selector {
-    ghost use Rattle.target_selector.specs.Seen.{Seen};
-    ghost use Rattle.target_selector.specs.Targets.{IsIndexBelow};
+    ghost use Rattle.target_selector.specs.Seen.{IsKept, Seen};
 
     ghost Value = { Seen };
 
@@ -43,11 +46,12 @@ impl Model for Selector {
       target = s.target;
       key_passed = s.key_passed;
       numbers = s.passed;
+      newest = s.newest;
       top = s.top;
       opened = s.opened;
     } };
 
-    ghost invariant = { λ s. IsIndexBelow 32 s.target };
+    ghost invariant = { λ s. IsKept s.target s.newest };
 }
 
 impl Selector {
@@ -64,6 +68,7 @@ impl Selector {
             },
             key_passed: false,
             passed: RefWindow::new(),
+            newest: None,
             top: false,
             opened: false,
         }
@@ -89,6 +94,30 @@ impl Selector {
         }
     }
 
+    /// The layers of the open target at the last frame: none where no target is open, or no template of that frame is present in it.
+    pub fn layers(&self) -> Option<Wish>
+        ensures layers { result ≡ target_layers self.now.newest self.now.target }
+        ensures stands { (s : Standing) → StandsFor self.now s → result ≡ target_layers self.now.newest s.target }
+    {
+        match (self.target, &self.newest) {
+            (CurrentTarget::Open { index, opened: _ }, Some(frame)) => layers(frame, index),
+            _ => None,
+        }
+    }
+
+    /// Whether the open target is the best that the wish allows at the last frame: false where no target is open.
+    pub fn reaches_wish(&self) -> bool
+        ensures reaches { result ≡ reaches self.now.newest self.now.wish self.now.target }
+        ensures stands { (s : Standing) → StandsFor self.now s → result ≡ reaches self.now.newest s.wish s.target }
+    {
+        match (self.target, &self.newest) {
+            (CurrentTarget::Open { index, opened: _ }, Some(frame)) => {
+                aim(self.wish, frame) == Some(index)
+            }
+            _ => false,
+        }
+    }
+
     /// The verdict on a frame of so many packets, where so many are queued: whether it is passed on, or why it isn't.
     pub fn admit(&mut self, frame: &FrameMeaning, packets: u16, queued: u16) -> Verdict
         requires { IsValid frame.now }
@@ -102,6 +131,7 @@ impl Selector {
             → self.new.opened ≡ is_opening_at s frame.now }
         ensures not_top { (result ≡ Passed → ⊥) → self.new.top ≡ false }
         ensures not_opened { (result ≡ Passed → ⊥) → self.new.opened ≡ false }
+        ensures newest { self.new.newest ≡ Some frame.now }
     {
         self.begin_epoch(frame);
         let decision = decide(
@@ -137,8 +167,11 @@ impl Selector {
 
     // Where the frame is of another epoch, what was passed is forgotten, and no target is open.
     fn begin_epoch(&mut self, frame: &FrameMeaning)
-        ensures { (s : Standing) → StandsFor self.old s → StandsAt self.new s frame.now }
+        requires { IsValid frame.now }
+        ensures stands { (s : Standing) → StandsFor self.old s → StandsAt self.new s frame.now }
+        ensures newest { self.new.newest ≡ Some frame.now }
     {
+        self.newest = Some(*frame);
         if self.epoch == Some(frame.epoch) {
             return;
         }
@@ -161,6 +194,7 @@ impl Selector {
         ensures numbers { IsAboveAllNumbers frame.now.number self.old.numbers → self.new.numbers ≡ held_of (frame.now.number ∷ self.old.numbers) }
         ensures top { self.new.top ≡ is_top_layer frame.now decision.now.candidate }
         ensures opened { self.new.opened ≡ decision.now.opens }
+        ensures newest { self.new.newest ≡ self.old.newest }
     {
         self.target = decision.candidate;
         self.key_passed |= frame.key;
