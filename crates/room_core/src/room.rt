@@ -17,7 +17,7 @@ use std::alloc::Global;
 pub struct Room<R: Recorder> {
     alloc: Global,
     recorder: R,
-    content: Content,
+    pub(crate) content: Content,
 }
 
 impl<R: Recorder> Room<R> {
