@@ -226,6 +226,7 @@ fresh_follows : (feed : Feed) (kind : Kind) (ssrc first : ℕ) (wish : Wish) →
 fresh_follows feed kind ssrc first wish small h = record {
   kind_is = h.kind_is;
   selector = h.selector;
+  newest_is = h.newest_is;
   ring = record {
     ssrc = ap (λ (r : Ring). r.ssrc) h.ring;
     next = ap (λ (r : Ring). r.next) h.ring ∙ (let e : first ≡ (first + 0) % 65536 = omega (arith, small) in e);

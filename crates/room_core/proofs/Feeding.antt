@@ -1,5 +1,5 @@
 -- What each packet and frame makes of a subscriber's part of the room, and what is told of it.
-use Rattle.std.proofs.Common.{◌≡◌, ◌≤◌, ◌<◌, ℕ, Bool, true, false, List, [], ◌∷◌, length, map, refl, sym, ap, subst, ◌∙◌, ◌||◌, arith}
+use Rattle.std.proofs.Common.{◌≡◌, ◌≤◌, ◌<◌, ℕ, Bool, true, false, List, [], ◌∷◌, length, map, refl, sym, ap, subst, ◌∙◌, ◌||◌, arith, Some}
 use Rattle.std.proofs.lemmas.List.{length-map}
 use Rattle.sfu_base.specs.declared.call.Kind.{Kind}
 use Rattle.sfu_base.specs.declared.frame.FrameMeaning.{FrameMeaning}
@@ -35,6 +35,7 @@ use Rattle.track_core.specs.Track.{Seen}
 use Rattle.target_selector.specs.Stands.{IsAboveAll, StandsFor, is_opening_at}
 use Rattle.room_core.specs.Sent.{opens, sent}
 use Rattle.target_selector.specs.Masks.{mask_for}
+use Rattle.target_selector.specs.Reaching.{targets_of}
 use Rattle.room_core.specs.declared.feed.Feed.{Feed}
 use Rattle.room_core.specs.Follows.{Follows, FollowsFrame, FollowsPacket, Happened, IsRingOf, PushesFrame, frame_by, pushed_all, tells_by}
 use Rattle.room_core.proofs.Rings.{pushed_is, ring_grows}
@@ -62,6 +63,7 @@ packet_passes feed ring bytes long room now kind to events h =
       kind_is = h.kind_is;
       selector = subst (λ (s : Standing). StandsFor feed.selector s) (sym ((plain_packets_are_queued to.wish (packet_of bytes) events).0 few))
           (stands_queued feed.selector (standing to.wish events) _ h.selector);
+      newest_is = h.newest_is;
       ring = subst (λ (r : Ring). IsRingOf r to (takes_of events) (outgoing (sent kind) to (PlainPacket (packet_of bytes) ∷ events)))
           (sym (now ∙ pushed_is bytes (marker_of bytes) feed.ring long))
           (subst (λ (l : List Packet). IsRingOf (pushed_all (packet_of bytes ∷ []) feed.ring) to (takes_of events) l)
@@ -77,6 +79,7 @@ packet_is_left_out feed bytes full kind to events h =
     record {
       kind_is = h.kind_is;
       selector = subst (λ (s : Standing). StandsFor feed.selector s) (sym ((plain_packets_are_queued to.wish (packet_of bytes) events).1 many)) h.selector;
+      newest_is = h.newest_is;
       ring = subst (λ (l : List Packet). IsRingOf feed.ring to (takes_of events) l) (sym (full_takes_none (sent kind) to (packet_of bytes) events many)) h.ring;
       causes = h.causes;
       finds = h.finds;
@@ -93,6 +96,7 @@ lies_above meaning wish events track =
 -- what the calls say of a frame of these packets
 pub record Judges (old new : Feed) (meaning : FrameMeaning) (packets : List (List ℕ)) (count queued : ℕ) (verdict : Verdict) : Type 0 where
   pub kind_is : new.kind ≡ old.kind
+  pub newest_is : new.selector.newest ≡ Some (targets_of meaning)
   pub count_is : count ≡ length packets
   pub queued_is : queued ≡ length old.ring.queued
   pub verdict_is : (s : Standing) → StandsFor old.selector s → IsAboveAll meaning s → s.queued ≡ queued → verdict ≡ verdict_at s meaning count
@@ -128,12 +132,12 @@ judges_at kind old new meaning structure packets count queued verdict to events 
 
 judges_follow : (kind : Kind) (old new : Feed) (meaning : FrameMeaning) (structure : TemplateStructure) (packets : List (List ℕ)) (verdict : Verdict)
     (to : Subscriber) (events : List Happened)
-    → new.kind ≡ old.kind → JudgesAt new (standing to.wish events) (verdicts to.wish events) meaning (length (map packet_of packets)) verdict
+    → new.kind ≡ old.kind → new.selector.newest ≡ Some (targets_of meaning) → JudgesAt new (standing to.wish events) (verdicts to.wish events) meaning (length (map packet_of packets)) verdict
     → Follows kind old to events
     → IsRingOf new.ring to (takes_of events) (outgoing (sent kind) to (WholeFrame (frame_by meaning structure packets) ∷ events))
     → Follows kind new to (WholeFrame (frame_by meaning structure packets) ∷ events)
-judges_follow kind old new meaning structure packets verdict to events same at h ring =
-    record { kind_is = same ∙ h.kind_is; selector = at.stands; ring = ring; causes = at.written; finds = h.finds }
+judges_follow kind old new meaning structure packets verdict to events same newest at h ring =
+    record { kind_is = same ∙ h.kind_is; selector = at.stands; newest_is = newest; ring = ring; causes = at.written; finds = h.finds }
 
 passes_where : (s : Standing) (f : FrameMeaning) (packets : ℕ) → verdict_at s f packets ≡ Passed → passes_at s f packets ≡ true
 passes_where s f packets h = passes_from_verdict (has_passed s f) (key_passed s f) s.wish f (target_at s f) s.queued packets h
@@ -165,7 +169,7 @@ frame_passes old new meaning track count queued verdict is_top told mask j passe
     let now : new.ring ≡ pushed_all sends old.ring =
     sends_frame kind old.ring new.ring meaning structure track is_top told mask target is force (q.top s h.selector above waits) tells
     (λ so. q.mask_is so (after_frame s meaning n) at.stands ∙ ap (λ (t : CurrentTarget). mask_for meaning (open_target t)) (target_here s meaning n passes)) q.pushes in
-    judges_follow kind old new meaning structure track.packets verdict to events j.kind_is at h
+    judges_follow kind old new meaning structure track.packets verdict to events j.kind_is j.newest_is at h
     (subst (λ (r : Ring). IsRingOf r to (takes_of events) (outgoing (sent kind) to (WholeFrame frame ∷ events))) (sym now)
     (subst (λ (l : List Packet). IsRingOf (pushed_all sends old.ring) to (takes_of events) l) (sym (passing_frames_go_out (sent kind) to frame events passes))
     (ring_grows old.ring to (takes_of events) (outgoing (sent kind) to events) sends (takes_fit (sent kind) to events h.finds) h.ring)))
@@ -183,6 +187,6 @@ frame_is_withheld old new meaning track count queued verdict j withheld now kind
     let at = judges_at kind old new meaning structure track.packets count queued verdict to events j one h in
     let fails : passes_at s meaning n ≡ false =
     not_passed (passes_at s meaning n) (verdict_at s meaning n) (passed_where s meaning n) (λ e. withheld (at.verdict_is ∙ e)) in
-    judges_follow kind old new meaning structure track.packets verdict to events j.kind_is at h
+    judges_follow kind old new meaning structure track.packets verdict to events j.kind_is j.newest_is at h
     (subst (λ (r : Ring). IsRingOf r to (takes_of events) (outgoing (sent kind) to (WholeFrame frame ∷ events))) (sym now)
     (subst (λ (l : List Packet). IsRingOf old.ring to (takes_of events) l) (sym ((nothing_else_goes_out (sent kind) to frame to.wish events).0 fails)) h.ring))

@@ -37,6 +37,7 @@ take_by kind feed ring result found before bytes to events (p ∷ rest) h at t i
   record {
     kind_is = h.kind_is;
     selector = stands_queued feed.selector (standing to.wish events) _ h.selector;
+    newest_is = h.newest_is;
     ring = subst (λ (r : Ring). IsRingOf r to (takes_of events + 1) (outgoing (sent kind) to events)) (sym t.1)
         (ring_taken feed.ring to (takes_of events) (outgoing (sent kind) to events) rest p h.ring at (next_has_next_number (sent kind) to events p (ap first_of at)));
     causes = h.causes;

@@ -2,18 +2,21 @@
 use Rattle.std.proofs.Common.{◌≡◌, ℕ, Bool, true, false, cond, List, [], ◌∷◌, ◌++◌, Option, Some, None, sym, ap, ◌∙◌, subst, refl, true≢false}
 use Rattle.std.proofs.lemmas.List.{append-nil}
 use Rattle.sfu_base.specs.declared.call.Refusal.TheVariants.{NoMemory}
-use Rattle.std.specs.Prelude.{IfSome}
+use Rattle.std.specs.Prelude.{◌≢◌, IfSome, IsTrue}
+use Rattle.std.proofs.Common.{inl, inr}
 use Rattle.std.proofs.lemmas.Grind.{flat_map-append, fold-append}
 use Rattle.sfu_base.specs.Answer.{is_starved}
 use Rattle.sfu_base.specs.declared.call.Call.{Call}
 use Rattle.sfu_base.specs.declared.call.Reply.{Reply}
 use Rattle.sfu_base.specs.declared.call.Reply.TheVariants as reply
+use Rattle.sfu_base.specs.declared.call.Scratch.{Scratch}
 use Rattle.room_core.specs.declared.room.Room.{Room}
 use Rattle.room_core.specs.Noted.{Noted, Notes}
 use Rattle.room_core.specs.Replies.{answer}
 use Rattle.room_core.specs.History.{Entry, accepted, after, after_entry, kept, noted_of}
-use Rattle.room_core.specs.Content.{Does, IsAfter}
-use Rattle.room_core.specs.Serves.{Serves, StandsHeadline}
+use Rattle.room_core.specs.Content.{Does, IsAcceptedAfter, IsAfter, TakesMemory}
+use Rattle.room_core.specs.Serves.{DoesAsServe, Serves, ServesInto, StandsHeadline}
+use Rattle.room_core.specs.Sendable.{IsSendable}
 use Rattle.room_core.specs.WellFormed.{AreWellFormed, IsValue}
 use Rattle.room_core.proofs.WellFormed.{well_formed_after}
 use Rattle.room_core.proofs.Promising.{headline}
@@ -73,3 +76,77 @@ starves noted old new seat call bytes numbers same notes = record {
 
 pub stands_headline : {R : Type 0} (noted : R → Option (List Noted)) (room : Room R) → StandsHeadline noted room
 stands_headline noted room history stands = headline history stands.well_formed
+
+-- ---- with what is left in the scratch
+
+none_starved : {A : Type 0} (reply : Reply) → is_starved reply ≡ false → IsTrue (is_starved reply) → A
+none_starved reply fed starved = absurd (true≢false (sym starved ∙ fed))
+
+-- a call that was done leaves nothing in the scratch
+pub did : {R : Type 0} (noted : R → Option (List Noted)) (may_refuse : R → Bool) (old new : Room R) (seat : ℕ) (call : Call) (given : Reply)
+    → ((bytes numbers : List ℕ) → Serves noted old new seat call given bytes numbers) → is_starved given ≡ false → may_refuse new.recorder ≡ may_refuse old.recorder
+    → given ≢ reply.Packet → DoesAsServe noted may_refuse old new seat call given
+did noted may_refuse old new seat call given serves fed same none = record {
+  serves = serves;
+  headline = stands_headline noted new;
+  memory = λ starved. none_starved given fed starved;
+  last = λ history stands starved. none_starved given fed starved;
+  recorder = same;
+  sends_none = none;
+}
+
+-- or leaves this
+pub did_into : {R : Type 0} (noted : R → Option (List Noted)) (may_refuse : R → Bool) (old new : Room R) (seat : ℕ) (call : Call) (given : Reply) (before after : Scratch)
+    → Serves noted old new seat call given after.packet after.names → is_starved given ≡ false → may_refuse new.recorder ≡ may_refuse old.recorder
+    → (given ≢ reply.Packet → after.packet ≡ before.packet) → (given ≢ reply.Names → after.names ≡ before.names) → (given ≡ reply.Packet → IsSendable after.packet)
+    → ServesInto noted may_refuse old new seat call given before after
+did_into noted may_refuse old new seat call given before after serves fed same packet names sendable = record {
+  serves = serves;
+  headline = stands_headline noted new;
+  memory = λ starved. none_starved given fed starved;
+  last = λ history stands starved. none_starved given fed starved;
+  recorder = same;
+  packet = packet;
+  names = names;
+  sendable = sendable;
+}
+
+-- a recorder refused
+pub not_noted : {R : Type 0} (noted : R → Option (List Noted)) (may_refuse : R → Bool) (old new : Room R) (seat : ℕ) (call : Call)
+    → ((past : List Call) → IsAfter old.content past → IsAfter new.content past) → noted new.recorder ≡ noted old.recorder → may_refuse new.recorder ≡ may_refuse old.recorder
+    → IsTrue (may_refuse old.recorder) → DoesAsServe noted may_refuse old new seat call (reply.Refused NoMemory)
+not_noted noted may_refuse old new seat call same notes recorder refuses = record {
+  serves = λ bytes numbers. starves noted old new seat call bytes numbers same notes;
+  headline = stands_headline noted new;
+  memory = λ starved. inr refuses;
+  last = λ history stands starved. inr refuses;
+  recorder = recorder;
+  sends_none = λ same. cc;
+}
+
+-- or what the call needs wasn't found
+pub not_ready : {R : Type 0} (noted : R → Option (List Noted)) (may_refuse : R → Bool) (old new : Room R) (seat : ℕ) (call : Call)
+    → ((past : List Call) → IsAfter old.content past → IsAfter new.content past) → new.recorder ≡ old.recorder
+    → TakesMemory call → IsAcceptedAfter old.content call → DoesAsServe noted may_refuse old new seat call (reply.Refused NoMemory)
+not_ready noted may_refuse old new seat call same recorder takes accepted_after = record {
+  serves = λ bytes numbers. starves noted old new seat call bytes numbers same (ap noted recorder);
+  headline = stands_headline noted new;
+  memory = λ starved. inl takes;
+  last = λ history stands starved. inl (accepted_after (accepted history) stands.content_is);
+  recorder = ap may_refuse recorder;
+  sends_none = λ same. cc;
+}
+
+-- what leaves nothing in the scratch leaves it as it was
+pub silently_into : {R : Type 0} (noted : R → Option (List Noted)) (may_refuse : R → Bool) (old new : Room R) (seat : ℕ) (call : Call) (given : Reply) (scratch : Scratch)
+    → DoesAsServe noted may_refuse old new seat call given → ServesInto noted may_refuse old new seat call given scratch scratch
+silently_into noted may_refuse old new seat call given scratch does = record {
+  serves = does.serves scratch.packet scratch.names;
+  headline = does.headline;
+  memory = does.memory;
+  last = does.last;
+  recorder = does.recorder;
+  packet = λ other. refl;
+  names = λ other. refl;
+  sendable = λ is. absurd (does.sends_none is);
+}

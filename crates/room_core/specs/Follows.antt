@@ -24,6 +24,10 @@ use Rattle.track_core.specs.Track.{Seen, structure_in}
 use Rattle.room_core.specs.Stepping.{kind_by}
 use Rattle.room_core.specs.Sent.{remasked_first, sent, tells_first}
 use Rattle.room_core.specs.Targets.{has_no_target}
+use Rattle.room_core.specs.CurrentTargets.{newest_frame, target_in}
+use Rattle.room_core.specs.declared.current_target.DecodeTarget.{DecodeTarget}
+use Rattle.target_selector.specs.Reaching.{reaches, targets_of}
+use Rattle.std.specs.Option.{option_map}
 use Rattle.room_core.specs.declared.feed.Feed.{Feed}
 
 -- what happens to a subscriber
@@ -44,6 +48,7 @@ pub record IsRingOf (ring : Ring) (to : Subscriber) (takes : ℕ) (out : List Pa
 pub record Follows (kind : Kind) (feed : Feed) (to : Subscriber) (events : List Happened) : Type 0 where
   pub kind_is : feed.kind ≡ kind
   pub selector : StandsFor feed.selector (standing to.wish events)
+  pub newest_is : feed.selector.newest ≡ option_map targets_of (newest_frame events)
   pub ring : IsRingOf feed.ring to (takes_of events) (outgoing (sent kind) to events)
   pub causes : feed.causes ≡ recent (verdicts to.wish events)
   pub finds : FindPackets (sent kind) to events
@@ -52,6 +57,7 @@ pub record Follows (kind : Kind) (feed : Feed) (to : Subscriber) (events : List 
 pub record IsFresh (feed : Feed) (kind : Kind) (ssrc first : ℕ) (wish : Wish) : Type 0 where
   pub kind_is : feed.kind ≡ kind
   pub selector : StandsFor feed.selector (joined wish)
+  pub newest_is : feed.selector.newest ≡ None
   pub ring : feed.ring ≡ begun ssrc first
   pub causes : feed.causes ≡ []
 
@@ -106,6 +112,15 @@ IsFed (Err why) = is_memory why ≡ false
 abbrev pub HasNoTarget : Feed → Bool → Type 0
 HasNoTarget feed none = (kind : Kind) (to : Subscriber) (events : List Happened) → Follows kind feed to events
     → none ≡ has_no_target (standing to.wish events).target
+
+-- the target that it is sent, and whether that is the best that its wish allows
+abbrev pub HasTarget : Feed → Option DecodeTarget → Type 0
+HasTarget feed result = (kind : Kind) (to : Subscriber) (events : List Happened) → Follows kind feed to events
+    → result ≡ target_in (newest_frame events) (standing to.wish events).target
+
+abbrev pub HasReached : Feed → Bool → Type 0
+HasReached feed result = (kind : Kind) (to : Subscriber) (events : List Happened) → Follows kind feed to events
+    → result ≡ reaches (newest_frame events) (standing to.wish events).wish (standing to.wish events).target
 
 abbrev pub Tells : Feed → ℕ → Result Verdict Refusal → Type 0
 Tells feed number result = (kind : Kind) (to : Subscriber) (events : List Happened) → Follows kind feed to events → IsOneTrack (meanings_of events)

@@ -10,6 +10,7 @@ pub mod Replies
 pub mod Noted
 pub mod History
 pub mod Kinds
+pub mod CurrentTargets
 pub mod WellFormed
 pub mod SentBytes
 pub mod Given

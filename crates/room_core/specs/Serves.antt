@@ -1,14 +1,17 @@
 -- Which history a room stands for, and what a call on it does.
-use Rattle.std.specs.Prelude.{◌≡◌, ◌⊎◌, IsTrue, ℕ, Bool, false, List, [], ◌∷◌, ◌++◌, Option, IfSome}
+use Rattle.std.specs.Prelude.{◌≡◌, ◌≢◌, ◌⊎◌, IsTrue, ℕ, Bool, false, List, [], ◌∷◌, ◌++◌, Option, IfSome}
 use Rattle.sfu_base.specs.Answer.{answer_of, is_starved}
 use Rattle.sfu_base.specs.declared.call.Call.{Call}
 use Rattle.sfu_base.specs.declared.call.Reply.{Reply}
+use Rattle.sfu_base.specs.declared.call.Reply.TheVariants.{Packet, Names}
+use Rattle.sfu_base.specs.declared.call.Scratch.{Scratch}
 use Rattle.room_core.specs.declared.room.Room.{Room}
 use Rattle.room_core.specs.Noted.{Noted}
 use Rattle.room_core.specs.History.{Entry, accepted, is_accepted, kept, reply_of}
 use Rattle.room_core.specs.Content.{IsAfter, TakesMemory}
 use Rattle.room_core.specs.WellFormed.{AreWellFormed}
 use Rattle.room_core.specs.Headline.{Headline}
+use Rattle.room_core.specs.Sendable.{IsSendable}
 
 -- The room stands for this history: its content is where the accepted calls leave it, these calls are well formed, and its recorder, where
 -- it tells them, has the seats and calls of the entries that weren't starved.
@@ -41,10 +44,22 @@ abbrev pub MemoryIsLast : {R : Type 0} → (R → Option (List Noted)) → (R �
 MemoryIsLast noted may_refuse room call reply = (history : List Entry) → Stands noted room history → IsTrue (is_starved reply)
     → IsTrue (is_accepted (reply_of history call)) ⊎ IsTrue (recorder_may_refuse may_refuse room)
 
--- What a room's own method does and answers: what `serve` does for the call of its name, whatever stands in the scratch.
+-- What a call on a room does and answers, whatever stands in the scratch: it leaves nothing there.
 pub record DoesAsServe {R : Type 0} (noted : R → Option (List Noted)) (may_refuse : R → Bool) (old new : Room R) (seat : ℕ) (call : Call) (reply : Reply) : Type 0 where
   pub serves : (bytes numbers : List ℕ) → Serves noted old new seat call reply bytes numbers
   pub headline : StandsHeadline noted new
   pub memory : MemoryHasCause may_refuse old call reply
   pub last : MemoryIsLast noted may_refuse old call reply
   pub recorder : recorder_may_refuse may_refuse new ≡ recorder_may_refuse may_refuse old
+  pub sends_none : reply ≢ Packet
+
+-- The same of a call that may leave a packet or names in the scratch. No other reply changes the scratch, and a packet there can be sent.
+pub record ServesInto {R : Type 0} (noted : R → Option (List Noted)) (may_refuse : R → Bool) (old new : Room R) (seat : ℕ) (call : Call) (reply : Reply) (before after : Scratch) : Type 0 where
+  pub serves : Serves noted old new seat call reply after.packet after.names
+  pub headline : StandsHeadline noted new
+  pub memory : MemoryHasCause may_refuse old call reply
+  pub last : MemoryIsLast noted may_refuse old call reply
+  pub recorder : recorder_may_refuse may_refuse new ≡ recorder_may_refuse may_refuse old
+  pub packet : reply ≢ Packet → after.packet ≡ before.packet
+  pub names : reply ≢ Names → after.names ≡ before.names
+  pub sendable : reply ≡ Packet → IsSendable after.packet

@@ -4,6 +4,7 @@
 
 mod beginning;
 mod content;
+mod current_target;
 mod feed;
 mod keep_all;
 mod laws;
@@ -22,6 +23,7 @@ mod tests;
 mod told;
 mod tracks;
 
+pub use current_target::DecodeTarget;
 pub use keep_all::KeepAll;
 pub use laws::frames_open_their_targets;
 pub use recorder::{KeepNone, Recorder};

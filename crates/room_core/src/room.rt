@@ -17,17 +17,15 @@ use std::alloc::Global;
 pub struct Room<R: Recorder> {
     alloc: Global,
     recorder: R,
-    content: Content,
+    pub(crate) content: Content,
 }
 
 impl<R: Recorder> Room<R> {
-    ghost use Rattle.std.specs.Prelude.{◌≡◌, ◌≢◌, [], List, ℕ, IfSome};
+    ghost use Rattle.std.specs.Prelude.{◌≡◌, [], List, IfSome};
     ghost use Rattle.sfu_base.specs.declared.call.Call.TheVariants as call;
-    ghost use Rattle.sfu_base.specs.declared.call.Reply.TheVariants as reply;
     ghost use Rattle.room_core.specs.Noted.{Noted};
     ghost use Rattle.room_core.specs.History.{Entry, kept};
-    ghost use Rattle.room_core.specs.Serves.{DoesAsServe, MemoryHasCause, MemoryIsLast, Serves, Stands, StandsHeadline, recorder_may_refuse};
-    ghost use Rattle.room_core.specs.Sendable.{IsSendable};
+    ghost use Rattle.room_core.specs.Serves.{DoesAsServe, ServesInto, Stands, recorder_may_refuse};
     ghost use Rattle.room_core.specs.Silent.{IsSilent};
     ghost use Rattle.room_core.specs.Kinds.{IsKindOf};
 
@@ -47,14 +45,7 @@ impl<R: Recorder> Room<R> {
     /// Serves one call of a seat, the one entry to the room. A `Packet` leaves its bytes in `scratch.packet`, `Names` leave their numbers in
     /// `scratch.names`; no other reply changes the scratch.
     pub fn serve(&mut self, seat: u32, call: &Call, scratch: &mut Scratch) -> Reply
-        ensures serves { Serves R.noted self.old self.new seat call.now result scratch.new.packet scratch.new.names }
-        ensures headline { StandsHeadline R.noted self.new }
-        ensures memory { MemoryHasCause R.may_refuse self.old call.now result }
-        ensures last { MemoryIsLast R.noted R.may_refuse self.old call.now result }
-        ensures recorder { recorder_may_refuse R.may_refuse self.new ≡ recorder_may_refuse R.may_refuse self.old }
-        ensures packet { result ≢ reply.Packet → scratch.new.packet ≡ scratch.old.packet }
-        ensures names { result ≢ reply.Names → scratch.new.names ≡ scratch.old.names }
-        ensures sendable { result ≡ reply.Packet → IsSendable scratch.new.packet }
+        ensures { ServesInto R.noted R.may_refuse self.old self.new seat call.now result scratch.old scratch.new }
     {
         match call {
             // These three are most calls, and need nothing to be made ready.
@@ -64,21 +55,14 @@ impl<R: Recorder> Room<R> {
                 moment,
                 bytes,
             } => self.serve_packet(seat, call, *track, *moment, bytes),
-            Call::Tick { track, moment } => self.pass_time(seat, *track, *moment),
+            Call::Tick { track, moment } => self.tick(seat, *track, *moment),
             _ => self.serve_any(seat, call, scratch),
         }
     }
 
     // The same of a call of any kind.
     fn serve_any(&mut self, seat: u32, call: &Call, scratch: &mut Scratch) -> Reply
-        ensures serves { Serves R.noted self.old self.new seat call.now result scratch.new.packet scratch.new.names }
-        ensures headline { StandsHeadline R.noted self.new }
-        ensures memory { MemoryHasCause R.may_refuse self.old call.now result }
-        ensures last { MemoryIsLast R.noted R.may_refuse self.old call.now result }
-        ensures recorder { recorder_may_refuse R.may_refuse self.new ≡ recorder_may_refuse R.may_refuse self.old }
-        ensures packet { result ≢ reply.Packet → scratch.new.packet ≡ scratch.old.packet }
-        ensures names { result ≢ reply.Names → scratch.new.names ≡ scratch.old.names }
-        ensures sendable { result ≡ reply.Packet → IsSendable scratch.new.packet }
+        ensures { ServesInto R.noted R.may_refuse self.old self.new seat call.now result scratch.old scratch.new }
     {
         match self.content.prepare(self.alloc, call) {
             Ok(ready) => match self.recorder.note(seat, call) {
@@ -92,12 +76,7 @@ impl<R: Recorder> Room<R> {
     // The same of a call whose reply leaves nothing in a scratch.
     fn serve_silently(&mut self, seat: u32, call: &Call) -> Reply
         requires { IsSilent call.now }
-        ensures serves { (bytes numbers : List ℕ) → Serves R.noted self.old self.new seat call.now result bytes numbers }
-        ensures headline { StandsHeadline R.noted self.new }
-        ensures memory { MemoryHasCause R.may_refuse self.old call.now result }
-        ensures last { MemoryIsLast R.noted R.may_refuse self.old call.now result }
-        ensures recorder { recorder_may_refuse R.may_refuse self.new ≡ recorder_may_refuse R.may_refuse self.old }
-        ensures sends_none { result ≢ reply.Packet }
+        ensures { DoesAsServe R.noted R.may_refuse self.old self.new seat call.now result }
     {
         match self.content.prepare(self.alloc, call) {
             Ok(ready) => match self.recorder.note(seat, call) {
@@ -138,10 +117,17 @@ impl<R: Recorder> Room<R> {
     pub fn packet(&mut self, seat: u32, track: u32, moment: u64, bytes: &PacketBuf) -> Reply
         ensures { DoesAsServe R.noted R.may_refuse self.old self.new seat (call.Packet track moment bytes.now) result }
     {
-        self.bring(seat, track, moment, bytes)
+        let mut copy = PacketBuf::new();
+        copy.fill(bytes.bytes());
+        let call = Call::Packet {
+            track,
+            moment,
+            bytes: copy,
+        };
+        self.serve_packet(seat, &call, track, moment, bytes)
     }
 
-    // A call that brings a packet.
+    // The same of a packet's call, whose bytes stand beside it.
     fn serve_packet(
         &mut self,
         seat: u32,
@@ -151,35 +137,9 @@ impl<R: Recorder> Room<R> {
         bytes: &PacketBuf,
     ) -> Reply
         requires { made.now ≡ call.Packet track moment bytes.now }
-        ensures serves { (buffer numbers : List ℕ) → Serves R.noted self.old self.new seat (call.Packet track moment bytes.now) result buffer numbers }
-        ensures headline { StandsHeadline R.noted self.new }
-        ensures memory { MemoryHasCause R.may_refuse self.old (call.Packet track moment bytes.now) result }
-        ensures last { MemoryIsLast R.noted R.may_refuse self.old (call.Packet track moment bytes.now) result }
-        ensures recorder { recorder_may_refuse R.may_refuse self.new ≡ recorder_may_refuse R.may_refuse self.old }
-        ensures sends_none { result ≢ reply.Packet }
+        ensures { DoesAsServe R.noted R.may_refuse self.old self.new seat (call.Packet track moment bytes.now) result }
     {
         match self.recorder.note(seat, made) {
-            Ok(()) => self.content.packet(track, moment, bytes),
-            Err(_) => Reply::Refused(Refusal::NoMemory),
-        }
-    }
-
-    // The call is made for the recorder alone: where it keeps nothing, no copy is made.
-    fn bring(&mut self, seat: u32, track: u32, moment: u64, bytes: &PacketBuf) -> Reply
-        ensures serves { (buffer numbers : List ℕ) → Serves R.noted self.old self.new seat (call.Packet track moment bytes.now) result buffer numbers }
-        ensures headline { StandsHeadline R.noted self.new }
-        ensures memory { MemoryHasCause R.may_refuse self.old (call.Packet track moment bytes.now) result }
-        ensures last { MemoryIsLast R.noted R.may_refuse self.old (call.Packet track moment bytes.now) result }
-        ensures recorder { recorder_may_refuse R.may_refuse self.new ≡ recorder_may_refuse R.may_refuse self.old }
-    {
-        let mut copy = PacketBuf::new();
-        copy.fill(bytes.bytes());
-        let call = Call::Packet {
-            track,
-            moment,
-            bytes: copy,
-        };
-        match self.recorder.note(seat, &call) {
             Ok(()) => self.content.packet(track, moment, bytes),
             Err(_) => Reply::Refused(Refusal::NoMemory),
         }
@@ -188,17 +148,6 @@ impl<R: Recorder> Room<R> {
     /// Tells a track that it is this moment, as [`Call::Tick`] does: gaps that were waited for long enough are given up. `NoTrack`.
     pub fn tick(&mut self, seat: u32, track: u32, moment: u64) -> Reply
         ensures { DoesAsServe R.noted R.may_refuse self.old self.new seat (call.Tick track moment) result }
-    {
-        self.pass_time(seat, track, moment)
-    }
-
-    fn pass_time(&mut self, seat: u32, track: u32, moment: u64) -> Reply
-        ensures serves { (buffer numbers : List ℕ) → Serves R.noted self.old self.new seat (call.Tick track moment) result buffer numbers }
-        ensures headline { StandsHeadline R.noted self.new }
-        ensures memory { MemoryHasCause R.may_refuse self.old (call.Tick track moment) result }
-        ensures last { MemoryIsLast R.noted R.may_refuse self.old (call.Tick track moment) result }
-        ensures recorder { recorder_may_refuse R.may_refuse self.new ≡ recorder_may_refuse R.may_refuse self.old }
-        ensures sends_none { result ≢ reply.Packet }
     {
         match self.recorder.note(seat, &Call::Tick { track, moment }) {
             Ok(()) => self.content.tick(track, moment),
@@ -248,14 +197,7 @@ impl<R: Recorder> Room<R> {
     /// Hands out the oldest packet that waits, as [`Call::Take`] does: `Packet`, with its bytes in `scratch.packet`. `NoSubscriber`;
     /// `Empty`: none waits.
     pub fn take(&mut self, seat: u32, subscriber: u32, scratch: &mut Scratch) -> Reply
-        ensures serves { Serves R.noted self.old self.new seat (call.Take subscriber) result scratch.new.packet scratch.new.names }
-        ensures headline { StandsHeadline R.noted self.new }
-        ensures memory { MemoryHasCause R.may_refuse self.old (call.Take subscriber) result }
-        ensures last { MemoryIsLast R.noted R.may_refuse self.old (call.Take subscriber) result }
-        ensures recorder { recorder_may_refuse R.may_refuse self.new ≡ recorder_may_refuse R.may_refuse self.old }
-        ensures packet { result ≢ reply.Packet → scratch.new.packet ≡ scratch.old.packet }
-        ensures names { result ≢ reply.Names → scratch.new.names ≡ scratch.old.names }
-        ensures sendable { result ≡ reply.Packet → IsSendable scratch.new.packet }
+        ensures { ServesInto R.noted R.may_refuse self.old self.new seat (call.Take subscriber) result scratch.old scratch.new }
     {
         match self.recorder.note(seat, &Call::Take { subscriber }) {
             Ok(()) => self.content.take(subscriber, &mut scratch.packet),
@@ -266,14 +208,7 @@ impl<R: Recorder> Room<R> {
     /// Hands out a packet again that was taken under this sequence number, as [`Call::Resend`] does: `Packet`, with its bytes in
     /// `scratch.packet` (RFC 4585, section 6.2.1). `NoSubscriber`; `NotKept`: none of the last 1,024 that were taken has the number.
     pub fn resend(&mut self, seat: u32, subscriber: u32, seq: u16, scratch: &mut Scratch) -> Reply
-        ensures serves { Serves R.noted self.old self.new seat (call.Resend subscriber seq) result scratch.new.packet scratch.new.names }
-        ensures headline { StandsHeadline R.noted self.new }
-        ensures memory { MemoryHasCause R.may_refuse self.old (call.Resend subscriber seq) result }
-        ensures last { MemoryIsLast R.noted R.may_refuse self.old (call.Resend subscriber seq) result }
-        ensures recorder { recorder_may_refuse R.may_refuse self.new ≡ recorder_may_refuse R.may_refuse self.old }
-        ensures packet { result ≢ reply.Packet → scratch.new.packet ≡ scratch.old.packet }
-        ensures names { result ≢ reply.Names → scratch.new.names ≡ scratch.old.names }
-        ensures sendable { result ≡ reply.Packet → IsSendable scratch.new.packet }
+        ensures { ServesInto R.noted R.may_refuse self.old self.new seat (call.Resend subscriber seq) result scratch.old scratch.new }
     {
         self.serve(seat, &Call::Resend { subscriber, seq }, scratch)
     }
@@ -281,13 +216,7 @@ impl<R: Recorder> Room<R> {
     /// Hands out the sequence numbers that a track waits for, ascending in their unwrapped order, as [`Call::Missing`] does: `Names`, with
     /// the numbers in `scratch.names`. `NoTrack`.
     pub fn missing(&mut self, seat: u32, track: u32, scratch: &mut Scratch) -> Reply
-        ensures serves { Serves R.noted self.old self.new seat (call.Missing track) result scratch.new.packet scratch.new.names }
-        ensures headline { StandsHeadline R.noted self.new }
-        ensures memory { MemoryHasCause R.may_refuse self.old (call.Missing track) result }
-        ensures last { MemoryIsLast R.noted R.may_refuse self.old (call.Missing track) result }
-        ensures recorder { recorder_may_refuse R.may_refuse self.new ≡ recorder_may_refuse R.may_refuse self.old }
-        ensures packet { result ≢ reply.Packet → scratch.new.packet ≡ scratch.old.packet }
-        ensures names { result ≢ reply.Names → scratch.new.names ≡ scratch.old.names }
+        ensures { ServesInto R.noted R.may_refuse self.old self.new seat (call.Missing track) result scratch.old scratch.new }
     {
         self.serve(seat, &Call::Missing { track }, scratch)
     }

@@ -2,6 +2,7 @@
 // lay them, the descriptors as Appendix A of RTP Payload Format For AV1 does.
 ghost use Rattle.std.specs.Prelude.{◌≤◌, length};
 
+mod current_target;
 mod masks;
 
 use crate::{KeepAll, KeepNone, Room};

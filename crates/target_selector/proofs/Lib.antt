@@ -3,3 +3,4 @@ pub mod Stepping
 pub mod Validity
 pub mod Verdicts
 pub mod TargetBits
+pub mod Reaching

@@ -1,4 +1,5 @@
+pub mod Targets
 pub mod Seen
 pub mod Stands
-pub mod Targets
 pub mod Masks
+pub mod Reaching

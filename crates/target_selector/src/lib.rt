@@ -3,6 +3,7 @@
 #![tactic(auto)]
 
 mod decision;
+mod frame_targets;
 mod laws;
 mod masks;
 mod opening;

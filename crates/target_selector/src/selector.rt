@@ -1,16 +1,21 @@
 // The standing of a subscriber, as far as it decides on frames.
-ghost use Rattle.std.specs.Prelude.{◌≡◌, ◌+◌, ◌≤◌, ◌||◌, ◌∷◌, false};
+ghost use Rattle.std.specs.Prelude.{◌≡◌, ◌+◌, ◌≤◌, ◌||◌, ◌∷◌, Option, Some, false};
+ghost use Rattle.std.specs.Option.{option_map};
+ghost use Rattle.sfu_base.specs.declared.frame.FrameMeaning.{FrameMeaning as Meaning};
 ghost use Rattle.sfu_base.specs.Frame.{IsValid};
 ghost use Rattle.sfu_base.specs.declared.frame.Verdict.TheVariants.{Passed};
 ghost use Rattle.forwarding_model.specs.forwarding.Outgoing.{is_top_layer};
 ghost use Rattle.forwarding_model.specs.forwarding.Selection.{open_target};
 ghost use Rattle.forwarding_model.specs.forwarding.Standing.{Standing, after_frame, candidate_at, joined, verdict_at};
 ghost use Rattle.ref_window.specs.Numbers.{IsAboveAll as IsAboveAllNumbers, held_of};
+ghost use Rattle.target_selector.specs.Reaching.{is_aimed, reaches, target_layers, targets_of};
 ghost use Rattle.target_selector.specs.Seen.{begun};
 ghost use Rattle.target_selector.specs.Stands.{IsAboveAll, StandsAt, StandsFor, is_opening_at};
 ghost use Rattle.target_selector.specs.Targets.{IsBelow, IsIndexBelow};
 
 use crate::decision::{Decision, decide};
+use crate::frame_targets::FrameTargets;
+use crate::opening::aim;
 use crate::targets::is_top_layer;
 use forwarding_model::{CurrentTarget, Reason};
 use ref_window::RefWindow;
@@ -18,7 +23,7 @@ use sfu_base::{FrameMeaning, Verdict, Wish};
 use std::marker::Model;
 
 /// Which frames a subscriber is sent. Clauses see its wish, the epoch, the target or why there is none, which of the epoch's frames were
-/// passed, as far as a later frame can refer to them, and two facts about the last frame.
+/// passed, as far as a later frame can refer to them, the targets of the last frame, and two facts about it.
 #[derive(Debug, Drop)]
 pub struct Selector {
     wish: Wish,
@@ -27,13 +32,14 @@ pub struct Selector {
     // whether a key frame of the epoch was passed: the window forgets it
     key_passed: bool,
     passed: RefWindow,
+    // the targets of the last frame, by which later questions are answered
+    newest: Option<FrameTargets>,
     top: bool,
     opened: bool,
 }
 
 impl Model for Selector {
-    ghost use Rattle.target_selector.specs.Seen.{Seen};
-    ghost use Rattle.target_selector.specs.Targets.{IsIndexBelow};
+    ghost use Rattle.target_selector.specs.Seen.{IsKept, Seen};
 
     ghost Value = { Seen };
 
@@ -43,11 +49,12 @@ impl Model for Selector {
       target = s.target;
       key_passed = s.key_passed;
       numbers = s.passed;
+      newest = s.newest;
       top = s.top;
       opened = s.opened;
     } };
 
-    ghost invariant = { λ s. IsIndexBelow 32 s.target };
+    ghost invariant = { λ s. IsKept s.target s.newest };
 }
 
 impl Selector {
@@ -64,6 +71,7 @@ impl Selector {
             },
             key_passed: false,
             passed: RefWindow::new(),
+            newest: None,
             top: false,
             opened: false,
         }
@@ -89,6 +97,27 @@ impl Selector {
         }
     }
 
+    /// The layers of the open target at the last frame: none where no target is open, or no template of that frame is present in it.
+    pub fn layers(&self) -> Option<Wish>
+        ensures layers { (newest : Option Meaning) → self.now.newest ≡ option_map targets_of newest → result ≡ target_layers newest self.now.target }
+    {
+        match (self.target, &self.newest) {
+            (CurrentTarget::Open { index, opened: _ }, Some(targets)) => targets.layers(index),
+            _ => None,
+        }
+    }
+
+    /// Whether the open target is the best that the wish allows at the last frame: false where no target is open.
+    #[tactic(auto, using(crate::proofs::Reaching::reaches_kept))]
+    pub fn reaches_wish(&self) -> bool
+        ensures reaches { (newest : Option Meaning) → self.now.newest ≡ option_map targets_of newest → result ≡ reaches newest self.now.wish self.now.target }
+    {
+        match &self.newest {
+            Some(targets) => is_aimed(aim(self.wish, &targets.meaning()), self.target),
+            None => false,
+        }
+    }
+
     /// The verdict on a frame of so many packets, where so many are queued: whether it is passed on, or why it isn't.
     pub fn admit(&mut self, frame: &FrameMeaning, packets: u16, queued: u16) -> Verdict
         requires { IsValid frame.now }
@@ -102,6 +131,7 @@ impl Selector {
             → self.new.opened ≡ is_opening_at s frame.now }
         ensures not_top { (result ≡ Passed → ⊥) → self.new.top ≡ false }
         ensures not_opened { (result ≡ Passed → ⊥) → self.new.opened ≡ false }
+        ensures newest { self.new.newest ≡ Some (targets_of frame.now) }
     {
         self.begin_epoch(frame);
         let decision = decide(
@@ -137,8 +167,11 @@ impl Selector {
 
     // Where the frame is of another epoch, what was passed is forgotten, and no target is open.
     fn begin_epoch(&mut self, frame: &FrameMeaning)
-        ensures { (s : Standing) → StandsFor self.old s → StandsAt self.new s frame.now }
+        requires { IsValid frame.now }
+        ensures stands { (s : Standing) → StandsFor self.old s → StandsAt self.new s frame.now }
+        ensures newest { self.new.newest ≡ Some (targets_of frame.now) }
     {
+        self.newest = Some(FrameTargets::of(frame));
         if self.epoch == Some(frame.epoch) {
             return;
         }
@@ -161,6 +194,7 @@ impl Selector {
         ensures numbers { IsAboveAllNumbers frame.now.number self.old.numbers → self.new.numbers ≡ held_of (frame.now.number ∷ self.old.numbers) }
         ensures top { self.new.top ≡ is_top_layer frame.now decision.now.candidate }
         ensures opened { self.new.opened ≡ decision.now.opens }
+        ensures newest { self.new.newest ≡ self.old.newest }
     {
         self.target = decision.candidate;
         self.key_passed |= frame.key;
@@ -176,5 +210,15 @@ impl Selector {
         self.target = decision.kept;
         self.top = false;
         self.opened = false;
+    }
+}
+
+// Whether the best target is the open one.
+fn is_aimed(best: Option<u8>, current: CurrentTarget) -> bool
+    ensures { result ≡ is_aimed best current }
+{
+    match (best, current) {
+        (Some(best), CurrentTarget::Open { index, opened: _ }) => best == index,
+        _ => false,
     }
 }

@@ -3,7 +3,7 @@
 ghost use Rattle.std.specs.Prelude.{◌≡◌, ◌≤◌, ◌<◌};
 ghost use Rattle.forwarding_model.specs.forwarding.Outgoing.{has_spatial, is_top_layer};
 ghost use Rattle.forwarding_model.specs.forwarding.Selection.{is_present_in};
-ghost use Rattle.forwarding_model.specs.forwarding.Targets.{is_active, is_allowed, is_better, is_better_pair, is_present, is_switch, is_within};
+ghost use Rattle.forwarding_model.specs.forwarding.Targets.{is_active, is_allowed, is_better, is_better_pair, is_present, is_switch, is_within, layers};
 ghost use Rattle.target_selector.specs.Targets.{IsBelow, IsIndexBelow, beats};
 
 use forwarding_model::CurrentTarget;
@@ -54,6 +54,14 @@ fn is_within(wish: Wish, pair: Option<Wish>) -> bool
         None => false,
         Some(pair) => pair.spatial <= wish.spatial && pair.temporal <= wish.temporal,
     }
+}
+
+/// The target's layers, where a template of the frame is present in it.
+pub fn layers(frame: &FrameMeaning, target: u8) -> Option<Wish>
+    requires { target < 32 }
+    ensures { result ≡ layers frame.now target }
+{
+    frame.pairs[usize::from(target)]
 }
 
 /// Whether the target is active, and its layers are within the wish.

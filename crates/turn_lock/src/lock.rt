@@ -96,6 +96,15 @@ impl<H: Held> Model for Seat<H> {
     ghost invariant = { λ s. Rests s.inner × (s.number ≡ s.inner.me.0.number) × (s.count ≡ s.inner.me.0.count) × Sound s.inner.me.0 };
 }
 
+impl<H: Held> Seat<H> {
+    /// A lemma, which does nothing: what is true of each seat between two calls on its lock.
+    pub fn lemma_fits(&self)
+        ensures { Fits self.now }
+    {
+        let _ = &self.number;
+    }
+}
+
 impl<H: Held> Turns<H> {
     /// Puts a value that has served nothing behind a new lock, and gives the lock with its first seat, which has number 0. The first
     /// turn has the place `first`, at most 2^63. At `NoMemory` the value is dropped.

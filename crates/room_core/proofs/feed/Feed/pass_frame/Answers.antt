@@ -7,6 +7,7 @@ pub returns-then-is_told-clause-follows : goal.returns-then-is_told-clause-follo
 returns-then-is_told-clause-follows c = frame_passes c.args.self.now _ c.args.frame.now c.args.track.now c.count.result c.queued.result c.admit-verdict.result c.marks_last-is_top.result true c.mask_for-mask.result
     (record {
       kind_is = refl;
+      newest_is = c.admit-verdict.ensures.newest;
       count_is = c.count.ensures.count;
       queued_is = c.queued.ensures.queued;
       verdict_is = c.admit-verdict.ensures.verdict;
@@ -27,6 +28,7 @@ pub returns-else-is_told-clause-follows : goal.returns-else-is_told-clause-follo
 returns-else-is_told-clause-follows c = frame_passes c.args.self.now _ c.args.frame.now c.args.track.now c.count.result c.queued.result c.admit-verdict.result c.marks_last-is_top.result false 0
     (record {
       kind_is = refl;
+      newest_is = c.admit-verdict.ensures.newest;
       count_is = c.count.ensures.count;
       queued_is = c.queued.ensures.queued;
       verdict_is = c.admit-verdict.ensures.verdict;
@@ -47,6 +49,7 @@ pub returns-in_default-clause-follows : goal.returns-in_default-clause-follows
 returns-in_default-clause-follows c = frame_is_withheld c.args.self.now _ c.args.frame.now c.args.track.now c.count.result c.queued.result c.admit-verdict.result
     (record {
       kind_is = refl;
+      newest_is = c.admit-verdict.ensures.newest;
       count_is = c.count.ensures.count;
       queued_is = c.queued.ensures.queued;
       verdict_is = c.admit-verdict.ensures.verdict;

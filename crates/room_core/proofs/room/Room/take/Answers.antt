@@ -1,14 +1,18 @@
+use Rattle.std.proofs.Common.{refl}
 use Rattle.sfu_base.specs.declared.call.Call.TheVariants as call
-use Rattle.room_core.proofs.Served.{served, stands_headline}
+use Rattle.room_core.proofs.Served.{did_into, not_noted, served, silently_into}
 use Rattle.room_core.proofs.room.Room.take.Goals as goal
 
-pub returns-in-Ok-clause-serves : goal.returns-in-Ok-clause-serves
-returns-in-Ok-clause-serves g c =
-    served g.R.Recorder.noted c.args.self.now c.args.self.now _ c.args.seat (call.Take c.args.subscriber) c.take.result c.take.new.out c.args.scratch.now.names
-    (λ past h. h) (c.take.ensures.does c.args.scratch.now.names) c.take.ensures.fed tt c.in-Ok.ensures.ok
+pub returns-in-Ok : goal.returns-in-Ok
+returns-in-Ok g c =
+    let made = call.Take c.args.subscriber in
+    did_into g.R.Recorder.noted g.R.Recorder.may_refuse c.args.self.now _ c.args.seat made c.take.result c.args.scratch.now _
+    (served g.R.Recorder.noted c.args.self.now c.args.self.now _ c.args.seat made c.take.result c.take.new.out c.args.scratch.now.names
+    (λ past h. h) (c.take.ensures.does c.args.scratch.now.names) c.take.ensures.fed tt c.in-Ok.ensures.ok)
+    c.take.ensures.fed c.in-Ok.ensures.same c.take.ensures.untouched (λ other. refl) c.take.ensures.sendable
 
-pub returns-in-Ok-clause-headline : goal.returns-in-Ok-clause-headline
-returns-in-Ok-clause-headline g c = stands_headline g.R.Recorder.noted _
-
-pub returns-in-Err-clause-headline : goal.returns-in-Err-clause-headline
-returns-in-Err-clause-headline g c = stands_headline g.R.Recorder.noted _
+pub returns-in-Err : goal.returns-in-Err
+returns-in-Err g c =
+    silently_into g.R.Recorder.noted g.R.Recorder.may_refuse c.args.self.now _ c.args.seat (call.Take c.args.subscriber) _ c.args.scratch.now
+    (not_noted g.R.Recorder.noted g.R.Recorder.may_refuse c.args.self.now _ c.args.seat (call.Take c.args.subscriber) (λ past h. h)
+    c.in-Err.ensures.err c.in-Err.ensures.same (c.in-Err.ensures.refused refl))

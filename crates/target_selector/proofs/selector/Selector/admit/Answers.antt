@@ -8,7 +8,7 @@ use Rattle.target_selector.proofs.selector.Selector.admit.Goals as goal
 
 pub returns-in-Passed-clause-verdict : goal.returns-in-Passed-clause-verdict
 returns-in-Passed-clause-verdict c = λ s h above room.
-    let at = subst (λ (x : Seen). StandsAt x s c.args.frame.now) (sym c.self.view_is) (c.begin_epoch.ensures s h) in
+    let at = subst (λ (x : Seen). StandsAt x s c.args.frame.now) (sym c.self.view_is) (c.begin_epoch.ensures.stands s h) in
     let d : IsDecided s c.args.frame.now c.args.packets c.decide-decision.result.kept c.decide-decision.result.candidate c.decide-decision.result.opens c.decide-decision.result.verdict
     = is_decided _ s c.args.frame.now c.args.packets c.args.queued c.decide-decision.result.kept c.decide-decision.result.candidate c.decide-decision.result.opens c.decide-decision.result.verdict
     c.requires at above room c.decide-decision.ensures.kept
@@ -18,19 +18,19 @@ returns-in-Passed-clause-verdict c = λ s h above room.
 
 pub returns-in-Passed-clause-stands : goal.returns-in-Passed-clause-stands
 returns-in-Passed-clause-stands c = λ s h above room.
-    let at = subst (λ (x : Seen). StandsAt x s c.args.frame.now) (sym c.self.view_is) (c.begin_epoch.ensures s h) in
+    let at = subst (λ (x : Seen). StandsAt x s c.args.frame.now) (sym c.self.view_is) (c.begin_epoch.ensures.stands s h) in
     let d : IsDecided s c.args.frame.now c.args.packets c.decide-decision.result.kept c.decide-decision.result.candidate c.decide-decision.result.opens c.decide-decision.result.verdict
     = is_decided _ s c.args.frame.now c.args.packets c.args.queued c.decide-decision.result.kept c.decide-decision.result.candidate c.decide-decision.result.opens c.decide-decision.result.verdict
     c.requires at above room c.decide-decision.ensures.kept
     (c.decide-decision.ensures.kept_stands (passed_at s c.args.frame.now) at.numbers (above_at c.args.frame.now s above))
     c.decide-decision.ensures.candidate c.decide-decision.ensures.opens c.decide-decision.ensures.verdict in
-    stands_passed c.begin_epoch.new.self c.pass.new.self s c.args.frame.now c.args.packets (c.begin_epoch.ensures s h) above
+    stands_passed c.begin_epoch.new.self c.pass.new.self s c.args.frame.now c.args.packets (c.begin_epoch.ensures.stands s h) above
     (passes_where s c.args.frame.now c.args.packets (sym d.verdict ∙ c.in-Passed.is)) c.pass.ensures.wish c.pass.ensures.epoch
     (c.pass.ensures.target ∙ d.chosen) c.pass.ensures.key_passed c.pass.ensures.numbers
 
 pub returns-in-Passed-clause-top : goal.returns-in-Passed-clause-top
 returns-in-Passed-clause-top c = λ s h above room passed.
-    let at = subst (λ (x : Seen). StandsAt x s c.args.frame.now) (sym c.self.view_is) (c.begin_epoch.ensures s h) in
+    let at = subst (λ (x : Seen). StandsAt x s c.args.frame.now) (sym c.self.view_is) (c.begin_epoch.ensures.stands s h) in
     let d : IsDecided s c.args.frame.now c.args.packets c.decide-decision.result.kept c.decide-decision.result.candidate c.decide-decision.result.opens c.decide-decision.result.verdict
     = is_decided _ s c.args.frame.now c.args.packets c.args.queued c.decide-decision.result.kept c.decide-decision.result.candidate c.decide-decision.result.opens c.decide-decision.result.verdict
     c.requires at above room c.decide-decision.ensures.kept
@@ -40,7 +40,7 @@ returns-in-Passed-clause-top c = λ s h above room passed.
 
 pub returns-in-Passed-clause-opened : goal.returns-in-Passed-clause-opened
 returns-in-Passed-clause-opened c = λ s h above room passed.
-    let at = subst (λ (x : Seen). StandsAt x s c.args.frame.now) (sym c.self.view_is) (c.begin_epoch.ensures s h) in
+    let at = subst (λ (x : Seen). StandsAt x s c.args.frame.now) (sym c.self.view_is) (c.begin_epoch.ensures.stands s h) in
     let d : IsDecided s c.args.frame.now c.args.packets c.decide-decision.result.kept c.decide-decision.result.candidate c.decide-decision.result.opens c.decide-decision.result.verdict
     = is_decided _ s c.args.frame.now c.args.packets c.args.queued c.decide-decision.result.kept c.decide-decision.result.candidate c.decide-decision.result.opens c.decide-decision.result.verdict
     c.requires at above room c.decide-decision.ensures.kept
@@ -51,7 +51,7 @@ returns-in-Passed-clause-opened c = λ s h above room passed.
 pub returns-in_default : goal.returns-in_default
 returns-in_default c = record {
   verdict = λ s h above room.
-      let at = subst (λ (x : Seen). StandsAt x s c.args.frame.now) (sym c.self.view_is) (c.begin_epoch.ensures s h) in
+      let at = subst (λ (x : Seen). StandsAt x s c.args.frame.now) (sym c.self.view_is) (c.begin_epoch.ensures.stands s h) in
       let d : IsDecided s c.args.frame.now c.args.packets c.decide-decision.result.kept c.decide-decision.result.candidate c.decide-decision.result.opens c.decide-decision.result.verdict
       = is_decided _ s c.args.frame.now c.args.packets c.args.queued c.decide-decision.result.kept c.decide-decision.result.candidate c.decide-decision.result.opens c.decide-decision.result.verdict
       c.requires at above room c.decide-decision.ensures.kept
@@ -59,13 +59,13 @@ returns-in_default c = record {
       c.decide-decision.ensures.candidate c.decide-decision.ensures.opens c.decide-decision.ensures.verdict in
       d.verdict;
   stands = λ s h above room.
-      let at = subst (λ (x : Seen). StandsAt x s c.args.frame.now) (sym c.self.view_is) (c.begin_epoch.ensures s h) in
+      let at = subst (λ (x : Seen). StandsAt x s c.args.frame.now) (sym c.self.view_is) (c.begin_epoch.ensures.stands s h) in
       let d : IsDecided s c.args.frame.now c.args.packets c.decide-decision.result.kept c.decide-decision.result.candidate c.decide-decision.result.opens c.decide-decision.result.verdict
       = is_decided _ s c.args.frame.now c.args.packets c.args.queued c.decide-decision.result.kept c.decide-decision.result.candidate c.decide-decision.result.opens c.decide-decision.result.verdict
       c.requires at above room c.decide-decision.ensures.kept
       (c.decide-decision.ensures.kept_stands (passed_at s c.args.frame.now) at.numbers (above_at c.args.frame.now s above))
       c.decide-decision.ensures.candidate c.decide-decision.ensures.opens c.decide-decision.ensures.verdict in
-      stands_withheld c.begin_epoch.new.self c.withhold.new.self s c.args.frame.now c.args.packets (c.begin_epoch.ensures s h)
+      stands_withheld c.begin_epoch.new.self c.withhold.new.self s c.args.frame.now c.args.packets (c.begin_epoch.ensures.stands s h)
       (fails_where s c.args.frame.now c.args.packets (λ v. c.in_default.not-Passed (d.verdict ∙ v)))
       (ap (λ (x : Seen). x.wish) c.withhold.ensures) (ap (λ (x : Seen). x.epoch) c.withhold.ensures) (ap (λ (x : Seen). x.target) c.withhold.ensures ∙ d.kept)
       (ap (λ (x : Seen). x.key_passed) c.withhold.ensures) (ap (λ (x : Seen). x.numbers) c.withhold.ensures);
@@ -74,4 +74,5 @@ returns-in_default c = record {
   opened = λ s h above room passed. absurd (c.in_default.not-Passed passed);
   not_top = λ withheld. ap (λ (x : Seen). x.top) c.withhold.ensures;
   not_opened = λ withheld. ap (λ (x : Seen). x.opened) c.withhold.ensures;
+  newest = ap (λ (x : Seen). x.newest) c.withhold.ensures ∙ c.begin_epoch.ensures.newest;
 }
