@@ -1,25 +1,26 @@
--- An IVF file: a header, and units of frames with one RTP timestamp. The form is the one that `dav1d`, `ffmpeg` and libvpx read and write; its
--- numbers have the lowest byte first. RTP Payload Format For AV1, section 5: the frames with one timestamp are one temporal unit, which a
--- temporal delimiter begins. The code keeps the whole file, and changes the two counts where a frame ends.
+-- An IVF file of AV1: a header, and temporal units, each with its size and its time. IVF has no standard; this is the form that `dav1d`, `ffmpeg`
+-- and libvpx read, with the lowest byte of a number first. A temporal unit begins with a temporal delimiter (AV1 Bitstream Specification, section
+-- 7.5), and its frames have one RTP timestamp, of 90,000 ticks a second (RTP Payload Format For AV1, section 4.1). Where units end is an own
+-- rule. The code keeps the file whole, and writes the newest unit's size and the number of units anew where a frame ends.
 use Rattle.std.specs.Prelude.{ℕ, ◌+◌, ◌-◌, ◌%◌, ◌^◌, ◌==◌, ◌&&◌, Bool, nat_le, if◌then◌else◌, List, [], ◌∷◌, ◌++◌, length, codes, Option, Some, None}
 use Rattle.std.specs.Int.{to_le_bytes, w16, w32, w64}
 use Rattle.std.specs.List.{flat_map}
 use Rattle.dd_structure.specs.TemplateStructure.{TemplateStructure}
 
--- ---- units
+-- ---- temporal units
 
--- what is recorded of a frame: its timestamp, and the bytes of its OBUs
+-- what is recorded of a frame: its RTP timestamp, and the bytes of its OBUs
 pub record RecordedFrame : Type 0 where
   pub timestamp : ℕ
   pub bytes : List ℕ
 
--- the frames with one timestamp: that, when they are shown, and a temporal delimiter with their OBUs
+-- a run of frames with one RTP timestamp: that, the time in ticks since the first unit, and a temporal delimiter with the OBUs of the frames
 pub record TemporalUnit : Type 0 where
   pub timestamp : ℕ
   pub time : ℕ
   pub bytes : List ℕ
 
--- a temporal delimiter with a size field, which is 0
+-- a temporal delimiter: obu_type 2, obu_has_size_field 1, and a size field of 0
 abbrev pub delimiter : List ℕ
 delimiter = 18 ∷ 0 ∷ []
 
@@ -37,7 +38,7 @@ grown unit content = record { timestamp = unit.timestamp; time = unit.time; byte
 abbrev pub joins : TemporalUnit → RecordedFrame → Bool
 joins unit content = unit.timestamp == content.timestamp && nat_le (length unit.bytes + length content.bytes) most_unit
 
--- by how much a timestamp is after another, modulo 2^32
+-- how many ticks a timestamp is after another, modulo 2^32
 abbrev pub ticks_after : ℕ → ℕ → ℕ
 ticks_after before later = (later + 2 ^ 32 - before) % 2 ^ 32
 
@@ -58,7 +59,7 @@ units_of (content ∷ more) = units_from (begins 0 content) more
 
 -- ---- the file
 
--- a unit's size, its time, and its bytes
+-- a unit's size in bytes, its time, and its bytes
 abbrev pub unit_bytes : TemporalUnit → List ℕ
 unit_bytes unit = to_le_bytes w32 (length unit.bytes % 2 ^ 32) ++ (to_le_bytes w64 unit.time ++ unit.bytes)
 
@@ -80,11 +81,11 @@ abbrev pub size_in : Option TemplateStructure → Size
 size_in None = no_size
 size_in (Some structure) = last_size structure.resolutions
 
--- DKIF, version 0, the length of the header, AV01
+-- `DKIF`, version 0, the length of the header in bytes, and the codec's name
 abbrev pub signature : List ℕ
 signature = codes "DKIF" ++ to_le_bytes w16 0 ++ to_le_bytes w16 32 ++ codes "AV01"
 
--- 90,000 ticks in a second
+-- the rate of the times: 90,000 ticks in 1 second
 abbrev pub rate_bytes : List ℕ
 rate_bytes = to_le_bytes w32 90000 ++ to_le_bytes w32 1
 

@@ -11,7 +11,7 @@ use std::alloc::Global;
 /// The most bytes of a unit of more than one frame.
 const MOST_UNIT: usize = 16_777_216;
 
-/// Where the width, and behind it the height, stands in the header.
+/// Where the width stands in the header, with the height behind it.
 const SIZE_AT: usize = 12;
 
 /// Where the number of units stands.
@@ -45,7 +45,7 @@ pub struct IvfFile {
     pub bytes: Vec<u8>,
     /// Whether there is a unit.
     pub begun: bool,
-    /// Where the newest unit begins, its timestamp, and its time.
+    /// Where the newest unit begins, its RTP timestamp, and its time in ticks since the first unit.
     pub at: usize,
     pub timestamp: u32,
     pub time: u64,

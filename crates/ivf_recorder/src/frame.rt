@@ -12,7 +12,7 @@ use std::alloc::Global;
 /// the first is empty.
 #[derive(Drop)]
 pub struct OpenFrame {
-    /// That of the first packet, if one came.
+    /// The RTP timestamp of the first packet, if one came.
     pub timestamp: Option<u32>,
     pub bytes: Vec<u8>,
     pub cuts: Vec<usize>,
