@@ -1,14 +1,13 @@
 -- A frame more in a file, as the code puts it there.
-use Rattle.std.proofs.Common.{◌≡◌, ℕ, ◌+◌, ◌-◌, ◌%◌, ◌^◌, ◌≤◌, Bool, true, List, [], ◌∷◌, ◌++◌, length, Option, Some, None, refl, sym, ap, subst, ◌∙◌, arith}
+use Rattle.std.proofs.Common.{◌≡◌, ℕ, ◌+◌, ◌-◌, ◌%◌, ◌^◌, ◌≤◌, Bool, true, List, [], ◌∷◌, ◌++◌, length, Option, Some, None, refl, sym, ap, subst, ◌∙◌}
 use Rattle.std.specs.Int.{to_le_bytes, w32, w64}
-use Rattle.std.proofs.lemmas.List.{length-append}
 use Rattle.ivf_recorder.specs.declared.file.Growth.TheVariants.{Grown, TooLong}
 use Rattle.ivf_recorder.specs.declared.file.IvfFile.{IvfFile}
 use Rattle.ivf_recorder.specs.Added.{Adds, BeginsUnit, Grows, HasSameUnit, IsNextTime, TellsUnit, TellsUnitSize, content, timestamp_in}
 use Rattle.ivf_recorder.specs.Files.{HasNewest, IsFileOf, IsNewest}
 use Rattle.ivf_recorder.specs.Laid.{Lays}
 use Rattle.ivf_recorder.specs.Obus.{Obu, all_bytes}
-use Rattle.ivf_recorder.specs.Units.{RecordedFrame, Size, begins, delimiter, most_unit, units_of}
+use Rattle.ivf_recorder.specs.Units.{RecordedFrame, Size, delimiter, most_unit}
 use Rattle.ivf_recorder.proofs.FileLemmas.{apart_file, joined_file, new_unit}
 
 -- the newest unit of these numbers, where they are the file's

@@ -9,8 +9,8 @@ use Rattle.forwarding_model.specs.forwarding.Timeline.{Packet}
 use Rattle.forwarding_model.specs.frames.Reading.{Descriptor, DescriptorReading, Joins, Payload, Showing, has_structure, is_key_start, keeps_structure, obeys_structure, shown_by}
 use Rattle.forwarding_model.specs.frames.Reading.DescriptorReading.{NeedsStructure, Faulty, Reads}
 use Rattle.forwarding_model.specs.frames.Reading.Payload.{Empty as NoBytes, Broken, Elements}
-use Rattle.forwarding_model.specs.frames.Reading.Showing.{LacksStructure, Unread, Shows}
-use Rattle.forwarding_model.specs.Receiver.{Judged, OpenFrame, Reception, Receiver, accepted, after_end, first_packet, judge, new_reception, next_packet, receive, receive_packet, structure_after, unread, with_frame, with_part, with_payload, with_showing}
+use Rattle.forwarding_model.specs.frames.Reading.Showing.{Unread, Shows}
+use Rattle.forwarding_model.specs.Receiver.{Judged, OpenFrame, Reception, Receiver, accepted, after_end, first_packet, judge, new_reception, next_packet, receive, receive_packet, structure_after, with_frame, with_part, with_payload, with_showing}
 use Rattle.forwarding_model.specs.Receiver.Judged.{Complete, Lacks}
 use Rattle.forwarding_model.specs.Receiver.Receiver.{Waiting, Receiving, Complaining}
 use Rattle.dd_structure.specs.TemplateStructure.{TemplateStructure}

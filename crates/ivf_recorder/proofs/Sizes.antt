@@ -1,6 +1,5 @@
 -- How long units get: an OBU has at most five bytes more than its element, elements are parts of packets, and a frame has at most 512 packets.
-use Rattle.std.proofs.Common.{◌≡◌, ℕ, zero, suc, ◌+◌, ◌-◌, ◌*◌, ◌/◌, ◌%◌, ◌^◌, ◌==◌, ◌<◌, ◌≤◌, Bool, true, false, cond, not, nat_lt, ◌&&◌, List, [], ◌∷◌, ◌++◌, length, map, take, drop, Option, Some, None, Result, Ok, Err, refl, sym, ap, subst, ◌∙◌, arith}
-use Rattle.std.specs.Prelude.{nat_le}
+use Rattle.std.proofs.Common.{◌≡◌, ℕ, zero, suc, ◌+◌, ◌-◌, ◌*◌, ◌/◌, ◌==◌, ◌<◌, ◌≤◌, Bool, true, false, cond, nat_lt, List, [], ◌∷◌, ◌++◌, length, map, take, drop, Option, Some, None, Result, Ok, Err, refl, ap, arith}
 use Rattle.std.specs.Option.{option_map}
 use Rattle.std.proofs.lemmas.Grind.{common_steps}
 use Rattle.std.proofs.lemmas.List.{length-append, length-drop, length-take}
@@ -10,7 +9,7 @@ use Rattle.rtp_packet.specs.Fields.{behind_csrcs, behind_extension, behind_heade
 use Rattle.av1_payload.specs.declared.fault.PayloadFault.{PayloadFault}
 use Rattle.av1_payload.specs.Reading.{and_behind, count_in, counted_from, elements_of, found_behind, front_element, groups_at, length_at, sized_at, sized_from}
 use Rattle.av1_payload.proofs.Groups.{length_takes}
-use Rattle.ivf_recorder.specs.Elements.{Part, add_elements, continued, elements_over, joined_onto, no_elements, onto_last, part_of}
+use Rattle.ivf_recorder.specs.Elements.{add_elements, elements_over, joined_onto, no_elements, onto_last, part_of}
 use Rattle.ivf_recorder.specs.Frames.{AreShort}
 use Rattle.ivf_recorder.specs.Leb.{least_leb, leb_within}
 use Rattle.ivf_recorder.specs.Obus.{Obu, all_bytes, behind_size, both, is_left_out, obu_bytes, obu_unless, obu_with, obus_in, obus_of, payload_in, unless_left_out}

@@ -1,5 +1,5 @@
 -- The frames of packets of at most 2,048 bytes make units of less than 2^32 bytes.
-use Rattle.std.proofs.Common.{◌≡◌, ℕ, ◌+◌, ◌%◌, ◌^◌, ◌<◌, ◌≤◌, ◌==◌, ◌&&◌, Bool, true, false, cond, not, nat_lt, List, [], ◌∷◌, ◌++◌, length, Option, Some, None, refl, sym, ap, subst, ◌∙◌, arith}
+use Rattle.std.proofs.Common.{◌≡◌, ℕ, ◌+◌, ◌%◌, ◌^◌, ◌<◌, ◌≤◌, ◌==◌, ◌&&◌, Bool, true, false, cond, not, nat_lt, List, [], ◌∷◌, ◌++◌, length, Option, Some, None, refl, arith}
 use Rattle.std.specs.Prelude.{nat_le}
 use Rattle.std.specs.Bool.{beq}
 use Rattle.std.specs.Option.{option_map}
@@ -12,7 +12,7 @@ use Rattle.forwarding_model.specs.forwarding.Timeline.{Packet}
 use Rattle.forwarding_model.specs.frames.Reading.{Descriptor, DescriptorReading, Joins, Payload, Showing, obeys_structure, shown_by}
 use Rattle.forwarding_model.specs.frames.Reading.DescriptorReading.{NeedsStructure, Faulty, Reads}
 use Rattle.forwarding_model.specs.frames.Reading.Payload.{Empty as NoBytes, Broken, Elements}
-use Rattle.forwarding_model.specs.frames.Reading.Showing.{LacksStructure, Unread, Shows}
+use Rattle.forwarding_model.specs.frames.Reading.Showing.{Unread, Shows}
 use Rattle.forwarding_model.specs.Receiver.{Judged, OpenFrame, Reception, Receiver, accepted, after_end, first_packet, judge, new_reception, next_packet, receive, receive_packet, structure_after, unread, with_frame, with_part, with_payload, with_showing}
 use Rattle.forwarding_model.specs.Receiver.Judged.{Complete, Lacks}
 use Rattle.forwarding_model.specs.Receiver.Receiver.{Waiting, Receiving, Complaining}
@@ -21,7 +21,7 @@ use Rattle.rtp_packet.specs.Faults.{first_fault}
 use Rattle.packet_format.specs.Formats.{format_of}
 use Rattle.packet_format.specs.Packets.{packet_of, read_packet, without_fault}
 use Rattle.ivf_recorder.specs.Elements.{elements_over}
-use Rattle.ivf_recorder.specs.Frames.{AreShort, Gathered, WholeFrame, before_fault, content_of, contents_of, contents_over, first_timestamp, gather, gather_all, gathered_over, nothing_gathered}
+use Rattle.ivf_recorder.specs.Frames.{AreShort, Gathered, WholeFrame, before_fault, contents_of, contents_over, first_timestamp, gather, gather_all, gathered_over, nothing_gathered}
 use Rattle.ivf_recorder.specs.Obus.{Obu, all_bytes, obus_in}
 use Rattle.ivf_recorder.specs.Units.{RecordedFrame, TemporalUnit, begins, grown, joins, most_unit, next_time, units_from, units_of}
 use Rattle.ivf_recorder.proofs.Sizes.{frame_weighs}

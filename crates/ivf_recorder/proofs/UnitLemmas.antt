@@ -1,6 +1,5 @@
 -- One frame more in a file's units.
 use Rattle.std.proofs.Common.{◌≡◌, Bool, true, false, cond, List, [], ◌∷◌, ◌++◌, refl, sym, ap, ◌∙◌}
-use Rattle.std.specs.List.{AllByRecursion}
 use Rattle.ivf_recorder.specs.Units.{RecordedFrame, TemporalUnit, begins, grown, joins, next_time, units_from, units_of}
 
 -- the units that a unit becomes with a frame more

@@ -1,5 +1,5 @@
 -- What the growing file stands for.
-use Rattle.std.specs.Prelude.{◌≡◌, ◌+◌, ◌%◌, ◌^◌, ◌<◌, ℕ, Bool, true, false, List, [], ◌∷◌, ◌++◌, length}
+use Rattle.std.specs.Prelude.{◌≡◌, ◌+◌, ◌%◌, ◌^◌, ℕ, Bool, true, false, List, [], ◌∷◌, ◌++◌, length}
 use Rattle.std.specs.List.{flat_map}
 use Rattle.ivf_recorder.specs.declared.file.IvfFile.{IvfFile}
 use Rattle.ivf_recorder.specs.Units.{RecordedFrame, TemporalUnit, Size, ivf, unit_bytes, units_of}
