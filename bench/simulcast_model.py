@@ -792,30 +792,37 @@ def lines_of(seed):
     """The lines of a random script."""
     dice = random.Random(seed)
     moment, streams, subscribers, lines = 0, [], [], []
+    usual = dice.choice([4, 4, 4, 1, 14, 200])
     for track in range(1, dice.choice([2, 3, 3, 4]) + 1):
-        name = dice.choice([4, 4, 4, 4, 5, 200])
+        name = usual if dice.random() < .95 else 5
         ssrc = 0x11111111 * track
         if dice.random() < .04:
             lines.append('publish %d plain %08x %d' % (track, ssrc, dice.choice([0, 50])))
         else:
             lines.append('publish %d layered %08X %d %d' % (track, ssrc, dice.choice([0, 50, 100]), name))
         streams.append(Stream(dice, track, ssrc, name))
-    for number in range(1, dice.choice([3, 4, 6, 8]) + 1):
+    for number in range(1, dice.choice([4, 6, 8, 9]) + 1):
         track = dice.choice(streams).track if number > len(streams) else streams[number - 1].track
         lines.append('join %d %d %08x %d %d %d' % (number, track, 0x22222220 + number, dice.choice([0, 10, 65534]), dice.choice([0, 1, 3]), dice.choice([0, 1, 7])))
         subscribers.append(number)
 
+    bound = []
+
     def bundle(number):
         count = dice.choice([2, 2, 3])
-        legs = dice.sample(subscribers, min(count, len(subscribers))) if dice.random() < .9 else [dice.choice(subscribers + [99]) for _ in range(count)]
-        return 'bundle %d %d %08x %d %s' % (number, dice.choice([4, 4, 4, 4, 4, 5, 200]), 0x55555555, dice.choice([0, 10, 65530]), ' '.join(map(str, legs)))
+        unbound = [s for s in subscribers if s not in bound] if dice.random() < .8 else subscribers
+        legs = dice.sample(unbound, count) if dice.random() < .9 and len(unbound) >= count else [dice.choice(subscribers + [99] * (dice.random() < .3)) for _ in range(count)]
+        bound.extend(legs)
+        return 'bundle %d %d %08x %d %s' % (number, usual if dice.random() < .9 else 5, 0x55555555, dice.choice([0, 10, 65530]), ' '.join(map(str, legs)))
 
-    lines.append(bundle(1))
-    others = 1
+    others = 0
+    for _ in range(dice.choice([1, 2, 3])):
+        others += 1
+        lines.append(bundle(others))
     for _ in range(dice.choice([30, 60, 120])):
         word = dice.choices(['frame', 'pump', 'draw', 'choose', 'redraw', 'tick', 'bundle', 'room', 'many', 'broken'],
-                            [40, 18, 14, 8, 4, 5, 2, 8, .3, .3])[0]
-        number = dice.choice([1, 1, 1, min(2, others), others, others + 1])
+                            [40, 18, 14, 8, 4, 5, 3, 8, .3, .15])[0]
+        number = dice.choice([1, 1, 1, 1, min(2, others), min(2, others), others, others, others, others + 1])
         if word == 'frame' or word == 'many':
             for _ in range(1 if word == 'frame' else dice.choice([20, 300, 600])):
                 stream = dice.choice(streams)
@@ -824,7 +831,7 @@ def lines_of(seed):
         elif word == 'pump':
             lines.append('pump %d' % number)
         elif word == 'draw':
-            lines += ['draw %d' % number] * dice.choice([1, 1, 2, 5, 40])
+            lines += ['draw %d' % number] * (1 if number > others else dice.choice([1, 1, 2, 5, 5, 600 if dice.random() < .05 else 12]))
         elif word == 'choose':
             lines.append('choose %d %d' % (number, dice.choice([1, 2, 2, 3, 0, 4])))
         elif word == 'redraw':
