@@ -1,5 +1,3 @@
-pub mod ShortIn
-pub mod ShortOut
 pub mod Waiting
 pub mod Taking
 pub mod OneTake

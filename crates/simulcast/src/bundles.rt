@@ -280,12 +280,7 @@ impl<R: Recorder> Bundles<R> {
 
     /// Chooses a leg, counted from 1, and asks for a key frame of it where it isn't active. `NoBundle`; `NoLeg`: the bundle has no such leg;
     /// `NoMemory`: the room refused to be asked, and the leg is chosen.
-    pub fn choose(
-        &mut self,
-        number: u32,
-        leg: u8,
-        scratch: &mut Scratch,
-    ) -> Result<(), BundleFault>
+    pub fn choose(&mut self, number: u32, leg: u8, scratch: &mut Scratch) -> Result<(), BundleFault>
         ensures chooses { Chooses R.noted self.old self.new number leg result }
         ensures memory { StarvesBy R.may_refuse self.old result }
         ensures recorder { may_starve R.may_refuse self.new ≡ may_starve R.may_refuse self.old }

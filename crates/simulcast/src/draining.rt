@@ -38,7 +38,7 @@ fn drain<R: Recorder>(
         if is_starved(&reply) {
             return Err(NoMemory);
         }
-        if !is_packet(&reply, &scratch.packet) {
+        if !is_packet(&reply) {
             return Ok(count);
         }
         bundle.take_in(leg, &mut scratch.packet, newest);

@@ -14,3 +14,6 @@ pub use bundles::Bundles;
 pub use fault::BundleFault;
 pub use laws::{key_starts_go_out_once_the_active_leg_is_drained, what_was_drawn_stays};
 pub use pumped::Pumped;
+
+#[cfg(test)]
+mod tests;

@@ -7,10 +7,10 @@ returns-in_default-clause-draws g c = λ h stands. draws_none g.R.Recorder.noted
 
 pub returns-in-Ok-clause-draws : goal.returns-in-Ok-clause-draws
 returns-in-Ok-clause-draws g c = λ h stands.
-      draws_ok g.R.Recorder.noted c.args.self.now _ c.args.number h stands c.in-Some.place c.index_mut.result.now c.in-Some.ensures c.index_mut.ensures.value c.draw.new.self refl refl c.in-Ok.seq
-      c.draw.new.out c.in-Ok.ensures.draws
+    draws_ok g.R.Recorder.noted c.args.self.now _ c.args.number h stands c.in-Some.place c.index_mut.result.now c.in-Some.ensures c.index_mut.ensures.value c.draw.new.self refl refl c.in-Ok.seq
+    c.draw.new.out c.in-Ok.ensures.draws
 
 pub returns-in-Err-clause-draws : goal.returns-in-Err-clause-draws
 returns-in-Err-clause-draws g c = λ h stands.
-      draws_err g.R.Recorder.noted c.args.self.now _ c.args.number h stands c.in-Some.place c.index_mut.result.now c.in-Some.ensures c.index_mut.ensures.value c.draw.new.self refl refl c.in-Err.why
-      c.draw.new.out c.in-Err.ensures.draws
+    draws_err g.R.Recorder.noted c.args.self.now _ c.args.number h stands c.in-Some.place c.index_mut.result.now c.in-Some.ensures c.index_mut.ensures.value c.draw.new.self refl refl c.in-Err.why
+    c.draw.new.out c.in-Err.ensures.draws

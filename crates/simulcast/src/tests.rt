@@ -1,0 +1,246 @@
+// Bundles of a room's layered tracks. The packets are laid as RFC 3550 and RFC 8285 lay them, the descriptors as Appendix A of RTP Payload
+// Format For AV1 does; what is wanted is worked out by hand from the rules.
+
+use crate::{BundleFault, Bundles, Pumped};
+use room_core::{KeepNone, Room};
+use sfu_base::{Call, Kind, PacketBuf, Refusal, Reply, Scratch, SeqList, Wish};
+use std::process::Abort;
+use std::test::Fail;
+
+const LAYERED: Kind = Kind::Layered { id: 4 };
+
+// A call and its answer.
+#[derive(Clone, Copy)]
+enum Step {
+    // Of a kind, with a number and an SSRC.
+    Publish(Kind, u32, u32),
+    // Subscriber, track, and the answer.
+    Join(u32, u32),
+    // Of track 1 or 2: sequence number and descriptor.
+    Came(u32, u16, &'static [u8]),
+    Take(u32, Result<Reply, BundleFault>),
+    Leave(u32, Result<Reply, BundleFault>),
+    KeyWanted(u32, bool),
+    // Number, header extension id, legs.
+    Bundle(u32, u8, &'static [u32], Result<(), BundleFault>),
+    Choose(u32, u8, Result<(), BundleFault>),
+    Pump(u32, Result<Pumped, BundleFault>),
+    Draw(u32, Result<u16, BundleFault>, &'static [u8]),
+    Redraw(u32, u16, Result<(), BundleFault>, &'static [u8]),
+}
+
+fn pumped(forwarded: u32, dropped: u32) -> Result<Pumped, BundleFault> {
+    Ok(Pumped { forwarded, dropped })
+}
+
+// Key frames 1 and 3 of one decode target, and frames 2 and 3 that refer to the one before.
+const KEY_1: &[u8] = b"\x00\x03\x48\xc0\x00\x01\x80\x00\x3a\x41\x01\x00\x00\x00\x18\x30\x00";
+
+const KEY_3: &[u8] = b"\x00\x03\x48\xc0\x00\x03\x80\x00\x3a\x41\x01\x00\x00\x00\x18\x30\x00";
+
+const FRAME_2: &[u8] = b"\x00\x01\x42\xc1\x00\x02\x10\x30\x00";
+
+const FRAME_3: &[u8] = b"\x00\x01\x42\xc1\x00\x03\x10\x30\x00";
+
+// The first one as it goes out, with the mask of its target, and the others behind it; the last one 3,000 behind them, as leg 2 is active then.
+const OUT_10: &[u8] =
+    b"\x90\xe0\x00\x0a\x00\x00\x00\x00\x55\x55\x55\x55\xbe\xde\x00\x03\x48\xc0\x00\x01\xc0\x00\x3a\x41\x01\x40\x00\x00\x18\x30\x00";
+
+const OUT_11: &[u8] =
+    b"\x90\xe0\x00\x0b\x00\x00\x00\x00\x55\x55\x55\x55\xbe\xde\x00\x01\x42\xc1\x00\x02\x10\x30\x00";
+
+const OUT_12: &[u8] =
+    b"\x90\xe0\x00\x0c\x00\x00\x00\x00\x55\x55\x55\x55\xbe\xde\x00\x01\x42\xc1\x00\x03\x10\x30\x00";
+
+const OUT_13: &[u8] =
+    b"\x90\xe0\x00\x0d\x00\x00\x0b\xb8\x55\x55\x55\x55\xbe\xde\x00\x03\x48\xc0\x00\x03\xc0\x00\x3a\x41\x01\x40\x00\x00\x18\x30\x00";
+
+// A packet with the marker, of one frame.
+fn packet(track: u32, seq: u16, rest: &[u8]) -> PacketBuf {
+    let [high, low] = seq.to_be_bytes();
+    let ssrc = if track == 1 { 0x11 } else { 0x44 };
+    let mut packet = PacketBuf::new();
+    packet.fill(&[
+        0x90, 0xe0, high, low, 0, 0, 0, 0, ssrc, ssrc, ssrc, ssrc, 0xbe, 0xde,
+    ]);
+    if rest.len() <= 100 {
+        packet.append(rest);
+    }
+    packet
+}
+
+fn call(
+    rt: &impl Abort,
+    bundles: &mut Bundles<KeepNone>,
+    call: Call,
+    wanted: Result<Reply, BundleFault>,
+) {
+    let mut scratch = Scratch {
+        packet: PacketBuf::new(),
+        names: SeqList::new(),
+    };
+    assert_eq!(rt; bundles.call(0, &call, &mut scratch), wanted);
+}
+
+fn room_step(rt: &impl Abort, bundles: &mut Bundles<KeepNone>, step: Step) {
+    let done = Ok(Reply::Done);
+    match step {
+        Step::Publish(kind, track, ssrc) => {
+            let begins = Call::Publish {
+                track,
+                kind,
+                ssrc,
+                hold: 100,
+            };
+            call(rt, bundles, begins, done);
+        }
+        Step::Join(subscriber, track) => {
+            let joins = Call::Join {
+                subscriber,
+                track,
+                ssrc: 0x2222_2222,
+                first: 0,
+                wish: Wish {
+                    spatial: 0,
+                    temporal: 0,
+                },
+            };
+            call(rt, bundles, joins, done);
+        }
+        Step::Came(track, seq, rest) => {
+            let came = Call::Packet {
+                track,
+                moment: 0,
+                bytes: packet(track, seq, rest),
+            };
+            call(rt, bundles, came, done);
+        }
+        Step::Take(subscriber, wanted) => call(rt, bundles, Call::Take { subscriber }, wanted),
+        Step::Leave(subscriber, wanted) => call(rt, bundles, Call::Leave { subscriber }, wanted),
+        Step::KeyWanted(track, wanted) => {
+            call(
+                rt,
+                bundles,
+                Call::KeyWanted { track },
+                Ok(Reply::Key { wanted }),
+            );
+        }
+        _ => {}
+    }
+}
+
+fn bundle_step(rt: &impl Abort, bundles: &mut Bundles<KeepNone>, step: Step) {
+    let mut scratch = Scratch {
+        packet: PacketBuf::new(),
+        names: SeqList::new(),
+    };
+    let mut out = PacketBuf::new();
+    match step {
+        Step::Bundle(number, id, legs, wanted) => {
+            if legs.len() >= 2 && legs.len() <= 3 {
+                assert_eq!(rt; bundles.bundle(number, id, 0x5555_5555, 10, legs), wanted);
+            }
+        }
+        Step::Choose(number, leg, wanted) => {
+            assert_eq!(rt; bundles.choose(number, leg, &mut scratch), wanted);
+        }
+        Step::Pump(number, wanted) => {
+            assert_eq!(rt; bundles.pump(number, &mut scratch), wanted);
+        }
+        Step::Draw(number, wanted, bytes) => {
+            assert_eq!(rt; bundles.draw(number, &mut out), wanted);
+            assert_eq!(rt; out.bytes(), bytes);
+        }
+        Step::Redraw(number, seq, wanted, bytes) => {
+            assert_eq!(rt; bundles.redraw(number, seq, &mut out), wanted);
+            assert_eq!(rt; out.bytes(), bytes);
+        }
+        _ => {}
+    }
+}
+
+#[test]
+fn one_stream_goes_out_of_two_tracks(rt: HostRuntime) {
+    let bound = BundleFault::Bound { bundle: 1 };
+    let not_kept = Refusal::NotKept {
+        oldest: 10,
+        next: 14,
+    };
+    let steps = [
+        Step::Publish(LAYERED, 1, 0x1111_1111),
+        Step::Publish(LAYERED, 2, 0x4444_4444),
+        Step::Publish(Kind::Plain, 3, 0x7777_7777),
+        Step::Join(1, 1),
+        Step::Join(2, 2),
+        Step::Bundle(0, 4, &[1, 2], Err(BundleFault::NumberUsed { highest: 0 })),
+        Step::Bundle(1, 4, &[1, 2], Ok(())),
+        Step::Came(1, 1000, KEY_1),
+        Step::Came(2, 2000, KEY_1),
+        Step::Pump(1, pumped(1, 1)),
+        Step::KeyWanted(2, false),
+        Step::Choose(1, 2, Ok(())),
+        Step::KeyWanted(2, true),
+        Step::Came(1, 1001, FRAME_2),
+        Step::Came(2, 2001, FRAME_2),
+        Step::Pump(1, pumped(1, 1)),
+        Step::Came(2, 2002, KEY_3),
+        Step::Came(1, 1002, FRAME_3),
+        Step::Pump(1, pumped(2, 0)),
+        Step::Draw(1, Ok(10), OUT_10),
+        Step::Draw(1, Ok(11), OUT_11),
+        Step::Draw(1, Ok(12), OUT_12),
+        Step::Draw(1, Ok(13), OUT_13),
+        Step::Draw(1, Err(BundleFault::Room(Refusal::Empty)), &[]),
+        Step::Redraw(1, 12, Ok(()), OUT_12),
+        Step::Redraw(1, 14, Err(BundleFault::Room(not_kept)), &[]),
+        Step::Pump(1, pumped(0, 0)),
+        // the active leg is not asked for a key frame
+        Step::Choose(1, 2, Ok(())),
+        Step::KeyWanted(2, false),
+        // what is refused, in the order of the refusals
+        Step::Take(1, Err(bound)),
+        Step::Leave(2, Err(bound)),
+        Step::Bundle(1, 5, &[1, 9], Err(BundleFault::NumberUsed { highest: 1 })),
+        Step::Bundle(2, 5, &[1, 9], Err(BundleFault::Room(Refusal::NoSubscriber))),
+        Step::Bundle(2, 5, &[1, 2], Err(bound)),
+        Step::Join(3, 1),
+        Step::Join(4, 3),
+        Step::Bundle(2, 4, &[3, 4, 3], Err(BundleFault::Bound { bundle: 2 })),
+        Step::Bundle(2, 4, &[3, 4], Err(BundleFault::WrongKind)),
+        Step::Join(5, 2),
+        Step::Bundle(2, 5, &[3, 5], Err(BundleFault::WrongKind)),
+        Step::Bundle(2, 4, &[3, 5], Ok(())),
+        Step::Choose(1, 0, Err(BundleFault::NoLeg { legs: 2 })),
+        Step::Choose(1, 3, Err(BundleFault::NoLeg { legs: 2 })),
+        Step::Choose(9, 0, Err(BundleFault::NoBundle)),
+        Step::Pump(9, Err(BundleFault::NoBundle)),
+        Step::Draw(9, Err(BundleFault::NoBundle), &[]),
+        Step::Redraw(9, 10, Err(BundleFault::NoBundle), &[]),
+        Step::Take(4, Ok(Reply::Refused(Refusal::Empty))),
+        Step::Leave(4, Ok(Reply::Done)),
+    ];
+    let mut bundles = Bundles::new(rt.alloc(), Room::new(rt.alloc(), KeepNone::new()));
+    for step in steps {
+        room_step(&rt, &mut bundles, step);
+        bundle_step(&rt, &mut bundles, step);
+    }
+}
+
+#[test]
+fn the_65th_bundle_is_one_too_many(rt: HostRuntime) {
+    let mut bundles = Bundles::new(rt.alloc(), Room::new(rt.alloc(), KeepNone::new()));
+    room_step(&rt, &mut bundles, Step::Publish(LAYERED, 1, 0x1111_1111));
+    for place in 1..66 {
+        let wanted = if place < 65 {
+            Ok(())
+        } else {
+            Err(BundleFault::TooMany { live: 64 })
+        };
+        room_step(&rt, &mut bundles, Step::Join(2 * place, 1));
+        room_step(&rt, &mut bundles, Step::Join(2 * place + 1, 1));
+        assert_eq!(rt;
+            bundles.bundle(place, 4, 0x5555_5555, 10, &[2 * place, 2 * place + 1]),
+            wanted
+        );
+    }
+}
