@@ -8,6 +8,7 @@ const by = id => document.getElementById(id);
 
 // AV1 alone, and with descriptors: browsers leave them out unless they are asked for.
 function onlyAV1(transceiver) {
+  if (!transceiver.setHeaderExtensionsToNegotiate) throw new Error('this needs a browser that is built on Chromium');
   const codecs = RTCRtpReceiver.getCapabilities('video').codecs;
   transceiver.setCodecPreferences(codecs.filter(c => c.mimeType === 'video/AV1' && !/profile=[12]/.test(c.sdpFmtpLine)));
   const extensions = transceiver.getHeaderExtensionsToNegotiate();
