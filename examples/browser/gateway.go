@@ -315,7 +315,7 @@ func (p *player) hear(line string) {
 	}
 }
 
-// An offer is posted by a page of this server, and its answer comes back with the number of the track.
+// An offer is posted by a page of this server, and its answer comes back with the number of the track and how long lost packets are waited for.
 func takeOffer(w http.ResponseWriter, r *http.Request) {
 	if origin := r.Header.Get("Origin"); r.Method != "POST" || origin != "" && origin != "http://"+r.Host {
 		http.Error(w, "this is for pages of this server", http.StatusForbidden)
@@ -332,7 +332,7 @@ func takeOffer(w http.ResponseWriter, r *http.Request) {
 		http.Error(w, err.Error(), http.StatusServiceUnavailable)
 		return
 	}
-	json.NewEncoder(w).Encode(map[string]interface{}{"track": track, "sdp": sdp})
+	json.NewEncoder(w).Encode(map[string]interface{}{"track": track, "sdp": sdp, "hold": *hold})
 }
 
 func main() {

@@ -211,8 +211,9 @@ class Measured:
         return {'framesDecoded': 0, 'bytesReceived': 0, 'nackCount': 0, **player.run("statsOf(pc, 'inbound-rtp')")}
 
     def row(self, mode, way, lost):
-        print(f'| {mode} | {way} | {lost} | {self.size} | {self.drawn} | {self.decoded} | {self.kbps} | {self.gap} | {part(self.ages, 0.5)}, {part(self.ages, 0.95)} '
-              f'| {self.nacks} | {os.getloadavg()[0]:.0f} |', flush=True)
+        ages = f'{part(self.ages, 0.5)}, {part(self.ages, 0.95)}'
+        cells = mode, way, lost, self.size, self.drawn, self.decoded, self.kbps, self.gap, ages, self.nacks, f'{os.getloadavg()[0]:.0f}'
+        print(f'| {" | ".join(map(str, cells))} |', flush=True)
 
 
 def pictures(player, since):

@@ -22,13 +22,13 @@ async function described(pc) {
   return pc.localDescription.sdp;
 }
 
-// Posts an offer and takes its answer; tells the track's number.
+// Posts an offer and takes its answer; tells the track's number, and for how many milliseconds the room waits for lost packets.
 async function connect(pc, path) {
   const reply = await fetch(path, {method: 'POST', body: await described(pc)});
   if (!reply.ok) throw new Error(await reply.text());
-  const {track, sdp} = await reply.json();
+  const {track, sdp, hold} = await reply.json();
   await pc.setRemoteDescription({type: 'answer', sdp});
-  return track;
+  return [track, hold];
 }
 
 // The channel on which the gateway tells of frames that came into the room and went out of it, `came N DESCRIPTOR` and `went N DESCRIPTOR`,
