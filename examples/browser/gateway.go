@@ -27,8 +27,8 @@ var (
 	address           = flag.String("address", "127.0.0.1", "this machine's address, at which browsers find it")
 	web               = flag.Int("http", 8080, "the TCP port of the pages")
 	base              = flag.Int("port", 7000, "the room's first UDP port; this program's lie 500 above, and that of all browsers 1,000 above")
-	forPublishers     = flag.Int("publishers", 8, "how many browsers may publish before this has to be started again")
-	forPlayers        = flag.Int("players", 40, "how many may play; with the publishers at most 63")
+	forPublishers     = flag.Int("publishers", 15, "how many browsers may publish before this has to be started again")
+	forPlayers        = flag.Int("players", 48, "how many may play; with the publishers at most 63")
 	hold              = flag.Int("hold", 300, "milliseconds for which lost packets are waited for: more than the way there and back and 50")
 	also              = flag.String("also", "/dev/null", "a file of more lines for the room, with subscribers 1 to 100 and tracks above 100")
 	dump              = flag.Bool("dump", false, "write each packet that comes from the room: its port, and its bytes in hex")
@@ -315,7 +315,7 @@ func (p *player) hear(line string) {
 	}
 }
 
-// An offer is posted by a page of this server, and its answer comes back with the number of the track.
+// An offer is posted by a page of this server, and its answer comes back with the number of the track and how long lost packets are waited for.
 func takeOffer(w http.ResponseWriter, r *http.Request) {
 	if origin := r.Header.Get("Origin"); r.Method != "POST" || origin != "" && origin != "http://"+r.Host {
 		http.Error(w, "this is for pages of this server", http.StatusForbidden)
@@ -332,7 +332,7 @@ func takeOffer(w http.ResponseWriter, r *http.Request) {
 		http.Error(w, err.Error(), http.StatusServiceUnavailable)
 		return
 	}
-	json.NewEncoder(w).Encode(map[string]interface{}{"track": track, "sdp": sdp})
+	json.NewEncoder(w).Encode(map[string]interface{}{"track": track, "sdp": sdp, "hold": *hold})
 }
 
 func main() {

@@ -134,7 +134,7 @@ class Relay:
         for way, end in enumerate(self.ends):
             end.bind(('127.0.0.1', 0))
             threading.Thread(target=self.carry, args=(way,), daemon=True).start()
-        self.share = self.lost = 0
+        self.share, self.lost, self.for_good = 0, 0, False
         Relay.all.append(self)
 
     def instead(self, sdp, which):
@@ -148,7 +148,8 @@ class Relay:
         while True:
             data, _ = self.ends[which].recvfrom(2048)
             is_rtp = len(data) > 12 and data[0] >> 6 == 2 and not 192 <= data[1] <= 223
-            if which == self.media and is_rtp and random.random() < self.share:
+            dice = random.Random(data[2:4]) if self.for_good else random   # by its number a packet is lost each time that it is sent
+            if which == self.media and is_rtp and dice.random() < self.share:
                 self.lost += 1
             elif 1 - which in self.to:
                 self.ends[1 - which].sendto(data, self.to[1 - which])
@@ -210,8 +211,9 @@ class Measured:
         return {'framesDecoded': 0, 'bytesReceived': 0, 'nackCount': 0, **player.run("statsOf(pc, 'inbound-rtp')")}
 
     def row(self, mode, way, lost):
-        print(f'| {mode} | {way} | {lost} | {self.size} | {self.drawn} | {self.decoded} | {self.kbps} | {self.gap} | {part(self.ages, 0.5)}, {part(self.ages, 0.95)} '
-              f'| {self.nacks} | {os.getloadavg()[0]:.0f} |', flush=True)
+        ages = f'{part(self.ages, 0.5)}, {part(self.ages, 0.95)}'
+        cells = mode, way, lost, self.size, self.drawn, self.decoded, self.kbps, self.gap, ages, self.nacks, f'{os.getloadavg()[0]:.0f}'
+        print(f'| {" | ".join(map(str, cells))} |', flush=True)
 
 
 def pictures(player, since):
@@ -222,9 +224,9 @@ def longest_gap(shown):
     return max((b[0] - a[0] for a, b in zip(shown, shown[1:])), default=10 ** 6)
 
 
-def lose(share):
+def lose(share, for_good=False):
     for relay in Relay.all:
-        relay.share = share
+        relay.share, relay.for_good = share, for_good and relay.media == 1
 
 
 def address(mode, port):

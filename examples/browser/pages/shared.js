@@ -8,6 +8,7 @@ const by = id => document.getElementById(id);
 
 // AV1 alone, and with descriptors: browsers leave them out unless they are asked for.
 function onlyAV1(transceiver) {
+  if (!transceiver.setHeaderExtensionsToNegotiate) throw new Error('this needs a browser that is built on Chromium');
   const codecs = RTCRtpReceiver.getCapabilities('video').codecs;
   transceiver.setCodecPreferences(codecs.filter(c => c.mimeType === 'video/AV1' && !/profile=[12]/.test(c.sdpFmtpLine)));
   const extensions = transceiver.getHeaderExtensionsToNegotiate();
@@ -21,13 +22,13 @@ async function described(pc) {
   return pc.localDescription.sdp;
 }
 
-// Posts an offer and takes its answer; tells the track's number.
+// Posts an offer and takes its answer; tells the track's number, and for how many milliseconds the room waits for lost packets.
 async function connect(pc, path) {
   const reply = await fetch(path, {method: 'POST', body: await described(pc)});
   if (!reply.ok) throw new Error(await reply.text());
-  const {track, sdp} = await reply.json();
+  const {track, sdp, hold} = await reply.json();
   await pc.setRemoteDescription({type: 'answer', sdp});
-  return track;
+  return [track, hold];
 }
 
 // The channel on which the gateway tells of frames that came into the room and went out of it, `came N DESCRIPTOR` and `went N DESCRIPTOR`,
@@ -73,7 +74,8 @@ function show(facts) {
 
 const span = 30000, shades = ['#14406e', '#4a86c5', '#a6c8ea'];
 
-// Three strips over the same 30 seconds: two lines, and the frames by spatial layer, shaded by temporal layer. Bands lie behind all of them.
+// Three strips over the same 30 seconds: two lines, and the frames by spatial layer, shaded by temporal layer. Bands lie behind them all, and
+// marks stand in front, tall or short.
 class Chart {
   constructor(canvas, names) {
     Object.assign(this, {canvas, names, lines: [[], []], frames: [], bands: [], marks: [], wish: [], spatial: 1, temporal: 1});
@@ -116,9 +118,9 @@ class Chart {
     });
     const top = 2 * (strip + 7) + 6, lane = (strip - 10) / this.spatial;
     const laneOf = spatial => top + (this.spatial - 1 - spatial) * lane;
-    text(this.names[2], left - 10, top + 8, 'right');
+    text(this.names[2], left - 38, top + 8, 'right');
     for (let s = 0; s < this.spatial; s++) {
-      text(`S${s}`, left - 10, laneOf(s) + lane / 2 + (this.spatial < 3 && s === this.spatial - 1 ? 8 : 0), 'right', '#1f2933');
+      text(`S${s}`, left - 10, laneOf(s) + Math.min(lane / 2, 16), 'right', '#1f2933');
       c.fillStyle = '#e1e5ea';
       c.fillRect(left, laneOf(s) + lane - 1, right - left, 1);
     }
@@ -138,9 +140,9 @@ class Chart {
     });
     c.stroke();
     c.setLineDash([]);
-    for (const [at, colour] of this.marks) {
+    for (const [at, colour, tall] of this.marks) {
       c.fillStyle = colour;
-      c.fillRect(x(at), 0, 1.5, high - 36);
+      c.fillRect(x(at), tall ? 0 : high - 44, tall ? 1.5 : 2, tall ? high - 36 : 8);
     }
     const foot = high - 28;
     for (let s = 0; s <= 30; s += 10) text(s ? `−${s} s` : 'now', x(now - s * 1000) + (s === 30 ? 14 : 0), foot, s ? 'center' : 'right');
