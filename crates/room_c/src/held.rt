@@ -1,0 +1,69 @@
+// What a handle owns, behind a pointer whose type names no other type.
+ghost use Rattle.std.specs.Prelude.{◌≡◌, Option, Some, None, is_some, false, true};
+ghost use Rattle.room_c.specs.declared.home.Home.{Home};
+ghost use Rattle.room_c.specs.Owned.{home_coded, home_owned};
+
+use crate::home::Home;
+use crate::parts::Parts;
+use std::alloc::Global;
+use std::marker::Model;
+
+/// The pointer of a `Box<Home>`, or one that owns nothing. No type that holds or names a `Box` may cross to C, so the pointer's own type says
+/// nothing, and what it owns is told by `home`. It is linear: a handle that owns a room can only be turned into its box again.
+#[repr(C)]
+pub struct Held {
+    at: *mut u8,
+    alloc: Global,
+    pub ghost home: { Option Home } by { home_coded },
+}
+
+impl Model for Held {
+    ghost also_owns = { λ h. home_owned h.alloc h.at h.home };
+}
+
+// It may go to another thread, as the box may.
+unsafe impl Send for Held {}
+
+impl Held {
+    /// Owns the box of these parts.
+    pub fn of_parts(parts: Parts<Home, Global>) -> Held
+        ensures { result.home ≡ Some parts.value }
+    {
+        let Parts { ptr, alloc } = parts;
+        Held {
+            at: ptr as *mut u8,
+            alloc,
+        }
+    }
+
+    /// The parts of the box that it owns.
+    pub fn into_parts(self) -> Parts<Home, Global>
+        requires { is_some self.home ≡ true }
+        ensures { Some result.value ≡ self.home }
+    {
+        let Held { at, alloc } = self;
+        Parts {
+            ptr: at as *mut Home,
+            alloc,
+        }
+    }
+
+    /// Owns nothing: the pointer is null.
+    pub fn nothing(alloc: Global) -> Held
+        ensures { result.home ≡ None }
+    {
+        Held {
+            at: std::ptr::null_mut(),
+            alloc,
+        }
+    }
+
+    /// The allocator of one that owns nothing.
+    pub fn end(self) -> Global
+        requires { is_some self.home ≡ false }
+        ensures { result ≡ self.alloc }
+    {
+        let Held { at: _, alloc } = self;
+        alloc
+    }
+}

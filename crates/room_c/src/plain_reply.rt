@@ -1,0 +1,172 @@
+// A reply as C reads it.
+ghost use Rattle.std.specs.Prelude.{◌≡◌, ◌≤◌, false, true};
+ghost use Rattle.sfu_base.specs.declared.call.Reply.TheVariants as reply;
+ghost use Rattle.room_c.specs.Codes.{code_number};
+ghost use Rattle.room_c.specs.Reading.{fault_in, refusal_in, reply_in, verdict_in};
+
+use crate::code::Code;
+use sfu_base::{Refusal, Reply, RtpFault, Verdict};
+
+/// A reply as numbers: its code, whether an optional number is there, and its numbers, which `Code` names beside each code. What it doesn't
+/// have is 0.
+#[repr(C)]
+#[derive(Clone, Copy, Debug)]
+pub struct PlainReply {
+    pub code: u32,
+    pub has: bool,
+    pub first: u64,
+    pub second: u64,
+}
+
+impl PlainReply {
+    /// The code alone.
+    pub fn bare(code: Code) -> PlainReply
+        ensures { result ≡ record { code = code_number code; has = false; first = 0; second = 0 } }
+    {
+        PlainReply {
+            code: code as u32,
+            has: false,
+            first: 0,
+            second: 0,
+        }
+    }
+
+    /// A code with a yes or no.
+    pub fn telling(code: Code, has: bool) -> PlainReply
+        ensures { result ≡ record { code = code_number code; has = has; first = 0; second = 0 } }
+    {
+        PlainReply {
+            code: code as u32,
+            has,
+            first: 0,
+            second: 0,
+        }
+    }
+
+    /// A code with one number.
+    pub fn with(code: Code, first: u64) -> PlainReply
+        ensures { result ≡ record { code = code_number code; has = true; first = first; second = 0 } }
+    {
+        PlainReply {
+            code: code as u32,
+            has: true,
+            first,
+            second: 0,
+        }
+    }
+
+    /// A code with two numbers.
+    pub fn with_two(code: Code, first: u64, second: u64) -> PlainReply
+        ensures { result ≡ record { code = code_number code; has = true; first = first; second = second } }
+    {
+        PlainReply {
+            code: code as u32,
+            has: true,
+            first,
+            second,
+        }
+    }
+
+    /// The numbers of a reply: nothing is lost, but for the bytes and numbers that stand in a scratch.
+    pub fn of(reply: &Reply) -> PlainReply
+        ensures { reply_in result ≡ reply.now }
+    {
+        match reply {
+            Reply::Done => PlainReply::bare(Code::Done),
+            Reply::Packet => PlainReply::bare(Code::Packet),
+            Reply::Names => PlainReply::bare(Code::Names),
+            Reply::Key { wanted } => PlainReply::telling(Code::Key, *wanted),
+            Reply::Cause(verdict) => of_verdict(*verdict),
+            Reply::Refused(why) => PlainReply::of_refusal(*why),
+        }
+    }
+
+    /// The numbers of a refusal.
+    pub fn of_refusal(why: Refusal) -> PlainReply
+        ensures told { reply_in result ≡ reply.Refused why }
+        ensures refusal { refusal_in result ≡ why }
+        ensures code { 32 ≤ result.code }
+    {
+        match why {
+            Refusal::NoTrack => PlainReply::bare(Code::NoTrack),
+            Refusal::NoSubscriber => PlainReply::bare(Code::NoSubscriber),
+            Refusal::NumberUsed { highest } => PlainReply::with(
+                Code::NumberUsed,
+                u64::from(highest),
+            ),
+            Refusal::TooMany { live } => PlainReply::with(Code::TooMany, u64::from(live)),
+            Refusal::BadExtensionId => PlainReply::bare(Code::BadExtensionId),
+            Refusal::TooBig { len } => PlainReply::with(Code::TooBig, u64::from(len)),
+            Refusal::Unreadable(fault) => PlainReply::with(Code::Unreadable, fault_number(fault)),
+            Refusal::WrongSsrc { got, wanted } => PlainReply::with_two(
+                Code::WrongSsrc,
+                u64::from(got),
+                u64::from(wanted),
+            ),
+            Refusal::Spent => PlainReply::bare(Code::Spent),
+            Refusal::Late { next } => PlainReply::with(Code::Late, next),
+            Refusal::Repeat => PlainReply::bare(Code::Repeat),
+            Refusal::Empty => PlainReply::bare(Code::Empty),
+            Refusal::NotKept { oldest, next } => PlainReply::with_two(
+                Code::NotKept,
+                u64::from(oldest),
+                u64::from(next),
+            ),
+            Refusal::Ahead {
+                newest: Some(newest),
+            } => PlainReply::with(Code::Ahead, newest),
+            Refusal::Ahead { newest: None } => PlainReply::bare(Code::Ahead),
+            Refusal::TooOld { oldest } => PlainReply::with(Code::TooOld, oldest),
+            Refusal::Plain => PlainReply::bare(Code::Plain),
+            Refusal::NoMemory => PlainReply::bare(Code::NoMemory),
+        }
+    }
+}
+
+// The numbers of a verdict on a frame.
+fn of_verdict(verdict: Verdict) -> PlainReply
+    ensures { reply_in result ≡ reply.Cause verdict }
+{
+    match verdict {
+        Verdict::Passed => PlainReply::bare(Code::Passed),
+        Verdict::NotOfTarget {
+            target: Some(target),
+        } => PlainReply::with(Code::NotOfTarget, u64::from(target)),
+        Verdict::NotOfTarget { target: None } => PlainReply::bare(Code::NotOfTarget),
+        Verdict::Behind { fdiff, start } => PlainReply::with_two(
+            Code::Behind,
+            u64::from(fdiff),
+            start,
+        ),
+        Verdict::Reference { number } => PlainReply::with(Code::Reference, number),
+        Verdict::Full { queued, needed } => PlainReply::with_two(
+            Code::Full,
+            u64::from(queued),
+            u64::from(needed),
+        ),
+        Verdict::Link { at, number } => PlainReply::with_two(Code::Link, at, number),
+        Verdict::Unopened { since } => PlainReply::with(Code::Unopened, since),
+        Verdict::Hole {
+            below: Some(below),
+            above,
+        } => PlainReply::with_two(Code::Hole, above, below),
+        Verdict::Hole { below: None, above } => PlainReply {
+            code: Code::Hole as u32,
+            has: false,
+            first: above,
+            second: 0,
+        },
+    }
+}
+
+fn fault_number(fault: RtpFault) -> u64
+    ensures { fault_in result ≡ fault }
+{
+    match fault {
+        RtpFault::Short => 0,
+        RtpFault::Version => 1,
+        RtpFault::Csrc => 2,
+        RtpFault::Extension => 3,
+        RtpFault::Padding => 4,
+    }
+}

@@ -1,0 +1,76 @@
+// What is asked of a subscriber. A question is no call: the room stays as it was.
+ghost use Rattle.std.specs.Prelude.{◌≡◌};
+ghost use Rattle.room_c.specs.Reading.{reached_in, target_in};
+ghost use Rattle.room_c.specs.Serving.{AsksReached, AsksTarget};
+
+use crate::code::Code;
+use crate::handle::Handle;
+use crate::plain_reply::PlainReply;
+use crate::plain_target::PlainTarget;
+use room_core::DecodeTarget;
+use sfu_base::Refusal;
+use std::alloc::Global;
+
+/// The decode target that a subscriber is sent, as `Room::target_of` has it: `Target`. Where there is one, `has` is true, and it is written.
+/// `NoSubscriber`.
+#[unsafe(no_mangle)]
+pub extern "C" fn zoftemar_target_of(
+    alloc: Global,
+    room: &mut Handle,
+    subscriber: u32,
+    out: &mut PlainTarget,
+) -> PlainReply
+    ensures asks { AsksTarget room.old.held.home subscriber result out.new }
+    ensures same { room.new.held.home ≡ room.old.held.home }
+{
+    match room.take(alloc) {
+        None => PlainReply::bare(Code::NoRoom),
+        Some(home) => {
+            let told = tell_target(home.room.target_of(subscriber), out);
+            room.put(home);
+            told
+        }
+    }
+}
+
+/// Whether a subscriber is sent the best decode target that its wish allows, as `Room::reaches_wish` has it: `Reached`. `NoSubscriber`.
+#[unsafe(no_mangle)]
+pub extern "C" fn zoftemar_reaches_wish(
+    alloc: Global,
+    room: &mut Handle,
+    subscriber: u32,
+) -> PlainReply
+    ensures asks { AsksReached room.old.held.home subscriber result }
+    ensures same { room.new.held.home ≡ room.old.held.home }
+{
+    match room.take(alloc) {
+        None => PlainReply::bare(Code::NoRoom),
+        Some(home) => {
+            let told = tell_reached(home.room.reaches_wish(subscriber));
+            room.put(home);
+            told
+        }
+    }
+}
+
+fn tell_target(answer: Result<Option<DecodeTarget>, Refusal>, out: &mut PlainTarget) -> PlainReply
+    ensures { target_in result out.new ≡ answer }
+{
+    match answer {
+        Ok(Some(target)) => {
+            *out = PlainTarget::of(&target);
+            PlainReply::telling(Code::Target, true)
+        }
+        Ok(None) => PlainReply::telling(Code::Target, false),
+        Err(why) => PlainReply::of_refusal(why),
+    }
+}
+
+fn tell_reached(answer: Result<bool, Refusal>) -> PlainReply
+    ensures { reached_in result ≡ answer }
+{
+    match answer {
+        Ok(reached) => PlainReply::telling(Code::Reached, reached),
+        Err(why) => PlainReply::of_refusal(why),
+    }
+}

@@ -1,0 +1,168 @@
+// Calls on a subscriber. The seat says who calls, for a recorder of the room; this room has one that keeps nothing.
+ghost use Rattle.std.specs.Prelude.{◌≡◌, ◌<◌, ◌≤◌, length};
+ghost use Rattle.sfu_base.specs.declared.call.Call.TheVariants as call;
+ghost use Rattle.room_c.specs.declared.code.Code.TheVariants.{NoSpace};
+ghost use Rattle.room_c.specs.Codes.{code_number};
+ghost use Rattle.room_c.specs.Serving.{Does, GivesBytes};
+
+use crate::answers::{PACKET_ROOM, give_bytes};
+use crate::code::Code;
+use crate::handle::Handle;
+use crate::home::Home;
+use crate::plain_reply::PlainReply;
+use sfu_base::{Call, Wish};
+use std::alloc::Global;
+
+/// Begins a subscriber of a track, as `Room::join` does: what goes out to it has this SSRC and sequence numbers from `first` on. `NoTrack`,
+/// `NumberUsed`, `TooMany`, `NoMemory`.
+#[unsafe(no_mangle)]
+pub extern "C" fn zoftemar_join(
+    alloc: Global,
+    room: &mut Handle,
+    seat: u32,
+    subscriber: u32,
+    track: u32,
+    ssrc: u32,
+    first: u16,
+    spatial: u8,
+    temporal: u8,
+) -> PlainReply
+    ensures does { Does room.old.held.home room.new.held.home seat
+        (call.Join subscriber track ssrc first (record { spatial = spatial; temporal = temporal })) result }
+{
+    let wish = Wish { spatial, temporal };
+    room.serve(
+        alloc,
+        seat,
+        &Call::Join {
+            subscriber,
+            track,
+            ssrc,
+            first,
+            wish,
+        },
+    )
+}
+
+/// Ends a subscriber, as `Room::leave` does. `NoSubscriber`.
+#[unsafe(no_mangle)]
+pub extern "C" fn zoftemar_leave(
+    alloc: Global,
+    room: &mut Handle,
+    seat: u32,
+    subscriber: u32,
+) -> PlainReply
+    ensures does { Does room.old.held.home room.new.held.home seat (call.Leave subscriber) result }
+{
+    room.serve(alloc, seat, &Call::Leave { subscriber })
+}
+
+/// Changes a subscriber's wish, as `Room::aim` does, from the next frame on. `NoSubscriber`.
+#[unsafe(no_mangle)]
+pub extern "C" fn zoftemar_aim(
+    alloc: Global,
+    room: &mut Handle,
+    seat: u32,
+    subscriber: u32,
+    spatial: u8,
+    temporal: u8,
+) -> PlainReply
+    ensures does { Does room.old.held.home room.new.held.home seat (call.Aim subscriber (record { spatial = spatial; temporal = temporal })) result }
+{
+    let wish = Wish { spatial, temporal };
+    room.serve(alloc, seat, &Call::Aim { subscriber, wish })
+}
+
+/// Hands out the oldest packet that waits for a subscriber, as `Room::take` does: `Packet`. `NoSubscriber`, `Empty`. `NoSpace`: the buffer
+/// has fewer than 2,048 bytes, and nothing changes.
+#[unsafe(no_mangle)]
+pub extern "C" fn zoftemar_take(
+    alloc: Global,
+    room: &mut Handle,
+    seat: u32,
+    subscriber: u32,
+    out: &mut [u8],
+) -> PlainReply
+    ensures does { 2048 ≤ length out.old → Does room.old.held.home room.new.held.home seat (call.Take subscriber) result }
+    ensures gives { 2048 ≤ length out.old → GivesBytes room.new.held.home result out.new }
+    ensures short { length out.old < 2048 → (result.code ≡ code_number NoSpace) × (room.new.held.home ≡ room.old.held.home) }
+{
+    if out.len() < PACKET_ROOM {
+        return PlainReply::bare(Code::NoSpace);
+    }
+    match room.take(alloc) {
+        None => PlainReply::bare(Code::NoRoom),
+        Some(mut home) => {
+            let Home {
+                room: inner,
+                scratch,
+                inbox: _,
+            } = &mut *home;
+            let reply = inner.take(seat, subscriber, scratch);
+            let told = give_bytes(&reply, scratch.packet.bytes(), out);
+            room.put(home);
+            told
+        }
+    }
+}
+
+/// Hands out a packet again that was taken under this sequence number, as `Room::resend` does: `Packet` (RFC 4585, section 6.2.1).
+/// `NoSubscriber`, `NotKept`. `NoSpace`: the buffer has fewer than 2,048 bytes, and nothing changes.
+#[unsafe(no_mangle)]
+pub extern "C" fn zoftemar_resend(
+    alloc: Global,
+    room: &mut Handle,
+    seat: u32,
+    subscriber: u32,
+    seq: u16,
+    out: &mut [u8],
+) -> PlainReply
+    ensures does { 2048 ≤ length out.old → Does room.old.held.home room.new.held.home seat (call.Resend subscriber seq) result }
+    ensures gives { 2048 ≤ length out.old → GivesBytes room.new.held.home result out.new }
+    ensures short { length out.old < 2048 → (result.code ≡ code_number NoSpace) × (room.new.held.home ≡ room.old.held.home) }
+{
+    if out.len() < PACKET_ROOM {
+        return PlainReply::bare(Code::NoSpace);
+    }
+    match room.take(alloc) {
+        None => PlainReply::bare(Code::NoRoom),
+        Some(mut home) => {
+            let Home {
+                room: inner,
+                scratch,
+                inbox: _,
+            } = &mut *home;
+            let reply = inner.resend(seat, subscriber, seq, scratch);
+            let told = give_bytes(&reply, scratch.packet.bytes(), out);
+            room.put(home);
+            told
+        }
+    }
+}
+
+/// Asks for a key frame, as `Room::plead` does (RFC 4585, section 6.3.1). `NoSubscriber`, `NoTrack`, `Plain`.
+#[unsafe(no_mangle)]
+pub extern "C" fn zoftemar_plead(
+    alloc: Global,
+    room: &mut Handle,
+    seat: u32,
+    subscriber: u32,
+) -> PlainReply
+    ensures does { Does room.old.held.home room.new.held.home seat (call.Plead subscriber) result }
+{
+    room.serve(alloc, seat, &Call::Plead { subscriber })
+}
+
+/// Tells why a frame was or wasn't passed to a subscriber, as `Room::why` does: a code from 16 to 23. `NoSubscriber`, `Ahead`, `TooOld`.
+#[unsafe(no_mangle)]
+pub extern "C" fn zoftemar_why(
+    alloc: Global,
+    room: &mut Handle,
+    seat: u32,
+    subscriber: u32,
+    number: u64,
+) -> PlainReply
+    ensures does { Does room.old.held.home room.new.held.home seat (call.Why subscriber number) result }
+{
+    room.serve(alloc, seat, &Call::Why { subscriber, number })
+}

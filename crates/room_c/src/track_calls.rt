@@ -1,0 +1,174 @@
+// Calls on a track. The seat says who calls, for a recorder of the room; this room has one that keeps nothing.
+ghost use Rattle.std.specs.Prelude.{◌≡◌, ◌<◌, ◌≤◌, length};
+ghost use Rattle.sfu_base.specs.declared.call.Call.TheVariants as call;
+ghost use Rattle.sfu_base.specs.declared.call.Kind.TheVariants.{Layered, Plain};
+ghost use Rattle.room_c.specs.declared.code.Code.TheVariants.{NoSpace, TooLong};
+ghost use Rattle.room_c.specs.Codes.{code_number};
+ghost use Rattle.room_c.specs.Serving.{Does, GivesNumbers};
+
+use crate::answers::{NAMES_ROOM, PACKET_ROOM, give_numbers};
+use crate::code::Code;
+use crate::handle::Handle;
+use crate::home::Home;
+use crate::plain_reply::PlainReply;
+use sfu_base::{Call, Kind};
+use std::alloc::Global;
+
+/// Begins a plain track, as `Room::publish` does. A gap in its packets' numbers is waited for `hold` milliseconds. `NumberUsed`, `TooMany`,
+/// `NoMemory`.
+#[unsafe(no_mangle)]
+pub extern "C" fn zoftemar_publish_plain(
+    alloc: Global,
+    room: &mut Handle,
+    seat: u32,
+    track: u32,
+    ssrc: u32,
+    hold: u32,
+) -> PlainReply
+    ensures does { Does room.old.held.home room.new.held.home seat (call.Publish track Plain ssrc hold) result }
+{
+    let kind = Kind::Plain;
+    room.serve(
+        alloc,
+        seat,
+        &Call::Publish {
+            track,
+            kind,
+            ssrc,
+            hold,
+        },
+    )
+}
+
+/// Begins a layered track, whose dependency descriptors stand in the header extension element of this id (RFC 8285). `NumberUsed`,
+/// `TooMany`, `BadExtensionId`, `NoMemory`.
+#[unsafe(no_mangle)]
+pub extern "C" fn zoftemar_publish_layered(
+    alloc: Global,
+    room: &mut Handle,
+    seat: u32,
+    track: u32,
+    id: u8,
+    ssrc: u32,
+    hold: u32,
+) -> PlainReply
+    ensures does { Does room.old.held.home room.new.held.home seat (call.Publish track (Layered id) ssrc hold) result }
+{
+    let kind = Kind::Layered { id };
+    room.serve(
+        alloc,
+        seat,
+        &Call::Publish {
+            track,
+            kind,
+            ssrc,
+            hold,
+        },
+    )
+}
+
+/// Ends a track, as `Room::unpublish` does. `NoTrack`.
+#[unsafe(no_mangle)]
+pub extern "C" fn zoftemar_unpublish(
+    alloc: Global,
+    room: &mut Handle,
+    seat: u32,
+    track: u32,
+) -> PlainReply
+    ensures does { Does room.old.held.home room.new.held.home seat (call.Unpublish track) result }
+{
+    room.serve(alloc, seat, &Call::Unpublish { track })
+}
+
+/// Brings a packet to a track, as `Room::packet` does, at a moment in milliseconds. `NoTrack`, `TooBig`, `Unreadable`, `WrongSsrc`, `Spent`,
+/// `Late`, `Repeat`. `TooLong`: it has more than 2,048 bytes, and nothing changes.
+#[unsafe(no_mangle)]
+pub extern "C" fn zoftemar_packet(
+    alloc: Global,
+    room: &mut Handle,
+    seat: u32,
+    track: u32,
+    moment: u64,
+    bytes: &[u8],
+) -> PlainReply
+    ensures does { length bytes.now ≤ 2048 → Does room.old.held.home room.new.held.home seat (call.Packet track moment bytes.now) result }
+    ensures long { 2048 < length bytes.now → (result.code ≡ code_number TooLong) × (room.new.held.home ≡ room.old.held.home) }
+{
+    if bytes.len() > PACKET_ROOM {
+        return PlainReply::bare(Code::TooLong);
+    }
+    match room.take(alloc) {
+        None => PlainReply::bare(Code::NoRoom),
+        Some(mut home) => {
+            let Home {
+                room: inner,
+                scratch: _,
+                inbox,
+            } = &mut *home;
+            inbox.fill(bytes);
+            let told = PlainReply::of(&inner.packet(seat, track, moment, inbox));
+            room.put(home);
+            told
+        }
+    }
+}
+
+/// Tells a track that it is this moment, as `Room::tick` does. `NoTrack`.
+#[unsafe(no_mangle)]
+pub extern "C" fn zoftemar_tick(
+    alloc: Global,
+    room: &mut Handle,
+    seat: u32,
+    track: u32,
+    moment: u64,
+) -> PlainReply
+    ensures does { Does room.old.held.home room.new.held.home seat (call.Tick track moment) result }
+{
+    room.serve(alloc, seat, &Call::Tick { track, moment })
+}
+
+/// Hands out the sequence numbers that a track waits for, as `Room::missing` does: `Names`. `NoTrack`. `NoSpace`: the buffer has fewer than
+/// 1,024 places, and nothing changes.
+#[unsafe(no_mangle)]
+pub extern "C" fn zoftemar_missing(
+    alloc: Global,
+    room: &mut Handle,
+    seat: u32,
+    track: u32,
+    out: &mut [u16],
+) -> PlainReply
+    ensures does { 1024 ≤ length out.old → Does room.old.held.home room.new.held.home seat (call.Missing track) result }
+    ensures gives { 1024 ≤ length out.old → GivesNumbers room.new.held.home result out.new }
+    ensures short { length out.old < 1024 → (result.code ≡ code_number NoSpace) × (room.new.held.home ≡ room.old.held.home) }
+{
+    if out.len() < NAMES_ROOM {
+        return PlainReply::bare(Code::NoSpace);
+    }
+    match room.take(alloc) {
+        None => PlainReply::bare(Code::NoRoom),
+        Some(mut home) => {
+            let Home {
+                room: inner,
+                scratch,
+                inbox: _,
+            } = &mut *home;
+            let reply = inner.missing(seat, track, scratch);
+            let told = give_numbers(&reply, scratch.names.numbers(), out);
+            room.put(home);
+            told
+        }
+    }
+}
+
+/// Tells whether a track's publisher is to be asked for a key frame, as `Room::key_wanted` does: `Key`. `NoTrack`.
+#[unsafe(no_mangle)]
+pub extern "C" fn zoftemar_key_wanted(
+    alloc: Global,
+    room: &mut Handle,
+    seat: u32,
+    track: u32,
+) -> PlainReply
+    ensures does { Does room.old.held.home room.new.held.home seat (call.KeyWanted track) result }
+{
+    room.serve(alloc, seat, &Call::KeyWanted { track })
+}
