@@ -6,8 +6,8 @@ use Rattle.std.specs.Io.KnownBytes.{Appends, Consumes, IsAtEnd}
 use Rattle.std.specs.Prelude.{is_err}
 use Rattle.sfu_driver.specs.declared.halt.Ending.{Ending}
 use Rattle.sfu_driver.specs.declared.halt.Halt.TheVariants.{Ended, Starved}
-use Rattle.sfu_driver.specs.declared.halt.Stop.{Stop}
-use Rattle.sfu_driver.specs.declared.halt.Stop.TheVariants.{SourceFault, SinkFault, Halted}
+use Rattle.sfu_driver.specs.declared.halt.Interruption.{Interruption}
+use Rattle.sfu_driver.specs.declared.halt.Interruption.TheVariants.{SourceFault, SinkFault, Halted}
 use Rattle.sfu_driver.specs.Outcome.{End, Outcome, goes_on, takes, then_due}
 use Rattle.sfu_driver.specs.Scan.{Scan, More, Whole, NoUnit}
 use Rattle.sfu_driver.specs.Lines.{line_scan, line_scan_end}
@@ -103,7 +103,7 @@ read_whole bytes later is = let l = together_script bytes in ok_of l.said l.faul
 pub read_writes_nothing : (bytes : List ℕ) → (due read_rule (at [] 1 []) bytes).text ≡ []
 read_writes_nothing bytes = let l = together_script bytes in ap (λ (o : Outcome (List Said)). o.text) (read_outcome bytes) ∙ no_text l.said l.fault
 
-pub read_ok : {U : Type 0} (stands : U → List Said → Type 0) (new : U) (left left' w w' : Option (List ℕ)) (f f' : ℕ) (result : Result (Unit {0}) Stop) → is_err result ≡ false
+pub read_ok : {U : Type 0} (stands : U → List Said → Type 0) (new : U) (left left' w w' : Option (List ℕ)) (f f' : ℕ) (result : Result (Unit {0}) Interruption) → is_err result ≡ false
     → Drove stands (byte read_rule) (ends read_rule) (at [] 1 []) new left left' w w' f f' result
     → (bytes : List ℕ) × (later : List Said) × Consumes left left' bytes × IsAtEnd left' × ((together_script bytes).fault ≡ None) × ((together_script bytes).said ≡ later) × stands new later × Appends w w' []
 read_ok stands new left left' w w' f f' (Err stop) is d = absurd (false≢true (sym is))
@@ -126,7 +126,7 @@ outside_of past (Some number) why last is = sym (ap (λ (r : Result (List Said) 
     status_in (Ok x) = 0
     status_in (Err e) = status_of e.why
 
-pub read_only : {U : Type 0} (stands : U → List Said → Type 0) (new : U) (left left' w w' : Option (List ℕ)) (f f' : ℕ) (result : Result (Unit {0}) Stop) → is_err result ≡ true
+pub read_only : {U : Type 0} (stands : U → List Said → Type 0) (new : U) (left left' w w' : Option (List ℕ)) (f f' : ℕ) (result : Result (Unit {0}) Interruption) → is_err result ≡ true
     → Drove stands (byte read_rule) (ends read_rule) (at [] 1 []) new left left' w w' f f' result → (status_for result ≡ 3) ⊎ (status_for result ≡ 5) ⊎ (status_for result ≡ 6)
 read_only stands new left left' w w' f f' (Ok _) is d = absurd (false≢true is)
 read_only stands new left left' w w' f f' (Err SourceFault) is d = inl refl
@@ -140,6 +140,6 @@ read_only stands new left left' w w' f f' (Err (Halted (Ended why))) is d =
     inr (inl (outside_of l.said l.fault why e.0 (sym (ap (λ (o : Outcome (List Said)). o.result) (read_outcome taken)) ∙ e.1)))
 read_only stands new left left' w w' f f' (Err (Halted Starved)) is d = inr (inr refl)
 
-pub ok_status : (result : Result (Unit {0}) Stop) → is_err result ≡ false → status_for result ≡ 0
+pub ok_status : (result : Result (Unit {0}) Interruption) → is_err result ≡ false → status_for result ≡ 0
 ok_status (Ok _) is = refl
 ok_status (Err stop) is = absurd (false≢true (sym is))

@@ -1,11 +1,12 @@
 // The script of `together`, read to its end.
 ghost use Rattle.std.specs.Prelude.{◌≤◌, IfErr, IfOk};
 ghost use Rattle.actor_script.specs.Reading.{ReadsActors, ReadsNone};
+ghost use Rattle.sfu_driver.specs.Statuses.{number_of};
 
 use crate::reader::ActorsReader;
 use script_texts::Actors;
 use sfu_base::{Sink, Source};
-use sfu_driver::{Lines, Units, drive, status};
+use sfu_driver::{Lines, Status, Units, drive};
 use std::alloc::Global;
 
 /// Who makes which calls, by the source's lines; or the status of the command where these are no script or can't be read. Only the line
@@ -14,17 +15,17 @@ pub fn read_actors<S: Source, K: Sink>(
     alloc: Global,
     source: &mut S,
     sink: &mut K,
-) -> Result<Actors, u8>
+) -> Result<Actors, Status>
     ensures ok { IfOk result (λ actors. ReadsActors (S.left source.old) (S.left source.new) (K.written sink.old) (K.written sink.new) (S.faults source.old) (S.faults source.new)
         (K.faults sink.old) (K.faults sink.new) actors) }
     ensures err { IfErr result (λ status. ReadsNone (S.left source.old) (S.left source.new) (K.written sink.old) (K.written sink.new) (S.faults source.old) (S.faults source.new)
-        (K.faults sink.old) (K.faults sink.new) status) }
+        (K.faults sink.old) (K.faults sink.new) (number_of status)) }
     ensures never_falls { K.faults sink.old ≤ K.faults sink.new }
 {
     let mut units = Units::new(Lines, ActorsReader::new(alloc), 1);
     let came_out = drive(alloc, &mut units, source, sink);
     if came_out.is_err() {
-        return Err(status(came_out));
+        return Err(Status::of(came_out));
     }
     let Units {
         cut: _,

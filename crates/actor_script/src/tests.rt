@@ -2,6 +2,7 @@
 use crate::read_actors;
 use script_texts::Actors;
 use sfu_base::{Call, MemSink, MemSource};
+use sfu_driver::Status;
 use std::alloc::{AllocError, Global};
 use std::test::Fail;
 
@@ -18,7 +19,7 @@ fn subscribers(alloc: Global, calls: &[Call]) -> Result<Vec<u32>, AllocError> {
 }
 
 // What a script says, or the status, and what was written.
-fn read(alloc: Global, script: &[u8]) -> Result<(Result<Actors, u8>, Vec<u8>), AllocError> {
+fn read(alloc: Global, script: &[u8]) -> Result<(Result<Actors, Status>, Vec<u8>), AllocError> {
     let mut source = MemSource::new(script.to_vec(alloc)?, Vec::new(alloc));
     let mut sink = MemSink::new(alloc, Vec::new(alloc));
     let read = read_actors(alloc, &mut source, &mut sink);
@@ -96,7 +97,7 @@ fn the_first_line_outside_the_grammar_is_named(rt: HostRuntime) -> Result<(), Fa
         let Err(status) = read else {
             panic!(rt; "a script: {script}")
         };
-        assert_eq!(rt; status, 5, "{script}");
+        assert_eq!(rt; status.number(), 5, "{script}");
         assert_eq!(rt; written.as_slice(), line.as_bytes(), "{script}");
     }
     Ok(())

@@ -5,8 +5,8 @@ use Rattle.std.specs.Io.KnownBytes.{Appends, Consumes, IsAtEnd}
 use Rattle.std.specs.Prelude.{is_err}
 use Rattle.sfu_driver.specs.declared.halt.Ending.{Ending}
 use Rattle.sfu_driver.specs.declared.halt.Halt.TheVariants.{Ended, Starved}
-use Rattle.sfu_driver.specs.declared.halt.Stop.{Stop}
-use Rattle.sfu_driver.specs.declared.halt.Stop.TheVariants.{SourceFault, SinkFault, Halted}
+use Rattle.sfu_driver.specs.declared.halt.Interruption.{Interruption}
+use Rattle.sfu_driver.specs.declared.halt.Interruption.TheVariants.{SourceFault, SinkFault, Halted}
 use Rattle.sfu_driver.specs.Outcome.{End, Outcome, goes_on, takes, then_due}
 use Rattle.sfu_driver.specs.Scan.{Scan, More, Whole, NoUnit}
 use Rattle.sfu_driver.specs.Lines.{line_scan, line_scan_end}
@@ -97,7 +97,7 @@ read_whole bytes later is = let l = configuration_of bytes in ok_of l.setup l.fa
 pub read_writes_nothing : (bytes : List ℕ) → (due read_rule (at nothing_said 1 []) bytes).text ≡ []
 read_writes_nothing bytes = let l = configuration_of bytes in ap (λ (o : Outcome Setup). o.text) (read_outcome bytes) ∙ no_text l.setup l.fault
 
-pub read_ok : {U : Type 0} (stands : U → Setup → Type 0) (new : U) (left left' w w' : Option (List ℕ)) (f f' : ℕ) (result : Result (Unit {0}) Stop) → is_err result ≡ false
+pub read_ok : {U : Type 0} (stands : U → Setup → Type 0) (new : U) (left left' w w' : Option (List ℕ)) (f f' : ℕ) (result : Result (Unit {0}) Interruption) → is_err result ≡ false
     → Drove stands (byte read_rule) (ends read_rule) (at nothing_said 1 []) new left left' w w' f f' result
     → (bytes : List ℕ) × (later : Setup) × Consumes left left' bytes × IsAtEnd left' × ((configuration_of bytes).fault ≡ None) × ((configuration_of bytes).setup ≡ later) × stands new later × Appends w w' []
 read_ok stands new left left' w w' f f' (Err stop) is d = absurd (false≢true (sym is))
@@ -120,7 +120,7 @@ outside_of setup (Some number) why last is = sym (ap (λ (r : Result Setup End).
     status_in (Ok x) = 0
     status_in (Err e) = status_of e.why
 
-pub read_only : {U : Type 0} (stands : U → Setup → Type 0) (new : U) (left left' w w' : Option (List ℕ)) (f f' : ℕ) (result : Result (Unit {0}) Stop) → is_err result ≡ true
+pub read_only : {U : Type 0} (stands : U → Setup → Type 0) (new : U) (left left' w w' : Option (List ℕ)) (f f' : ℕ) (result : Result (Unit {0}) Interruption) → is_err result ≡ true
     → Drove stands (byte read_rule) (ends read_rule) (at nothing_said 1 []) new left left' w w' f f' result → (status_for result ≡ 3) ⊎ (status_for result ≡ 5) ⊎ (status_for result ≡ 6)
 read_only stands new left left' w w' f f' (Ok _) is d = absurd (false≢true is)
 read_only stands new left left' w w' f f' (Err SourceFault) is d = inl refl

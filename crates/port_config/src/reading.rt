@@ -1,10 +1,11 @@
 // The configuration of `serve`, read to its end.
 ghost use Rattle.std.specs.Prelude.{◌≤◌, IfErr, IfOk};
 ghost use Rattle.port_config.specs.Reading.{ReadsNoSetup, ReadsSetup};
+ghost use Rattle.sfu_driver.specs.Statuses.{number_of};
 
 use crate::reader::{ServeReader, Served};
 use sfu_base::{Sink, Source};
-use sfu_driver::{Lines, Units, drive, status};
+use sfu_driver::{Lines, Status, Units, drive};
 use std::alloc::Global;
 
 /// The calls and the ports of the source's lines; or the status of the command where these are no configuration or can't be read. Only the
@@ -13,16 +14,16 @@ pub fn read_served<S: Source, K: Sink>(
     alloc: Global,
     source: &mut S,
     sink: &mut K,
-) -> Result<Served, u8>
+) -> Result<Served, Status>
     ensures ok { IfOk result (λ served. ReadsSetup (S.left source.old) (S.left source.new) (K.written sink.old) (K.written sink.new) served) }
     ensures err { IfErr result (λ status. ReadsNoSetup (S.left source.old) (S.left source.new) (K.written sink.old) (K.written sink.new) (S.faults source.old) (S.faults source.new)
-        (K.faults sink.old) (K.faults sink.new) status) }
+        (K.faults sink.old) (K.faults sink.new) (number_of status)) }
     ensures never_falls { K.faults sink.old ≤ K.faults sink.new }
 {
     let mut units = Units::new(Lines, ServeReader::new(alloc), 1);
     let came_out = drive(alloc, &mut units, source, sink);
     if came_out.is_err() {
-        return Err(status(came_out));
+        return Err(Status::of(came_out));
     }
     let Units {
         cut: _,

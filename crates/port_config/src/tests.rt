@@ -1,12 +1,16 @@
 // Configurations for `serve` with the calls and ports that they say, or the line that is outside the grammar.
 use crate::{Served, read_served};
 use sfu_base::{Call, MemSink, MemSource};
+use sfu_driver::Status;
 use sfu_script::{PortLine, PortRole};
 use std::alloc::{AllocError, Global};
 use std::test::Fail;
 
 // What a configuration says, or the status, and what was written.
-fn read(alloc: Global, configuration: &[u8]) -> Result<(Result<Served, u8>, Vec<u8>), AllocError> {
+fn read(
+    alloc: Global,
+    configuration: &[u8],
+) -> Result<(Result<Served, Status>, Vec<u8>), AllocError> {
     let mut source = MemSource::new(configuration.to_vec(alloc)?, Vec::new(alloc));
     let mut sink = MemSink::new(alloc, Vec::new(alloc));
     let read = read_served(alloc, &mut source, &mut sink);
@@ -106,7 +110,7 @@ fn the_first_line_outside_the_grammar_is_named(rt: HostRuntime) -> Result<(), Fa
         let Err(status) = read else {
             panic!(rt; "a configuration: {configuration}")
         };
-        assert_eq!(rt; status, 5, "{configuration}");
+        assert_eq!(rt; status.number(), 5, "{configuration}");
         assert_eq!(rt; written.as_slice(), line.as_bytes(), "{configuration}");
     }
     Ok(())

@@ -13,6 +13,7 @@ use Rattle.packet_format.specs.Packets.{read_packet}
 use Rattle.strict_receiver.specs.Receivers.{Seen, StandsFor, complaint_over, frames_over, greatest_count, packets_over}
 use Rattle.strict_receiver.proofs.Complaints.{complaint_stays}
 use Rattle.strict_receiver.proofs.Histories.{received_one}
+use Rattle.sfu_driver.specs.Exchange.{exchange_by}
 use Rattle.sfu_driver.specs.declared.halt.Ending.{Ending}
 use Rattle.sfu_driver.specs.declared.halt.Ending.TheVariants as ending
 use Rattle.sfu_driver.specs.Drive.{end_by, outside_end}
@@ -255,7 +256,7 @@ module _ (now new : Seen) (reception : Reception) (number : ℕ) (line packet : 
 
 -- ---- statuses
 
-pub check_only : (id : ℕ) (left left' w w' : Option (List ℕ)) (g g' f f' status : ℕ) → Checks id left left' w w' g g' f f' status → IsCheckStatus status
+pub check_only : (id : ℕ) (left left' w w' : Option (List ℕ)) (g g' f f' status : ℕ) → Checks id (exchange_by left left' w w' g g' f f') status → IsCheckStatus status
 check_only id left left' w w' g g' f f' status checks = by_status checks.only
   where
     by_why : (why : Ending) → status ≡ status_of why → IsCheckStatus status

@@ -2,6 +2,7 @@
 -- none.
 use Rattle.std.proofs.Common.{◌≡◌, inl, inr, ℕ, ◌+◌, Bool, true, false, cond, leb, List, [], ◌∷◌, ◌++◌, length, map, refl, sym, ap, ◌∙◌, arith, Option, Some, None}
 use Rattle.std.specs.Io.KnownBytes.{Consumes, IsAtEnd}
+use Rattle.sfu_driver.specs.Exchange.{exchange_by}
 use Rattle.sfu_base.specs.declared.call.Call.{Call}
 use Rattle.room_core.specs.History.{Entry}
 use Rattle.sfu_driver.specs.declared.halt.Ending.TheVariants.{Outside}
@@ -121,7 +122,7 @@ due_statuses form status (inr (inr (inr (inr x)))) =
 
 -- what is due for a script of its form is what is due for it
 pub runs_in : (form : Form) (left left' w w' : Option (List ℕ)) (g g' f f' status : ℕ) → ((bytes : List ℕ) → left ≡ Some bytes → form_of bytes ≡ form)
-    → Statuses (due_in form) (part_in form) left left' w w' g g' f f' status → Runs left left' w w' g g' f f' status
+    → Statuses (due_in form) (part_in form) left left' w w' g g' f f' status → Runs (exchange_by left left' w w' g g' f f') status
 runs_in form left left' w w' g g' f f' status known s =
     statuses_alike (due_in form) (part_in form) run_due run_part left left' w w' g g' f f' status
     (λ bytes told. ap (λ (f : Form). due_in f bytes) (sym (known bytes told)))

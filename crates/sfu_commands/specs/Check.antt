@@ -3,6 +3,7 @@
 use Rattle.std.specs.Prelude.{◌≡◌, ◌⊎◌, ◌≤◌, ℕ, if◌then◌else◌, min, List, [], ◌∷◌, ◌++◌, map, Option, Some, None, codes, decimal, slice_index}
 use Rattle.forwarding_model.specs.declared.complaint.Complaint.{Complaint}
 use Rattle.strict_receiver.specs.Receivers.{Seen, StandsFor, complaint_over, frames_over, greatest_count, packets_over}
+use Rattle.sfu_driver.specs.Exchange.{Exchange}
 use Rattle.sfu_driver.specs.declared.halt.Ending.TheVariants as ending
 use Rattle.sfu_driver.specs.Drive.{end_by, outside_end}
 use Rattle.sfu_driver.specs.Outcome.{End, Outcome, ends_with, goes_on}
@@ -63,9 +64,8 @@ check_due id bytes = due_for_packets id (packets_in bytes)
 abbrev pub check_part : ℕ → List ℕ → Due
 check_part id bytes = record { text = []; end = check_end id (packets_so_far bytes) }
 
-abbrev pub Checks : (id : ℕ) (left left' written written' : Option (List ℕ)) (reads reads' writes writes' status : ℕ) → Type 0
-Checks id left left' written written' reads reads' writes writes' status =
-    Statuses (check_due id) (check_part id) left left' written written' reads reads' writes writes' status
+abbrev pub Checks : ℕ → Exchange → ℕ → Type 0
+Checks id x status = Statuses (check_due id) (check_part id) x.left x.left' x.written x.written' x.reads x.reads' x.writes x.writes' status
 
 -- the statuses of `check`
 abbrev pub IsCheckStatus : ℕ → Type 0

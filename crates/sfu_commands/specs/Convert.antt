@@ -2,6 +2,7 @@
 use Rattle.std.specs.Prelude.{◌≡◌, ◌⊎◌, ℕ, if◌then◌else◌, List, [], ◌∷◌, ◌++◌, Option, Some, None, codes}
 use Rattle.std.specs.List.{flat_map}
 use Rattle.sfu_base.specs.declared.call.Call.{Call}
+use Rattle.sfu_driver.specs.Exchange.{Exchange}
 use Rattle.sfu_driver.specs.declared.halt.Ending.TheVariants.{Outside}
 use Rattle.sfu_driver.specs.Drive.{outside_end}
 use Rattle.sfu_driver.specs.Outcome.{End, Outcome, ends_with, goes_on, writes}
@@ -51,8 +52,8 @@ convert_due bytes = text_before header (records_due (script_in Lines bytes))
 abbrev pub convert_part : List ℕ → Due
 convert_part bytes = text_before header (records_due (judged_in Lines bytes))
 
-abbrev pub Converts : (left left' written written' : Option (List ℕ)) (reads reads' writes writes' status : ℕ) → Type 0
-Converts left left' written written' reads reads' writes writes' status = Statuses convert_due convert_part left left' written written' reads reads' writes writes' status
+abbrev pub Converts : Exchange → ℕ → Type 0
+Converts x status = Statuses convert_due convert_part x.left x.left' x.written x.written' x.reads x.reads' x.writes x.writes' status
 
 -- the statuses of `convert`
 abbrev pub IsConvertStatus : ℕ → Type 0

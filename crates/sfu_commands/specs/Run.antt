@@ -5,6 +5,7 @@ use Rattle.sfu_base.specs.declared.call.Call.{Call}
 use Rattle.room_core.specs.History.{Entry}
 use Rattle.room_core.specs.Noted.{Noted}
 use Rattle.room_core.specs.declared.recorder.KeepNone.{KeepNone}
+use Rattle.sfu_driver.specs.Exchange.{Exchange}
 use Rattle.sfu_driver.specs.declared.halt.Ending.TheVariants.{Outside}
 use Rattle.sfu_driver.specs.Drive.{outside_end}
 use Rattle.sfu_driver.specs.Outcome.{End, Outcome, ends_with, goes_on, writes}
@@ -55,8 +56,8 @@ run_due bytes = due_in (form_of bytes) bytes
 abbrev pub run_part : List ℕ → Due
 run_part bytes = part_in (form_of bytes) bytes
 
-abbrev pub Runs : (left left' written written' : Option (List ℕ)) (reads reads' writes writes' status : ℕ) → Type 0
-Runs left left' written written' reads reads' writes writes' status = Statuses run_due run_part left left' written written' reads reads' writes writes' status
+abbrev pub Runs : Exchange → ℕ → Type 0
+Runs x status = Statuses run_due run_part x.left x.left' x.written x.written' x.reads x.reads' x.writes x.writes' status
 
 -- the statuses of `run`
 abbrev pub IsRunStatus : ℕ → Type 0

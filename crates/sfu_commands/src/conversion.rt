@@ -1,12 +1,14 @@
 // The command `convert`.
 ghost use Rattle.std.specs.Prelude.{[]};
 ghost use Rattle.sfu_commands.specs.Convert.{Converts, IsConvertStatus, converted};
+ghost use Rattle.sfu_driver.specs.Statuses.{number_of};
+ghost use Rattle.sfu_driver.specs.Exchange.{exchange_of};
 
 use crate::call_reader::read_line;
 use crate::record_cut::HEADER;
 use script_records::write_record;
 use sfu_base::{Blob, NoMemory, Sink, Source};
-use sfu_driver::{Ending, Halt, Judge, Lines, Stop, Units, answer, status, write_all};
+use sfu_driver::{Ending, Halt, Judge, Lines, Status, Units, answer, write_all};
 use sfu_script::{LineReader, is_skipped};
 use std::alloc::Global;
 
@@ -48,10 +50,9 @@ impl Judge for Converter {
 }
 
 /// Writes a script of lines as one of records: the header, and a record for each call. Answers the status.
-pub fn convert<S: Source, K: Sink>(alloc: Global, source: &mut S, sink: &mut K) -> u8
-    ensures converts { Converts (S.left source.old) (S.left source.new) (K.written sink.old) (K.written sink.new) (S.faults source.old) (S.faults source.new)
-        (K.faults sink.old) (K.faults sink.new) result }
-    ensures only { IsConvertStatus result }
+pub fn convert<S: Source, K: Sink>(alloc: Global, source: &mut S, sink: &mut K) -> Status
+    ensures converts { Converts (exchange_of S.left S.faults K.written K.faults source.old source.new sink.old sink.new) (number_of result) }
+    ensures only { IsConvertStatus (number_of result) }
 {
     match write_all(sink, HEADER) {
         Ok(()) => {
@@ -61,6 +62,6 @@ pub fn convert<S: Source, K: Sink>(alloc: Global, source: &mut S, sink: &mut K) 
             let mut units = Units::new(Lines, judge, 1);
             answer(alloc, &mut units, source, sink)
         }
-        Err(_) => status(Err(Stop::SinkFault)),
+        Err(_) => Status::SinkFault,
     }
 }

@@ -3,11 +3,13 @@ ghost use Rattle.std.specs.Prelude.{◌≡◌, ◌++◌, ℕ, [], IfOk, OnErr, O
 ghost use Rattle.script_texts.specs.Texts.{GoesOn};
 ghost use Rattle.sfu_commands.specs.Check.{Checks, HasReceived, IsCheckStatus, Reception, checked, complaint_line, counted, nothing_received, ok_line};
 ghost use Rattle.script_texts.specs.WholeLines.{fault_line};
+ghost use Rattle.sfu_driver.specs.Statuses.{number_of};
+ghost use Rattle.sfu_driver.specs.Exchange.{exchange_of};
 
 use itoa::Buffer;
 use script_texts::{add_fault, end_line, write_complaint};
 use sfu_base::{Blob, NoMemory, PacketBuf, Sink, Source};
-use sfu_driver::{Ending, Halt, Judge, Lines, Stop, Units, answer, status};
+use sfu_driver::{Ending, Halt, Judge, Lines, Status, Units, answer};
 use sfu_script::{is_skipped, read_packet};
 use std::alloc::Global;
 use strict_receiver::{Complaint, Receiver};
@@ -107,13 +109,12 @@ impl Judge for PacketJudge {
 /// Judges the packets of the source's lines as a strict receiver with this id of the descriptors' header extension does, and answers the
 /// status.
 #[inline(never)]
-pub fn check<S: Source, K: Sink>(alloc: Global, id: u8, source: &mut S, sink: &mut K) -> u8
-    ensures checks { Checks id (S.left source.old) (S.left source.new) (K.written sink.old) (K.written sink.new) (S.faults source.old) (S.faults source.new)
-        (K.faults sink.old) (K.faults sink.new) result }
-    ensures only { IsCheckStatus result }
+pub fn check<S: Source, K: Sink>(alloc: Global, id: u8, source: &mut S, sink: &mut K) -> Status
+    ensures checks { Checks id (exchange_of S.left S.faults K.written K.faults source.old source.new sink.old sink.new) (number_of result) }
+    ensures only { IsCheckStatus (number_of result) }
 {
     let Ok(judge) = PacketJudge::new(alloc, id) else {
-        return status(Err(Stop::Halted(Halt::Starved)));
+        return Status::NoMemory;
     };
     let mut units = Units::new(Lines, judge, 1);
     answer(alloc, &mut units, source, sink)

@@ -1,16 +1,17 @@
 // The command `run`.
 ghost use Rattle.std.specs.Prelude.{◌≡◌, ◌≤◌, ℕ, List, Option, take};
 ghost use Rattle.std.specs.Io.KnownBytes.{Consumes, IsAtEnd};
-ghost use Rattle.sfu_driver.specs.Statuses.{Statuses};
+ghost use Rattle.sfu_driver.specs.Statuses.{Statuses, number_of};
 ghost use Rattle.sfu_commands.specs.Promise.{AreServed};
 ghost use Rattle.sfu_commands.specs.Run.{IsRunStatus, Runs, due_in, part_in};
 ghost use Rattle.sfu_commands.specs.Script.{form_of};
+ghost use Rattle.sfu_driver.specs.Exchange.{exchange_of};
 
 use crate::form::Form;
 use crate::record_cut::Records;
 use crate::script_server::{CallServer, LineServer, RecordServer};
 use sfu_base::{Sink, Source};
-use sfu_driver::{Lines, MOST_PIECE, Stop, Units, answer_behind, status};
+use sfu_driver::{Lines, MOST_PIECE, Status, Units, answer_behind};
 use std::alloc::Global;
 
 // The form of a script that begins with these bytes.
@@ -31,12 +32,12 @@ fn run_lines<S: Source, K: Sink>(
     first: usize,
     source: &mut S,
     sink: &mut K,
-) -> u8
+) -> Status
     requires within { first ≤ MOST_PIECE }
     requires end { first ≡ 0 → IsAtEnd (S.left source.old) }
     ensures { (left : Option (List ℕ)) (reads : ℕ) → Consumes left (S.left source.old) (take first piece.old) → reads ≤ S.faults source.old
         → Statuses (due_in Form.Lines) (part_in Form.Lines) left (S.left source.new) (K.written sink.old) (K.written sink.new) reads (S.faults source.new)
-        (K.faults sink.old) (K.faults sink.new) result }
+        (K.faults sink.old) (K.faults sink.new) (number_of result) }
 {
     let judge = LineServer {
         server: CallServer::new(alloc),
@@ -53,12 +54,12 @@ fn run_records<S: Source, K: Sink>(
     first: usize,
     source: &mut S,
     sink: &mut K,
-) -> u8
+) -> Status
     requires within { first ≤ MOST_PIECE }
     requires end { first ≡ 0 → IsAtEnd (S.left source.old) }
     ensures { (left : Option (List ℕ)) (reads : ℕ) → Consumes left (S.left source.old) (take first piece.old) → reads ≤ S.faults source.old
         → Statuses (due_in Form.Records) (part_in Form.Records) left (S.left source.new) (K.written sink.old) (K.written sink.new) reads (S.faults source.new)
-        (K.faults sink.old) (K.faults sink.new) result }
+        (K.faults sink.old) (K.faults sink.new) (number_of result) }
 {
     let judge = RecordServer {
         server: CallServer::new(alloc),
@@ -69,15 +70,14 @@ fn run_records<S: Source, K: Sink>(
 
 /// Runs a script: serves the calls of the source's lines, or of its records where its first byte is 0, writes a line for each reply, and
 /// answers the status.
-pub fn run<S: Source, K: Sink>(alloc: Global, source: &mut S, sink: &mut K) -> u8
-    ensures runs { Runs (S.left source.old) (S.left source.new) (K.written sink.old) (K.written sink.new) (S.faults source.old) (S.faults source.new)
-        (K.faults sink.old) (K.faults sink.new) result }
+pub fn run<S: Source, K: Sink>(alloc: Global, source: &mut S, sink: &mut K) -> Status
+    ensures runs { Runs (exchange_of S.left S.faults K.written K.faults source.old source.new sink.old sink.new) (number_of result) }
     ensures headline { AreServed (S.left source.old) }
-    ensures only { IsRunStatus result }
+    ensures only { IsRunStatus (number_of result) }
 {
     let mut piece = [0u8; MOST_PIECE];
     let Ok(first) = source.read(&mut piece) else {
-        return status(Err(Stop::SourceFault));
+        return Status::SourceFault;
     };
     match form_by(&piece[..first]) {
         Form::Lines => run_lines(alloc, &mut piece, first, source, sink),

@@ -2,6 +2,7 @@
 ghost use Rattle.std.specs.Prelude.{◌≡◌, ◌≤◌, IfOk};
 ghost use Rattle.std.specs.String.{string_bytes};
 ghost use Rattle.sfu_commands.specs.Trial.{ShowsTrial, trial_text};
+ghost use Rattle.sfu_driver.specs.Statuses.{number_of};
 
 mod stage;
 mod summary;
@@ -9,7 +10,7 @@ mod viewer;
 mod words;
 
 use sfu_base::{NoMemory, PacketBuf, Sink};
-use sfu_driver::write_all;
+use sfu_driver::{Status, write_all};
 use stage::Stage;
 use std::alloc::Global;
 use stream_maker::{Event, Maker};
@@ -39,17 +40,17 @@ fn play(alloc: Global, frames: u32, start: u64, loss: u8) -> Result<String, NoMe
 
 /// The command `trial`: sends a stream of so many frames, made from a number, of which so many packets of a hundred are lost, through a room
 /// to three subscribers, writes what a strict receiver finds in what each of them takes, and answers the status.
-pub fn trial<K: Sink>(alloc: Global, frames: u32, start: u64, loss: u8, sink: &mut K) -> u8
+pub fn trial<K: Sink>(alloc: Global, frames: u32, start: u64, loss: u8, sink: &mut K) -> Status
     requires some_frames { 1 ≤ frames }
     requires few_frames { frames ≤ 1000000 }
     requires loss { loss ≤ 50 }
-    ensures { ShowsTrial (record { frames = frames; start = start; loss = loss }) (K.written sink.old) (K.written sink.new) (K.faults sink.old) (K.faults sink.new) result }
+    ensures { ShowsTrial (record { frames = frames; start = start; loss = loss }) (K.written sink.old) (K.written sink.new) (K.faults sink.old) (K.faults sink.new) (number_of result) }
 {
     let Ok(text) = play(alloc, frames, start, loss) else {
-        return 6;
+        return Status::NoMemory;
     };
     match write_all(sink, text.as_bytes()) {
-        Ok(()) => 0,
-        Err(_) => 4,
+        Ok(()) => Status::Done,
+        Err(_) => Status::SinkFault,
     }
 }

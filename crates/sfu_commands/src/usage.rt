@@ -2,27 +2,28 @@
 ghost use Rattle.std.specs.Prelude.{◌≡◌, []};
 ghost use Rattle.sfu_driver.specs.Drive.{WritesEnd};
 ghost use Rattle.sfu_commands.specs.Help.{ShowsUsage, usage_text};
+ghost use Rattle.sfu_driver.specs.Statuses.{number_of};
 
 use sfu_base::Sink;
-use sfu_driver::write_all;
+use sfu_driver::{Status, write_all};
 
 const USAGE: &[u8] = b"usage: run, together, trial, check, serve, convert, help\n";
 
 /// The command `help`: writes the usage line, and answers the status.
-pub fn help<K: Sink>(sink: &mut K) -> u8
-    ensures { ShowsUsage (K.written sink.old) (K.written sink.new) (K.faults sink.old) (K.faults sink.new) result }
+pub fn help<K: Sink>(sink: &mut K) -> Status
+    ensures { ShowsUsage (K.written sink.old) (K.written sink.new) (K.faults sink.old) (K.faults sink.new) (number_of result) }
 {
     match write_all(sink, USAGE) {
-        Ok(()) => 0,
-        Err(_) => 4,
+        Ok(()) => Status::Done,
+        Err(_) => Status::SinkFault,
     }
 }
 
 /// Refuses words that are no command: writes the usage line, and answers the status, which stays where the sink fails.
-pub fn refuse<K: Sink>(sink: &mut K) -> u8
+pub fn refuse<K: Sink>(sink: &mut K) -> Status
     ensures shows { WritesEnd (K.written sink.old) (K.written sink.new) (K.faults sink.old) (K.faults sink.new) [] usage_text }
-    ensures status { result ≡ 2 }
+    ensures status { number_of result ≡ 2 }
 {
     let _ = write_all(sink, USAGE);
-    2
+    Status::NoCommand
 }

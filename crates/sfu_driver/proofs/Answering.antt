@@ -5,8 +5,8 @@ use Rattle.std.specs.Io.KnownBytes.{Consumes, IsAtEnd}
 use Rattle.sfu_driver.specs.declared.halt.Ending.{Ending}
 use Rattle.sfu_driver.specs.declared.halt.Ending.TheVariants as ending
 use Rattle.sfu_driver.specs.declared.halt.Halt.TheVariants.{Ended, Starved}
-use Rattle.sfu_driver.specs.declared.halt.Stop.{Stop}
-use Rattle.sfu_driver.specs.declared.halt.Stop.TheVariants.{SourceFault, SinkFault, Halted}
+use Rattle.sfu_driver.specs.declared.halt.Interruption.{Interruption}
+use Rattle.sfu_driver.specs.declared.halt.Interruption.TheVariants.{SourceFault, SinkFault, Halted}
 use Rattle.sfu_driver.specs.Outcome.{End, Outcome, takes, then_due}
 use Rattle.sfu_driver.specs.Drive.{CauseOf, Drove, WritesFront, end_by}
 use Rattle.sfu_driver.specs.Statuses.{Completes, Decides, IsPrompt, Statuses, due_of, end_of, full_text, status_for, status_of}
@@ -42,7 +42,7 @@ completes_six None = inr refl
 completes_six (Some end) = inr refl
 
 -- a number that is no input's status
-no_status : (n : ℕ) (why : Ending) → (n < 5) ⊎ (n ≡ 6) → n ≡ status_of why → ⊥
+pub no_status : (n : ℕ) (why : Ending) → (n < 5) ⊎ (n ≡ 6) → n ≡ status_of why → ⊥
 no_status n ending.Outside other is = omega arith
 no_status n ending.Complaint other is = omega arith
 
@@ -56,19 +56,19 @@ same_why ending.Complaint ending.Outside is = absurd (omega arith)
 same_why ending.Complaint ending.Complaint is = refl
 
 -- a count that rose in a later call rose in both together
-pub cause_since : (g0 g g' f f' : ℕ) (result : Result (Unit {0}) Stop) → g0 ≤ g → CauseOf g g' f f' result → CauseOf g0 g' f f' result
+pub cause_since : (g0 g g' f f' : ℕ) (result : Result (Unit {0}) Interruption) → g0 ≤ g → CauseOf g g' f f' result → CauseOf g0 g' f f' result
 cause_since g0 g g' f f' (Ok _) le cause = tt
 cause_since g0 g g' f f' (Err SourceFault) le cause = rose_since g0 g g' le cause
 cause_since g0 g g' f f' (Err SinkFault) le cause = cause
 cause_since g0 g g' f f' (Err (Halted why)) le cause = tt
 
 -- the told facts, whatever the source tells
-told_if : {U S T : Type 0} (stands : U → T → Type 0) (byte : S → ℕ → Outcome S) (ends : S → Outcome T) (s : S) (new : U) (left left' w w' : Option (List ℕ)) (f f' : ℕ) (result : Result (Unit {0}) Stop)
+told_if : {U S T : Type 0} (stands : U → T → Type 0) (byte : S → ℕ → Outcome S) (ends : S → Outcome T) (s : S) (new : U) (left left' w w' : Option (List ℕ)) (f f' : ℕ) (result : Result (Unit {0}) Interruption)
     → Drove stands byte ends s new left left' w w' f f' result → IfSome left (λ b. ToldBy byte ends s b left' w w' f f' result)
 told_if stands byte ends s new None left' w w' f f' result d = tt
 told_if stands byte ends s new (Some b) left' w w' f f' result d = told stands byte ends s b new left' w w' f f' result d
 
-prompt_by : {U S T : Type 0} (stands : U → T → Type 0) (byte : S → ℕ → Outcome S) (ends : S → Outcome T) (s : S) (new : U) (left left' w w' : Option (List ℕ)) (f f' : ℕ) (result : Result (Unit {0}) Stop)
+prompt_by : {U S T : Type 0} (stands : U → T → Type 0) (byte : S → ℕ → Outcome S) (ends : S → Outcome T) (s : S) (new : U) (left left' w w' : Option (List ℕ)) (f f' : ℕ) (result : Result (Unit {0}) Interruption)
     → Drove stands byte ends s new left left' w w' f f' result → IfSome left (λ b. IsPrompt (λ taken. due_of (takes byte s taken)) left left' w w')
 prompt_by stands byte ends s new left left' w w' f f' result d = always left _ (record {
   earlier = d.earlier;
@@ -79,7 +79,7 @@ prompt_by stands byte ends s new left left' w w' f f' result d = always left _ (
   wrote = λ some. (d.first.1, d.first.2);
 })
 
-begun_by : {U S T : Type 0} (stands : U → T → Type 0) (byte : S → ℕ → Outcome S) (ends : S → Outcome T) (s : S) (new : U) (left left' w w' : Option (List ℕ)) (f f' : ℕ) (result : Result (Unit {0}) Stop)
+begun_by : {U S T : Type 0} (stands : U → T → Type 0) (byte : S → ℕ → Outcome S) (ends : S → Outcome T) (s : S) (new : U) (left left' w w' : Option (List ℕ)) (f f' : ℕ) (result : Result (Unit {0}) Interruption)
     → Drove stands byte ends s new left left' w w' f f' result → IfSome left (λ b. WritesFront w w' (full_text (due_of (then_due (takes byte s b) ends))))
 begun_by stands byte ends s new left left' w w' f f' result d =
     if_some left _ _ (λ b t. told_begun byte ends s b left' w w' f f' result t) (told_if stands byte ends s new left left' w w' f f' result d)
@@ -91,7 +91,7 @@ decided_by byte s taken why other left' same (inl bad) =
     inl (bad.0, ended_by (takes byte s taken).result (end_by why bad.0) bad.1 ∙ ap (λ (e : Ending). Some (end_by e bad.0)) same)
 decided_by byte s taken why other left' same (inr end) = inr end
 
-pub statuses : {U S T : Type 0} (stands : U → T → Type 0) (byte : S → ℕ → Outcome S) (ends : S → Outcome T) (s : S) (new : U) (left left' w w' : Option (List ℕ)) (g g' f f' : ℕ) (result : Result (Unit {0}) Stop)
+pub statuses : {U S T : Type 0} (stands : U → T → Type 0) (byte : S → ℕ → Outcome S) (ends : S → Outcome T) (s : S) (new : U) (left left' w w' : Option (List ℕ)) (g g' f f' : ℕ) (result : Result (Unit {0}) Interruption)
     → CauseOf g g' f f' result → Drove stands byte ends s new left left' w w' f f' result
     → Statuses (λ bytes. due_of (then_due (takes byte s bytes) ends)) (λ taken. due_of (takes byte s taken)) left left' w w' g g' f f' (status_for result)
 statuses {U} {S} {T} stands byte ends s new left left' w w' g g' f f' (Ok _) cause d =

@@ -4,8 +4,8 @@ use Rattle.std.specs.Io.KnownBytes.{Appends, IsAtEnd}
 use Rattle.std.proofs.KnownBytes.{Appends-trans}
 use Rattle.sfu_driver.specs.declared.halt.Ending.{Ending}
 use Rattle.sfu_driver.specs.declared.halt.Halt.TheVariants.{Ended, Starved}
-use Rattle.sfu_driver.specs.declared.halt.Stop.{Stop}
-use Rattle.sfu_driver.specs.declared.halt.Stop.TheVariants.{SourceFault, SinkFault, Halted}
+use Rattle.sfu_driver.specs.declared.halt.Interruption.{Interruption}
+use Rattle.sfu_driver.specs.declared.halt.Interruption.TheVariants.{SourceFault, SinkFault, Halted}
 use Rattle.sfu_driver.specs.Outcome.{End, Outcome, before, takes, then_due}
 use Rattle.sfu_driver.specs.Drive.{Drove, DroveBy, EndsBy, Fed, Stopped, Took, WritesEnd, WritesFor, WritesFront, WritesPart, end_by}
 use Rattle.sfu_driver.specs.Statuses.{end_of, last_text}
@@ -17,7 +17,7 @@ use Rattle.sfu_driver.proofs.Feeding.{all_flushed, goes_ok}
 
 -- ---- the command stopped before the end
 
-pub stopped_drove : {U S T : Type 0} (stands : U → T → Type 0) (byte : S → ℕ → Outcome S) (ends : S → Outcome T) (s : S) (bytes : List ℕ) (new : U) (left' w w' : Option (List ℕ)) (f f' : ℕ) (stop : Stop)
+pub stopped_drove : {U S T : Type 0} (stands : U → T → Type 0) (byte : S → ℕ → Outcome S) (ends : S → Outcome T) (s : S) (bytes : List ℕ) (new : U) (left' w w' : Option (List ℕ)) (f f' : ℕ) (stop : Interruption)
     → Stopped stop byte s bytes [] w w' f f' → DroveBy stands byte ends s bytes new left' w w' f f' (Err stop)
 stopped_drove stands byte ends s bytes new left' w w' f f' SourceFault b = b
 stopped_drove stands byte ends s bytes new left' w w' f f' SinkFault b = inl b.1
@@ -31,12 +31,12 @@ stopped_drove stands byte ends s bytes new left' w w' f f' (Halted Starved) b = 
 -- ---- the command came to the end
 
 pub ended_drove : {U V S T : Type 0} (at : V → S → Type 0) (stands : U → T → Type 0) (byte : S → ℕ → Outcome S) (ends : S → Outcome T) (s : S) (bytes : List ℕ) (u : V) (new : U) (r : List ℕ) (left' w0 w1 w2 : Option (List ℕ)) (f0 f1 f2 : ℕ)
-    (result : Result (Unit {0}) Stop) → f0 ≤ f1 → (a : Fed at byte s bytes u [] r w0 w1) → r ≡ [] → IsAtEnd left' → EndsBy stands (ends a.later) new w1 w2 f1 f2 result
+    (result : Result (Unit {0}) Interruption) → f0 ≤ f1 → (a : Fed at byte s bytes u [] r w0 w1) → r ≡ [] → IsAtEnd left' → EndsBy stands (ends a.later) new w1 w2 f1 f2 result
     → DroveBy stands byte ends s bytes new left' w0 w2 f0 f2 result
 ended_drove {U} {V} {S} {T} at stands byte ends s bytes u new r left' w0 w1 w2 f0 f1 f2 result le a empty end e =
     by_result result (then_ok (takes byte s bytes) a.later ends a.goes) (all_flushed at byte s bytes u [] r w0 w1 refl empty a) e
   where
-    by_result : (x : Result (Unit {0}) Stop) → then_due (takes byte s bytes) ends ≡ before (takes byte s bytes).text (ends a.later) → Appends w0 w1 (takes byte s bytes).text
+    by_result : (x : Result (Unit {0}) Interruption) → then_due (takes byte s bytes) ends ≡ before (takes byte s bytes).text (ends a.later) → Appends w0 w1 (takes byte s bytes).text
         → EndsBy stands (ends a.later) new w1 w2 f1 f2 x → DroveBy stands byte ends s bytes new left' w0 w2 f0 f2 x
     by_result (Ok _) due first e = (
       end,
@@ -68,7 +68,7 @@ ended_drove {U} {V} {S} {T} at stands byte ends s bytes u new r left' w0 w1 w2 f
 -- ---- the whole input is told
 
 -- What is known of a command whose whole input is told, by why it stopped.
-abbrev pub ToldBy : {S T : Type 0} → (S → ℕ → Outcome S) → (S → Outcome T) → S → List ℕ → Option (List ℕ) → Option (List ℕ) → Option (List ℕ) → ℕ → ℕ → Result (Unit {0}) Stop → Type 0
+abbrev pub ToldBy : {S T : Type 0} → (S → ℕ → Outcome S) → (S → Outcome T) → S → List ℕ → Option (List ℕ) → Option (List ℕ) → Option (List ℕ) → ℕ → ℕ → Result (Unit {0}) Interruption → Type 0
 ToldBy {S} {T} byte ends s all left' w w' f f' (Ok _) = IsAtEnd left' × ((later : T) × ((then_due (takes byte s all) ends).result ≡ Ok later)) × Appends w w' (then_due (takes byte s all) ends).text
 ToldBy {S} {T} byte ends s all left' w w' f f' (Err SourceFault) = WritesFor byte s all [] w w'
 ToldBy {S} {T} byte ends s all left' w w' f f' (Err SinkFault) = WritesPart w w' (then_due (takes byte s all) ends).text
@@ -102,7 +102,7 @@ more_for byte s xs r w w' b = record {
   wrote = b.wrote;
 }
 
-told_of : {U S T : Type 0} (stands : U → T → Type 0) (byte : S → ℕ → Outcome S) (ends : S → Outcome T) (s : S) (xs r : List ℕ) (new : U) (w w' : Option (List ℕ)) (f f' : ℕ) (result : Result (Unit {0}) Stop)
+told_of : {U S T : Type 0} (stands : U → T → Type 0) (byte : S → ℕ → Outcome S) (ends : S → Outcome T) (s : S) (xs r : List ℕ) (new : U) (w w' : Option (List ℕ)) (f f' : ℕ) (result : Result (Unit {0}) Interruption)
     → DroveBy stands byte ends s xs new (Some r) w w' f f' result → ToldBy byte ends s (xs ++ r) (Some r) w w' f f' result
 told_of {U} {S} {T} stands byte ends s xs r new w w' f f' (Ok _) d =
     subst (λ (bytes : List ℕ). ToldBy byte ends s bytes (Some r) w w' f f' (Ok tt)) (sym (at_end xs r d.0)) (d.0, (d.1.0, d.1.1), d.1.3)
@@ -116,7 +116,7 @@ told_of {U} {S} {T} stands byte ends s xs r new w w' f f' (Err (Halted (Ended wh
     subst P (sym (all_due byte ends s xs r why d.0)) d.1
 told_of stands byte ends s xs r new w w' f f' (Err (Halted Starved)) d = more_for byte s xs r w w' d
 
-pub told : {U S T : Type 0} (stands : U → T → Type 0) (byte : S → ℕ → Outcome S) (ends : S → Outcome T) (s : S) (b : List ℕ) (new : U) (left' w w' : Option (List ℕ)) (f f' : ℕ) (result : Result (Unit {0}) Stop)
+pub told : {U S T : Type 0} (stands : U → T → Type 0) (byte : S → ℕ → Outcome S) (ends : S → Outcome T) (s : S) (b : List ℕ) (new : U) (left' w w' : Option (List ℕ)) (f f' : ℕ) (result : Result (Unit {0}) Interruption)
     → Drove stands byte ends s new (Some b) left' w w' f f' result → ToldBy byte ends s b left' w w' f f' result
 told stands byte ends s b new None w w' f f' result d = absurd d.consumed
 told {U} {S} {T} stands byte ends s b new (Some r) w w' f f' result d =
@@ -129,7 +129,7 @@ front_of_all byte ends s all w w' b =
     subst (WritesFront w w') (sym (ap (λ (bytes : List ℕ). (then_due (takes byte s bytes) ends).text) b.split ∙ more.1)) (front_longer w w' (takes byte s b.front).text more.0 (front_all w w' (takes byte s b.front).text b.wrote))
 
 -- a front of what is due was written, whatever stopped the command
-pub told_begun : {S T : Type 0} (byte : S → ℕ → Outcome S) (ends : S → Outcome T) (s : S) (all : List ℕ) (left' w w' : Option (List ℕ)) (f f' : ℕ) (result : Result (Unit {0}) Stop)
+pub told_begun : {S T : Type 0} (byte : S → ℕ → Outcome S) (ends : S → Outcome T) (s : S) (all : List ℕ) (left' w w' : Option (List ℕ)) (f f' : ℕ) (result : Result (Unit {0}) Interruption)
     → ToldBy byte ends s all left' w w' f f' result → WritesFront w w' ((then_due (takes byte s all) ends).text ++ last_text (end_of (then_due (takes byte s all) ends).result))
 told_begun {S} {T} byte ends s all left' w w' f f' result b =
     by_result result b
@@ -140,7 +140,7 @@ told_begun {S} {T} byte ends s all left' w w' f f' result b =
     longer : WritesFront w w' due.text → WritesFront w w' (due.text ++ last_text (end_of due.result))
     longer front = front_longer w w' due.text (last_text (end_of due.result)) front
 
-    by_result : (x : Result (Unit {0}) Stop) → ToldBy byte ends s all left' w w' f f' x → WritesFront w w' (due.text ++ last_text (end_of due.result))
+    by_result : (x : Result (Unit {0}) Interruption) → ToldBy byte ends s all left' w w' f f' x → WritesFront w w' (due.text ++ last_text (end_of due.result))
     by_result (Ok _) b = longer (front_all w w' due.text b.2)
     by_result (Err SourceFault) b = longer (front_of_all byte ends s all w w' b)
     by_result (Err SinkFault) b = longer (part_front w w' due.text b)
@@ -152,7 +152,7 @@ told_begun {S} {T} byte ends s all left' w w' f f' result b =
 
 -- ---- the bytes and the end
 
-pub drove_took : {U V S T : Type 0} (at : V → S → Type 0) (stands : U → T → Type 0) (byte : S → ℕ → Outcome S) (ends : S → Outcome T) (u u1 : V) (new : U) (r r1 : List ℕ) (left left' w0 w1 : Option (List ℕ)) (f0 f1 : ℕ) (stop : Stop)
+pub drove_took : {U V S T : Type 0} (at : V → S → Type 0) (stands : U → T → Type 0) (byte : S → ℕ → Outcome S) (ends : S → Outcome T) (u u1 : V) (new : U) (r r1 : List ℕ) (left left' w0 w1 : Option (List ℕ)) (f0 f1 : ℕ) (stop : Interruption)
     → r ≡ [] → Took at byte u u1 r r1 left left' w0 w1 f0 f1 (Err stop) → (s : S) → at u s → Drove stands byte ends s new left left' w0 w1 f0 f1 (Err stop)
 drove_took {U} {V} {S} {T} at stands byte ends u u1 new r r1 left left' w0 w1 f0 f1 stop none took s stand = record {
   earlier = took.earlier;
@@ -165,7 +165,7 @@ drove_took {U} {V} {S} {T} at stands byte ends u u1 new r r1 left left' w0 w1 f0
 }
 
 -- whatever came of the end, some text was written
-some_end : {U T : Type 0} (stands : U → T → Type 0) (due : Outcome T) (new : U) (w w' : Option (List ℕ)) (f f' : ℕ) (result : Result (Unit {0}) Stop) → EndsBy stands due new w w' f f' result → (text : List ℕ) × Appends w w' text
+some_end : {U T : Type 0} (stands : U → T → Type 0) (due : Outcome T) (new : U) (w w' : Option (List ℕ)) (f f' : ℕ) (result : Result (Unit {0}) Interruption) → EndsBy stands due new w w' f f' result → (text : List ℕ) × Appends w w' text
 some_end stands due new w w' f f' (Ok _) e = (due.text, e.3)
 some_end stands due new w w' f f' (Err SourceFault) e = absurd e
 some_end stands due new w w' f f' (Err SinkFault) e = (e.text, e.wrote)
@@ -173,7 +173,7 @@ some_end stands due new w w' f f' (Err (Halted (Ended why))) e = (due.text ++ e.
 some_end stands due new w w' f f' (Err (Halted Starved)) e = ([], e)
 
 pub drove_ended : {U V S T : Type 0} (at : V → S → Type 0) (stands : U → T → Type 0) (byte : S → ℕ → Outcome S) (ends : S → Outcome T) (u u1 : V) (new : U) (r r1 : List ℕ) (left left' w0 w1 w2 : Option (List ℕ)) (f0 f1 f2 : ℕ)
-    (result : Result (Unit {0}) Stop) → f0 ≤ f1 → r ≡ [] → Took at byte u u1 r r1 left left' w0 w1 f0 f1 (Ok tt) → r1 ≡ [] → IsAtEnd left'
+    (result : Result (Unit {0}) Interruption) → f0 ≤ f1 → r ≡ [] → Took at byte u u1 r r1 left left' w0 w1 f0 f1 (Ok tt) → r1 ≡ [] → IsAtEnd left'
     → ((p : S) → at u1 p → EndsBy stands (ends p) new w1 w2 f1 f2 result) → (s : S) → at u s → Drove stands byte ends s new left left' w0 w2 f0 f2 result
 drove_ended {U} {V} {S} {T} at stands byte ends u u1 new r r1 left left' w0 w1 w2 f0 f1 f2 result le none took empty end e s stand =
     let bytes = took.earlier ++ took.piece in

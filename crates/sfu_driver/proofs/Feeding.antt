@@ -9,8 +9,8 @@ use Rattle.sfu_base.specs.Faults.{Rose}
 use Rattle.sfu_driver.specs.declared.halt.Ending.{Ending}
 use Rattle.sfu_driver.specs.declared.halt.Halt.{Halt}
 use Rattle.sfu_driver.specs.declared.halt.Halt.TheVariants.{Ended, Starved}
-use Rattle.sfu_driver.specs.declared.halt.Stop.{Stop}
-use Rattle.sfu_driver.specs.declared.halt.Stop.TheVariants.{SourceFault, SinkFault, Halted}
+use Rattle.sfu_driver.specs.declared.halt.Interruption.{Interruption}
+use Rattle.sfu_driver.specs.declared.halt.Interruption.TheVariants.{SourceFault, SinkFault, Halted}
 use Rattle.sfu_driver.specs.Outcome.{End, Outcome, takes}
 use Rattle.sfu_driver.specs.Drive.{Fed, Feeds, FeedsBy, Halts, Judges, Nexts, Stopped, Took, WritesEnd, WritesPart, end_by}
 use Rattle.sfu_driver.proofs.Takes.{takes_err, takes_front, takes_ok}
@@ -46,7 +46,7 @@ wrote_on : {S : Type 0} (byte : S → ℕ → Outcome S) (s q : S) (xs ys r0 r1 
 wrote_on byte s q xs ys r0 r1 flushed w0 w1 w2 goes whole first wrote =
     subst (Appends w0 w2) (sym (whole_on byte s q xs ys r0 r1 flushed goes whole)) (Appends-trans w0 w1 w2 flushed (r1 ++ (takes byte q ys).text) first wrote)
 
-stopped_on : {U S : Type 0} (stands : U → S → Type 0) (byte : S → ℕ → Outcome S) (s : S) (u1 : U) (xs ys r0 r1 : List ℕ) (w0 w1 w2 : Option (List ℕ)) (f0 f1 f2 : ℕ) (stop : Stop) → f0 ≤ f1
+stopped_on : {U S : Type 0} (stands : U → S → Type 0) (byte : S → ℕ → Outcome S) (s : S) (u1 : U) (xs ys r0 r1 : List ℕ) (w0 w1 w2 : Option (List ℕ)) (f0 f1 f2 : ℕ) (stop : Interruption) → f0 ≤ f1
     → (a : Fed stands byte s xs u1 r0 r1 w0 w1) → Stopped stop byte a.later ys r1 w1 w2 f1 f2 → Stopped stop byte s (xs ++ ys) r0 w0 w2 f0 f2
 stopped_on stands byte s u1 xs ys r0 r1 w0 w1 w2 f0 f1 f2 SourceFault le a b = (ok_on byte s a.later xs ys a.goes b.0, wrote_on byte s a.later xs ys r0 r1 a.flushed w0 w1 w2 a.goes a.whole a.wrote b.1)
 stopped_on stands byte s u1 xs ys r0 r1 w0 w1 w2 f0 f1 f2 SinkFault le a b = (
@@ -67,7 +67,7 @@ stopped_on stands byte s u1 xs ys r0 r1 w0 w1 w2 f0 f1 f2 (Halted Starved) le a 
   wrote = wrote_on byte s a.later xs b.front r0 r1 a.flushed w0 w1 w2 a.goes a.whole a.wrote b.wrote;
 }
 
-pub feeds_on : {U S : Type 0} (stands : U → S → Type 0) (byte : S → ℕ → Outcome S) (u0 u1 u2 : U) (xs ys r0 r1 r2 : List ℕ) (w0 w1 w2 : Option (List ℕ)) (f0 f1 f2 : ℕ) (result : Result (Unit {0}) Stop) → f0 ≤ f1
+pub feeds_on : {U S : Type 0} (stands : U → S → Type 0) (byte : S → ℕ → Outcome S) (u0 u1 u2 : U) (xs ys r0 r1 r2 : List ℕ) (w0 w1 w2 : Option (List ℕ)) (f0 f1 f2 : ℕ) (result : Result (Unit {0}) Interruption) → f0 ≤ f1
     → Feeds stands byte u0 xs u1 r0 r1 w0 w1 f0 f1 (Ok tt) → Feeds stands byte u1 ys u2 r1 r2 w1 w2 f1 f2 result → Feeds stands byte u0 (xs ++ ys) u2 r0 r2 w0 w2 f0 f2 result
 feeds_on stands byte u0 u1 u2 xs ys r0 r1 r2 w0 w1 w2 f0 f1 f2 (Ok _) le first second s stand =
     let a = first s stand in fed_on stands byte s u1 u2 xs ys r0 r1 r2 w0 w1 w2 a (second a.later a.at)
@@ -76,7 +76,7 @@ feeds_on stands byte u0 u1 u2 xs ys r0 r1 r2 w0 w1 w2 f0 f1 f2 (Err stop) le fir
 
 -- ---- more bytes behind those that stopped the command
 
-stopped_longer : {S : Type 0} (byte : S → ℕ → Outcome S) (s : S) (xs ys r : List ℕ) (w w' : Option (List ℕ)) (f f' : ℕ) (stop : Stop) → (stop ≡ SourceFault → ⊥)
+stopped_longer : {S : Type 0} (byte : S → ℕ → Outcome S) (s : S) (xs ys r : List ℕ) (w w' : Option (List ℕ)) (f f' : ℕ) (stop : Interruption) → (stop ≡ SourceFault → ⊥)
     → Stopped stop byte s xs r w w' f f' → Stopped stop byte s (xs ++ ys) r w w' f f'
 stopped_longer byte s xs ys r w w' f f' SourceFault other b = absurd (other refl)
 stopped_longer byte s xs ys r w w' f f' SinkFault other b =
@@ -93,7 +93,7 @@ stopped_longer byte s xs ys r w w' f f' (Halted Starved) other b = record {
   wrote = b.wrote;
 }
 
-pub feeds_longer : {U S : Type 0} (stands : U → S → Type 0) (byte : S → ℕ → Outcome S) (u u' : U) (xs ys r r' : List ℕ) (w w' : Option (List ℕ)) (f f' : ℕ) (stop : Stop) → (stop ≡ SourceFault → ⊥)
+pub feeds_longer : {U S : Type 0} (stands : U → S → Type 0) (byte : S → ℕ → Outcome S) (u u' : U) (xs ys r r' : List ℕ) (w w' : Option (List ℕ)) (f f' : ℕ) (stop : Interruption) → (stop ≡ SourceFault → ⊥)
     → Feeds stands byte u xs u' r r' w w' f f' (Err stop) → Feeds stands byte u (xs ++ ys) u' r r' w w' f f' (Err stop)
 feeds_longer stands byte u u' xs ys r r' w w' f f' stop other feeds s stand = stopped_longer byte s xs ys r w w' f f' stop other (feeds s stand)
 
@@ -109,15 +109,15 @@ pub flush_fails : {U S : Type 0} (stands : U → S → Type 0) (byte : S → ℕ
 flush_fails stands byte u u' r r' w w' f f' part rose s stand = (rose, subst (WritesPart w w') (sym (append-nil r)) part)
 
 -- all that is ready is written, or a part of it
-pub flush_does : {U S : Type 0} (stands : U → S → Type 0) (byte : S → ℕ → Outcome S) (u : U) (r r' : List ℕ) (w w' : Option (List ℕ)) (f f' : ℕ) (result : Result (Unit {0}) Stop)
+pub flush_does : {U S : Type 0} (stands : U → S → Type 0) (byte : S → ℕ → Outcome S) (u : U) (r r' : List ℕ) (w w' : Option (List ℕ)) (f f' : ℕ) (result : Result (Unit {0}) Interruption)
     → OnOk result (Appends w w' r) → OnOk result (r' ≡ []) → OnErr result (result ≡ Err SinkFault) → OnErr result (WritesPart w w' r) → OnErr result (Rose f f') → Feeds stands byte u [] u r r' w w' f f' result
 flush_does stands byte u r r' w w' f f' (Ok _) wrote empty fault part rose = flush_feeds stands byte u r r' w w' f f' wrote empty
 flush_does {U} {S} stands byte u r r' w w' f f' (Err stop) wrote empty fault part rose =
     let same : SinkFault ≡ stop = cc in
-    let P : Stop → Type 0 = λ x. Feeds stands byte u [] u r r' w w' f f' (Err x) in subst P same (flush_fails stands byte u u r r' w w' f f' part rose)
+    let P : Interruption → Type 0 = λ x. Feeds stands byte u [] u r r' w w' f f' (Err x) in subst P same (flush_fails stands byte u u r r' w w' f f' part rose)
 
 -- the same behind other bytes
-pub feeds_then : {U S : Type 0} (stands : U → S → Type 0) (byte : S → ℕ → Outcome S) (u0 u1 u2 : U) (xs r0 r1 r2 : List ℕ) (w0 w1 w2 : Option (List ℕ)) (f0 f1 f2 : ℕ) (result : Result (Unit {0}) Stop) → f0 ≤ f1
+pub feeds_then : {U S : Type 0} (stands : U → S → Type 0) (byte : S → ℕ → Outcome S) (u0 u1 u2 : U) (xs r0 r1 r2 : List ℕ) (w0 w1 w2 : Option (List ℕ)) (f0 f1 f2 : ℕ) (result : Result (Unit {0}) Interruption) → f0 ≤ f1
     → Feeds stands byte u0 xs u1 r0 r1 w0 w1 f0 f1 (Ok tt) → Feeds stands byte u1 [] u2 r1 r2 w1 w2 f1 f2 result → Feeds stands byte u0 xs u2 r0 r2 w0 w2 f0 f2 result
 feeds_then {U} {S} stands byte u0 u1 u2 xs r0 r1 r2 w0 w1 w2 f0 f1 f2 result le first second =
     let P : List ℕ → Type 0 = λ bytes. Feeds stands byte u0 bytes u2 r0 r2 w0 w2 f0 f2 result in
@@ -137,7 +137,7 @@ behind_mark r r' text mark at is = (
   ap (λ (n : ℕ). drop n r') at ∙ ap (λ (xs : List ℕ). drop (length r) xs) is ∙ drop-append_seam r text,
 )
 
-next_stops : {U S : Type 0} (stands : U → S → Type 0) (byte : S → ℕ → Outcome S) (s : S) (u' : U) (piece r r' : List ℕ) (mark : ℕ) (w w' : Option (List ℕ)) (f f' : ℕ) (why : Halt) (stop : Stop) → mark ≡ length r
+next_stops : {U S : Type 0} (stands : U → S → Type 0) (byte : S → ℕ → Outcome S) (s : S) (u' : U) (piece r r' : List ℕ) (mark : ℕ) (w w' : Option (List ℕ)) (f f' : ℕ) (why : Halt) (stop : Interruption) → mark ≡ length r
     → Judges stands (takes byte s piece) u' r r' (Err why) → Halts stop why (take mark r') (drop mark r') w w' f f' → Stopped stop byte s piece r w w' f f'
 next_stops stands byte s u' piece r r' mark w w' f f' why SourceFault at j h = absurd h
 next_stops stands byte s u' piece r r' mark w w' f f' (Ended why) SinkFault at j h =
@@ -158,14 +158,14 @@ next_stops stands byte s u' piece r r' mark w w' f f' Starved (Halted Starved) a
     let wrote : Appends w w' r = subst (Appends w w') (behind_mark r r' [] mark at (j ∙ sym (append-nil r))).0 h.1 in
     record { front = []; more = piece; split = refl; goes = refl; wrote = subst (Appends w w') (sym (append-nil r)) wrote }
 
-pub next_halts : {U S : Type 0} (stands : U → S → Type 0) (byte : S → ℕ → Outcome S) (u u' : U) (piece r r' r2 : List ℕ) (mark : ℕ) (w w' : Option (List ℕ)) (f f' : ℕ) (why : Halt) (stop : Stop) → mark ≡ length r
+pub next_halts : {U S : Type 0} (stands : U → S → Type 0) (byte : S → ℕ → Outcome S) (u u' : U) (piece r r' r2 : List ℕ) (mark : ℕ) (w w' : Option (List ℕ)) (f f' : ℕ) (why : Halt) (stop : Interruption) → mark ≡ length r
     → ((s : S) → stands u s → Nexts stands byte s piece u' r r' (Err why)) → Halts stop why (take mark r') (drop mark r') w w' f f' → Feeds stands byte u piece u' r r2 w w' f f' (Err stop)
 next_halts stands byte u u' piece r r' r2 mark w w' f f' why stop at nexts h s stand = next_stops stands byte s u' piece r r' mark w w' f f' why stop at (nexts s stand) h
 
 -- ---- what was written
 
 -- whatever comes of the bytes, some text was written
-some_by : {U S : Type 0} (stands : U → S → Type 0) (byte : S → ℕ → Outcome S) (s : S) (bytes : List ℕ) (u' : U) (r r' : List ℕ) (w w' : Option (List ℕ)) (f f' : ℕ) (result : Result (Unit {0}) Stop)
+some_by : {U S : Type 0} (stands : U → S → Type 0) (byte : S → ℕ → Outcome S) (s : S) (bytes : List ℕ) (u' : U) (r r' : List ℕ) (w w' : Option (List ℕ)) (f f' : ℕ) (result : Result (Unit {0}) Interruption)
     → FeedsBy stands byte s bytes u' r r' w w' f f' result → (text : List ℕ) × Appends w w' text
 some_by stands byte s bytes u' r r' w w' f f' (Ok _) b = (b.flushed, b.wrote)
 some_by stands byte s bytes u' r r' w w' f f' (Err SourceFault) b = (r ++ (takes byte s bytes).text, b.1)
@@ -196,7 +196,7 @@ took_none stands byte u r left w f f' = record {
 }
 
 -- a further piece was taken, behind bytes all of whose texts were written
-pub took_on : {U S : Type 0} (stands : U → S → Type 0) (byte : S → ℕ → Outcome S) (u0 u1 u2 : U) (r0 r1 r2 : List ℕ) (left0 left1 left2 w0 w1 w2 : Option (List ℕ)) (f0 f1 f2 : ℕ) (piece : List ℕ) (result : Result (Unit {0}) Stop) → f0 ≤ f1
+pub took_on : {U S : Type 0} (stands : U → S → Type 0) (byte : S → ℕ → Outcome S) (u0 u1 u2 : U) (r0 r1 r2 : List ℕ) (left0 left1 left2 w0 w1 w2 : Option (List ℕ)) (f0 f1 f2 : ℕ) (piece : List ℕ) (result : Result (Unit {0}) Interruption) → f0 ≤ f1
     → r0 ≡ [] → r1 ≡ [] → length piece ≤ 65536
     → Took stands byte u0 u1 r0 r1 left0 left1 w0 w1 f0 f1 (Ok tt) → Consumes left1 left2 piece → Feeds stands byte u1 piece u2 r1 r2 w1 w2 f1 f2 result → Took stands byte u0 u2 r0 r2 left0 left2 w0 w2 f0 f2 result
 took_on stands byte u0 u1 u2 r0 r1 r2 left0 left1 left2 w0 w1 w2 f0 f1 f2 piece result le none empty small took consumed feeds = record {
@@ -219,7 +219,7 @@ pub record HasRead {U S : Type 0} (stands : U → S → Type 0) (byte : S → �
   pub read : Consumes before left' piece
 
 -- nothing was read behind the bytes that were taken
-pub took_all : {U S : Type 0} (stands : U → S → Type 0) (byte : S → ℕ → Outcome S) (u0 u1 : U) (r0 r1 : List ℕ) (left left1 left2 w0 w1 : Option (List ℕ)) (f0 f1 : ℕ) (result : Result (Unit {0}) Stop)
+pub took_all : {U S : Type 0} (stands : U → S → Type 0) (byte : S → ℕ → Outcome S) (u0 u1 : U) (r0 r1 : List ℕ) (left left1 left2 w0 w1 : Option (List ℕ)) (f0 f1 : ℕ) (result : Result (Unit {0}) Interruption)
     → Took stands byte u0 u1 r0 r1 left left1 w0 w1 f0 f1 result → Consumes left1 left2 [] → Took stands byte u0 u1 r0 r1 left left2 w0 w1 f0 f1 result
 took_all stands byte u0 u1 r0 r1 left left1 left2 w0 w1 f0 f1 result took none = record {
   earlier = took.earlier;

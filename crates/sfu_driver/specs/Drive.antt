@@ -6,8 +6,8 @@ use Rattle.sfu_driver.specs.declared.halt.Ending.{Ending}
 use Rattle.sfu_driver.specs.declared.halt.Ending.TheVariants.{Outside}
 use Rattle.sfu_driver.specs.declared.halt.Halt.{Halt}
 use Rattle.sfu_driver.specs.declared.halt.Halt.TheVariants.{Ended, Starved}
-use Rattle.sfu_driver.specs.declared.halt.Stop.{Stop}
-use Rattle.sfu_driver.specs.declared.halt.Stop.TheVariants.{SourceFault, SinkFault, Halted}
+use Rattle.sfu_driver.specs.declared.halt.Interruption.{Interruption}
+use Rattle.sfu_driver.specs.declared.halt.Interruption.TheVariants.{SourceFault, SinkFault, Halted}
 use Rattle.sfu_driver.specs.Outcome.{End, Outcome, ends_with, takes, then_due}
 
 -- ---- what is written
@@ -56,7 +56,7 @@ Nexts stands byte state piece new ready ready' (Ok count) = Judges stands (takes
 Nexts stands byte state piece new ready ready' (Err halt) = Judges stands (takes byte state piece) new ready ready' (Err halt)
 
 -- What was written where a unit lets the command end.
-abbrev pub Halts : Stop → Halt → List ℕ → List ℕ → Option (List ℕ) → Option (List ℕ) → ℕ → ℕ → Type 0
+abbrev pub Halts : Interruption → Halt → List ℕ → List ℕ → Option (List ℕ) → Option (List ℕ) → ℕ → ℕ → Type 0
 Halts SourceFault halt ready last written written' faults faults' = ⊥
 Halts SinkFault halt ready last written written' faults faults' = Rose faults faults' × WritesPart written written' ready
 Halts (Halted (Ended why)) halt ready last written written' faults faults' = (halt ≡ Ended why) × WritesEnd written written' faults faults' ready last
@@ -82,7 +82,7 @@ pub record WritesFor {S : Type 0} (byte : S → ℕ → Outcome S) (state : S) (
   pub wrote : Appends written written' (ready ++ (takes byte state front).text)
 
 -- What was written where the command stopped at these bytes, by why it stopped.
-abbrev pub Stopped : {S : Type 0} → Stop → (S → ℕ → Outcome S) → S → List ℕ → List ℕ → Option (List ℕ) → Option (List ℕ) → ℕ → ℕ → Type 0
+abbrev pub Stopped : {S : Type 0} → Interruption → (S → ℕ → Outcome S) → S → List ℕ → List ℕ → Option (List ℕ) → Option (List ℕ) → ℕ → ℕ → Type 0
 Stopped SourceFault byte state bytes ready written written' faults faults' =
     IsOk ((takes byte state bytes).result) × Appends written written' (ready ++ (takes byte state bytes).text)
 Stopped SinkFault byte state bytes ready written written' faults faults' =
@@ -91,12 +91,12 @@ Stopped (Halted (Ended why)) byte state bytes ready written written' faults faul
     (last : List ℕ) × ((takes byte state bytes).result ≡ Err (end_by why last)) × WritesEnd written written' faults faults' (ready ++ (takes byte state bytes).text) last
 Stopped (Halted Starved) byte state bytes ready written written' faults faults' = WritesFor byte state bytes ready written written'
 
-abbrev pub FeedsBy : {U S : Type 0} → (U → S → Type 0) → (S → ℕ → Outcome S) → S → List ℕ → U → List ℕ → List ℕ → Option (List ℕ) → Option (List ℕ) → ℕ → ℕ → Result (Unit {0}) Stop → Type 0
+abbrev pub FeedsBy : {U S : Type 0} → (U → S → Type 0) → (S → ℕ → Outcome S) → S → List ℕ → U → List ℕ → List ℕ → Option (List ℕ) → Option (List ℕ) → ℕ → ℕ → Result (Unit {0}) Interruption → Type 0
 FeedsBy stands byte state bytes new ready ready' written written' faults faults' (Ok _) = Fed stands byte state bytes new ready ready' written written'
 FeedsBy stands byte state bytes new ready ready' written written' faults faults' (Err stop) = Stopped stop byte state bytes ready written written' faults faults'
 
 -- The bytes did this, whatever state the object stood for.
-abbrev pub Feeds : {U S : Type 0} → (U → S → Type 0) → (S → ℕ → Outcome S) → U → List ℕ → U → List ℕ → List ℕ → Option (List ℕ) → Option (List ℕ) → ℕ → ℕ → Result (Unit {0}) Stop → Type 0
+abbrev pub Feeds : {U S : Type 0} → (U → S → Type 0) → (S → ℕ → Outcome S) → U → List ℕ → U → List ℕ → List ℕ → Option (List ℕ) → Option (List ℕ) → ℕ → ℕ → Result (Unit {0}) Interruption → Type 0
 Feeds {U} {S} stands byte old bytes new ready ready' written written' faults faults' result =
     (state : S) → stands old state → FeedsBy stands byte state bytes new ready ready' written written' faults faults' result
 
@@ -106,7 +106,7 @@ WritesFirst byte state bytes written written' =
     IsOk ((takes byte state bytes).result) × (more : List ℕ) × Appends written written' ((takes byte state bytes).text ++ more)
 
 -- Bytes were taken from the source, of which those before the last piece did the first, and all did the second.
-pub record Took {U S : Type 0} (stands : U → S → Type 0) (byte : S → ℕ → Outcome S) (old new : U) (ready ready' : List ℕ) (left left' written written' : Option (List ℕ)) (faults faults' : ℕ) (result : Result (Unit {0}) Stop) : Type 0 where
+pub record Took {U S : Type 0} (stands : U → S → Type 0) (byte : S → ℕ → Outcome S) (old new : U) (ready ready' : List ℕ) (left left' written written' : Option (List ℕ)) (faults faults' : ℕ) (result : Result (Unit {0}) Interruption) : Type 0 where
   pub earlier : List ℕ
   pub piece : List ℕ
   pub consumed : Consumes left left' (earlier ++ piece)
@@ -115,7 +115,7 @@ pub record Took {U S : Type 0} (stands : U → S → Type 0) (byte : S → ℕ �
   pub feeds : Feeds stands byte old (earlier ++ piece) new ready ready' written written' faults faults' result
 
 -- A fault comes only where the count of its object rose.
-abbrev pub CauseOf : ℕ → ℕ → ℕ → ℕ → Result (Unit {0}) Stop → Type 0
+abbrev pub CauseOf : ℕ → ℕ → ℕ → ℕ → Result (Unit {0}) Interruption → Type 0
 CauseOf reads reads' writes writes' (Err SourceFault) = Rose reads reads'
 CauseOf reads reads' writes writes' (Err SinkFault) = Rose writes writes'
 CauseOf reads reads' writes writes' other = Unit {0}
@@ -123,7 +123,7 @@ CauseOf reads reads' writes writes' other = Unit {0}
 -- ---- the end of the input
 
 -- What was written at the end of the input, by why the command stopped there.
-abbrev pub EndsBy : {U T : Type 0} → (U → T → Type 0) → Outcome T → U → Option (List ℕ) → Option (List ℕ) → ℕ → ℕ → Result (Unit {0}) Stop → Type 0
+abbrev pub EndsBy : {U T : Type 0} → (U → T → Type 0) → Outcome T → U → Option (List ℕ) → Option (List ℕ) → ℕ → ℕ → Result (Unit {0}) Interruption → Type 0
 EndsBy {U} {T} stands due new written written' faults faults' (Ok _) = (later : T) × (due.result ≡ Ok later) × stands new later × Appends written written' due.text
 EndsBy {U} {T} stands due new written written' faults faults' (Err SourceFault) = ⊥
 EndsBy {U} {T} stands due new written written' faults faults' (Err SinkFault) = WritesPart written written' due.text
@@ -135,7 +135,7 @@ EndsBy {U} {T} stands due new written written' faults faults' (Err (Halted Starv
 
 -- What is known of a command that took these bytes, by why it stopped: all that is due for them was written, and at the end of the input
 -- also what is due then. Where it ended by what its input says, that stands in these bytes, or in their end.
-abbrev pub DroveBy : {U S T : Type 0} → (U → T → Type 0) → (S → ℕ → Outcome S) → (S → Outcome T) → S → List ℕ → U → Option (List ℕ) → Option (List ℕ) → Option (List ℕ) → ℕ → ℕ → Result (Unit {0}) Stop → Type 0
+abbrev pub DroveBy : {U S T : Type 0} → (U → T → Type 0) → (S → ℕ → Outcome S) → (S → Outcome T) → S → List ℕ → U → Option (List ℕ) → Option (List ℕ) → Option (List ℕ) → ℕ → ℕ → Result (Unit {0}) Interruption → Type 0
 DroveBy {U} {S} {T} stands byte ends state taken new left' written written' faults faults' (Ok _) =
     IsAtEnd left' × EndsBy stands (then_due (takes byte state taken) ends) new written written' faults faults' (Ok tt)
 DroveBy {U} {S} {T} stands byte ends state taken new left' written written' faults faults' (Err SourceFault) =
@@ -148,7 +148,7 @@ DroveBy {U} {S} {T} stands byte ends state taken new left' written written' faul
 DroveBy {U} {S} {T} stands byte ends state taken new left' written written' faults faults' (Err (Halted Starved)) = WritesFor byte state taken [] written written'
 
 -- Bytes were taken from the source, of which those before the last piece did the first, and all did the second.
-pub record Drove {U S T : Type 0} (stands : U → T → Type 0) (byte : S → ℕ → Outcome S) (ends : S → Outcome T) (state : S) (new : U) (left left' written written' : Option (List ℕ)) (faults faults' : ℕ) (result : Result (Unit {0}) Stop) : Type 0 where
+pub record Drove {U S T : Type 0} (stands : U → T → Type 0) (byte : S → ℕ → Outcome S) (ends : S → Outcome T) (state : S) (new : U) (left left' written written' : Option (List ℕ)) (faults faults' : ℕ) (result : Result (Unit {0}) Interruption) : Type 0 where
   pub earlier : List ℕ
   pub piece : List ℕ
   pub consumed : Consumes left left' (earlier ++ piece)

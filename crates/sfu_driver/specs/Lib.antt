@@ -6,3 +6,4 @@ pub mod Input
 pub mod Drive
 pub mod Units
 pub mod Statuses
+pub mod Exchange

@@ -7,8 +7,10 @@ use Rattle.sfu_base.specs.Faults.{Rose}
 use Rattle.sfu_driver.specs.declared.halt.Ending.{Ending}
 use Rattle.sfu_driver.specs.declared.halt.Ending.TheVariants as ending
 use Rattle.sfu_driver.specs.declared.halt.Halt.TheVariants.{Ended, Starved}
-use Rattle.sfu_driver.specs.declared.halt.Stop.{Stop}
-use Rattle.sfu_driver.specs.declared.halt.Stop.TheVariants.{SourceFault, SinkFault, Halted}
+use Rattle.sfu_driver.specs.declared.halt.Interruption.{Interruption}
+use Rattle.sfu_driver.specs.declared.halt.Interruption.TheVariants.{SourceFault, SinkFault, Halted}
+use Rattle.sfu_driver.specs.declared.statuses.Status.{Status}
+use Rattle.sfu_driver.specs.declared.statuses.Status.TheVariants as status
 use Rattle.sfu_driver.specs.Outcome.{End, Outcome}
 use Rattle.sfu_driver.specs.Drive.{WritesEnd, WritesFront, WritesPart, end_by}
 
@@ -44,12 +46,22 @@ status_of ending.Outside = 5
 status_of ending.Complaint = 8
 
 -- the status of a command
-abbrev pub status_for : Result (Unit {0}) Stop → ℕ
+abbrev pub status_for : Result (Unit {0}) Interruption → ℕ
 status_for (Ok _) = 0
 status_for (Err SourceFault) = 3
 status_for (Err SinkFault) = 4
 status_for (Err (Halted Starved)) = 6
 status_for (Err (Halted (Ended why))) = status_of why
+
+-- the number that the program answers
+abbrev pub number_of : Status → ℕ
+number_of status.Done = 0
+number_of status.NoCommand = 2
+number_of status.SourceFault = 3
+number_of status.SinkFault = 4
+number_of status.NoMemory = 6
+number_of status.PortFault = 7
+number_of (status.Ended why) = status_of why
 
 -- Where nothing of the outside fails, the status is the one of the input, or want of memory.
 abbrev pub Completes : Option End → ℕ → Type 0

@@ -7,7 +7,7 @@ ghost use Rattle.sfu_driver.specs.Point.{Point, byte, ends};
 ghost use Rattle.sfu_driver.specs.Units.{JudgeStands, StandsAt, progress, rule_of};
 
 use crate::sink::write_all;
-use crate::{Cut, Halt, Judge, Stop, Units};
+use crate::{Cut, Halt, Interruption, Judge, Units};
 use sfu_base::{Blob, Sink, Source};
 use std::alloc::Global;
 
@@ -18,10 +18,10 @@ pub const MOST_PIECE: usize = 65_536;
 const MOST_READY: usize = 65_536;
 
 // Writes all that is ready.
-fn flush<K: Sink>(ready: &mut Blob, sink: &mut K) -> Result<(), Stop>
+fn flush<K: Sink>(ready: &mut Blob, sink: &mut K) -> Result<(), Interruption>
     ensures ok { OnOk result (Appends (K.written sink.old) (K.written sink.new) ready.old) }
     ensures empty { OnOk result (ready.new ≡ []) }
-    ensures fault { OnErr result (result ≡ Err Stop.SinkFault) }
+    ensures fault { OnErr result (result ≡ Err Interruption.SinkFault) }
     ensures part { OnErr result (WritesPart (K.written sink.old) (K.written sink.new) ready.old) }
     ensures rose { OnErr result (Rose (K.faults sink.old) (K.faults sink.new)) }
     ensures never_falls { K.faults sink.old ≤ K.faults sink.new }
@@ -31,23 +31,23 @@ fn flush<K: Sink>(ready: &mut Blob, sink: &mut K) -> Result<(), Stop>
             ready.clear();
             Ok(())
         }
-        Err(_) => Err(Stop::SinkFault),
+        Err(_) => Err(Interruption::SinkFault),
     }
 }
 
 // Writes what was ready before the command ended, and then its last text. The sink's failing in the last text changes nothing.
-fn halt<K: Sink>(ready: &Blob, mark: usize, why: Halt, sink: &mut K) -> Stop
+fn halt<K: Sink>(ready: &Blob, mark: usize, why: Halt, sink: &mut K) -> Interruption
     requires { mark ≤ length ready.now }
     ensures halts { Halts result why (take mark ready.now) (drop mark ready.now) (K.written sink.old) (K.written sink.new) (K.faults sink.old) (K.faults sink.new) }
     ensures never_falls { K.faults sink.old ≤ K.faults sink.new }
 {
     if write_all(sink, &ready.bytes()[..mark]).is_err() {
-        return Stop::SinkFault;
+        return Interruption::SinkFault;
     }
     if let Halt::Ended(_) = why {
         let _ = write_all(sink, &ready.bytes()[mark..]);
     }
-    Stop::Halted(why)
+    Interruption::Halted(why)
 }
 
 // Judges at most one unit at the front of a piece, and says how many bytes were taken.
@@ -57,17 +57,17 @@ fn take_unit<C: Cut, J: Judge, K: Sink>(
     ready: &mut Blob,
     sink: &mut K,
     piece: &[u8],
-) -> Result<usize, Stop>
+) -> Result<usize, Interruption>
     requires { 0 < length piece.now }
     ensures feeds { IfOk result (λ count. Feeds (StandsAt J.stands) (byte (rule_of C.scan C.scan_end J.step J.outside J.closing)) units.old (take count piece.now) units.new ready.old ready.new
         (K.written sink.old) (K.written sink.new) (K.faults sink.old) (K.faults sink.new) (Ok tt)) }
-    ensures stops { (stop : Stop) → result ≡ Err stop → Feeds (StandsAt J.stands) (byte (rule_of C.scan C.scan_end J.step J.outside J.closing)) units.old piece.now units.new ready.old ready.new
+    ensures stops { (stop : Interruption) → result ≡ Err stop → Feeds (StandsAt J.stands) (byte (rule_of C.scan C.scan_end J.step J.outside J.closing)) units.old piece.now units.new ready.old ready.new
         (K.written sink.old) (K.written sink.new) (K.faults sink.old) (K.faults sink.new) (Err stop) }
     ensures used { IfOk result (λ count. 0 < count) }
     ensures within { IfOk result (λ count. count ≤ length piece.now) }
     ensures progress { IfOk result (λ count. progress units.old + count ≤ progress units.new) }
-    ensures source { result ≢ Err Stop.SourceFault }
-    ensures sink { result ≡ Err Stop.SinkFault → Rose (K.faults sink.old) (K.faults sink.new) }
+    ensures source { result ≢ Err Interruption.SourceFault }
+    ensures sink { result ≡ Err Interruption.SinkFault → Rose (K.faults sink.old) (K.faults sink.new) }
     ensures never_falls { K.faults sink.old ≤ K.faults sink.new }
 {
     let mark = ready.bytes().len();
@@ -87,13 +87,13 @@ fn feed<C: Cut, J: Judge, K: Sink>(
     ready: &mut Blob,
     sink: &mut K,
     piece: &[u8],
-) -> Result<(), Stop>
+) -> Result<(), Interruption>
     ensures feeds { Feeds (StandsAt J.stands) (byte (rule_of C.scan C.scan_end J.step J.outside J.closing)) units.old piece.now units.new ready.old ready.new
         (K.written sink.old) (K.written sink.new) (K.faults sink.old) (K.faults sink.new) result }
     ensures progress { OnOk result (progress units.old + length piece.now ≤ progress units.new) }
     ensures written { OnOk result (ready.new ≡ []) }
-    ensures source { result ≢ Err Stop.SourceFault }
-    ensures sink { result ≡ Err Stop.SinkFault → Rose (K.faults sink.old) (K.faults sink.new) }
+    ensures source { result ≢ Err Interruption.SourceFault }
+    ensures sink { result ≡ Err Interruption.SinkFault → Rose (K.faults sink.old) (K.faults sink.new) }
     ensures never_falls { K.faults sink.old ≤ K.faults sink.new }
 {
     let mut rest = piece;
@@ -112,7 +112,7 @@ fn take_all<C: Cut, J: Judge, S: Source, K: Sink>(
     first: usize,
     source: &mut S,
     sink: &mut K,
-) -> Result<(), Stop>
+) -> Result<(), Interruption>
     requires ready { ready.old ≡ [] }
     requires within { first ≤ MOST_PIECE }
     requires end { first ≡ 0 → IsAtEnd (S.left source.old) }
@@ -128,7 +128,7 @@ fn take_all<C: Cut, J: Judge, S: Source, K: Sink>(
     while count > 0 {
         feed(units, ready, sink, &piece[..count])?;
         let Ok(next) = source.read(piece) else {
-            return Err(Stop::SourceFault);
+            return Err(Interruption::SourceFault);
         };
         count = next;
     }
@@ -140,7 +140,7 @@ fn finish<C: Cut, J: Judge, K: Sink>(
     units: &mut Units<C, J>,
     ready: &mut Blob,
     sink: &mut K,
-) -> Result<(), Stop>
+) -> Result<(), Interruption>
     requires { ready.old ≡ [] }
     ensures ends { (point : Point J.State) → StandsAt J.stands units.old point
         → EndsBy (JudgeStands J.stands) (ends (rule_of C.scan C.scan_end J.step J.outside J.closing) point) units.new (K.written sink.old) (K.written sink.new) (K.faults sink.old) (K.faults sink.new) result }
@@ -161,7 +161,7 @@ pub fn drive_behind<C: Cut, J: Judge, S: Source, K: Sink>(
     first: usize,
     source: &mut S,
     sink: &mut K,
-) -> Result<(), Stop>
+) -> Result<(), Interruption>
     requires within { first ≤ MOST_PIECE }
     requires end { first ≡ 0 → IsAtEnd (S.left source.old) }
     ensures drove { (left : Option (List ℕ)) (point : Point J.State) → Consumes left (S.left source.old) (take first piece.old) → StandsAt J.stands units.old point
@@ -181,7 +181,7 @@ pub fn drive<C: Cut, J: Judge, S: Source, K: Sink>(
     units: &mut Units<C, J>,
     source: &mut S,
     sink: &mut K,
-) -> Result<(), Stop>
+) -> Result<(), Interruption>
     ensures drove { (point : Point J.State) → StandsAt J.stands units.old point
         → Drove (JudgeStands J.stands) (byte (rule_of C.scan C.scan_end J.step J.outside J.closing)) (ends (rule_of C.scan C.scan_end J.step J.outside J.closing)) point units.new
         (S.left source.old) (S.left source.new) (K.written sink.old) (K.written sink.new) (K.faults sink.old) (K.faults sink.new) result }
@@ -190,7 +190,7 @@ pub fn drive<C: Cut, J: Judge, S: Source, K: Sink>(
 {
     let mut piece = [0u8; MOST_PIECE];
     let Ok(first) = source.read(&mut piece) else {
-        return Err(Stop::SourceFault);
+        return Err(Interruption::SourceFault);
     };
     drive_behind(alloc, units, &mut piece, first, source, sink)
 }

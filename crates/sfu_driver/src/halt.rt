@@ -32,7 +32,7 @@ impl From<NoMemory> for Halt {
 
 /// Why a command ends before it has done all that its input says.
 #[derive(Clone, Copy, Debug, PartialEq, Eq)]
-pub enum Stop {
+pub enum Interruption {
     /// The source failed.
     SourceFault,
     /// The sink failed before all texts but the last were written.

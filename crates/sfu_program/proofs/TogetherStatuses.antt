@@ -3,11 +3,12 @@ use Rattle.std.proofs.Common.{◌≡◌, ◌⊎◌, inl, inr, ⊎_elim, ℕ, ◌
 use Rattle.std.specs.Prelude.{IfSome}
 use Rattle.std.specs.Io.KnownBytes.{Appends, IsAtEnd}
 use Rattle.std.proofs.KnownBytes.{Appends-trans, Consumes-whole}
+use Rattle.sfu_driver.specs.Exchange.{exchange_by}
 use Rattle.sfu_base.specs.Faults.{Rose}
 use Rattle.sfu_driver.specs.declared.halt.Ending.{Ending}
-use Rattle.sfu_driver.specs.declared.halt.Ending.TheVariants as ending
 use Rattle.sfu_driver.specs.Drive.{WritesPart, outside_end}
 use Rattle.sfu_driver.specs.Statuses.{Completes, Due, full_text, status_of}
+use Rattle.sfu_driver.proofs.Answering.{no_status as none_of}
 use Rattle.sfu_driver.proofs.Meanings.{statuses_same}
 use Rattle.script_texts.specs.declared.journal.Actors.{Actors}
 use Rattle.room_core.specs.History.{Entry, accepted}
@@ -40,16 +41,13 @@ same_due bytes = ap (λ (t : List ℕ). record { text = t; end = outside_end fau
 
 -- no status of an ending is 0, 4 or 6
 no_status : (status : ℕ) (why : Ending) → (status ≡ 0) ⊎ (status ≡ 4) ⊎ (status ≡ 6) → status ≡ status_of why → ⊥
-no_status status ending.Outside (inl a) e = omega arith
-no_status status ending.Outside (inr (inl a)) e = omega arith
-no_status status ending.Outside (inr (inr a)) e = omega arith
-no_status status ending.Complaint (inl a) e = omega arith
-no_status status ending.Complaint (inr (inl a)) e = omega arith
-no_status status ending.Complaint (inr (inr a)) e = omega arith
+no_status status why (inl a) e = none_of status why (inl (omega arith)) e
+no_status status why (inr (inl a)) e = none_of status why (inl (omega arith)) e
+no_status status why (inr (inr a)) e = none_of status why (inr a) e
 
 -- ---- no script was read
 
-pub plays_none : (left left' w w' : Option (List ℕ)) (g g' f f' status : ℕ) → ReadsNone left left' w w' g g' f f' status → Plays left left' w w' g g' f f' status
+pub plays_none : (left left' w w' : Option (List ℕ)) (g g' f f' status : ℕ) → ReadsNone left left' w w' g g' f f' status → Plays (exchange_by left left' w w' g g' f f') status
 plays_none left left' w w' g g' f f' status reads = record {
   history = [];
   statuses = statuses_same read_due read_part (together_due []) read_part left left' w w' g g' f f' status same_due (λ b. refl) reads.statuses;
@@ -81,7 +79,7 @@ module _ (left left' w w1 : Option (List ℕ)) (g g' f f1 : ℕ) (actors : Actor
   read_whole = if_some left _ _ (λ b x. (x.0, no_fault (together_script b).fault x.1)) (reads.statuses.done refl)
 
   -- memory was wanting behind it
-  pub plays_starved : Plays left left' w w1 g g' f f1 6
+  pub plays_starved : Plays (exchange_by left left' w w1 g g' f f1) 6
   plays_starved = record {
     history = [];
     statuses = record {
@@ -107,7 +105,7 @@ module _ (left left' w w1 : Option (List ℕ)) (g g' f f1 : ℕ) (actors : Actor
   played_by h made = Consumes-whole left left' reads.bytes (IsPlayed h) reads.consumed reads.at_end (record { whole = reads.whole; actors = actors; parts = reads.parts; made = made })
 
   -- the journal was written
-  pub plays_whole : (w2 : Option (List ℕ)) (f2 : ℕ) (h : List Entry) → IsMadeBy actors h → Headline (accepted h) → Appends w1 w2 (journal_text h) → Plays left left' w w2 g g' f f2 0
+  pub plays_whole : (w2 : Option (List ℕ)) (f2 : ℕ) (h : List Entry) → IsMadeBy actors h → Headline (accepted h) → Appends w1 w2 (journal_text h) → Plays (exchange_by left left' w w2 g g' f f2) 0
   plays_whole w2 f2 h made promised wrote =
       let all : Appends w w2 (journal_text h) = Appends-trans w w1 w2 [] (journal_text h) reads.unwritten wrote in record {
         history = h;
@@ -131,7 +129,7 @@ module _ (left left' w w1 : Option (List ℕ)) (g g' f f1 : ℕ) (actors : Actor
       }
 
   -- the sink failed before all of it was written
-  pub plays_part : (w2 : Option (List ℕ)) (f2 : ℕ) (h : List Entry) → IsMadeBy actors h → Headline (accepted h) → WritesPart w1 w2 (journal_text h) → f ≤ f1 → Rose f1 f2 → Plays left left' w w2 g g' f f2 4
+  pub plays_part : (w2 : Option (List ℕ)) (f2 : ℕ) (h : List Entry) → IsMadeBy actors h → Headline (accepted h) → WritesPart w1 w2 (journal_text h) → f ≤ f1 → Rose f1 f2 → Plays (exchange_by left left' w w2 g g' f f2) 4
   plays_part w2 f2 h made promised part falls rose =
       let all : Appends w w2 part.text = Appends-trans w w1 w2 [] part.text reads.unwritten part.wrote in
       let whole : WritesPart w w2 (journal_text h) = record { text = part.text; more = part.more; wrote = all; split = part.split; missing = part.missing } in

@@ -11,6 +11,7 @@ use Rattle.room_core.specs.History.{accepted}
 use Rattle.sfu_serve.specs.declared.run.Ended.{Ended}
 use Rattle.sfu_serve.specs.History.{entries_of}
 use Rattle.sfu_serve.specs.Runs.{After, AreSessions, Before, job_after}
+use Rattle.sfu_driver.specs.Exchange.{Exchange}
 use Rattle.sfu_driver.specs.Drive.{WritesPart}
 use Rattle.sfu_program.specs.ServeEnds.{AreUnworn, all_made, ends_of, ends_text}
 use Rattle.sfu_program.specs.ServeOpening.{first_text, made_first}
@@ -89,9 +90,9 @@ pub record ActsOn {L : Type 0} (told : L → Option Traffic) (faults : L → ℕ
 
 -- What `serve` does. Where the source fails (3), a line is outside the grammar (5) or memory is wanting for what the lines say (6), no call
 -- is made and no port bound.
-pub record Serves {L : Type 0} (told : L → Option Traffic) (faults : L → ℕ) (limit : ℕ) (left left' written written' : Option (List ℕ)) (reads reads' writes writes' : ℕ) (old new : PortsSeen L) (status : ℕ) : Type 0 where
-  pub came : (ReadsNoSetup left left' written written' reads reads' writes writes' status × (new ≡ old)) ⊎ ActsOn told faults limit left left' written written' writes writes' old new status
+pub record Serves {L : Type 0} (told : L → Option Traffic) (faults : L → ℕ) (limit : ℕ) (x : Exchange) (old new : PortsSeen L) (status : ℕ) : Type 0 where
+  pub came : (ReadsNoSetup x.left x.left' x.written x.written' x.reads x.reads' x.writes x.writes' status × (new ≡ old)) ⊎ ActsOn told faults limit x.left x.left' x.written x.written' x.writes x.writes' old new status
   -- no other status comes
   pub only : (status ≡ 0) ⊎ (status ≡ 3) ⊎ (status ≡ 4) ⊎ (status ≡ 5) ⊎ (status ≡ 6) ⊎ (status ≡ 7)
   -- where nothing outside fails, all sessions make all their turns, unless a line is outside the grammar
-  pub complete : ¬ (Rose reads reads') → ¬ (Rose writes writes') → ¬ (Rose old.faults new.faults) → (status ≡ 0) ⊎ (status ≡ 5) ⊎ (status ≡ 6)
+  pub complete : ¬ (Rose x.reads x.reads') → ¬ (Rose x.writes x.writes') → ¬ (Rose old.faults new.faults) → (status ≡ 0) ⊎ (status ≡ 5) ⊎ (status ≡ 6)

@@ -1,6 +1,7 @@
 -- The command `together`: the journal of a script's actors. Own rule.
 use Rattle.std.specs.Prelude.{◌≡◌, ◌⊎◌, ℕ, List, [], ◌∷◌, Option, Some, None, IfSome, codes}
 use Rattle.std.specs.List.{flat_map}
+use Rattle.sfu_driver.specs.Exchange.{Exchange}
 use Rattle.sfu_driver.specs.Statuses.{Due, Statuses}
 use Rattle.script_texts.specs.declared.journal.Actors.{Actors}
 use Rattle.script_texts.specs.Entries.{entry_text}
@@ -37,11 +38,11 @@ pub record IsPlayed (history : List Entry) (bytes : List ℕ) : Type 0 where
 
 -- What a status says: what it says for every command that reads, where what is due is the journal of one history, and nothing is due before
 -- the end of the script is seen.
-pub record Plays (left left' written written' : Option (List ℕ)) (reads reads' writes writes' status : ℕ) : Type 0 where
+pub record Plays (x : Exchange) (status : ℕ) : Type 0 where
   pub history : List Entry
-  pub statuses : Statuses (together_due history) read_part left left' written written' reads reads' writes writes' status
+  pub statuses : Statuses (together_due history) read_part x.left x.left' x.written x.written' x.reads x.reads' x.writes x.writes' status
   -- with 0 and 4 the script's actors made that history
-  pub played : (status ≡ 0) ⊎ (status ≡ 4) → IfSome left (IsPlayed history)
+  pub played : (status ≡ 0) ⊎ (status ≡ 4) → IfSome x.left (IsPlayed history)
   -- each subscriber in it was sent what it should be
   pub headline : Headline (accepted history)
   pub only : (status ≡ 0) ⊎ (status ≡ 3) ⊎ (status ≡ 4) ⊎ (status ≡ 5) ⊎ (status ≡ 6)

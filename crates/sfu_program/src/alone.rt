@@ -10,6 +10,7 @@ ghost use Rattle.sfu_commands.specs.Run.{IsRun, Runs};
 ghost use Rattle.sfu_commands.specs.Trial.{IsTrial, Tries};
 ghost use Rattle.sfu_commands.specs.Words.{IsForm};
 ghost use Rattle.sfu_program.specs.Forms.{IsStatus};
+ghost use Rattle.sfu_driver.specs.Exchange.{exchange_of};
 
 use sfu_base::{Sink, Source};
 use sfu_commands::{Command, check, convert, help, read_words, refuse, run, trial};
@@ -28,15 +29,12 @@ pub fn sfu_alone<S: Source, K: Sink>(
     sink: &mut K,
 ) -> u8
     ensures run { IsRun (map string_bytes words.now)
-        → Runs (S.left source.old) (S.left source.new) (K.written sink.old) (K.written sink.new) (S.faults source.old) (S.faults source.new)
-        (K.faults sink.old) (K.faults sink.new) result }
+        → Runs (exchange_of S.left S.faults K.written K.faults source.old source.new sink.old sink.new) result }
     ensures headline { IsRun (map string_bytes words.now) → AreServed (S.left source.old) }
     ensures check { (id : ℕ) → IsCheck (map string_bytes words.now) id
-        → Checks id (S.left source.old) (S.left source.new) (K.written sink.old) (K.written sink.new) (S.faults source.old) (S.faults source.new)
-        (K.faults sink.old) (K.faults sink.new) result }
+        → Checks id (exchange_of S.left S.faults K.written K.faults source.old source.new sink.old sink.new) result }
     ensures convert { IsConvert (map string_bytes words.now)
-        → Converts (S.left source.old) (S.left source.new) (K.written sink.old) (K.written sink.new) (S.faults source.old) (S.faults source.new)
-        (K.faults sink.old) (K.faults sink.new) result }
+        → Converts (exchange_of S.left S.faults K.written K.faults source.old source.new sink.old sink.new) result }
     ensures help { IsHelp (map string_bytes words.now) → Helps source.old source.new (K.written sink.old) (K.written sink.new) (K.faults sink.old) (K.faults sink.new) result }
     ensures trial { (s : Stream) → IsTrial (map string_bytes words.now) s
         → Tries source.old source.new s (K.written sink.old) (K.written sink.new) (K.faults sink.old) (K.faults sink.new) result }
@@ -46,17 +44,17 @@ pub fn sfu_alone<S: Source, K: Sink>(
     ensures only { IsStatus result }
 {
     match read_words(words) {
-        Some(Command::Run) => run(alloc, source, sink),
-        Some(Command::Convert) => convert(alloc, source, sink),
-        Some(Command::Help) => help(sink),
-        Some(Command::Check(id)) => check(alloc, id, source, sink),
+        Some(Command::Run) => run(alloc, source, sink).number(),
+        Some(Command::Convert) => convert(alloc, source, sink).number(),
+        Some(Command::Help) => help(sink).number(),
+        Some(Command::Check(id)) => check(alloc, id, source, sink).number(),
         Some(
             Command::Trial {
                 frames,
                 start,
                 loss,
             },
-        ) => trial(alloc, frames, start, loss, sink),
-        None => refuse(sink),
+        ) => trial(alloc, frames, start, loss, sink).number(),
+        None => refuse(sink).number(),
     }
 }

@@ -9,6 +9,7 @@ mod sfu;
 mod tests;
 mod together;
 
+use sfu_driver::Status;
 use sfu_edge::{StdSink, StdSource, SysClock, UdpPorts};
 use std::process::ExitCode;
 use std::{env, io};
@@ -28,7 +29,7 @@ fn arguments(rt: &HostRuntime) -> io::Result<Vec<String>> {
 
 fn main(rt: HostRuntime) -> ExitCode {
     let Ok(words) = arguments(&rt) else {
-        return ExitCode::from(6);
+        return ExitCode::from(Status::NoMemory.number());
     };
     let mut source = StdSource::new(&rt, rt.stdin());
     let mut sink = StdSink::new(&rt, rt.stdout());

@@ -13,6 +13,7 @@ ghost use Rattle.sfu_program.specs.Serve.{Serves};
 ghost use Rattle.sfu_program.specs.ServePorts.{seen_ports};
 ghost use Rattle.sfu_program.specs.ServeWords.{IsServe};
 ghost use Rattle.sfu_program.specs.Together.{IsTogether, Plays};
+ghost use Rattle.sfu_driver.specs.Exchange.{exchange_of};
 
 use crate::alone::sfu_alone;
 use crate::serve::{read_serve, serve};
@@ -63,24 +64,19 @@ pub fn sfu<W: Threads + Wait + Sync, S: Source, K: Sink, P: Ports, C: Clock + Sy
     requires unbound { P.bound ports.old ≡ 0 }
     requires none_back { P.back_count ports.old ≡ 0 }
     ensures run { IsRun (map string_bytes words.now)
-        → Runs (S.left source.old) (S.left source.new) (K.written sink.old) (K.written sink.new) (S.faults source.old) (S.faults source.new)
-        (K.faults sink.old) (K.faults sink.new) result }
+        → Runs (exchange_of S.left S.faults K.written K.faults source.old source.new sink.old sink.new) result }
     ensures headline { IsRun (map string_bytes words.now) → AreServed (S.left source.old) }
     ensures check { (id : ℕ) → IsCheck (map string_bytes words.now) id
-        → Checks id (S.left source.old) (S.left source.new) (K.written sink.old) (K.written sink.new) (S.faults source.old) (S.faults source.new)
-        (K.faults sink.old) (K.faults sink.new) result }
+        → Checks id (exchange_of S.left S.faults K.written K.faults source.old source.new sink.old sink.new) result }
     ensures convert { IsConvert (map string_bytes words.now)
-        → Converts (S.left source.old) (S.left source.new) (K.written sink.old) (K.written sink.new) (S.faults source.old) (S.faults source.new)
-        (K.faults sink.old) (K.faults sink.new) result }
+        → Converts (exchange_of S.left S.faults K.written K.faults source.old source.new sink.old sink.new) result }
     ensures help { IsHelp (map string_bytes words.now) → Helps source.old source.new (K.written sink.old) (K.written sink.new) (K.faults sink.old) (K.faults sink.new) result }
     ensures trial { (s : Stream) → IsTrial (map string_bytes words.now) s
         → Tries source.old source.new s (K.written sink.old) (K.written sink.new) (K.faults sink.old) (K.faults sink.new) result }
     ensures together { IsTogether (map string_bytes words.now)
-        → Plays (S.left source.old) (S.left source.new) (K.written sink.old) (K.written sink.new) (S.faults source.old) (S.faults source.new)
-        (K.faults sink.old) (K.faults sink.new) result }
+        → Plays (exchange_of S.left S.faults K.written K.faults source.old source.new sink.old sink.new) result }
     ensures serve { (turns : ℕ) → IsServe (map string_bytes words.now) turns
-        → Serves P.Port.told P.Port.faults turns (S.left source.old) (S.left source.new) (K.written sink.old) (K.written sink.new) (S.faults source.old)
-        (S.faults source.new) (K.faults sink.old) (K.faults sink.new)
+        → Serves P.Port.told P.Port.faults turns (exchange_of S.left S.faults K.written K.faults source.old source.new sink.old sink.new)
         (seen_ports (P.bound ports.old) (P.back_count ports.old) (P.returned ports.old) (P.faults ports.old))
         (seen_ports (P.bound ports.new) (P.back_count ports.new) (P.returned ports.new) (P.faults ports.new)) result }
     ensures unserved { ¬ (IsServing (map string_bytes words.now)) → ports.new ≡ ports.old }
@@ -90,10 +86,10 @@ pub fn sfu<W: Threads + Wait + Sync, S: Source, K: Sink, P: Ports, C: Clock + Sy
     ensures only { IsEnd result }
 {
     if are_together(words) {
-        return play_script(rt, alloc, source, sink);
+        return play_script(rt, alloc, source, sink).number();
     }
     if let Some(turns) = read_serve(words) {
-        return serve(rt, alloc, turns, source, sink, ports, clock);
+        return serve(rt, alloc, turns, source, sink, ports, clock).number();
     }
     sfu_alone(alloc, words, source, sink)
 }

@@ -4,6 +4,7 @@ ghost use Rattle.turn_lock.specs.Known.{Fits};
 ghost use Rattle.sfu_program.specs.Serve.{Acts, Ends};
 ghost use Rattle.sfu_program.specs.ServeOpening.{HasMade, first_text};
 ghost use Rattle.sfu_program.specs.ServePorts.{seen_ports};
+ghost use Rattle.sfu_driver.specs.Statuses.{number_of};
 
 use super::opening::{Unmade, make_calls};
 use super::ports::{Unbound, bind_all};
@@ -11,7 +12,7 @@ use super::running::{end_all, run_all};
 use port_config::Served;
 use room_core::{KeepNone, Room};
 use sfu_base::{Blob, Call, Clock, NoMemory, Ports, Sink};
-use sfu_driver::write_all;
+use sfu_driver::{Status, write_all};
 use sfu_serve::SharedRoom;
 use std::alloc::Global;
 use std::sync::Wait;
@@ -62,7 +63,7 @@ fn serve_ports<P: Ports, K: Sink, C: Clock + Sync, W: Threads + Wait + Sync>(
     clock: &C,
     limit: u64,
     sink: &mut K,
-) -> u8
+) -> Status
     requires made { HasMade turns served.now.calls seat }
     requires fits { Fits seat }
     requires calls { length served.now.calls < 2 ^ 32 }
@@ -74,15 +75,15 @@ fn serve_ports<P: Ports, K: Sink, C: Clock + Sync, W: Threads + Wait + Sync>(
     ensures sink { K.faults sink.old ≤ K.faults sink.new }
     ensures ends { Ends P.Port.told P.Port.faults limit served.now.calls served.now.ports.items (K.written sink.old) (K.written sink.new) (K.faults sink.old) (K.faults sink.new)
         (seen_ports (P.bound ports.old) (P.back_count ports.old) (P.returned ports.old) (P.faults ports.old))
-        (seen_ports (P.bound ports.new) (P.back_count ports.new) (P.returned ports.new) (P.faults ports.new)) result }
+        (seen_ports (P.bound ports.new) (P.back_count ports.new) (P.returned ports.new) (P.faults ports.new)) (number_of result) }
 {
     let jobs = match bind_all(alloc, served.ports.as_slice(), ports) {
         Ok(jobs) => jobs,
-        Err(Unbound::Starved) => return 6,
-        Err(Unbound::PortFault) => return 7,
+        Err(Unbound::Starved) => return Status::NoMemory,
+        Err(Unbound::PortFault) => return Status::PortFault,
     };
     let Ok(ended) = run_all(rt, alloc, turns, seat, jobs, clock, limit) else {
-        return 6;
+        return Status::NoMemory;
     };
     end_all(alloc, ended, ports, sink)
 }
@@ -97,7 +98,7 @@ pub fn act<P: Ports, K: Sink, C: Clock + Sync, W: Threads + Wait + Sync>(
     sink: &mut K,
     ports: &mut P,
     clock: &C,
-) -> u8
+) -> Status
     requires calls { length served.now.calls < 2 ^ 32 }
     requires few { vec_len served.now.ports ≤ 64 }
     requires limited { limit ≤ 1000000000000 }
@@ -107,13 +108,13 @@ pub fn act<P: Ports, K: Sink, C: Clock + Sync, W: Threads + Wait + Sync>(
     ensures sink { K.faults sink.old ≤ K.faults sink.new }
     ensures acts { Acts P.Port.told P.Port.faults limit served.now.calls served.now.ports.items (K.written sink.old) (K.written sink.new) (K.faults sink.old) (K.faults sink.new)
         (seen_ports (P.bound ports.old) (P.back_count ports.old) (P.returned ports.old) (P.faults ports.old))
-        (seen_ports (P.bound ports.new) (P.back_count ports.new) (P.returned ports.new) (P.faults ports.new)) result }
+        (seen_ports (P.bound ports.new) (P.back_count ports.new) (P.returned ports.new) (P.faults ports.new)) (number_of result) }
 {
     let Ok((turns, seat, ready)) = open(rt, alloc, served.calls.calls()) else {
-        return 6;
+        return Status::NoMemory;
     };
     if write_all(sink, ready.bytes()).is_err() {
-        return 4;
+        return Status::SinkFault;
     }
     serve_ports(rt, alloc, turns, seat, served, ports, clock, limit, sink)
 }

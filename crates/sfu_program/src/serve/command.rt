@@ -2,10 +2,13 @@
 ghost use Rattle.std.specs.Prelude.{◌≡◌, ◌≤◌};
 ghost use Rattle.sfu_program.specs.Serve.{Serves};
 ghost use Rattle.sfu_program.specs.ServePorts.{seen_ports};
+ghost use Rattle.sfu_driver.specs.Statuses.{number_of};
+ghost use Rattle.sfu_driver.specs.Exchange.{exchange_of};
 
 use super::acting::act;
 use port_config::read_served;
 use sfu_base::{Clock, Ports, Sink, Source};
+use sfu_driver::Status;
 use std::alloc::Global;
 use std::sync::Wait;
 use std::thread::Threads;
@@ -20,13 +23,13 @@ pub fn serve<S: Source, K: Sink, P: Ports, C: Clock + Sync, W: Threads + Wait + 
     sink: &mut K,
     ports: &mut P,
     clock: &C,
-) -> u8
+) -> Status
     requires limited { limit ≤ 1000000000000 }
     requires unbound { P.bound ports.old ≡ 0 }
     requires none_back { P.back_count ports.old ≡ 0 }
-    ensures { Serves P.Port.told P.Port.faults limit (S.left source.old) (S.left source.new) (K.written sink.old) (K.written sink.new) (S.faults source.old) (S.faults source.new) (K.faults sink.old) (K.faults sink.new)
+    ensures { Serves P.Port.told P.Port.faults limit (exchange_of S.left S.faults K.written K.faults source.old source.new sink.old sink.new)
         (seen_ports (P.bound ports.old) (P.back_count ports.old) (P.returned ports.old) (P.faults ports.old))
-        (seen_ports (P.bound ports.new) (P.back_count ports.new) (P.returned ports.new) (P.faults ports.new)) result }
+        (seen_ports (P.bound ports.new) (P.back_count ports.new) (P.returned ports.new) (P.faults ports.new)) (number_of result) }
 {
     match read_served(alloc, source, sink) {
         Ok(served) => act(rt, alloc, limit, &served, sink, ports, clock),

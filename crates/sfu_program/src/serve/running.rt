@@ -10,12 +10,13 @@ ghost use Rattle.sfu_program.specs.ServeOpening.{HasMade};
 ghost use Rattle.sfu_program.specs.ServePorts.{SomeFault, after_backs, befores};
 ghost use Rattle.sfu_program.specs.Serve.{HaveServed, afters};
 ghost use Rattle.sfu_program.specs.ServeEnding.{EndsWith};
+ghost use Rattle.sfu_driver.specs.Statuses.{number_of};
 
 use super::ends::{add_ends, made_all_turns};
 use super::ports::give_back_ended;
 use room_core::KeepNone;
 use sfu_base::{Blob, Clock, Link, NoMemory, Ports, Sink};
-use sfu_driver::write_all;
+use sfu_driver::{Status, write_all};
 use sfu_serve::{Ended, Job, SharedRoom, run_sessions};
 use std::alloc::Global;
 use std::sync::Wait;
@@ -52,7 +53,7 @@ pub fn end_all<P: Ports, K: Sink>(
     ended: Vec<Ended<P::Port>>,
     ports: &mut P,
     sink: &mut K,
-) -> u8
+) -> Status
     requires room { P.back_count ports.old + vec_len ended ≤ P.bound ports.old }
     requires few { vec_len ended ≤ 64 }
     requires unworn { AreUnworn (ends_of ended.items) }
@@ -62,17 +63,17 @@ pub fn end_all<P: Ports, K: Sink>(
     ensures never_falls { P.faults ports.old ≤ P.faults ports.new }
     ensures rose { SomeFault P.Port.faults (map (λ e. e.link) ended.items) → Rose (P.faults ports.old) (P.faults ports.new) }
     ensures writes { K.faults sink.old ≤ K.faults sink.new }
-    ensures ends { EndsWith (ends_of ended.items) (K.written sink.old) (K.written sink.new) (K.faults sink.old) (K.faults sink.new) result }
+    ensures ends { EndsWith (ends_of ended.items) (K.written sink.old) (K.written sink.new) (K.faults sink.old) (K.faults sink.new) (number_of result) }
 {
     let mut ready = Blob::new(alloc);
     let lines = add_ends(ended.as_slice(), &mut ready);
     let all = made_all_turns(ended.as_slice());
     give_back_ended(ended, ports);
     if lines.is_err() {
-        return 6;
+        return Status::NoMemory;
     }
     if write_all(sink, ready.bytes()).is_err() {
-        return 4;
+        return Status::SinkFault;
     }
-    if all { 0 } else { 7 }
+    if all { Status::Done } else { Status::PortFault }
 }

@@ -1,11 +1,13 @@
 // What the command does.
 ghost use Rattle.sfu_program.specs.Together.{Plays};
+ghost use Rattle.sfu_driver.specs.Statuses.{number_of};
+ghost use Rattle.sfu_driver.specs.Exchange.{exchange_of};
 
 use super::gate::OpenGate;
 use super::running::run_together;
 use actor_script::{read_actors, text_of};
 use sfu_base::{Sink, Source};
-use sfu_driver::write_all;
+use sfu_driver::{Status, write_all};
 use std::alloc::Global;
 use std::sync::Wait;
 use std::thread::Threads;
@@ -17,22 +19,21 @@ pub fn play_script<W: Threads + Wait + Sync, S: Source, K: Sink>(
     alloc: Global,
     source: &mut S,
     sink: &mut K,
-) -> u8
-    ensures { Plays (S.left source.old) (S.left source.new) (K.written sink.old) (K.written sink.new) (S.faults source.old) (S.faults source.new)
-        (K.faults sink.old) (K.faults sink.new) result }
+) -> Status
+    ensures { Plays (exchange_of S.left S.faults K.written K.faults source.old source.new sink.old sink.new) (number_of result) }
 {
     let script = match read_actors(alloc, source, sink) {
         Ok(script) => script,
         Err(status) => return status,
     };
     let Ok(journal) = run_together(rt, alloc, &script, &OpenGate) else {
-        return 6;
+        return Status::NoMemory;
     };
     let Ok(text) = text_of(alloc, &journal) else {
-        return 6;
+        return Status::NoMemory;
     };
     match write_all(sink, text.bytes()) {
-        Ok(()) => 0,
-        Err(_) => 4,
+        Ok(()) => Status::Done,
+        Err(_) => Status::SinkFault,
     }
 }

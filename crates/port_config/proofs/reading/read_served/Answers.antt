@@ -17,7 +17,7 @@ returns-then-is_err-clause-err g c =
     let drove = c.drive-came_out.ensures.drove (at nothing_said 1 []) (record { state = rw c.new-units.ensures.judge c.new.ensures; number = c.new-units.ensures.number; kept = c.new-units.ensures.kept }) in
     subst (λ (n : ℕ). ReadsNoSetup (g.S.Source.left c.args.source.now) (g.S.Source.left c.drive-came_out.new.source) (g.K.Sink.written c.args.sink.now) (g.K.Sink.written c.drive-came_out.new.sink)
     (g.S.Source.faults c.args.source.now) (g.S.Source.faults c.drive-came_out.new.source) (g.K.Sink.faults c.args.sink.now) (g.K.Sink.faults c.drive-came_out.new.sink) n)
-    (sym c.status.ensures)
+    (sym c.of.ensures)
     (record {
       statuses = statuses_same (λ bytes. due_of (due read_rule (at nothing_said 1 []) bytes)) (λ taken. due_of (takes (byte read_rule) (at nothing_said 1 []) taken)) read_due read_part
           (g.S.Source.left c.args.source.now) (g.S.Source.left c.drive-came_out.new.source) (g.K.Sink.written c.args.sink.now) (g.K.Sink.written c.drive-came_out.new.sink)

@@ -1,7 +1,7 @@
 use Rattle.std.proofs.Common.{[], ℕ, List, refl, sym, subst}
 use Rattle.sfu_driver.specs.Outcome.{takes}
 use Rattle.sfu_driver.specs.Point.{byte, due}
-use Rattle.sfu_driver.specs.Statuses.{due_of}
+use Rattle.sfu_driver.specs.Statuses.{due_of, number_of}
 use Rattle.sfu_driver.proofs.Cutting.{at}
 use Rattle.sfu_driver.proofs.Meanings.{statuses_same}
 use Rattle.sfu_commands.specs.declared.form.Form.TheVariants.{Lines}
@@ -20,8 +20,7 @@ returns-in-Err-clause-converts g c =
     let r = g.S.Source.faults c.args.source.now in
     let f = g.K.Sink.faults c.args.sink.now in
     let f' = g.K.Sink.faults c.write_all.new.sink in
-    subst (λ (status : ℕ). Converts left left w w' r r f f' status) (sym c.status.ensures)
-    (failed_before header (λ bytes. records_due (script_in Lines bytes)) (λ bytes. records_due (judged_in Lines bytes)) left w w' r f f' refl c.in-Err.ensures.rose c.in-Err.ensures.part)
+    failed_before header (λ bytes. records_due (script_in Lines bytes)) (λ bytes. records_due (judged_in Lines bytes)) left w w' r f f' refl c.in-Err.ensures.rose c.in-Err.ensures.part
 
 pub returns-in-Ok-clause-converts : goal.returns-in-Ok-clause-converts
 returns-in-Ok-clause-converts g c =
@@ -37,10 +36,10 @@ returns-in-Ok-clause-converts g c =
     let f' = g.K.Sink.faults c.answer.new.sink in
     let whole = λ (bytes : List ℕ). records_due (script_in Lines bytes) in
     let part = λ (bytes : List ℕ). records_due (judged_in Lines bytes) in
-    statuses_behind header whole part left left' w0 w1 w' r r' f0 f1 f' c.answer.result c.write_all.ensures.never_falls c.in-Ok.ensures.ok
+    statuses_behind header whole part left left' w0 w1 w' r r' f0 f1 f' (number_of c.answer.result) c.write_all.ensures.never_falls c.in-Ok.ensures.ok
     (statuses_same (λ bytes. due_of (due convert_rule (at tt 1 []) bytes)) (λ taken. due_of (takes (byte convert_rule) (at tt 1 []) taken)) whole part
-    left left' w1 w' r r' f1 f' c.answer.result convert_is_due convert_is_part
+    left left' w1 w' r r' f1 f' (number_of c.answer.result) convert_is_due convert_is_part
     (c.answer.ensures (at tt 1 []) (record { state = tt; number = c.new-units.ensures.number; kept = c.new-units.ensures.kept })))
 
 pub returns-in-Ok-clause-only : goal.returns-in-Ok-clause-only
-returns-in-Ok-clause-only g c = let converts = returns-in-Ok-clause-converts g c in convert_statuses c.answer.result converts.only
+returns-in-Ok-clause-only g c = let converts = returns-in-Ok-clause-converts g c in convert_statuses (number_of c.answer.result) converts.only

@@ -6,15 +6,15 @@ use Rattle.sfu_commands.proofs.Alike.{failed_at_once}
 use Rattle.sfu_commands.proofs.Histories.{are_served}
 use Rattle.sfu_commands.proofs.Replies.{form_known, run_only, runs_in}
 use Rattle.sfu_commands.proofs.script_run.run.Goals as goal
+use Rattle.sfu_driver.specs.Statuses.{number_of}
 
 pub returns-in_default-clause-runs : goal.returns-in_default-clause-runs
 returns-in_default-clause-runs g c =
     let left = g.S.Source.left c.args.source.now in
     let w = g.K.Sink.written c.args.sink.now in
     let f = g.K.Sink.faults c.args.sink.now in
-    subst (λ (status : ℕ). Runs left (g.S.Source.left c.read.new.self) w w (g.S.Source.faults c.args.source.now) (g.S.Source.faults c.read.new.self) f f status) (sym c.status.ensures)
-    (failed_at_once run_due run_part left (g.S.Source.left c.read.new.self) w (g.S.Source.faults c.args.source.now) (g.S.Source.faults c.read.new.self) f refl
-    c.in_default.ensures.cause.failed c.in_default.ensures.bytes)
+    failed_at_once run_due run_part left (g.S.Source.left c.read.new.self) w (g.S.Source.faults c.args.source.now) (g.S.Source.faults c.read.new.self) f refl
+    c.in_default.ensures.cause.failed c.in_default.ensures.bytes
 
 pub returns-in_default-clause-headline : goal.returns-in_default-clause-headline
 returns-in_default-clause-headline g c = are_served (g.S.Source.left c.args.source.now)
@@ -25,7 +25,7 @@ returns-in-Lines-clause-runs g c =
     let piece = take c.in-Ok.first c.read.new.buf in
     let is : form_of piece ≡ Lines = search rules in
     runs_in Lines left (g.S.Source.left c.run_lines.new.source) (g.K.Sink.written c.args.sink.now) (g.K.Sink.written c.run_lines.new.sink) (g.S.Source.faults c.args.source.now) (g.S.Source.faults c.run_lines.new.source)
-    (g.K.Sink.faults c.args.sink.now) (g.K.Sink.faults c.run_lines.new.sink) c.run_lines.result
+    (g.K.Sink.faults c.args.sink.now) (g.K.Sink.faults c.run_lines.new.sink) (number_of c.run_lines.result)
     (form_known Lines piece left (g.S.Source.left c.read.new.self) is c.in-Ok.ensures.bytes.0 (λ none. search (rules, arith)))
     (c.run_lines.ensures left (g.S.Source.faults c.args.source.now) c.in-Ok.ensures.bytes.0 c.in-Ok.ensures.cause.never_falls)
 
@@ -33,7 +33,7 @@ pub returns-in-Lines-clause-headline : goal.returns-in-Lines-clause-headline
 returns-in-Lines-clause-headline g c = are_served (g.S.Source.left c.args.source.now)
 
 pub returns-in-Lines-clause-only : goal.returns-in-Lines-clause-only
-returns-in-Lines-clause-only g c = let runs = returns-in-Lines-clause-runs g c in run_only c.run_lines.result runs.only
+returns-in-Lines-clause-only g c = let runs = returns-in-Lines-clause-runs g c in run_only (number_of c.run_lines.result) runs.only
 
 pub returns-in-Records-clause-runs : goal.returns-in-Records-clause-runs
 returns-in-Records-clause-runs g c =
@@ -41,7 +41,7 @@ returns-in-Records-clause-runs g c =
     let piece = take c.in-Ok.first c.read.new.buf in
     let is : form_of piece ≡ Records = search rules in
     runs_in Records left (g.S.Source.left c.run_records.new.source) (g.K.Sink.written c.args.sink.now) (g.K.Sink.written c.run_records.new.sink) (g.S.Source.faults c.args.source.now) (g.S.Source.faults c.run_records.new.source)
-    (g.K.Sink.faults c.args.sink.now) (g.K.Sink.faults c.run_records.new.sink) c.run_records.result
+    (g.K.Sink.faults c.args.sink.now) (g.K.Sink.faults c.run_records.new.sink) (number_of c.run_records.result)
     (form_known Records piece left (g.S.Source.left c.read.new.self) is c.in-Ok.ensures.bytes.0 (λ none. search (rules, arith)))
     (c.run_records.ensures left (g.S.Source.faults c.args.source.now) c.in-Ok.ensures.bytes.0 c.in-Ok.ensures.cause.never_falls)
 
@@ -49,4 +49,4 @@ pub returns-in-Records-clause-headline : goal.returns-in-Records-clause-headline
 returns-in-Records-clause-headline g c = are_served (g.S.Source.left c.args.source.now)
 
 pub returns-in-Records-clause-only : goal.returns-in-Records-clause-only
-returns-in-Records-clause-only g c = let runs = returns-in-Records-clause-runs g c in run_only c.run_records.result runs.only
+returns-in-Records-clause-only g c = let runs = returns-in-Records-clause-runs g c in run_only (number_of c.run_records.result) runs.only

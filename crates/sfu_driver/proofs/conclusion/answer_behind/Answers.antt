@@ -11,7 +11,7 @@ returns g c left reads point from earlier stand =
     let rule = rule_of g.C.Cut.scan g.C.Cut.scan_end g.J.Judge.step g.J.Judge.outside g.J.Judge.closing in
     subst (λ (n : ℕ). Statuses (λ bytes. due_of (due rule point bytes)) (λ taken. due_of (takes (byte rule) point taken)) left (g.S.Source.left c.drive_behind.new.source)
     (g.K.Sink.written c.args.sink.now) (g.K.Sink.written c.drive_behind.new.sink) reads (g.S.Source.faults c.drive_behind.new.source) (g.K.Sink.faults c.args.sink.now) (g.K.Sink.faults c.drive_behind.new.sink) n)
-    (sym c.status.ensures)
+    (sym c.of.ensures)
     (statuses (JudgeStands g.J.Judge.stands) (byte rule) (ends rule) point c.drive_behind.new.units left (g.S.Source.left c.drive_behind.new.source)
     (g.K.Sink.written c.args.sink.now) (g.K.Sink.written c.drive_behind.new.sink) reads (g.S.Source.faults c.drive_behind.new.source) (g.K.Sink.faults c.args.sink.now) (g.K.Sink.faults c.drive_behind.new.sink) c.drive_behind.result
     (cause_since reads (g.S.Source.faults c.args.source.now) (g.S.Source.faults c.drive_behind.new.source) (g.K.Sink.faults c.args.sink.now) (g.K.Sink.faults c.drive_behind.new.sink) c.drive_behind.result earlier c.drive_behind.ensures.cause)

@@ -1,5 +1,5 @@
 use Rattle.std.proofs.Common.{subst, sym, Result}
-use Rattle.sfu_driver.specs.declared.halt.Stop.{Stop}
+use Rattle.sfu_driver.specs.declared.halt.Interruption.{Interruption}
 use Rattle.sfu_driver.specs.Drive.{Drove}
 use Rattle.sfu_driver.proofs.Results.{err_of}
 use Rattle.sfu_driver.specs.Point.{byte, ends}
@@ -20,7 +20,7 @@ pub returns-in_err-take_all-clause-drove : goal.returns-in_err-take_all-clause-d
 returns-in_err-take_all-clause-drove g c left point from stand =
     let rule = rule_of g.C.Cut.scan g.C.Cut.scan_end g.J.Judge.step g.J.Judge.outside g.J.Judge.closing in
     let stop = c.in_err-take_all.field-0.0 in
-    subst (λ (r : Result (Unit {0}) Stop). Drove (JudgeStands g.J.Judge.stands) (byte rule) (ends rule) point c.take_all.new.units left (g.S.Source.left c.take_all.new.source)
+    subst (λ (r : Result (Unit {0}) Interruption). Drove (JudgeStands g.J.Judge.stands) (byte rule) (ends rule) point c.take_all.new.units left (g.S.Source.left c.take_all.new.source)
     (g.K.Sink.written c.args.sink.now) (g.K.Sink.written c.take_all.new.sink) (g.K.Sink.faults c.args.sink.now) (g.K.Sink.faults c.take_all.new.sink) r) (sym (err_of c.from_residual.result stop c.from_residual.ensures.1))
     (drove_took (StandsAt g.J.Judge.stands) (JudgeStands g.J.Judge.stands) (byte rule) (ends rule) c.args.units.now c.take_all.new.units c.take_all.new.units
     c.new-ready.result c.take_all.new.ready left (g.S.Source.left c.take_all.new.source)

@@ -1,6 +1,6 @@
 use Rattle.std.proofs.Common.{◌≡◌, ◌++◌, ℕ, List, [], length, take, subst, refl, sym, length-append, rules, arith, Result, Ok, Err}
 use Rattle.std.proofs.lemmas.List.{length-take-le}
-use Rattle.sfu_driver.specs.declared.halt.Stop.{Stop}
+use Rattle.sfu_driver.specs.declared.halt.Interruption.{Interruption}
 use Rattle.sfu_driver.specs.Point.{byte}
 use Rattle.sfu_driver.specs.Units.{StandsAt, rule_of}
 use Rattle.sfu_driver.specs.Drive.{Feeds}
@@ -45,7 +45,7 @@ returns-in_err-count-clause-feeds g c =
     subst (λ (bytes : List ℕ). Feeds (StandsAt g.J.Judge.stands) step c.args.units.now bytes c.take_unit.new.units c.args.ready.now c.take_unit.new.ready w0 w2 f0 f2 (Err stop)) c.loop-rest.invariant.joined
     (feeds_on (StandsAt g.J.Judge.stands) step c.args.units.now c.loop-rest.units c.take_unit.new.units c.loop-rest.invariant.front c.loop-rest.rest.now c.args.ready.now c.loop-rest.ready c.take_unit.new.ready
     w0 (g.K.Sink.written c.loop-rest.sink) w2 f0 (g.K.Sink.faults c.loop-rest.sink) f2 (Err stop) c.loop-rest.invariant.never_falls c.loop-rest.invariant.fed (c.in_err-count.ensures.stops stop refl)) in
-    subst (λ (r : Result (Unit {0}) Stop). Feeds (StandsAt g.J.Judge.stands) step c.args.units.now c.args.piece.now c.take_unit.new.units c.args.ready.now c.take_unit.new.ready w0 w2 f0 f2 r)
+    subst (λ (r : Result (Unit {0}) Interruption). Feeds (StandsAt g.J.Judge.stands) step c.args.units.now c.args.piece.now c.take_unit.new.units c.args.ready.now c.take_unit.new.ready w0 w2 f0 f2 r)
     (sym (err_of c.from_residual.result stop c.from_residual.ensures.1)) all
 
 pub returns-clause-feeds : goal.returns-clause-feeds

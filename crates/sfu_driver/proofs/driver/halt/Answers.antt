@@ -2,7 +2,7 @@ use Rattle.std.proofs.Common.{◌≡◌, ◌-◌, ◌∙◌, ℕ, List, length, 
 use Rattle.std.specs.Io.KnownBytes.{Appends}
 use Rattle.std.proofs.lemmas.List.{take_rest}
 use Rattle.sfu_driver.specs.declared.halt.Halt.{Halt}
-use Rattle.sfu_driver.specs.declared.halt.Stop.TheVariants.{Halted}
+use Rattle.sfu_driver.specs.declared.halt.Interruption.TheVariants.{Halted}
 use Rattle.sfu_driver.specs.Drive.{Halts, WritesEnd}
 use Rattle.sfu_driver.proofs.Fronts.{end_behind}
 use Rattle.sfu_driver.proofs.Results.{known_ok}

@@ -1,6 +1,6 @@
 use Rattle.std.proofs.Common.{◌≡◌, ℕ, length-take, take, subst, sym, rules, arith, Result, Ok, Err}
 use Rattle.std.specs.Io.KnownBytes.{Consumes}
-use Rattle.sfu_driver.specs.declared.halt.Stop.{Stop}
+use Rattle.sfu_driver.specs.declared.halt.Interruption.{Interruption}
 use Rattle.sfu_driver.specs.Point.{byte}
 use Rattle.sfu_driver.specs.Drive.{Took}
 use Rattle.sfu_driver.specs.Units.{StandsAt, rule_of}
@@ -49,7 +49,7 @@ returns-in_err-feed-clause-took g c left from =
     let step = byte (rule_of g.C.Cut.scan g.C.Cut.scan_end g.J.Judge.step g.J.Judge.outside g.J.Judge.closing) in
     let read = c.loop-count.invariant.read left from in
     let stop = c.in_err-feed.field-0.0 in
-    subst (λ (r : Result (Unit {0}) Stop). Took (StandsAt g.J.Judge.stands) step c.args.units.now c.feed.new.units c.args.ready.now c.feed.new.ready left (g.S.Source.left c.loop-count.source)
+    subst (λ (r : Result (Unit {0}) Interruption). Took (StandsAt g.J.Judge.stands) step c.args.units.now c.feed.new.units c.args.ready.now c.feed.new.ready left (g.S.Source.left c.loop-count.source)
     (g.K.Sink.written c.args.sink.now) (g.K.Sink.written c.feed.new.sink) (g.K.Sink.faults c.args.sink.now) (g.K.Sink.faults c.feed.new.sink) r) (sym (err_of c.from_residual.result stop c.from_residual.ensures.1))
     (took_on (StandsAt g.J.Judge.stands) step c.args.units.now c.loop-count.units c.feed.new.units c.args.ready.now c.loop-count.ready c.feed.new.ready
     left read.before (g.S.Source.left c.loop-count.source) (g.K.Sink.written c.args.sink.now) (g.K.Sink.written c.loop-count.sink) (g.K.Sink.written c.feed.new.sink)

@@ -1,7 +1,7 @@
 use Rattle.std.proofs.Common.{◌≡◌, ℕ, List, length, take, drop, subst, ap, arith, Ok, Err}
 use Rattle.std.proofs.lemmas.List.{take-append-drop}
-use Rattle.sfu_driver.specs.declared.halt.Stop.{Stop}
-use Rattle.sfu_driver.specs.declared.halt.Stop.TheVariants.{SinkFault}
+use Rattle.sfu_driver.specs.declared.halt.Interruption.{Interruption}
+use Rattle.sfu_driver.specs.declared.halt.Interruption.TheVariants.{SinkFault}
 use Rattle.sfu_driver.specs.Point.{byte}
 use Rattle.sfu_driver.specs.Units.{StandsAt, rule_of}
 use Rattle.sfu_driver.specs.Drive.{Feeds}
@@ -13,7 +13,7 @@ pub returns-in-Err-clause-stops : goal.returns-in-Err-clause-stops
 returns-in-Err-clause-stops g c stop is =
     let step = byte (rule_of g.C.Cut.scan g.C.Cut.scan_end g.J.Judge.step g.J.Judge.outside g.J.Judge.closing) in
     let same : c.halt.result ≡ stop = cc in
-    subst (λ (x : Stop). Feeds (StandsAt g.J.Judge.stands) step c.args.units.now c.args.piece.now c.next.new.self c.args.ready.now c.next.new.ready
+    subst (λ (x : Interruption). Feeds (StandsAt g.J.Judge.stands) step c.args.units.now c.args.piece.now c.next.new.self c.args.ready.now c.next.new.ready
     (g.K.Sink.written c.args.sink.now) (g.K.Sink.written c.halt.new.sink) (g.K.Sink.faults c.args.sink.now) (g.K.Sink.faults c.halt.new.sink) (Err x)) same
     (next_halts (StandsAt g.J.Judge.stands) step c.args.units.now c.next.new.self c.args.piece.now c.args.ready.now c.next.new.ready c.next.new.ready (length c.bytes-mark.result.now)
     (g.K.Sink.written c.args.sink.now) (g.K.Sink.written c.halt.new.sink) (g.K.Sink.faults c.args.sink.now) (g.K.Sink.faults c.halt.new.sink) c.in-Err.why c.halt.result
@@ -53,4 +53,4 @@ returns-in_err-flush-clause-stops g c stop is =
     (λ e. cc) first in
     let all : Feeds (StandsAt g.J.Judge.stands) step c.args.units.now c.args.piece.now c.next.new.self c.args.ready.now c.flush.new.ready w0 w2 f0 f2 (Err SinkFault) =
     subst (λ (bytes : List ℕ). Feeds (StandsAt g.J.Judge.stands) step c.args.units.now bytes c.next.new.self c.args.ready.now c.flush.new.ready w0 w2 f0 f2 (Err SinkFault)) (take-append-drop c.in-Ok.count c.args.piece.now) longer in
-    subst (λ (x : Stop). Feeds (StandsAt g.J.Judge.stands) step c.args.units.now c.args.piece.now c.next.new.self c.args.ready.now c.flush.new.ready w0 w2 f0 f2 (Err x)) same all
+    subst (λ (x : Interruption). Feeds (StandsAt g.J.Judge.stands) step c.args.units.now c.args.piece.now c.next.new.self c.args.ready.now c.flush.new.ready w0 w2 f0 f2 (Err x)) same all

@@ -1,5 +1,7 @@
 use Rattle.std.proofs.Common.{ℕ, map, refl, subst}
 use Rattle.std.specs.String.{string_bytes}
+use Rattle.sfu_driver.specs.Statuses.{number_of}
+use Rattle.sfu_driver.specs.Exchange.{exchange_by}
 use Rattle.stream_maker.specs.Stream.{Stream}
 use Rattle.sfu_commands.specs.declared.words.Command.{Command}
 use Rattle.sfu_commands.specs.declared.words.Command.TheVariants.{Check, Trial}
@@ -13,10 +15,10 @@ use Rattle.sfu_program.proofs.alone.sfu_alone.Goals as goal
 pub returns-in-Some-Check-clause-check : goal.returns-in-Some-Check-clause-check
 returns-in-Some-Check-clause-check g c = λ id is.
     let read : IsCheck (map string_bytes c.args.words.now) c.in-Some-Check.id = subst (λ (command : Command). Says (map string_bytes c.args.words.now) command) c.in-Some-Check.field-0-is c.in-Some-Check.ensures in
-    subst
-    (λ (id : ℕ). Checks id (g.S.Source.left c.args.source.now) (g.S.Source.left c.check.new.source) (g.K.Sink.written c.args.sink.now) (g.K.Sink.written c.check.new.sink) (g.S.Source.faults c.args.source.now) (g.S.Source.faults c.check.new.source)
-    (g.K.Sink.faults c.args.sink.now) (g.K.Sink.faults c.check.new.sink) c.check.result)
-    (one_id (map string_bytes c.args.words.now) c.in-Some-Check.id id read is) c.check.ensures.checks
+    rw c.number-in-Some-Check.ensures (subst
+    (λ (id : ℕ). Checks id (exchange_by (g.S.Source.left c.args.source.now) (g.S.Source.left c.check.new.source) (g.K.Sink.written c.args.sink.now) (g.K.Sink.written c.check.new.sink) (g.S.Source.faults c.args.source.now) (g.S.Source.faults c.check.new.source)
+    (g.K.Sink.faults c.args.sink.now) (g.K.Sink.faults c.check.new.sink)) (number_of c.check.result))
+    (one_id (map string_bytes c.args.words.now) c.in-Some-Check.id id read is) c.check.ensures.checks)
 
 pub returns-in-None-clause-check : goal.returns-in-None-clause-check
 returns-in-None-clause-check g c = λ id is. absurd (c.in-None.ensures (Check id, is))
@@ -24,11 +26,11 @@ returns-in-None-clause-check g c = λ id is. absurd (c.in-None.ensures (Check id
 pub returns-in-Some-Trial-clause-trial : goal.returns-in-Some-Trial-clause-trial
 returns-in-Some-Trial-clause-trial g c s is = record {
   unread = refl;
-  shows = subst
-      (λ (t : Stream). ShowsTrial t (g.K.Sink.written c.args.sink.now) (g.K.Sink.written c.trial.new.sink) (g.K.Sink.faults c.args.sink.now) (g.K.Sink.faults c.trial.new.sink) c.trial.result)
+  shows = rw c.number-in-Some-Trial.ensures (subst
+      (λ (t : Stream). ShowsTrial t (g.K.Sink.written c.args.sink.now) (g.K.Sink.written c.trial.new.sink) (g.K.Sink.faults c.args.sink.now) (g.K.Sink.faults c.trial.new.sink) (number_of c.trial.result))
       (same_trial (map string_bytes c.args.words.now) (record { frames = c.in-Some-Trial.frames; start = c.in-Some-Trial.start; loss = c.in-Some-Trial.loss }) s
       (subst (λ (k : Command). Says (map string_bytes c.args.words.now) k) c.in-Some-Trial.field-0-is c.in-Some-Trial.ensures) is)
-      c.trial.ensures;
+      c.trial.ensures);
 }
 
 pub returns-in-None-clause-trial : goal.returns-in-None-clause-trial

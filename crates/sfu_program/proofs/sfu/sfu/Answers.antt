@@ -1,4 +1,6 @@
-use Rattle.std.proofs.Common.{ℕ, inl, inr, refl, subst}
+use Rattle.std.proofs.Common.{ℕ, inl, inr, refl, subst, sym, ◌∙◌}
+use Rattle.sfu_driver.specs.Statuses.{number_of}
+use Rattle.sfu_driver.specs.Exchange.{exchange_by}
 use Rattle.sfu_program.specs.Serve.{Serves}
 use Rattle.sfu_program.specs.ServePorts.{seen_ports}
 use Rattle.std.proofs.lemmas.Bool.{false≢true}
@@ -24,6 +26,9 @@ returns-then-are_together-clause-help g c = λ is. absurd (not_help _ (c.if-are_
 pub returns-then-are_together-clause-trial : goal.returns-then-are_together-clause-trial
 returns-then-are_together-clause-trial g c = λ s is. absurd (not_trial _ s (c.if-are_together.ensures.0 refl) is)
 
+pub returns-then-are_together-clause-together : goal.returns-then-are_together-clause-together
+returns-then-are_together-clause-together g c = λ is. rw c.number.ensures c.play_script.ensures
+
 pub returns-then-are_together-clause-serve : goal.returns-then-are_together-clause-serve
 returns-then-are_together-clause-serve g c = λ turns is. absurd (serve.not_together _ (turns, is) (c.if-are_together.ensures.0 refl))
 
@@ -31,10 +36,10 @@ pub returns-then-are_together-clause-other : goal.returns-then-are_together-clau
 returns-then-are_together-clause-other g c = λ none. absurd (none (inr (inl (c.if-are_together.ensures.0 refl))))
 
 pub returns-then-are_together-clause-form : goal.returns-then-are_together-clause-form
-returns-then-are_together-clause-form g c = (λ e. absurd (not_two _ c.play_script.ensures.only e), λ none. absurd (none (inr (inl (c.if-are_together.ensures.0 refl)))))
+returns-then-are_together-clause-form g c = (λ e. absurd (not_two _ c.play_script.ensures.only (sym c.number.ensures ∙ e)), λ none. absurd (none (inr (inl (c.if-are_together.ensures.0 refl)))))
 
 pub returns-then-are_together-clause-only : goal.returns-then-are_together-clause-only
-returns-then-are_together-clause-only g c = inl (is_status _ c.play_script.ensures.only)
+returns-then-are_together-clause-only g c = rw c.number.ensures (inl (is_status _ c.play_script.ensures.only))
 
 pub returns-in-Some-clause-run : goal.returns-in-Some-clause-run
 returns-in-Some-clause-run g c = λ is. absurd (serve.not_run _ (_, c.in-Some.ensures) is)
@@ -59,18 +64,18 @@ returns-in-Some-clause-other g c = λ none. absurd (none (inr (inr (_, c.in-Some
 
 pub returns-in-Some-clause-serve : goal.returns-in-Some-clause-serve
 returns-in-Some-clause-serve g c = λ turns is.
-    subst (λ (n : ℕ). Serves g.P.Port.Link.told g.P.Port.Link.faults n (g.S.Source.left c.args.source.now) (g.S.Source.left c.serve.new.source)
+    rw c.number-in-Some.ensures (subst (λ (n : ℕ). Serves g.P.Port.Link.told g.P.Port.Link.faults n (exchange_by (g.S.Source.left c.args.source.now) (g.S.Source.left c.serve.new.source)
     (g.K.Sink.written c.args.sink.now) (g.K.Sink.written c.serve.new.sink) (g.S.Source.faults c.args.source.now) (g.S.Source.faults c.serve.new.source)
-    (g.K.Sink.faults c.args.sink.now) (g.K.Sink.faults c.serve.new.sink)
+    (g.K.Sink.faults c.args.sink.now) (g.K.Sink.faults c.serve.new.sink))
     (seen_ports (g.P.Ports.bound c.args.ports.now) (g.P.Ports.back_count c.args.ports.now) (g.P.Ports.returned c.args.ports.now) (g.P.Ports.faults c.args.ports.now))
-    (seen_ports (g.P.Ports.bound c.serve.new.ports) (g.P.Ports.back_count c.serve.new.ports) (g.P.Ports.returned c.serve.new.ports) (g.P.Ports.faults c.serve.new.ports)) c.serve.result)
-    (serve.one_number _ c.in-Some.turns turns c.in-Some.ensures is) c.serve.ensures
+    (seen_ports (g.P.Ports.bound c.serve.new.ports) (g.P.Ports.back_count c.serve.new.ports) (g.P.Ports.returned c.serve.new.ports) (g.P.Ports.faults c.serve.new.ports)) (number_of c.serve.result))
+    (serve.one_number _ c.in-Some.turns turns c.in-Some.ensures is) c.serve.ensures)
 
 pub returns-in-Some-clause-form : goal.returns-in-Some-clause-form
-returns-in-Some-clause-form g c = (λ e. absurd (serve.not_two _ c.serve.ensures.only e), λ none. absurd (none (inr (inr (_, c.in-Some.ensures)))))
+returns-in-Some-clause-form g c = (λ e. absurd (serve.not_two _ c.serve.ensures.only (sym c.number-in-Some.ensures ∙ e)), λ none. absurd (none (inr (inr (_, c.in-Some.ensures)))))
 
 pub returns-in-Some-clause-only : goal.returns-in-Some-clause-only
-returns-in-Some-clause-only g c = serve.is_end _ c.serve.ensures.only
+returns-in-Some-clause-only g c = rw c.number-in-Some.ensures (serve.is_end _ c.serve.ensures.only)
 
 pub returns-clause-together : goal.returns-clause-together
 returns-clause-together g c = λ t. absurd (false≢true (c.if-are_together.ensures.1 t))

@@ -3,6 +3,7 @@ use Rattle.sfu_script.specs.declared.ports.PortLine.{PortLine}
 use Rattle.sfu_program.specs.ServePorts.{AreFresh, after_backs, befores, seen_ports}
 use Rattle.sfu_program.proofs.ServeActing.{all_unworn, ended_count, ends_served, rose_then}
 use Rattle.sfu_program.proofs.serve.acting.serve_ports.Goals as goal
+use Rattle.sfu_driver.specs.Statuses.{number_of}
 
 pub end_all-requires-clause-room : goal.end_all-requires-clause-room
 end_all-requires-clause-room g c κs within =
@@ -45,7 +46,7 @@ returns-clause-ends g c =
     ends_served told faults c.args.limit calls lines (g.K.Sink.written c.args.sink.now) (g.K.Sink.written c.end_all.new.sink) (g.K.Sink.faults c.args.sink.now) (g.K.Sink.faults c.end_all.new.sink)
     (seen_ports (g.P.Ports.bound c.args.ports.now) (g.P.Ports.back_count c.args.ports.now) (g.P.Ports.returned c.args.ports.now) (g.P.Ports.faults c.args.ports.now))
     (seen_ports (g.P.Ports.bound c.end_all.new.ports) (g.P.Ports.back_count c.end_all.new.ports) (g.P.Ports.returned c.end_all.new.ports) (g.P.Ports.faults c.end_all.new.ports))
-    c.end_all.result ended
+    (number_of c.end_all.result) ended
     (record {
       jobs = befores told faults c.in-Ok.jobs.items;
       fresh = subst (λ (ls : List PortLine). AreFresh ls (befores told faults c.in-Ok.jobs.items)) same c.in-Ok.ensures.fresh;

@@ -7,6 +7,7 @@ use Rattle.port_config.specs.Script.{configuration_of}
 use Rattle.sfu_program.proofs.ServeActing.{acts_before, acts_complete, acts_only}
 use Rattle.port_config.proofs.Counts.{few_calls, few_ports}
 use Rattle.sfu_program.proofs.serve.command.serve.Goals as goal
+use Rattle.sfu_driver.specs.Statuses.{number_of}
 
 pub act-requires-clause-calls : goal.act-requires-clause-calls
 act-requires-clause-calls g c κs within =
@@ -38,7 +39,7 @@ returns-in-Ok g c =
     let f = g.K.Sink.faults c.args.sink.now in
     let f1 = g.K.Sink.faults c.read_served.new.sink in
     let f' = g.K.Sink.faults c.act.new.sink in
-    let status = c.act.result in
+    let status = (number_of c.act.result) in
     let said : Acts told faults c.args.limit setup.calls setup.ports w1 w' f1 f' old new status =
     subst (λ (calls : List Call). Acts told faults c.args.limit calls setup.ports w1 w' f1 f' old new status) read.setup.calls
     (subst (λ (lines : List PortLine). Acts told faults c.args.limit c.in-Ok.served.calls lines w1 w' f1 f' old new status) read.setup.ports acts) in

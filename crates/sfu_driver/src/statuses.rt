@@ -1,0 +1,55 @@
+// How a command ended.
+ghost use Rattle.std.specs.Prelude.{◌≡◌};
+ghost use Rattle.sfu_driver.specs.Statuses.{number_of, status_for};
+
+use crate::{Ending, Halt, Interruption};
+
+/// How a command ended. The program answers its number.
+#[derive(Clone, Copy, Debug, PartialEq, Eq)]
+pub enum Status {
+    /// All that is due was written: 0.
+    Done,
+    /// The words are no command: 2.
+    NoCommand,
+    /// The source failed: 3.
+    SourceFault,
+    /// The sink failed before all texts but a last one were written: 4.
+    SinkFault,
+    /// Memory was wanting: 6.
+    NoMemory,
+    /// A port failed: 7.
+    PortFault,
+    /// What the input says ended the command: 5 where a unit is outside the grammar, 8 where the strict receiver complains.
+    Ended(Ending),
+}
+
+impl Status {
+    /// The status of a command that came out so.
+    pub fn of(came_out: Result<(), Interruption>) -> Status
+        ensures { number_of result ≡ status_for came_out }
+    {
+        match came_out {
+            Ok(()) => Status::Done,
+            Err(Interruption::SourceFault) => Status::SourceFault,
+            Err(Interruption::SinkFault) => Status::SinkFault,
+            Err(Interruption::Halted(Halt::Starved)) => Status::NoMemory,
+            Err(Interruption::Halted(Halt::Ended(why))) => Status::Ended(why),
+        }
+    }
+
+    /// The number that the program answers.
+    pub fn number(self) -> u8
+        ensures { result ≡ number_of self }
+    {
+        match self {
+            Status::Done => 0,
+            Status::NoCommand => 2,
+            Status::SourceFault => 3,
+            Status::SinkFault => 4,
+            Status::Ended(Ending::Outside) => 5,
+            Status::NoMemory => 6,
+            Status::PortFault => 7,
+            Status::Ended(Ending::Complaint) => 8,
+        }
+    }
+}
