@@ -18,7 +18,7 @@ pub mod Serves
 pub mod Silent
 pub mod Sendable
 pub mod Follows
-pub mod Told
+pub mod RemaskCache
 pub mod Stepping
 pub mod Passing
 pub mod Tables

@@ -12,6 +12,7 @@ mod note;
 mod passing;
 mod recorder;
 mod refusals;
+mod remask_cache;
 mod room;
 mod sending;
 mod serving;
@@ -19,7 +20,6 @@ mod subscribers;
 mod table;
 #[cfg(test)]
 mod tests;
-mod told;
 mod tracks;
 
 pub use keep_all::KeepAll;
