@@ -19,7 +19,7 @@ pub mod Serves
 pub mod Silent
 pub mod Sendable
 pub mod Follows
-pub mod Told
+pub mod RemaskCache
 pub mod Stepping
 pub mod Passing
 pub mod Tables

@@ -11,7 +11,7 @@ ghost use Rattle.room_core.specs.WellFormed.{IsValue};
 use crate::content::Content;
 use crate::feed::Feed;
 use crate::live::{LiveSubscriber, LiveTrack, Ready};
-use crate::told::Told;
+use crate::remask_cache::RemaskCache;
 use indexmap::IndexMap;
 use sfu_base::{Call, Kind, NoMemory, Refusal, Reply, Wish};
 use std::alloc::Global;
@@ -79,11 +79,11 @@ impl Content {
         let Ok(pipeline) = Box::new(alloc, pipeline) else {
             return Err(NoMemory);
         };
-        let Ok(told) = Box::new(alloc, Told::new()) else {
+        let Ok(cache) = Box::new(alloc, RemaskCache::new()) else {
             return Err(NoMemory);
         };
         match self.tracks.reserve(1) {
-            Ok(()) => Ok(Ready::Pipeline(pipeline, told)),
+            Ok(()) => Ok(Ready::Pipeline(pipeline, cache)),
             Err(_) => Err(NoMemory),
         }
     }
@@ -130,12 +130,12 @@ impl Content {
         ensures sends_none { result ≢ reply.Packet }
     {
         match ready {
-            Ready::Pipeline(pipeline, told) => {
+            Ready::Pipeline(pipeline, cache) => {
                 let live = LiveTrack {
                     kind,
                     pleaded: false,
                     pipeline,
-                    told,
+                    remask_cache: cache,
                 };
                 match self.tracks.insert(track, live) {
                     Ok(_) => {

@@ -4,10 +4,10 @@ ghost use Rattle.rtp_packet.specs.Faults.{first_fault};
 ghost use Rattle.sfu_base.specs.Frame.{IsValid};
 ghost use Rattle.room_core.specs.Follows.{FollowsAim, FollowsFrame, FollowsPacket, FollowsTake, HasNoTarget, IsFed, IsFresh, Resends, Tells, tells_by};
 ghost use Rattle.room_core.specs.Sendable.{IsSendable};
-ghost use Rattle.room_core.specs.Told.{TellsFirst};
+ghost use Rattle.room_core.specs.RemaskCache.{TellsFirst};
 
+use crate::remask_cache::RemaskCache;
 use crate::sending::{own_marker, push_from, push_remasked};
-use crate::told::Told;
 use cause_book::CauseBook;
 use out_ring::OutRing;
 use sfu_base::{FrameMeaning, Kind, NoMemory, PacketBuf, Refusal, Verdict, Wish};
@@ -64,13 +64,19 @@ impl Feed {
 
     /// A frame of its layered track got whole, the one that the track made last; `tells` is whether its first packet tells which decode
     /// targets there are. Where it does, or the frame opens the target, that packet goes out with the mask of the targets that the subscriber
-    /// gets; `told` keeps it for the frame's next subscriber.
-    pub fn pass_frame(&mut self, track: &Track, frame: &FrameMeaning, tells: bool, told: &mut Told)
+    /// gets; `cache` keeps it for the frame's next subscriber.
+    pub fn pass_frame(
+        &mut self,
+        track: &Track,
+        frame: &FrameMeaning,
+        tells: bool,
+        cache: &mut RemaskCache,
+    )
         requires valid { IsValid frame.now }
         requires tells { tells ≡ tells_by track.now.layers track.now.packets }
-        requires told { TellsFirst track.now.layers track.now.packets told.old }
+        requires told { TellsFirst track.now.layers track.now.packets cache.old }
         ensures follows { FollowsFrame self.old self.new frame.now track.now }
-        ensures told { TellsFirst track.now.layers track.now.packets told.new }
+        ensures told { TellsFirst track.now.layers track.now.packets cache.new }
     {
         let verdict = self
             .selector
@@ -80,7 +86,7 @@ impl Feed {
             let is_top = self.selector.marks_last();
             if is_told(self.selector.opened(), tells) {
                 let mask = mask_for(frame, self.selector.target());
-                push_remasked(&mut self.ring, told, track, mask, is_top);
+                push_remasked(&mut self.ring, cache, track, mask, is_top);
             } else {
                 push_from(&mut self.ring, track, 0, is_top);
             }

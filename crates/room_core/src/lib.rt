@@ -13,6 +13,7 @@ mod note;
 mod passing;
 mod recorder;
 mod refusals;
+mod remask_cache;
 mod room;
 mod sending;
 mod serving;
@@ -20,7 +21,6 @@ mod subscribers;
 mod table;
 #[cfg(test)]
 mod tests;
-mod told;
 mod tracks;
 
 pub use current_target::DecodeTarget;

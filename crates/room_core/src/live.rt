@@ -2,18 +2,18 @@
 ghost use Rattle.std.specs.Prelude.{◌≡◌, []};
 
 use crate::feed::Feed;
-use crate::told::Told;
+use crate::remask_cache::RemaskCache;
 use sfu_base::Kind;
 use track_core::Track;
 
-/// A live track: its kind, whether a plea for a key frame stands, its pipeline, and what its frames tell. No item waits between calls. The
+/// A live track: its kind, whether a plea for a key frame stands, its pipeline, and its frames' cache. No item waits between calls. The
 /// long parts lie on the heap, so that a room is small: a lock that holds one moves it twice a turn.
 #[derive(Drop)]
 pub struct LiveTrack {
     pub kind: Kind,
     pub pleaded: bool,
     pub pipeline: Box<Track>,
-    pub told: Box<Told>,
+    pub remask_cache: Box<RemaskCache>,
     ghost idle: { pipeline.value.window.waiting ≡ [] },
 }
 
@@ -30,6 +30,6 @@ pub struct LiveSubscriber {
 #[derive(Drop)]
 pub enum Ready {
     Nothing,
-    Pipeline(Box<Track>, Box<Told>),
+    Pipeline(Box<Track>, Box<RemaskCache>),
     Sent(Box<Feed>),
 }

@@ -7,11 +7,11 @@ ghost use Rattle.track_core.specs.Track.{told_with};
 ghost use Rattle.room_core.specs.Follows.{FollowsFrame, FollowsPacket, tells_by};
 ghost use Rattle.room_core.specs.Passing.{IsPassed, PassedTo, WaitsIn, WaitsOne, WorkedIf, WorkedOff};
 ghost use Rattle.room_core.specs.Stepping.{IsMadeValid, Steps};
-ghost use Rattle.room_core.specs.Told.{TellsFirst};
+ghost use Rattle.room_core.specs.RemaskCache.{TellsFirst};
 
 use crate::live::LiveSubscriber;
+use crate::remask_cache::RemaskCache;
 use crate::sending::first_tells;
-use crate::told::Told;
 use indexmap::IndexMap;
 use sfu_base::FrameMeaning;
 use track_core::{Advance, Track};
@@ -22,12 +22,12 @@ pub fn work_off(
     pleaded: &mut bool,
     number: u32,
     subscribers: &mut IndexMap<u32, LiveSubscriber>,
-    told: &mut Told,
+    cache: &mut RemaskCache,
 )
     ensures worked { WorkedOff pipeline.old pipeline.new number (get nat_eq subscribers.old) (get nat_eq subscribers.new) pleaded.old pleaded.new }
     ensures count { index_map_len subscribers.new ≡ index_map_len subscribers.old }
 {
-    while work_off_one(pipeline, pleaded, number, subscribers, told) {}
+    while work_off_one(pipeline, pleaded, number, subscribers, cache) {}
 }
 
 // Works off one item, if one waits.
@@ -36,7 +36,7 @@ fn work_off_one(
     pleaded: &mut bool,
     number: u32,
     subscribers: &mut IndexMap<u32, LiveSubscriber>,
-    told: &mut Told,
+    cache: &mut RemaskCache,
 ) -> bool
     ensures worked { WorkedIf result pipeline.old pipeline.new number (get nat_eq subscribers.old) (get nat_eq subscribers.new) pleaded.old pleaded.new }
     ensures count { index_map_len subscribers.new ≡ index_map_len subscribers.old }
@@ -51,7 +51,7 @@ fn work_off_one(
         Advance::Frame => {
             let frame = pipeline.meaning();
             *pleaded = still_pleaded(*pleaded, frame.key);
-            pass_frame_to_all(subscribers, number, pipeline, frame, told);
+            pass_frame_to_all(subscribers, number, pipeline, frame, cache);
             true
         }
     }
@@ -105,18 +105,18 @@ fn pass_frame_to_all(
     number: u32,
     track: &Track,
     frame: &FrameMeaning,
-    told: &mut Told,
+    cache: &mut RemaskCache,
 )
     requires { IsValid frame.now }
     ensures passed { PassedTo (λ old new. FollowsFrame old new frame.now track.now) number (get nat_eq subscribers.old) (get nat_eq subscribers.new) }
     ensures count { index_map_len subscribers.new ≡ index_map_len subscribers.old }
 {
     let tells = first_tells(track);
-    told.forget();
+    cache.forget();
     let count = subscribers.len();
     for place in 0..count {
         if let Some(subscriber) = subscribers.get_index_mut(place) {
-            pass_frame(subscriber, number, track, frame, tells, told);
+            pass_frame(subscriber, number, track, frame, tells, cache);
         }
     }
 }
@@ -128,16 +128,16 @@ fn pass_frame(
     track: &Track,
     frame: &FrameMeaning,
     tells: bool,
-    told: &mut Told,
+    cache: &mut RemaskCache,
 )
     requires valid { IsValid frame.now }
     requires tells { tells ≡ tells_by track.now.layers track.now.packets }
-    requires told { TellsFirst track.now.layers track.now.packets told.old }
+    requires told { TellsFirst track.now.layers track.now.packets cache.old }
     ensures passed { IsPassed (λ old new. FollowsFrame old new frame.now track.now) number subscriber.old subscriber.new }
-    ensures told { TellsFirst track.now.layers track.now.packets told.new }
+    ensures told { TellsFirst track.now.layers track.now.packets cache.new }
 {
     if subscriber.track == number {
-        subscriber.feed.pass_frame(track, frame, tells, told);
+        subscriber.feed.pass_frame(track, frame, tells, cache);
     }
 }
 

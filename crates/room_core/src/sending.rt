@@ -6,9 +6,9 @@ ghost use Rattle.rtp_packet.specs.Fields.{marker_of};
 ghost use Rattle.packet_format.specs.Packets.{packet_of};
 ghost use Rattle.packet_format.specs.Remasked.{remasked_packet};
 ghost use Rattle.room_core.specs.Follows.{PushesBehind, PushesFrame, pushed_all, remasked_by, tells_by};
-ghost use Rattle.room_core.specs.Told.{TellsFirst, TellsOne};
+ghost use Rattle.room_core.specs.RemaskCache.{TellsFirst, TellsOne};
 
-use crate::told::Told;
+use crate::remask_cache::RemaskCache;
 use dd_structure::Structure;
 use out_ring::OutRing;
 use packet_format::tells;
@@ -42,13 +42,19 @@ pub fn push_from(ring: &mut OutRing, track: &Track, from: u16, is_top: bool)
     }
 }
 
-/// Queues them all, the first with this mask. `told` keeps that one for the frame's next subscriber.
+/// Queues them all, the first with this mask. `cache` keeps that one for the frame's next subscriber.
 #[inline(never)]
-pub fn push_remasked(ring: &mut OutRing, told: &mut Told, track: &Track, mask: u32, is_top: bool)
+pub fn push_remasked(
+    ring: &mut OutRing,
+    cache: &mut RemaskCache,
+    track: &Track,
+    mask: u32,
+    is_top: bool,
+)
     requires room { length ring.old.queued + length track.now.packets ≤ 512 }
-    requires told { TellsFirst track.now.layers track.now.packets told.old }
+    requires told { TellsFirst track.now.layers track.now.packets cache.old }
     ensures pushed { PushesFrame ring.old ring.new (remasked_by track.now.layers mask (map packet_of track.now.packets)) is_top }
-    ensures told { TellsFirst track.now.layers track.now.packets told.new }
+    ensures told { TellsFirst track.now.layers track.now.packets cache.new }
 {
     let count = track.count();
     if count == 0 {
@@ -56,14 +62,14 @@ pub fn push_remasked(ring: &mut OutRing, told: &mut Told, track: &Track, mask: u
     }
     let packet = track.packet(0);
     let marker = sent_marker(packet, is_top, count == 1);
-    push_first(ring, told, track, packet, marker, mask);
+    push_first(ring, cache, track, packet, marker, mask);
     push_from(ring, track, 1, is_top);
 }
 
 // Queues a packet as the first of the track's frame, with this mask.
 fn push_first(
     ring: &mut OutRing,
-    told: &mut Told,
+    cache: &mut RemaskCache,
     track: &Track,
     packet: &[u8],
     marker: bool,
@@ -72,12 +78,12 @@ fn push_first(
     requires room { length ring.old.queued < 512 }
     requires reads { first_fault packet.now ≡ None }
     requires fits { length packet.now ≤ 1500 }
-    requires told { TellsFirst track.now.layers (packet.now ∷ []) told.old }
+    requires told { TellsFirst track.now.layers (packet.now ∷ []) cache.old }
     ensures pushed { ring.new ≡ pushed_all (remasked_by track.now.layers mask (record (packet_of packet.now) { marker = marker } ∷ [])) ring.old }
-    ensures told { TellsFirst track.now.layers (packet.now ∷ []) told.new }
+    ensures told { TellsFirst track.now.layers (packet.now ∷ []) cache.new }
 {
     match track.id() {
-        Some(id) => push_told(ring, told, packet, marker, id, track.force(), mask),
+        Some(id) => push_told(ring, cache, packet, marker, id, track.force(), mask),
         None => ring.push(packet, marker),
     }
 }
@@ -85,7 +91,7 @@ fn push_first(
 // Queues a packet with this mask, or as it is where it can't be remasked.
 fn push_told(
     ring: &mut OutRing,
-    told: &mut Told,
+    cache: &mut RemaskCache,
     packet: &[u8],
     marker: bool,
     id: u8,
@@ -95,12 +101,12 @@ fn push_told(
     requires room { length ring.old.queued < 512 }
     requires reads { first_fault packet.now ≡ None }
     requires fits { length packet.now ≤ 1500 }
-    requires told { TellsOne id (option_copied force) packet.now told.old.mask told.old.packet }
+    requires told { TellsOne id (option_copied force) packet.now cache.old.mask cache.old.packet }
     ensures pushed { ring.new ≡ pushed_all (remasked_packet id (option_copied force.entry) mask (record (packet_of packet.now) { marker = marker }) ∷ []) ring.old }
-    ensures told { TellsOne id (option_copied force.entry) packet.now told.new.mask told.new.packet }
+    ensures told { TellsOne id (option_copied force.entry) packet.now cache.new.mask cache.new.packet }
 {
-    told.tell(packet, id, force, mask);
-    ring.push(told.packet.bytes(), marker);
+    cache.tell(packet, id, force, mask);
+    ring.push(cache.packet.bytes(), marker);
 }
 
 // The marker with which a packet of a frame is sent: that of the frame's last packet is set where the frame ends the target's layer.

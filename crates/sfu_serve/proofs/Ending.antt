@@ -9,8 +9,8 @@ use Rattle.turn_lock.specs.Known.{Known, Fits}
 use Rattle.deeds.specs.Deeds.{Listen, Ask, Post, Over}
 use Rattle.deeds.specs.Doing.{FitsBuffer}
 use Rattle.deeds.proofs.Doing as doing
-use Rattle.sfu_serve.specs.declared.ends.Stop.{Stop}
-use Rattle.sfu_serve.specs.declared.ends.Stop.TheVariants.{Lost, Closed}
+use Rattle.sfu_serve.specs.declared.ends.TurnStop.{TurnStop}
+use Rattle.sfu_serve.specs.declared.ends.TurnStop.TheVariants.{Lost, Closed}
 use Rattle.sfu_serve.specs.declared.ends.SessionEnd.{SessionEnd}
 use Rattle.sfu_serve.specs.declared.ends.SessionEnd.TheVariants.{AllTurns, LinkFault}
 use Rattle.sfu_serve.specs.Ends.{ended}
@@ -34,7 +34,7 @@ failed_rose (Ok v) x y isnt cause = absurd (isnt v refl)
 failed_rose (Err e) x y isnt cause = cause.failed
 
 -- a part that didn't stop
-pub part_done : {T : Type 0} (r : Result T Stop) (part next : Doing) (a b : Known Call) (told told' : Option Traffic) (x y : ℕ) → ((stop : Stop) → r ≡ Err stop → ⊥) → IsPart part next a b told told' x y r
+pub part_done : {T : Type 0} (r : Result T TurnStop) (part next : Doing) (a b : Known Call) (told told' : Option Traffic) (x y : ℕ) → ((stop : TurnStop) → r ≡ Err stop → ⊥) → IsPart part next a b told told' x y r
     → Done part next a b told told' x y 0
 part_done (Ok v) part next a b told told' x y isnt p = p
 part_done (Err stop) part next a b told told' x y isnt p = absurd (isnt stop refl)
@@ -74,7 +74,7 @@ module _ (turns_left : ℕ → Doing) (f : Option (List ℕ) → ℕ → Doing) 
   }
 
 -- the turn stopped
-pub stopped : {whole mid : Doing} {old new : Known Call} {told told' : Option Traffic} {x y : ℕ} (limit turn : ℕ) (new' : Known Call) (told'' : Option Traffic) (z : ℕ) (stop : Stop) (end : SessionEnd) → end ≡ ended turn stop
+pub stopped : {whole mid : Doing} {old new : Known Call} {told told' : Option Traffic} {x y : ℕ} (limit turn : ℕ) (new' : Known Call) (told'' : Option Traffic) (z : ℕ) (stop : TurnStop) (end : SessionEnd) → end ≡ ended turn stop
     → turn < limit → Done whole mid old new told told' x y (turn + 1) → Stops mid new new' told' told'' y z stop → Keeps whole limit old new' told told'' x z end
 stopped {whole = whole} {old = old} {told = told} {x = x} {y = y} limit turn new' told'' z Lost end is less d p =
     subst (λ (e : SessionEnd). Keeps whole limit old new' told told'' x z e) (sym is)

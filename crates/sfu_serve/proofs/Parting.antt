@@ -9,8 +9,8 @@ use Rattle.sfu_base.specs.declared.call.Refusal.TheVariants.{NoMemory}
 use Rattle.turn_lock.specs.Known.{Known, Fits}
 use Rattle.deeds.specs.Deeds.{Ask}
 use Rattle.deeds.proofs.Doing as doing
-use Rattle.sfu_serve.specs.declared.ends.Stop.{Stop}
-use Rattle.sfu_serve.specs.declared.ends.Stop.TheVariants.{Lost, Closed}
+use Rattle.sfu_serve.specs.declared.ends.TurnStop.{TurnStop}
+use Rattle.sfu_serve.specs.declared.ends.TurnStop.TheVariants.{Lost, Closed}
 use Rattle.sfu_serve.specs.Datagrams.{IsOne}
 use Rattle.sfu_serve.specs.Sessions.{Doing, takes, sends_on}
 use Rattle.sfu_serve.specs.Parts.{HasHeadline, Done, IsPart, Stops, reply_after}
@@ -33,21 +33,21 @@ after {whole = whole} {mid = mid} {rest = rest} {a = a} {b = b} {c = c} {told = 
     subst (λ (m : ℕ). Done whole rest a c told told'' x z m) same (doing.joins reply_after (Refused NoMemory) IsOne HasHeadline whole mid rest a b c told told' told'' x y z n 0 p q)
 
 -- a part that stopped after what came before it
-pub stops_after : {part mid : Doing} {a b : Known Call} {told told' : Option Traffic} {x y : ℕ} (c : Known Call) (told'' : Option Traffic) (z : ℕ) (stop : Stop)
+pub stops_after : {part mid : Doing} {a b : Known Call} {told told' : Option Traffic} {x y : ℕ} (c : Known Call) (told'' : Option Traffic) (z : ℕ) (stop : TurnStop)
     → Done part mid a b told told' x y 0 → Stops mid b c told' told'' y z stop → Stops part a c told told'' x z stop
 stops_after {x = x} {y = y} c told'' z Lost d p = (p.0, p.1, after d p.2, rose_later x y z d.faults p.3)
 stops_after c told'' z Closed d p = (p.0, p.1, after d p.2, p.3)
 
-pub part_after : {T : Type 0} {part mid : Doing} {a b : Known Call} {told told' : Option Traffic} {x y : ℕ} (next : Doing) (c : Known Call) (told'' : Option Traffic) (z : ℕ) (r : Result T Stop)
+pub part_after : {T : Type 0} {part mid : Doing} {a b : Known Call} {told told' : Option Traffic} {x y : ℕ} (next : Doing) (c : Known Call) (told'' : Option Traffic) (z : ℕ) (r : Result T TurnStop)
     → Done part mid a b told told' x y 0 → IsPart mid next b c told' told'' y z r → IsPart part next a c told told'' x z r
 part_after next c told'' z (Ok v) d p = after d p
 part_after next c told'' z (Err stop) d p = stops_after c told'' z stop d p
 
 -- a part that is told in another way
-pub as_part : {T : Type 0} (part other next : Doing) (a b : Known Call) (told told' : Option Traffic) (x y : ℕ) (r : Result T Stop) → part ≡ other → IsPart part next a b told told' x y r → IsPart other next a b told told' x y r
+pub as_part : {T : Type 0} (part other next : Doing) (a b : Known Call) (told told' : Option Traffic) (x y : ℕ) (r : Result T TurnStop) → part ≡ other → IsPart part next a b told told' x y r → IsPart other next a b told told' x y r
 as_part {T = T} part other next a b told told' x y r same p = subst (λ (d : Doing). IsPart {T = T} d next a b told told' x y r) same p
 
-pub as_stops : (part other : Doing) (a b : Known Call) (told told' : Option Traffic) (x y : ℕ) (stop : Stop) → part ≡ other → Stops part a b told told' x y stop → Stops other a b told told' x y stop
+pub as_stops : (part other : Doing) (a b : Known Call) (told told' : Option Traffic) (x y : ℕ) (stop : TurnStop) → part ≡ other → Stops part a b told told' x y stop → Stops other a b told told' x y stop
 as_stops part other a b told told' x y stop same p = subst (λ (d : Doing). Stops d a b told told' x y stop) same p
 
 pub as_done : (part other next : Doing) (a b : Known Call) (told told' : Option Traffic) (x y n : ℕ) → part ≡ other → Done part next a b told told' x y n → Done other next a b told told' x y n

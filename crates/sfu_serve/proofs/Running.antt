@@ -91,6 +91,8 @@ have_run limit old new jobs played ends fits number count are joins fits' ended 
     let each' : AreSessions limit new.found new.seen 1 jobs ends = subst (λ (l : List After). AreSessions limit new.found new.seen 1 jobs l) (sym ended) each in
     record {
       kept = (joins.lock, joins.first, number');
+      count = counts';
+      found = joins.found;
       fits = fits';
       came = all_joined_in new old.joined played (numbered limit old 1 jobs played are) joins.joined (omega (arith, counts, long));
       added = added;

@@ -14,8 +14,8 @@ use Rattle.deeds.specs.Deeds as deeds
 use Rattle.deeds.specs.Doing.{IsDone}
 use Rattle.sfu_serve.specs.declared.ends.SessionEnd.{SessionEnd}
 use Rattle.sfu_serve.specs.declared.ends.SessionEnd.TheVariants.{AllTurns, LinkFault, Worn}
-use Rattle.sfu_serve.specs.declared.ends.Stop.{Stop}
-use Rattle.sfu_serve.specs.declared.ends.Stop.TheVariants.{Lost, Closed}
+use Rattle.sfu_serve.specs.declared.ends.TurnStop.{TurnStop}
+use Rattle.sfu_serve.specs.declared.ends.TurnStop.TheVariants.{Lost, Closed}
 use Rattle.sfu_serve.specs.History.{entries_of}
 use Rattle.sfu_serve.specs.Datagrams.{Datagram, IsOne}
 use Rattle.sfu_serve.specs.Sessions.{Doing}
@@ -38,14 +38,14 @@ Done whole rest old new told told' before after turns = IsDone reply_after (Refu
 
 -- A part of a turn stopped where a datagram wasn't sent, since the count of faults rose; or where a call wasn't made, since all tickets of
 -- the lock are drawn.
-abbrev pub Stops : Doing → Known Call → Known Call → Option Traffic → Option Traffic → ℕ → ℕ → Stop → Type 0
+abbrev pub Stops : Doing → Known Call → Known Call → Option Traffic → Option Traffic → ℕ → ℕ → TurnStop → Type 0
 Stops part old new told told' before after Lost =
     (what : Datagram) × (rest : Doing) × Done part (Post what rest) old new told told' before after 0 × Rose before after
 Stops part old new told told' before after Closed =
     (call : Call) × (f : Answer → Doing) × Done part (Ask call f) old new told told' before after 0 × (new.found ≡ 2 ^ 63)
 
 -- A part of a turn is done and `next` is left, or it stopped.
-abbrev pub IsPart : {T : Type 0} → Doing → Doing → Known Call → Known Call → Option Traffic → Option Traffic → ℕ → ℕ → Result T Stop → Type 0
+abbrev pub IsPart : {T : Type 0} → Doing → Doing → Known Call → Known Call → Option Traffic → Option Traffic → ℕ → ℕ → Result T TurnStop → Type 0
 IsPart part next old new told told' before after (Ok value) = Done part next old new told told' before after 0
 IsPart part next old new told told' before after (Err stop) = Stops part old new told told' before after stop
 

@@ -57,6 +57,7 @@ pub record HaveJoined (old : Known Call) (seats : List (Known Call)) (new : Know
   pub number : new.number ≡ old.number
   pub own : new.own ≡ old.own
   pub count : new.count ≡ old.count
+  pub found : old.found ≤ new.found
   pub joined : new.joined ≡ old.joined ++ map joined_as seats
   pub goes_on : IsPrefix old.seen new.seen
   pub known : AllKnown seats new

@@ -65,6 +65,9 @@ AreSessions limit found history number _ _ = ⊥
 -- The first seat has seen more of the history: entries of the jobs' seats alone, in which each job's session stands.
 pub record HaveRun (limit : ℕ) (old new : Known Call) (jobs : List Before) (ends : List After) : Type 0 where
   pub kept : (new.lock ≡ old.lock) × (new.first ≡ old.first) × (new.number ≡ 0)
+  -- the first seat and one of each job were made, and no draw is forgotten
+  pub count : new.count ≡ length jobs + 1
+  pub found : old.found ≤ new.found
   pub fits : Fits new
   -- each seat that was made is joined, so that the lock can be closed
   pub came : AllJoinedIn new

@@ -6,9 +6,9 @@ ghost use Rattle.sfu_serve.specs.Datagrams.{control_call, is_control};
 ghost use Rattle.sfu_serve.specs.Sessions.{Doing, answers, controls, control_deed};
 ghost use Rattle.sfu_serve.specs.Parts.{IsPart, Keeps};
 
-use crate::ends::{SessionEnd, Stop, end_at};
+use crate::ends::{SessionEnd, TurnStop, end_at};
 use crate::shared_room::SharedRoom;
-use crate::speaking::{post, say};
+use crate::speaking::{listen, post, say};
 use room_core::Recorder;
 use sfu_base::{Call, Clock, Link, PacketBuf, Scratch};
 use sfu_script::{read_call, write_short};
@@ -51,7 +51,7 @@ fn answer_line<R: Recorder, L: Link, W: Wait + Sync>(
     link: &mut L,
     out: &mut PacketBuf,
     scratch: &mut Scratch,
-) -> Result<(), Stop>
+) -> Result<(), TurnStop>
     requires lock { seat.old.lock ≡ turns.now }
     requires fits { Fits seat.old }
     ensures part { (next : Doing) → IsPart (answers (control_call line.now) next) next
@@ -83,7 +83,7 @@ fn control_turn<R: Recorder, L: Link, W: Wait + Sync>(
     link: &mut L,
     out: &mut PacketBuf,
     scratch: &mut Scratch,
-) -> Result<(), Stop>
+) -> Result<(), TurnStop>
     requires lock { seat.old.lock ≡ turns.now }
     requires fits { Fits seat.old }
     ensures part { (next : Doing) → IsPart (controls (datagram came line.now) next) next
@@ -111,16 +111,15 @@ pub fn control_session<R: Recorder, L: Link, C: Clock, W: Wait + Sync>(
     scratch: &mut Scratch,
 ) -> SessionEnd
     requires lock { seat.old.lock ≡ turns.now }
-    requires fits { Fits seat.old }
     ensures keeps { Keeps (control_deed limit) limit seat.old seat.new (L.told link.old) (L.told link.new) (L.faults link.old) (L.faults link.new) result }
 {
+    seat.lemma_fits();
     let mut line = PacketBuf::new();
     let mut out = PacketBuf::new();
     for turn in 0..limit {
-        let Ok(came) = link.receive(&mut line) else {
+        let Ok((came, _moment)) = listen(link, clock, &mut line) else {
             return SessionEnd::LinkFault { turn };
         };
-        let _moment = clock.now();
         let worked = control_turn(rt, turns, seat, came, &line, link, &mut out, scratch);
         if let Err(stop) = worked {
             return end_at(turn, stop);

@@ -15,7 +15,7 @@ pub enum SessionEnd {
 
 /// Why a turn stopped.
 #[derive(Clone, Copy, Debug)]
-pub enum Stop {
+pub enum TurnStop {
     /// A datagram wasn't sent.
     Lost,
     /// The lock makes no more turns.
@@ -23,11 +23,11 @@ pub enum Stop {
 }
 
 /// How a session ends that stopped in this turn.
-pub fn end_at(turn: u64, stop: Stop) -> SessionEnd
+pub fn end_at(turn: u64, stop: TurnStop) -> SessionEnd
     ensures { result ≡ ended turn stop }
 {
     match stop {
-        Stop::Lost => SessionEnd::LinkFault { turn },
-        Stop::Closed => SessionEnd::Worn,
+        TurnStop::Lost => SessionEnd::LinkFault { turn },
+        TurnStop::Closed => SessionEnd::Worn,
     }
 }

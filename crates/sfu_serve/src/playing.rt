@@ -57,6 +57,7 @@ pub fn cast<R: Recorder, L: Link + Drop>(
     requires number { seat.old.number ≡ 0 }
     requires alone { seat.old.count ≡ 1 }
     requires few { length jobs.items ≤ 64 }
+    ensures kept { (seat.new.lock ≡ seat.old.lock) × (seat.new.number ≡ seat.old.number) }
     ensures split { IfOk result (λ seated. seat.new ≡ counting seat.old (1 + length jobs.items)) }
     ensures fits { IfOk result (λ seated. Fits seat.new) }
     ensures seated { IfOk result (λ seated. map (λ s. seated_job s.seat (job_before s.job.role (L.told s.job.link) (L.faults s.job.link))) seated.items
@@ -81,8 +82,7 @@ fn session<R: Recorder, L: Link, C: Clock, W: Wait + Sync>(
     limit: u64,
     scratch: &mut Scratch,
 ) -> SessionEnd
-    requires lock { seat.old.lock ≡ turns.now }
-    requires fits { Fits seat.old }
+    requires { seat.old.lock ≡ turns.now }
     ensures keeps { Keeps (deed_of role limit) limit seat.old seat.new (L.told link.old) (L.told link.new) (L.faults link.old) (L.faults link.new) result }
 {
     match role {
@@ -104,8 +104,7 @@ fn perform<R: Recorder, L: Link, C: Clock, W: Wait + Sync>(
     limit: u64,
     seated: Seated<R, L>,
 ) -> Played<R, L>
-    requires lock { seated.seat.lock ≡ turns.now }
-    requires fits { Fits seated.seat }
+    requires { seated.seat.lock ≡ turns.now }
     ensures keeps { Keeps (deed_of seated.job.role limit) limit
         seated.seat result.seat (L.told seated.job.link) (L.told result.link) (L.faults seated.job.link) (L.faults result.link) result.end }
 {
@@ -137,7 +136,6 @@ pub fn play<R: Recorder + Send, L: Link + Send + Drop, C: Clock + Sync, W: Threa
     seated: Vec<Seated<R, L>>,
 ) -> Result<Vec<Played<R, L>>, NoMemory>
     requires locks { All (λ s. s.seat.lock ≡ turns.now) seated.items }
-    requires fits { All (λ s. Fits s.seat) seated.items }
     ensures { IfOk result (λ played. ArePlayed limit
         (map (λ s. seated_job s.seat (job_before s.job.role (L.told s.job.link) (L.faults s.job.link))) seated.items)
         (map (λ p. played_job p.seat (job_after p.end (L.told p.link) (L.faults p.link))) played.items)) }
@@ -146,8 +144,7 @@ pub fn play<R: Recorder + Send, L: Link + Send + Drop, C: Clock + Sync, W: Threa
         rt,
         seated,
         &move |one: Seated<R, L>| -> Played<R, L>
-            requires lock { one.seat.lock ≡ turns.now }
-            requires fits { Fits one.seat }
+            requires { one.seat.lock ≡ turns.now }
             ensures { Keeps (deed_of one.job.role limit) limit
                 one.seat result.seat (L.told one.job.link) (L.told result.link) (L.faults one.job.link) (L.faults result.link) result.end }
         { perform(rt, turns, clock, limit, one) },
@@ -169,6 +166,7 @@ pub fn gather<R: Recorder, L: Link + Drop>(
     requires first { seat.old.number ≡ 0 }
     requires locks { All (λ p. p.seat.lock ≡ turns.now) played.items }
     requires others { All (λ p. 0 < p.seat.number) played.items }
+    ensures kept { (seat.new.lock ≡ seat.old.lock) × (seat.new.number ≡ seat.old.number) }
     ensures fits { IfOk result (λ ended. Fits seat.new) }
     ensures joined { IfOk result (λ ended. HaveJoined seat.old (map (λ p. p.seat) played.items) seat.new) }
     ensures ended { IfOk result (λ ended. map (λ e. job_after e.end (L.told e.link) (L.faults e.link)) ended.items

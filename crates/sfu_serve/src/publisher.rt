@@ -12,10 +12,10 @@ ghost use Rattle.sfu_serve.specs.Datagrams.{bytes_in};
 ghost use Rattle.sfu_serve.specs.Sessions.{Doing, asks, brings, is_due, nacks, pleads, publisher_deed};
 ghost use Rattle.sfu_serve.specs.Parts.{Done, IsPart, Keeps, Stops};
 
-use crate::ends::{SessionEnd, Stop, end_at};
+use crate::ends::{SessionEnd, TurnStop, end_at};
 use crate::rtcp::is_rtcp;
 use crate::shared_room::SharedRoom;
-use crate::speaking::{post, say};
+use crate::speaking::{listen, post, say};
 use room_core::Recorder;
 use rtcp_feedback::{write_nack, write_pli};
 use sfu_base::{Call, Clock, Failed, Link, PacketBuf, Reply, Scratch, SeqList};
@@ -69,8 +69,7 @@ fn hear<L: Link, C: Clock>(
     else {
         return Ok((false, 0));
     };
-    let came = link.receive(bytes)?;
-    let moment = clock.now();
+    let (came, moment) = listen(link, clock, bytes)?;
     *at = moment;
     Ok((came, moment))
 }
@@ -83,7 +82,7 @@ fn bring<R: Recorder, W: Wait + Sync>(
     came: bool,
     packet: &Call,
     scratch: &mut Scratch,
-) -> Result<(), Stop>
+) -> Result<(), TurnStop>
     requires lock { seat.old.lock ≡ turns.now }
     requires fits { Fits seat.old }
     ensures part { (track moment : ℕ) (bytes : List ℕ) → packet.now ≡ call.Packet track moment bytes
@@ -113,7 +112,7 @@ fn send_nack<L: Link>(
     names: &SeqList,
     link: &mut L,
     out: &mut PacketBuf,
-) -> Result<(), Stop>
+) -> Result<(), TurnStop>
     requires rise { 0 < length names.now → Rise 1023 names.now }
     ensures part { (next : Doing) (seat : Known CallData) → Fits seat → IsPart (nacks ssrc (Named names.now) next) next
         seat seat (L.told link.old) (L.told link.new) (L.faults link.old) (L.faults link.new) result }
@@ -135,7 +134,7 @@ fn ask_for_packets<R: Recorder, L: Link, W: Wait + Sync>(
     link: &mut L,
     out: &mut PacketBuf,
     scratch: &mut Scratch,
-) -> Result<(), Stop>
+) -> Result<(), TurnStop>
     requires lock { seat.old.lock ≡ turns.now }
     requires fits { Fits seat.old }
     ensures part { (next : Doing) → IsPart (Ask (call.Missing track) (λ names. nacks ssrc names next)) next
@@ -158,7 +157,7 @@ fn send_pli<L: Link>(
     pleaded: Option<u64>,
     link: &mut L,
     out: &mut PacketBuf,
-) -> Result<Option<u64>, Stop>
+) -> Result<Option<u64>, TurnStop>
     ensures done { IfOk result (λ last. (next : Option ℕ → Doing) (seat : Known CallData) → Fits seat → Done
         (pleads ssrc moment pleaded (KeyIs wanted) next) (next last)
         seat seat (L.told link.old) (L.told link.new) (L.faults link.old) (L.faults link.new) 0) }
@@ -191,7 +190,7 @@ fn ask_for_key<R: Recorder, L: Link, W: Wait + Sync>(
     link: &mut L,
     out: &mut PacketBuf,
     scratch: &mut Scratch,
-) -> Result<Option<u64>, Stop>
+) -> Result<Option<u64>, TurnStop>
     requires lock { seat.old.lock ≡ turns.now }
     requires fits { Fits seat.old }
     ensures done { IfOk result (λ last. (next : Option ℕ → Doing) → Done
@@ -223,7 +222,7 @@ fn ask<R: Recorder, L: Link, W: Wait + Sync>(
     link: &mut L,
     out: &mut PacketBuf,
     scratch: &mut Scratch,
-) -> Result<Last, Stop>
+) -> Result<Last, TurnStop>
     requires lock { seat.old.lock ≡ turns.now }
     requires fits { Fits seat.old }
     ensures done { IfOk result (λ now. (next : Option ℕ → Option ℕ → Doing) → Done (asks track ssrc moment last.asked last.pleaded next)
@@ -266,7 +265,7 @@ fn publisher_turn<R: Recorder, L: Link, W: Wait + Sync>(
     link: &mut L,
     out: &mut PacketBuf,
     scratch: &mut Scratch,
-) -> Result<Last, Stop>
+) -> Result<Last, TurnStop>
     requires lock { seat.old.lock ≡ turns.now }
     requires fits { Fits seat.old }
     requires packet { packet.now ≡ call.Packet track moment (bytes_in packet.now) }
@@ -308,10 +307,10 @@ pub fn publisher_session<R: Recorder, L: Link, C: Clock, W: Wait + Sync>(
     scratch: &mut Scratch,
 ) -> SessionEnd
     requires lock { seat.old.lock ≡ turns.now }
-    requires fits { Fits seat.old }
     ensures keeps { Keeps (publisher_deed track ssrc limit None None) limit
         seat.old seat.new (L.told link.old) (L.told link.new) (L.faults link.old) (L.faults link.new) result }
 {
+    seat.lemma_fits();
     let mut packet = Call::Packet {
         track,
         moment: 0,

@@ -1,6 +1,5 @@
 // Several sessions at once.
 ghost use Rattle.std.specs.Prelude.{◌≡◌, ◌≤◌, map, vec_len, IfOk};
-ghost use Rattle.turn_lock.specs.Known.{Fits};
 ghost use Rattle.sfu_serve.specs.Runs.{HaveRun, job_before, job_after};
 
 use crate::ends::SessionEnd;
@@ -56,13 +55,14 @@ pub fn run_sessions<
     limit: u64,
 ) -> Result<Vec<Ended<L>>, NoMemory>
     requires lock { seat.old.lock ≡ turns.now }
-    requires fits { Fits seat.old }
     requires first { (seat.old.number ≡ 0) × (seat.old.count ≡ 1) }
     requires jobs { vec_len jobs ≤ 64 }
+    ensures kept { (seat.new.lock ≡ seat.old.lock) × (seat.new.number ≡ 0) }
     ensures run { IfOk result (λ ended. HaveRun limit seat.old seat.new
         (map (λ j. job_before j.role (L.told j.link) (L.faults j.link)) jobs.items)
         (map (λ e. job_after e.end (L.told e.link) (L.faults e.link)) ended.items)) }
 {
+    seat.lemma_fits();
     let seated = cast(alloc, turns, seat, jobs)?;
     let played = play(rt, turns, clock, limit, seated)?;
     gather(alloc, turns, seat, played)

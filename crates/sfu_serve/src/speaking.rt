@@ -1,7 +1,8 @@
-// One call on the room, and one datagram.
-ghost use Rattle.std.specs.Prelude.{◌≡◌, ℕ, false, List, Option, IfOk, IfErr};
+// One receive, one call on the room, and one datagram.
+ghost use Rattle.std.specs.Prelude.{◌≡◌, ℕ, false, List, [], ◌∷◌, Option, IfOk, IfErr};
 ghost use Rattle.sfu_base.specs.Answer.{Answer, answer_of, is_starved};
-ghost use Rattle.sfu_base.specs.Links.{Traffic};
+ghost use Rattle.sfu_base.specs.Faults.{HasCause};
+ghost use Rattle.sfu_base.specs.Links.{Traffic, datagram, with_more};
 ghost use Rattle.sfu_base.specs.declared.call.Call.{Call as CallData};
 ghost use Rattle.turn_lock.specs.Known.{Known, Fits};
 ghost use Rattle.room_core.specs.History.{Entry, reply_of};
@@ -10,10 +11,10 @@ ghost use Rattle.sfu_serve.specs.Datagrams.{Datagram, IsOne};
 ghost use Rattle.sfu_serve.specs.Sessions.{Doing};
 ghost use Rattle.sfu_serve.specs.Parts.{Done, IsPart, Stops};
 
-use crate::ends::Stop;
+use crate::ends::TurnStop;
 use crate::shared_room::SharedRoom;
 use room_core::Recorder;
-use sfu_base::{Call, Link, PacketBuf, Reply, Scratch};
+use sfu_base::{Call, Clock, Failed, Link, PacketBuf, Reply, Scratch};
 use std::sync::Wait;
 use turn_lock::{Seat, Turns};
 
@@ -24,7 +25,7 @@ pub fn say<R: Recorder, W: Wait + Sync>(
     seat: &mut Seat<SharedRoom<R>>,
     call: &Call,
     scratch: &mut Scratch,
-) -> Result<Reply, Stop>
+) -> Result<Reply, TurnStop>
     requires lock { seat.old.lock ≡ turns.now }
     requires fits { Fits seat.old }
     ensures said { IfOk result (λ reply. (f : Answer → Doing) (told : Option Traffic) (faults : ℕ) → Done (Ask call.now f)
@@ -36,17 +37,32 @@ pub fn say<R: Recorder, W: Wait + Sync>(
 {
     match turns.turn(rt, seat, call, scratch) {
         Ok(turn) => Ok(turn.reply),
-        Err(_worn) => Err(Stop::Closed),
+        Err(_worn) => Err(TurnStop::Closed),
     }
 }
 
+/// Receives a datagram, and asks for the moment behind it. Each turn of a session is one receive and one moment, whether it has a use for the
+/// moment or not (own rule). Answers whether a datagram came, and the moment.
+pub fn listen<L: Link, C: Clock>(
+    link: &mut L,
+    clock: &C,
+    into: &mut PacketBuf,
+) -> Result<(bool, u64), Failed>
+    ensures heard { IfOk result (λ heard. L.told link.new ≡ with_more (datagram heard.0 into.new ∷ []) [] (L.told link.old)) }
+    ensures unheard { IfErr result (λ failed. L.told link.new ≡ L.told link.old) }
+    ensures cause { HasCause (L.faults link.old) (L.faults link.new) result }
+{
+    let came = link.receive(into)?;
+    Ok((came, clock.now()))
+}
+
 /// Sends a datagram.
-pub fn post<L: Link>(link: &mut L, packet: &PacketBuf) -> Result<(), Stop>
+pub fn post<L: Link>(link: &mut L, packet: &PacketBuf) -> Result<(), TurnStop>
     ensures part { (what : Datagram) (next : Doing) (seat : Known CallData) → Fits seat → IsOne what packet.now → IsPart (Post what next)
         next seat seat (L.told link.old) (L.told link.new) (L.faults link.old) (L.faults link.new) result }
 {
     match link.send(packet) {
         Ok(()) => Ok(()),
-        Err(_failed) => Err(Stop::Lost),
+        Err(_failed) => Err(TurnStop::Lost),
     }
 }

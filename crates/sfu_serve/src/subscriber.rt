@@ -8,10 +8,10 @@ ghost use Rattle.sfu_serve.specs.Datagrams.{media_of, feedback_in};
 ghost use Rattle.sfu_serve.specs.Sessions.{Doing, call_for, sends_on, serves_one, serves, takes, hears_feedback, subscriber_deed};
 ghost use Rattle.sfu_serve.specs.Parts.{Done, IsPart, Keeps, Stops};
 
-use crate::ends::{SessionEnd, Stop, end_at};
+use crate::ends::{SessionEnd, TurnStop, end_at};
 use crate::rtcp::is_rtcp;
 use crate::shared_room::SharedRoom;
-use crate::speaking::{post, say};
+use crate::speaking::{listen, post, say};
 use room_core::Recorder;
 use rtcp_feedback::{Feedback, Feedbacks, read};
 use sfu_base::{Call, Clock, Link, PacketBuf, Reply, Scratch};
@@ -29,7 +29,7 @@ fn give<R: Recorder, L: Link, W: Wait + Sync>(
     call: &Call,
     link: &mut L,
     scratch: &mut Scratch,
-) -> Result<bool, Stop>
+) -> Result<bool, TurnStop>
     requires lock { seat.old.lock ≡ turns.now }
     requires fits { Fits seat.old }
     ensures given { IfOk result (λ gave. (more next : Doing) → Done (Ask call.now (λ answer. sends_on answer more next))
@@ -58,7 +58,7 @@ fn take_all<R: Recorder, L: Link, W: Wait + Sync>(
     most: u32,
     link: &mut L,
     scratch: &mut Scratch,
-) -> Result<(), Stop>
+) -> Result<(), TurnStop>
     requires lock { seat.old.lock ≡ turns.now }
     requires fits { Fits seat.old }
     ensures part { (next : Doing) → IsPart (takes subscriber most next) next
@@ -109,7 +109,7 @@ fn serve_item<R: Recorder, L: Link, W: Wait + Sync>(
     item: Feedback,
     link: &mut L,
     scratch: &mut Scratch,
-) -> Result<(), Stop>
+) -> Result<(), TurnStop>
     requires lock { seat.old.lock ≡ turns.now }
     requires fits { Fits seat.old }
     ensures part { (next : Doing) → IsPart (serves_one subscriber ssrc item next) next
@@ -135,7 +135,7 @@ fn serve_items<R: Recorder, L: Link, W: Wait + Sync>(
     items: Feedbacks<'_>,
     link: &mut L,
     scratch: &mut Scratch,
-) -> Result<(), Stop>
+) -> Result<(), TurnStop>
     requires lock { seat.old.lock ≡ turns.now }
     requires fits { Fits seat.old }
     ensures part { (next : Doing) → IsPart (serves subscriber ssrc items.entry next) next
@@ -161,7 +161,7 @@ fn serve_all<R: Recorder, L: Link, W: Wait + Sync>(
     bytes: &[u8],
     link: &mut L,
     scratch: &mut Scratch,
-) -> Result<(), Stop>
+) -> Result<(), TurnStop>
     requires lock { seat.old.lock ≡ turns.now }
     requires fits { Fits seat.old }
     ensures part { (next : Doing) → IsPart (serves subscriber ssrc (feedback_in bytes.now) next) next
@@ -188,7 +188,7 @@ fn hear_feedback<R: Recorder, L: Link, W: Wait + Sync>(
     bytes: &PacketBuf,
     link: &mut L,
     scratch: &mut Scratch,
-) -> Result<(), Stop>
+) -> Result<(), TurnStop>
     requires lock { seat.old.lock ≡ turns.now }
     requires fits { Fits seat.old }
     ensures part { (next : Doing) → IsPart (hears_feedback subscriber ssrc (datagram came bytes.now) next) next
@@ -215,7 +215,7 @@ fn subscriber_turn<R: Recorder, L: Link, W: Wait + Sync>(
     bytes: &PacketBuf,
     link: &mut L,
     scratch: &mut Scratch,
-) -> Result<(), Stop>
+) -> Result<(), TurnStop>
     requires lock { seat.old.lock ≡ turns.now }
     requires fits { Fits seat.old }
     ensures part { (next : Doing) → IsPart (hears_feedback subscriber ssrc (datagram came bytes.now) (takes subscriber most next)) next
@@ -245,16 +245,15 @@ pub fn subscriber_session<R: Recorder, L: Link, C: Clock, W: Wait + Sync>(
     scratch: &mut Scratch,
 ) -> SessionEnd
     requires lock { seat.old.lock ≡ turns.now }
-    requires fits { Fits seat.old }
     ensures keeps { Keeps (subscriber_deed subscriber ssrc limit) limit
         seat.old seat.new (L.told link.old) (L.told link.new) (L.faults link.old) (L.faults link.new) result }
 {
+    seat.lemma_fits();
     let mut bytes = PacketBuf::new();
     for turn in 0..limit {
-        let Ok(came) = link.receive(&mut bytes) else {
+        let Ok((came, _moment)) = listen(link, clock, &mut bytes) else {
             return SessionEnd::LinkFault { turn };
         };
-        let _moment = clock.now();
         let worked = subscriber_turn(
             rt, turns, seat, subscriber, ssrc, MOST_TAKES, came, &bytes, link, scratch,
         );

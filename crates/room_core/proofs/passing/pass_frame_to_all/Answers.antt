@@ -3,8 +3,8 @@ use Rattle.indexmap.specs.IndexMap.{index_map_len}
 use Rattle.room_core.specs.Follows.{FollowsFrame}
 use Rattle.room_core.specs.Passing.{IsPassed}
 use Rattle.room_core.specs.Tables.{ChangedFirst}
-use Rattle.room_core.specs.Told.{TellsFirst}
-use Rattle.room_core.specs.declared.told.Told.{Told}
+use Rattle.room_core.specs.RemaskCache.{TellsFirst}
+use Rattle.room_core.specs.declared.remask_cache.RemaskCache.{RemaskCache}
 use Rattle.room_core.proofs.Pushing.{keeps_nothing}
 use Rattle.room_core.proofs.Changing.{changed_all, changed_length, changed_next}
 use Rattle.room_core.proofs.passing.pass_frame_to_all.Goals as goal
@@ -19,7 +19,7 @@ loop-place-preserved c = elim c.match-get_index_mut.branch [
     changed = subst (λ m. ChangedFirst (IsPassed (λ old new. FollowsFrame old new c.args.frame.now c.args.track.now) c.args.number) (c.loop-place.place + 1) c.args.subscribers.now.entries m.entries) (sym w.subscribers-is)
         (changed_next (IsPassed (λ old new. FollowsFrame old new c.args.frame.now c.args.track.now) c.args.number) c.loop-place.place c.args.subscribers.now.entries c.loop-place.subscribers.entries w.in-Some.subscriber.now w.pass_frame.new.subscriber
         c.loop-place.invariant.changed (sym w.in-Some.ensures.value) w.pass_frame.ensures.passed);
-    told = subst (λ (t : Told). TellsFirst c.args.track.now.layers c.args.track.now.packets t) (sym w.told-is) w.pass_frame.ensures.told;
+    told = subst (λ (t : RemaskCache). TellsFirst c.args.track.now.layers c.args.track.now.packets t) (sym w.cache-is) w.pass_frame.ensures.told;
   }
   | in_default w ↦
       (let size : length c.loop-place.subscribers.entries ≡ length c.args.subscribers.now.entries =

@@ -10,11 +10,11 @@ use Rattle.room_core.proofs.sending.push_first.Goals as goal
 
 pub push_told-requires-clause-told : goal.push_told-requires-clause-told
 push_told-requires-clause-told c =
-    keeps_by c.args.track.now.layers c.in-Some.id (option_copied c.force.result) c.args.packet.now c.args.told.now c.in-Some.ensures c.force.ensures.kept c.requires.told
+    keeps_by c.args.track.now.layers c.in-Some.id (option_copied c.force.result) c.args.packet.now c.args.cache.now c.in-Some.ensures c.force.ensures.kept c.requires.told
 
 pub returns-in-Some-clause-told : goal.returns-in-Some-clause-told
 returns-in-Some-clause-told c =
-    keeps_on c.args.track.now.layers c.in-Some.id (option_copied c.force.result) c.args.packet.now c.push_told.new.told c.in-Some.ensures c.force.ensures.kept c.push_told.ensures.told
+    keeps_on c.args.track.now.layers c.in-Some.id (option_copied c.force.result) c.args.packet.now c.push_told.new.cache c.in-Some.ensures c.force.ensures.kept c.push_told.ensures.told
 
 pub returns-in-None-clause-pushed : goal.returns-in-None-clause-pushed
 returns-in-None-clause-pushed c =

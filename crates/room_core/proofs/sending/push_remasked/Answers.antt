@@ -7,7 +7,7 @@ use Rattle.room_core.proofs.sending.push_remasked.Goals as goal
 
 pub push_first-requires-clause-told : goal.push_first-requires-clause-told
 push_first-requires-clause-told c =
-    keeps_one c.args.track.now.layers c.args.track.now.packets c.packet-packet.result.now c.args.told.now c.packet-packet.ensures.at c.requires.told
+    keeps_one c.args.track.now.layers c.args.track.now.packets c.packet-packet.result.now c.args.cache.now c.packet-packet.ensures.at c.requires.told
 
 pub returns-clause-pushed : goal.returns-clause-pushed
 returns-clause-pushed c =
@@ -20,4 +20,4 @@ returns-clause-pushed c =
 
 pub returns-clause-told : goal.returns-clause-told
 returns-clause-told c =
-    keeps_first c.args.track.now.layers c.args.track.now.packets c.packet-packet.result.now c.push_first.new.told c.packet-packet.ensures.at c.push_first.ensures.told
+    keeps_first c.args.track.now.layers c.args.track.now.packets c.packet-packet.result.now c.push_first.new.cache c.packet-packet.ensures.at c.push_first.ensures.told

@@ -2,24 +2,22 @@ use Rattle.std.proofs.Common.{◌+◌, ◌-◌, ◌<◌, ℕ, List, Option, refl
 use Rattle.sfu_base.specs.Links.{datagram}
 use Rattle.sfu_serve.specs.Sessions.{Doing, controls, control_deed}
 use Rattle.sfu_serve.proofs.Parting.{after}
-use Rattle.sfu_serve.proofs.Ending.{starts, heard, unheard, stopped, all_turns, failed_told, failed_rose, part_done}
+use Rattle.sfu_serve.proofs.Ending.{starts, heard, unheard, stopped, all_turns, part_done}
 use Rattle.sfu_serve.proofs.control.control_session.Goals as goal
 
 pub loop-turn-init : goal.loop-turn-init
-loop-turn-init g c = (omega arith, starts control_deed c.args.limit c.args.seat.now (g.L.Link.told c.args.link.now) (g.L.Link.faults c.args.link.now) c.requires.fits)
+loop-turn-init g c = (omega arith, starts control_deed c.args.limit c.args.seat.now (g.L.Link.told c.args.link.now) (g.L.Link.faults c.args.link.now) c.lemma_fits.ensures)
 
 pub returns-in_default : goal.returns-in_default
 returns-in_default g c =
     let limit : ℕ = c.args.limit in
     let turn : ℕ = c.loop-turn.turn in
     let next : Doing = control_deed (limit - (turn + 1)) in
-    let isnt = c.in_default.not-Ok in
     record {
       keeps = unheard control_deed (λ (got : Option (List ℕ)) (moment : ℕ). controls got next) limit turn (control_deed limit) c.args.seat.now c.loop-turn.seat
-          (g.L.Link.told c.args.link.now) (g.L.Link.told c.loop-turn.link) (g.L.Link.told c.receive.new.self) (g.L.Link.faults c.args.link.now) (g.L.Link.faults c.loop-turn.link) (g.L.Link.faults c.receive.new.self)
+          (g.L.Link.told c.args.link.now) (g.L.Link.told c.loop-turn.link) (g.L.Link.told c.listen.new.link) (g.L.Link.faults c.args.link.now) (g.L.Link.faults c.loop-turn.link) (g.L.Link.faults c.listen.new.link)
           c.loop-turn-test.true refl c.loop-turn.invariant.1
-          (failed_told c.receive.result c.receive.new.buf (g.L.Link.told c.loop-turn.link) (g.L.Link.told c.receive.new.self) isnt c.receive.ensures.told) c.receive.ensures.cause.never_falls
-          (failed_rose c.receive.result (g.L.Link.faults c.loop-turn.link) (g.L.Link.faults c.receive.new.self) isnt c.receive.ensures.cause);
+          c.in_default.ensures.unheard c.listen.ensures.cause.never_falls c.in_default.ensures.cause.failed;
     }
 
 pub returns-in-Err : goal.returns-in-Err
@@ -28,8 +26,8 @@ returns-in-Err g c =
     let turn : ℕ = c.loop-turn.turn in
     let next : Doing = control_deed (limit - (turn + 1)) in
     let d = heard control_deed (λ (got : Option (List ℕ)) (moment : ℕ). controls got next) limit turn (control_deed limit) c.args.seat.now c.loop-turn.seat
-    (g.L.Link.told c.args.link.now) (g.L.Link.told c.loop-turn.link) (g.L.Link.told c.receive.new.self) (g.L.Link.faults c.args.link.now) (g.L.Link.faults c.loop-turn.link) (g.L.Link.faults c.receive.new.self)
-    c.in-Ok.came c.receive.new.buf c.now-moment.result c.loop-turn-test.true refl c.loop-turn.invariant.1 c.control_turn-worked.ensures.bounded c.in-Ok.ensures.told c.receive.ensures.cause.never_falls in
+    (g.L.Link.told c.args.link.now) (g.L.Link.told c.loop-turn.link) (g.L.Link.told c.listen.new.link) (g.L.Link.faults c.args.link.now) (g.L.Link.faults c.loop-turn.link) (g.L.Link.faults c.listen.new.link)
+    c.in-Ok.came c.listen.new.into c.in-Ok._moment c.loop-turn-test.true refl c.loop-turn.invariant.1 c.control_turn-worked.ensures.bounded c.in-Ok.ensures.heard c.listen.ensures.cause.never_falls in
     record {
       keeps = stopped limit turn c.control_turn-worked.new.seat (g.L.Link.told c.control_turn-worked.new.link) (g.L.Link.faults c.control_turn-worked.new.link) c.in-Err.stop c.end_at.result c.end_at.ensures
           c.loop-turn-test.true d (c.in-Err.ensures.part next);
@@ -42,12 +40,12 @@ loop-turn-preserved g c =
     let less : turn < limit = c.loop-turn-test.true in
     let next : Doing = control_deed (limit - (turn + 1)) in
     let d = heard control_deed (λ (got : Option (List ℕ)) (moment : ℕ). controls got next) limit turn (control_deed limit) c.args.seat.now c.loop-turn.seat
-    (g.L.Link.told c.args.link.now) (g.L.Link.told c.loop-turn.link) (g.L.Link.told c.receive.new.self) (g.L.Link.faults c.args.link.now) (g.L.Link.faults c.loop-turn.link) (g.L.Link.faults c.receive.new.self)
-    c.in-Ok.came c.receive.new.buf c.now-moment.result less refl c.loop-turn.invariant.1 c.control_turn-worked.ensures.bounded c.in-Ok.ensures.told c.receive.ensures.cause.never_falls in (
+    (g.L.Link.told c.args.link.now) (g.L.Link.told c.loop-turn.link) (g.L.Link.told c.listen.new.link) (g.L.Link.faults c.args.link.now) (g.L.Link.faults c.loop-turn.link) (g.L.Link.faults c.listen.new.link)
+    c.in-Ok.came c.listen.new.into c.in-Ok._moment less refl c.loop-turn.invariant.1 c.control_turn-worked.ensures.bounded c.in-Ok.ensures.heard c.listen.ensures.cause.never_falls in (
       omega (arith, less),
       after d
-          (part_done c.control_turn-worked.result (controls (datagram c.in-Ok.came c.receive.new.buf) next) next c.loop-turn.seat c.control_turn-worked.new.seat
-          (g.L.Link.told c.receive.new.self) (g.L.Link.told c.control_turn-worked.new.link) (g.L.Link.faults c.receive.new.self) (g.L.Link.faults c.control_turn-worked.new.link)
+          (part_done c.control_turn-worked.result (controls (datagram c.in-Ok.came c.listen.new.into) next) next c.loop-turn.seat c.control_turn-worked.new.seat
+          (g.L.Link.told c.listen.new.link) (g.L.Link.told c.control_turn-worked.new.link) (g.L.Link.faults c.listen.new.link) (g.L.Link.faults c.control_turn-worked.new.link)
           c.in_default-worked.not-Err (c.control_turn-worked.ensures.part next)),
     )
 

@@ -12,7 +12,7 @@ use Rattle.sfu_serve.proofs.publisher.publisher_session.Goals as goal
 pub loop-turn-init : goal.loop-turn-init
 loop-turn-init g c = record {
   turns = omega arith;
-  done = starts (λ (n : ℕ). publisher_deed c.args.track c.args.ssrc n None None) c.args.limit c.args.seat.now (g.L.Link.told c.args.link.now) (g.L.Link.faults c.args.link.now) c.requires.fits;
+  done = starts (λ (n : ℕ). publisher_deed c.args.track c.args.ssrc n None None) c.args.limit c.args.seat.now (g.L.Link.told c.args.link.now) (g.L.Link.faults c.args.link.now) c.lemma_fits.ensures;
   packet = (0, c.new.result, refl);
 }
 

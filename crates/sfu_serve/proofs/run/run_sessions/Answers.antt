@@ -5,8 +5,8 @@ use Rattle.turn_lock.specs.Known.{Fits, Known}
 use Rattle.sfu_serve.specs.declared.playing.Played.{Played}
 use Rattle.sfu_serve.specs.Runs.{HaveRun, job_after, job_before}
 use Rattle.sfu_serve.specs.Playing.{ArePlayed, HaveJoined, PlayedJob, SeatedJob, counting, played_job, seated_from, seated_job}
-use Rattle.sfu_serve.proofs.Casting.{AllIn, above_none, all_of, map_twice, numbered, same_lock, seats_fit, seats_lock, three_ok}
-use Rattle.sfu_serve.proofs.Running.{first_only, have_run}
+use Rattle.sfu_serve.proofs.Casting.{AllIn, above_none, all_of, map_twice, numbered, same_lock, seats_lock, three_ok}
+use Rattle.sfu_serve.proofs.Running.{have_run}
 use Rattle.sfu_serve.proofs.run.run_sessions.Goals as goal
 
 pub play-requires-clause-locks : goal.play-requires-clause-locks
@@ -15,13 +15,6 @@ play-requires-clause-locks g c = λ lifetimes lives.
     let all = subst (λ (lock : _). AllIn (λ (s : SeatedJob). s.seat.lock ≡ lock) (seated_from c.args.seat.now 1 jobs)) c.requires.lock (seats_lock c.args.seat.now 1 jobs) in
     all_of (λ s. seated_job s.seat (job_before s.job.role (g.L.Link.told s.job.link) (g.L.Link.faults s.job.link))) (λ (s : SeatedJob). s.seat.lock ≡ c.args.turns.now) c.in_ok-seated.seated.items
     (subst (AllIn (λ (s : SeatedJob). s.seat.lock ≡ c.args.turns.now)) (sym c.in_ok-seated.ensures.seated) all)
-
-pub play-requires-clause-fits : goal.play-requires-clause-fits
-play-requires-clause-fits g c = λ lifetimes lives.
-    let jobs = map (λ j. job_before j.role (g.L.Link.told j.link) (g.L.Link.faults j.link)) c.args.jobs.items in
-    let first = c.requires.first in
-    all_of (λ s. seated_job s.seat (job_before s.job.role (g.L.Link.told s.job.link) (g.L.Link.faults s.job.link))) (λ (s : SeatedJob). Fits s.seat) c.in_ok-seated.seated.items
-    (subst (AllIn (λ (s : SeatedJob). Fits s.seat)) (sym c.in_ok-seated.ensures.seated) (seats_fit c.args.seat.now 1 jobs (first_only c.args.seat.now c.requires.fits first.0 first.1) (omega arith)))
 
 pub gather-requires-clause-locks : goal.gather-requires-clause-locks
 gather-requires-clause-locks g c =
@@ -52,9 +45,10 @@ returns g c =
     let seats : map (λ p. p.seat) c.in_ok-played.played.items ≡ map (λ p. p.seat) played = sym (map_twice (λ (p : PlayedJob). p.seat) to c.in_ok-played.played.items) in
     let long : length c.args.jobs.items ≡ length jobs = sym (length-map c.args.jobs.items (λ j. job_before j.role (g.L.Link.told j.link) (g.L.Link.faults j.link))) in
     record {
+      kept = (c.gather.ensures.kept.0 ∙ c.cast.ensures.kept.0, c.gather.ensures.kept.1 ∙ (c.cast.ensures.kept.1 ∙ first.0));
       run = three_ok (Fits new) (HaveJoined c.cast.new.seat (map (λ p. p.seat) c.in_ok-played.played.items) new) _ (λ ended. HaveRun c.args.limit old new jobs (map (λ e. job_after e.end (g.L.Link.told e.link) (g.L.Link.faults e.link)) ended.items)) c.gather.result
           (λ ended fits joined ends.
-          have_run c.args.limit old new jobs played (map (λ e. job_after e.end (g.L.Link.told e.link) (g.L.Link.faults e.link)) ended.items) c.requires.fits first.0 first.1 are
+          have_run c.args.limit old new jobs played (map (λ e. job_after e.end (g.L.Link.told e.link) (g.L.Link.faults e.link)) ended.items) c.lemma_fits.ensures first.0 first.1 are
           (subst (λ (l : List (Known Call)). HaveJoined (counting old (1 + length jobs)) l new) seats
           (subst (λ (k : Known Call). HaveJoined k (map (λ p. p.seat) c.in_ok-played.played.items) new) (c.in_ok-seated.ensures.split ∙ ap (λ (n : ℕ). counting old (1 + n)) long) joined)) fits
           (ends ∙ sym (map_twice (λ (p : PlayedJob). p.ended) to c.in_ok-played.played.items)))

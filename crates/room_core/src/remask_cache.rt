@@ -3,27 +3,27 @@ ghost use Rattle.std.specs.Prelude.{◌≡◌, ◌≤◌, None, Some, length, tr
 ghost use Rattle.std.specs.Option.{option_copied};
 ghost use Rattle.rtp_packet.specs.Faults.{first_fault};
 ghost use Rattle.packet_format.specs.Remasked.{remasked_bytes};
-ghost use Rattle.room_core.specs.Told.{TellsOne};
+ghost use Rattle.room_core.specs.RemaskCache.{TellsOne};
 
 use dd_structure::Structure;
 use packet_format::Remasker;
 use sfu_base::PacketBuf;
 
-/// The first packet of the frame in hand as it tells a mask: the last one that was asked for, since most subscribers of a frame want the
-/// same. It is made in place, so that no frame clears a buffer.
+/// A cache of the first packet of the frame in hand as it tells a mask: the last one that was asked for, since most subscribers of a frame
+/// want the same. Where it is never asked, all is sent alike. It is filled in place, so that no frame clears a buffer.
 #[derive(Drop)]
-pub struct Told {
+pub struct RemaskCache {
     pub mask: Option<u32>,
     pub packet: PacketBuf,
     pub remasker: Remasker,
 }
 
-impl Told {
+impl RemaskCache {
     /// Of no frame yet.
-    pub fn new() -> Told
+    pub fn new() -> RemaskCache
         ensures { result.mask ≡ None }
     {
-        Told {
+        RemaskCache {
             mask: None,
             packet: PacketBuf::new(),
             remasker: Remasker::new(),
@@ -51,7 +51,7 @@ impl Told {
         }
     }
 
-    // Whether it tells this mask.
+    // Whether it tells this mask. It may always say no: then the packet is made anew.
     fn has(&self, mask: u32) -> bool
         ensures { result ≡ true → self.now.mask ≡ Some mask }
     {
