@@ -1,0 +1,135 @@
+/* edges.c: what the library answers at its edges, with each allocation failing in turn, and from another thread. It ends with 0 where all is
+ * as the header says; with the word `sizes` it prints how many bytes a room, a track and a subscriber take. */
+#include <pthread.h>
+#include <stdio.h>
+#include <stdlib.h>
+#include <string.h>
+#include "zoftemar.h"
+
+#define IS(x) do { if (!(x)) { fprintf(stderr, "edges.c:%d: %s\n", __LINE__, #x); exit(1); } } while (0)
+
+/* The heap of heap.c, which counts blocks and bytes, and fails once `left` allocations were made. */
+typedef struct { bool ok; void *at; } tried;
+static long left = -1, blocks;
+static size_t bytes_taken;
+static char no_bytes;
+
+static bool may_take(size_t count) {
+    if (left == 0) return false;
+    if (left > 0) left--;
+    bytes_taken += count;
+    return true;
+}
+
+tried rattle_alloc(size_t count, size_t align) {
+    void *at = may_take(count) ? malloc(count ? count : align) : NULL;
+    blocks += at != NULL;
+    return (tried){ at != NULL, at ? at : &no_bytes };
+}
+
+tried rattle_realloc(void *old, size_t kept, size_t count, size_t align) {
+    void *at = may_take(count - kept) ? realloc(old, count ? count : align) : NULL;
+    return (tried){ at != NULL, at ? at : &no_bytes };
+}
+
+void rattle_dealloc(void *at) {
+    blocks--;
+    free(at);
+}
+
+static uint8_t out[ZOFTEMAR_PACKET_ROOM], big[4000];
+static uint16_t names[ZOFTEMAR_NAMES_ROOM];
+
+static void codes(void) {
+    zoftemar_room room = ZOFTEMAR_ROOM_NONE;
+    zoftemar_target target = { 7, true, 7, 7 };
+    IS(sizeof(zoftemar_room) == 16 && sizeof(zoftemar_reply) == 24 && sizeof(zoftemar_target) == 4);
+    IS(zoftemar_tick(&room, 0, 1, 0).code == ZOFTEMAR_NO_ROOM);
+    IS(zoftemar_take(&room, 0, 1, out, sizeof out).code == ZOFTEMAR_NO_ROOM);
+    IS(zoftemar_reaches_wish(&room, 1).code == ZOFTEMAR_NO_ROOM);
+    zoftemar_close(&room);
+    zoftemar_close(&room);
+    IS(zoftemar_open(&room) == ZOFTEMAR_DONE && zoftemar_open(&room) == ZOFTEMAR_HAS_ROOM);
+    IS(zoftemar_publish_layered(&room, 0, 1, 15, 1, 1).code == ZOFTEMAR_BAD_EXTENSION_ID);
+    IS(zoftemar_publish_plain(&room, 0, 1, 0x11111111, 1).code == ZOFTEMAR_DONE);
+    IS(zoftemar_packet(&room, 0, 1, 0, NULL, 0).code == ZOFTEMAR_UNREADABLE);
+    IS(zoftemar_packet(&room, 0, 1, 0, big, 2048).code == ZOFTEMAR_TOO_BIG);
+    IS(zoftemar_packet(&room, 0, 1, 0, big, 2049).code == ZOFTEMAR_TOO_LONG);
+    IS(zoftemar_take(&room, 0, 1, out, 2047).code == ZOFTEMAR_NO_SPACE);
+    IS(zoftemar_missing(&room, 0, 1, names, 1023).code == ZOFTEMAR_NO_SPACE);
+    IS(zoftemar_target_of(&room, 1, &target).code == ZOFTEMAR_NO_SUBSCRIBER && target.index == 7);
+    IS(zoftemar_join(&room, 0, 1, 1, 2, 3, 0, 0).code == ZOFTEMAR_DONE);
+    IS(zoftemar_target_of(&room, 1, &target).code == ZOFTEMAR_TARGET && !zoftemar_target_of(&room, 1, &target).has);
+    IS(zoftemar_reaches_wish(&room, 1).code == ZOFTEMAR_REACHED && !zoftemar_reaches_wish(&room, 1).has);
+    zoftemar_close(&room);
+    IS(blocks == 0 && zoftemar_tick(&room, 0, 1, 0).code == ZOFTEMAR_NO_ROOM);
+}
+
+/* Each allocation fails in turn. What was refused can be done afterwards, and all blocks are given back. */
+static void memory(void) {
+    zoftemar_reply publish, join;
+    for (long n = 0;; n++) {
+        zoftemar_room room = ZOFTEMAR_ROOM_NONE;
+        left = n;
+        uint32_t open = zoftemar_open(&room);
+        if (open != ZOFTEMAR_DONE) {
+            IS(open == ZOFTEMAR_NO_MEMORY && zoftemar_tick(&room, 0, 1, 0).code == ZOFTEMAR_NO_ROOM && blocks == 0);
+            continue;
+        }
+        publish = zoftemar_publish_layered(&room, 0, 1, 4, 0x11111111, 100);
+        join = zoftemar_join(&room, 0, 1, 1, 0x22222222, 7, 1, 1);
+        left = -1;
+        IS(publish.code == ZOFTEMAR_DONE || publish.code == ZOFTEMAR_NO_MEMORY);
+        IS(join.code == ZOFTEMAR_DONE || join.code == (publish.code == ZOFTEMAR_DONE ? ZOFTEMAR_NO_MEMORY : ZOFTEMAR_NO_TRACK));
+        if (publish.code != ZOFTEMAR_DONE) IS(zoftemar_publish_layered(&room, 0, 1, 4, 0x11111111, 100).code == ZOFTEMAR_DONE);
+        if (join.code != ZOFTEMAR_DONE) IS(zoftemar_join(&room, 0, 1, 1, 0x22222222, 7, 1, 1).code == ZOFTEMAR_DONE);
+        zoftemar_close(&room);
+        IS(blocks == 0);
+        if (publish.code == ZOFTEMAR_DONE && join.code == ZOFTEMAR_DONE) return;
+    }
+}
+
+static zoftemar_room shared = ZOFTEMAR_ROOM_NONE;
+
+static void *elsewhere(void *unused) {
+    IS(zoftemar_tick(&shared, 0, 1, 5).code == ZOFTEMAR_DONE);
+    IS(zoftemar_take(&shared, 0, 1, out, sizeof out).code == ZOFTEMAR_EMPTY);
+    zoftemar_close(&shared);
+    return unused;
+}
+
+static void threads(void) {
+    pthread_t thread;
+    IS(zoftemar_open(&shared) == ZOFTEMAR_DONE);
+    zoftemar_publish_plain(&shared, 0, 1, 1, 1);
+    zoftemar_join(&shared, 0, 1, 1, 2, 3, 0, 0);
+    IS(pthread_create(&thread, NULL, elsewhere, NULL) == 0 && pthread_join(thread, NULL) == 0);
+    IS(blocks == 0 && zoftemar_tick(&shared, 0, 1, 0).code == ZOFTEMAR_NO_ROOM);
+}
+
+static void size_of(const char *what) {
+    printf("%s: %zu bytes\n", what, bytes_taken);
+    bytes_taken = 0;
+}
+
+static void sizes(void) {
+    zoftemar_room room = ZOFTEMAR_ROOM_NONE;
+    bytes_taken = 0;
+    zoftemar_open(&room);
+    size_of("a room");
+    zoftemar_publish_layered(&room, 0, 1, 4, 1, 1);
+    size_of("a layered track");
+    zoftemar_publish_plain(&room, 0, 2, 1, 1);
+    size_of("a plain track");
+    zoftemar_join(&room, 0, 1, 1, 2, 3, 0, 0);
+    size_of("a subscriber");
+    zoftemar_close(&room);
+}
+
+int main(int argc, char **argv) {
+    codes();
+    memory();
+    threads();
+    if (argc > 1 && strcmp(argv[1], "sizes") == 0) sizes();
+    return blocks != 0;
+}

@@ -1,0 +1,182 @@
+/* zoftemar.h: the proved room for C, C++ and whatever calls C. docs/EMBEDDING.md says how to build, link and use it.
+ *
+ *     zoftemar_room room = ZOFTEMAR_ROOM_NONE;                       // 16 bytes of the caller's: no room yet
+ *     uint8_t out[ZOFTEMAR_PACKET_ROOM];
+ *     if (zoftemar_open(&room) != ZOFTEMAR_DONE) return 1;           // no memory
+ *     zoftemar_publish_layered(&room, 0, 1, 4, 0x11111111, 100);     // seat 0: track 1, descriptors under id 4, its SSRC, hold in ms
+ *     zoftemar_join(&room, 0, 1, 1, 0x22222222, 65534, 1, 1);        // subscriber 1 of track 1, its SSRC, first number, wish
+ *     zoftemar_packet(&room, 0, 1, now, bytes, count);               // each packet of the publisher
+ *     zoftemar_tick(&room, 0, 1, now);                               // some times a second
+ *     for (zoftemar_reply r; (r = zoftemar_take(&room, 0, 1, out, sizeof out)).code == ZOFTEMAR_PACKET;)
+ *         send_to_subscriber(out, r.first);
+ *     zoftemar_close(&room);
+ *
+ * A room has tracks, each with one publisher's packets, and subscribers, each of one track. What each call does is proved of the room
+ * (crates/room_core/README.md), and that these functions are those calls (crates/room_c/README.md), of callers who keep to "What the caller
+ * owes". Nothing checks a caller in C.
+ *
+ * Units. Moments and holds are milliseconds, from any start. SSRCs, sequence numbers and the numbers of tracks and subscribers are numbers
+ * of the machine's byte order; packets are the bytes on the wire. Numbers of tracks and of subscribers begin at 1 and only grow: none is
+ * used twice. A seat is a number of the caller's own for who makes the call; it changes no answer, and 0 will do.
+ *
+ * Codes. Nothing aborts and nothing is thrown: each call answers a zoftemar_reply. A refused call changes nothing. Only opening, publishing
+ * and joining take memory, through malloc, and may answer ZOFTEMAR_NO_MEMORY; every other call takes none.
+ *
+ * Ownership. A zoftemar_room is the caller's, all bytes 0 at first (ZOFTEMAR_ROOM_NONE). zoftemar_open puts a room behind it,
+ * zoftemar_close gives that back; both may be repeated. No pointer to a packet, a buffer or a zoftemar_room is kept after a call.
+ *
+ * Threads. One call at a time on a room: a lock around it, or one thread for it. Different rooms have nothing in common, and a room may go
+ * from one thread to another under a lock, a start or a join.
+ *
+ * What the caller owes.
+ *   - `room` points to a zoftemar_room that was all 0 or was last written by this library. It may be moved to another address, but then
+ *     only the new copy is used: two copies of one open room end as a double free does.
+ *   - No pointer is NULL, but that of a packet or buffer of 0 places.
+ *   - `bytes` may be read for `count` bytes, `out` may be written for `count` places, and they overlap nothing else that is passed.
+ *   - No call from a signal handler, nor in the child of a fork of a process with threads.
+ *   - malloc, realloc and free are one allocator's, and align blocks as the C standard asks. heap.c is linked beside the library: it has the
+ *     three functions by which the library takes memory.
+ */
+#ifndef ZOFTEMAR_H
+#define ZOFTEMAR_H
+
+#include <stdbool.h>
+#include <stddef.h>
+#include <stdint.h>
+
+#ifdef __cplusplus
+extern "C" {
+#endif
+
+/* A room's handle. Its fields are the library's: read and write none. */
+typedef struct zoftemar_room {
+    bool made;
+    struct { void *at; } held;
+} zoftemar_room;
+
+#ifdef __cplusplus
+#define ZOFTEMAR_ROOM_NONE {}
+#else
+#define ZOFTEMAR_ROOM_NONE { 0 }
+#endif
+
+/* What a call answers. `has` says whether an optional number is there; `first` and `second` are named beside each code. */
+typedef struct zoftemar_reply {
+    uint32_t code;
+    bool has;
+    uint64_t first;
+    uint64_t second;
+} zoftemar_reply;
+
+enum zoftemar_code {
+    ZOFTEMAR_DONE = 0,
+    ZOFTEMAR_PACKET = 1,            /* first: how many bytes were written to `out` */
+    ZOFTEMAR_NAMES = 2,             /* first: how many sequence numbers were written to `out` */
+    ZOFTEMAR_KEY = 3,               /* has: whether the publisher is to be asked for a key frame */
+    ZOFTEMAR_REACHED = 4,           /* has: whether the wish is reached */
+    ZOFTEMAR_TARGET = 5,            /* has: whether the subscriber has a decode target, which was then written to `out` */
+
+    /* Why a frame was or wasn't passed on to a subscriber. Frame numbers are without the wrap at 65,536. */
+    ZOFTEMAR_PASSED = 16,
+    ZOFTEMAR_NOT_OF_TARGET = 17,    /* has, first: the decode target, if there is one */
+    ZOFTEMAR_BEHIND = 18,           /* first: the distance to the reference; second: the frame with which the epoch began */
+    ZOFTEMAR_REFERENCE = 19,        /* first: the frame that it refers to, which wasn't passed on */
+    ZOFTEMAR_FULL = 20,             /* first: packets that were queued; second: packets of the frame */
+    ZOFTEMAR_LINK = 21,             /* first: the frame at which the chain broke; second: its previous frame, not passed on */
+    ZOFTEMAR_UNOPENED = 22,         /* first: the frame since which no target has been open */
+    ZOFTEMAR_HOLE = 23,             /* first: the next frame that came; has, second: the one before, if it is near */
+
+    /* Why a call was refused. */
+    ZOFTEMAR_NO_TRACK = 32,
+    ZOFTEMAR_NO_SUBSCRIBER = 33,
+    ZOFTEMAR_NUMBER_USED = 34,      /* first: the highest number that was ever live; numbers begin at 1 and only grow */
+    ZOFTEMAR_TOO_MANY = 35,         /* first: how many are live (64 tracks, 256 subscribers) */
+    ZOFTEMAR_BAD_EXTENSION_ID = 36, /* 0 or 15 */
+    ZOFTEMAR_TOO_BIG = 37,          /* first: how many bytes the packet has, more than 1,500 */
+    ZOFTEMAR_UNREADABLE = 38,       /* not RTP. first: 0 under 12 bytes, 1 the version, 2 CSRCs, 3 the header extension, 4 the padding */
+    ZOFTEMAR_WRONG_SSRC = 39,       /* first: the packet's; second: the track's */
+    ZOFTEMAR_SPENT = 40,            /* the packet's number without its wrap is 2^46 or more */
+    ZOFTEMAR_LATE = 41,             /* first: the number that the track waits for, without the wrap */
+    ZOFTEMAR_REPEAT = 42,
+    ZOFTEMAR_EMPTY = 43,            /* nothing waits for the subscriber */
+    ZOFTEMAR_NOT_KEPT = 44,         /* first: the oldest number that is kept; second: the number of the next take */
+    ZOFTEMAR_AHEAD = 45,            /* has, first: the newest frame, if there is one */
+    ZOFTEMAR_TOO_OLD = 46,          /* first: the lowest frame that may be asked for */
+    ZOFTEMAR_PLAIN = 47,            /* the subscriber's track is plain */
+    ZOFTEMAR_NO_MEMORY = 48,
+
+    /* What these functions find themselves, before the room is asked: nothing changes. */
+    ZOFTEMAR_NO_ROOM = 64,          /* the handle is one of no room */
+    ZOFTEMAR_HAS_ROOM = 65,         /* zoftemar_open: there is one already */
+    ZOFTEMAR_NO_SPACE = 66,         /* `out` has fewer places than ZOFTEMAR_PACKET_ROOM or ZOFTEMAR_NAMES_ROOM */
+    ZOFTEMAR_TOO_LONG = 67          /* a packet of more than ZOFTEMAR_PACKET_ROOM bytes */
+};
+
+/* The places that a buffer has at least, for bytes and for sequence numbers. */
+#define ZOFTEMAR_PACKET_ROOM 2048
+#define ZOFTEMAR_NAMES_ROOM 1024
+
+/* Opens a room: ZOFTEMAR_DONE, ZOFTEMAR_HAS_ROOM or ZOFTEMAR_NO_MEMORY. */
+uint32_t zoftemar_open(zoftemar_room *room);
+
+/* Gives the room up, with all its tracks and subscribers. Without a room it does nothing. */
+void zoftemar_close(zoftemar_room *room);
+
+/* Begins a track whose packets have this SSRC; a gap in their numbers is waited for `hold` milliseconds. A layered track's packets are AV1,
+ * with a dependency descriptor in the header extension element `id`, 1 to 14 or 16 to 255. */
+zoftemar_reply zoftemar_publish_plain(zoftemar_room *room, uint32_t seat, uint32_t track, uint32_t ssrc, uint32_t hold);
+zoftemar_reply zoftemar_publish_layered(zoftemar_room *room, uint32_t seat, uint32_t track, uint8_t id, uint32_t ssrc, uint32_t hold);
+
+/* Ends a track. Its subscribers stay, and may take what waits for them. */
+zoftemar_reply zoftemar_unpublish(zoftemar_room *room, uint32_t seat, uint32_t track);
+
+/* Brings an RTP packet to its track. */
+zoftemar_reply zoftemar_packet(zoftemar_room *room, uint32_t seat, uint32_t track, uint64_t moment, const uint8_t *bytes, size_t count);
+
+/* Tells a track that it is this moment: gaps that were waited for long enough are given up. Call it some times a second. */
+zoftemar_reply zoftemar_tick(zoftemar_room *room, uint32_t seat, uint32_t track, uint64_t moment);
+
+/* Hands out the sequence numbers that a track waits for (ZOFTEMAR_NAMES), for NACKs to the publisher (RFC 4585, section 6.2.1). `count` is at
+ * least ZOFTEMAR_NAMES_ROOM. */
+zoftemar_reply zoftemar_missing(zoftemar_room *room, uint32_t seat, uint32_t track, uint16_t *out, size_t count);
+
+/* Whether the track's publisher is to be asked for a key frame (ZOFTEMAR_KEY), by a PLI (RFC 4585, section 6.3.1): a plea stands, or a
+ * subscriber of it has no decode target. */
+zoftemar_reply zoftemar_key_wanted(zoftemar_room *room, uint32_t seat, uint32_t track);
+
+/* Begins a subscriber of a track: what goes out to it has this SSRC and sequence numbers from `first` on. It wishes for at most these
+ * layers, spatial 0 to 3 and temporal 0 to 7; zoftemar_aim changes that from the next frame on. A plain track ignores wishes. */
+zoftemar_reply zoftemar_join(zoftemar_room *room, uint32_t seat, uint32_t subscriber, uint32_t track, uint32_t ssrc, uint16_t first,
+                             uint8_t spatial, uint8_t temporal);
+zoftemar_reply zoftemar_aim(zoftemar_room *room, uint32_t seat, uint32_t subscriber, uint8_t spatial, uint8_t temporal);
+zoftemar_reply zoftemar_leave(zoftemar_room *room, uint32_t seat, uint32_t subscriber);
+
+/* Hands out the oldest packet that waits for a subscriber (ZOFTEMAR_PACKET, or ZOFTEMAR_EMPTY), or one again that it took under this
+ * sequence number, for a NACK of the subscriber's (RFC 4585, section 6.2.1). `count` is at least ZOFTEMAR_PACKET_ROOM. */
+zoftemar_reply zoftemar_take(zoftemar_room *room, uint32_t seat, uint32_t subscriber, uint8_t *out, size_t count);
+zoftemar_reply zoftemar_resend(zoftemar_room *room, uint32_t seat, uint32_t subscriber, uint16_t number, uint8_t *out, size_t count);
+
+/* A subscriber asks for a key frame (RFC 4585, section 6.3.1). The plea stands until the next one came whole. */
+zoftemar_reply zoftemar_plead(zoftemar_room *room, uint32_t seat, uint32_t subscriber);
+
+/* Why the frame with this number was or wasn't passed on to the subscriber. */
+zoftemar_reply zoftemar_why(zoftemar_room *room, uint32_t seat, uint32_t subscriber, uint64_t number);
+
+/* The decode target that a subscriber is sent: its index, and its greatest layers at the newest frame, where `known` is true. */
+typedef struct zoftemar_target {
+    uint8_t index;
+    bool known;
+    uint8_t spatial;
+    uint8_t temporal;
+} zoftemar_target;
+
+/* Two questions, which change nothing. The target that the subscriber is sent, if it has one (ZOFTEMAR_TARGET); and whether that is the best
+ * that its wish allows (ZOFTEMAR_REACHED), as of the newest frame. Who finds that a wish isn't reached pleads: most encoders let a subscriber
+ * up at a key frame alone, and make none unasked. A subscriber of a plain track has no target. */
+zoftemar_reply zoftemar_target_of(zoftemar_room *room, uint32_t subscriber, zoftemar_target *out);
+zoftemar_reply zoftemar_reaches_wish(zoftemar_room *room, uint32_t subscriber);
+
+#ifdef __cplusplus
+}
+#endif
+#endif
