@@ -22,6 +22,7 @@ if_told (Some b) P all = all b
 no_ending : (n : ℕ) (why : Ending) → (n < 5) ⊎ (n ≡ 6) → n ≡ status_of why → ⊥
 no_ending n ending.Outside other is = omega arith
 no_ending n ending.Complaint other is = omega arith
+no_ending n ending.Obu other is = omega arith
 
 -- the statuses that come where this is due
 abbrev pub IsDue : (List ℕ → Due) → ℕ → Type 0

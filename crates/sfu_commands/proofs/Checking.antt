@@ -29,7 +29,7 @@ use Rattle.sfu_driver.proofs.LineInputs.{due_is_lines, judged_is_lines}
 use Rattle.sfu_script.specs.Reading.{bytes_of}
 use Rattle.sfu_script.specs.Skipped.{is_skipped}
 use Rattle.script_texts.specs.WholeLines.{fault_line}
-use Rattle.sfu_commands.specs.PacketScript.{NumberedPacket, PacketScript, breaks_at, numbered, packets_of, with_packet, with_packet_line}
+use Rattle.sfu_commands.specs.PacketScript.{NumberedPacket, PacketScript, breaks_at, numbered, packets_in, packets_of, with_packet, with_packet_line}
 use Rattle.sfu_commands.specs.Check.{Checks, HasReceived, IsCheckStatus, Reception, bytes_in, check_due, check_end, check_part, checked, complaint_line, counted, due_for_packets, first_end, first_refused, judged_as, ok_line, receives, unless_ended, with_one}
 
 -- ---- what is accepted
@@ -256,16 +256,30 @@ module _ (now new : Seen) (reception : Reception) (number : ℕ) (line packet : 
 
 -- ---- statuses
 
+abbrev why_in : Ending → Option End → Ending
+why_in other None = other
+why_in other (Some end) = end.why
+
+-- nothing that is due for a check is about an OBU
+no_obu : (o : Option Complaint) (refused : ℕ) (fault : Option ℕ) (text : List ℕ) (end : End) → (unless_ended (first_end o refused fault) text).end ≡ Some end → end.why ≡ ending.Obu → ⊥
+no_obu (Some c) refused fault text end e is = let why : ending.Complaint ≡ ending.Obu = ap (why_in ending.Complaint) e ∙ is in cc
+no_obu None refused None text end e is = cc
+no_obu None refused (Some n) text end e is = let why : ending.Outside ≡ ending.Obu = ap (why_in ending.Outside) e ∙ is in cc
+
 pub check_only : (id : ℕ) (left left' w w' : Option (List ℕ)) (g g' f f' status : ℕ) → Checks id (exchange_by left left' w w' g g' f f') status → IsCheckStatus status
 check_only id left left' w w' g g' f f' status checks = by_status checks.only
   where
-    by_why : (why : Ending) → status ≡ status_of why → IsCheckStatus status
-    by_why ending.Outside is = inr (inr (inr (inl is)))
-    by_why ending.Complaint is = inr (inr (inr (inr (inr is))))
+    by_why : (bytes : List ℕ) (end : End) → (check_due id bytes).end ≡ Some end → (why : Ending) → end.why ≡ why → status ≡ status_of why → IsCheckStatus status
+    by_why bytes end e ending.Outside same is = inr (inr (inr (inl is)))
+    by_why bytes end e ending.Complaint same is = inr (inr (inr (inr (inr is))))
+    by_why bytes end e ending.Obu same is =
+        let script = packets_in bytes in
+        absurd (no_obu (complaint_over id (bytes_in script.packets)) (first_refused id script.packets) script.fault
+        (ok_line (packets_over id (bytes_in script.packets)) (frames_over id (bytes_in script.packets))) end e same)
 
     by_status : (status ≡ 0) ⊎ (status ≡ 3) ⊎ (status ≡ 4) ⊎ (status ≡ 6) ⊎ ((bytes : List ℕ) × (end : End) × ((check_due id bytes).end ≡ Some end) × (status ≡ status_of end.why)) → IsCheckStatus status
     by_status (inl is) = inl is
     by_status (inr (inl is)) = inr (inl is)
     by_status (inr (inr (inl is))) = inr (inr (inl is))
     by_status (inr (inr (inr (inl is)))) = inr (inr (inr (inr (inl is))))
-    by_status (inr (inr (inr (inr x)))) = by_why (x.1).why x.3
+    by_status (inr (inr (inr (inr x)))) = by_why x.0 x.1 x.2 (x.1).why refl x.3

@@ -5,7 +5,9 @@ pub mod Converting
 pub mod ConvertLaws
 pub mod Histories
 pub mod Checking
-pub mod CheckWords
+pub mod Recording
+pub mod RecordedLaws
+pub mod IdWords
 pub mod Starving
 pub mod Viewers
 pub mod Staging

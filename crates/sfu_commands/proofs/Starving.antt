@@ -15,6 +15,7 @@ if_some (Some x) P all = all x
 no_ending : (why : Ending) → 6 ≡ status_of why → ⊥
 no_ending ending.Outside e = absurd cc
 no_ending ending.Complaint e = absurd cc
+no_ending ending.Obu e = absurd cc
 
 completes : (end : Option End) → Completes end 6
 completes None = inr refl

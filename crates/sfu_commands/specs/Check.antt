@@ -1,6 +1,6 @@
 -- The command `check ID`: each line of the source is a packet, and a strict receiver that knows the id of the descriptors' header extension
 -- judges the packets. Own rule. The code feeds them to a receiver one after another, and keeps none.
-use Rattle.std.specs.Prelude.{◌≡◌, ◌⊎◌, ◌≤◌, ℕ, if◌then◌else◌, min, List, [], ◌∷◌, ◌++◌, map, Option, Some, None, codes, decimal, slice_index}
+use Rattle.std.specs.Prelude.{◌≡◌, ◌⊎◌, ℕ, if◌then◌else◌, min, List, [], ◌∷◌, ◌++◌, map, Option, Some, None, codes, decimal, slice_index}
 use Rattle.forwarding_model.specs.declared.complaint.Complaint.{Complaint}
 use Rattle.strict_receiver.specs.Receivers.{Seen, StandsFor, complaint_over, frames_over, greatest_count, packets_over}
 use Rattle.sfu_driver.specs.Exchange.{Exchange}
@@ -13,10 +13,10 @@ use Rattle.sfu_script.specs.Reading.{bytes_of}
 use Rattle.sfu_script.specs.Skipped.{is_skipped}
 use Rattle.sfu_commands.specs.PacketScript.{NumberedPacket, PacketScript, packets_in, packets_so_far}
 use Rattle.script_texts.specs.WholeLines.{fault_line}
+use Rattle.sfu_commands.specs.IdWords.{IsWithId}
 
--- the id is 1 to 255, in decimal digits without a leading zero
 abbrev pub IsCheck : List (List ℕ) → ℕ → Type 0
-IsCheck words id = (1 ≤ id) × (id ≤ 255) × (words ≡ codes "check" ∷ decimal id ∷ [])
+IsCheck words id = IsWithId (codes "check") words id
 
 -- ---- texts
 

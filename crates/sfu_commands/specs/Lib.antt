@@ -3,7 +3,10 @@ pub mod Script
 pub mod Run
 pub mod Convert
 pub mod PacketScript
+pub mod IdWords
 pub mod Check
+pub mod Record
+pub mod Recorded
 pub mod Promise
 pub mod Help
 pub mod Trial

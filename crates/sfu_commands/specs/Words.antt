@@ -1,10 +1,11 @@
 -- The words after the program's name, and which command they are. Own rule.
 use Rattle.std.specs.Prelude.{◌≡◌, ◌⊎◌, ℕ, List, [], ◌∷◌, Option, Some, None}
 use Rattle.sfu_commands.specs.declared.words.Command.{Command}
-use Rattle.sfu_commands.specs.declared.words.Command.TheVariants.{Run, Convert, Help, Check, Trial}
+use Rattle.sfu_commands.specs.declared.words.Command.TheVariants.{Run, Convert, Help, Check, Record, Trial}
 use Rattle.sfu_commands.specs.Run.{IsRun}
 use Rattle.sfu_commands.specs.Convert.{IsConvert}
 use Rattle.sfu_commands.specs.Check.{IsCheck}
+use Rattle.sfu_commands.specs.Record.{IsRecord}
 use Rattle.sfu_commands.specs.Help.{IsHelp}
 use Rattle.sfu_commands.specs.Trial.{IsTrial}
 
@@ -14,6 +15,7 @@ Says words Run = IsRun words
 Says words Convert = IsConvert words
 Says words Help = IsHelp words
 Says words (Check id) = IsCheck words id
+Says words (Record id) = IsRecord words id
 Says words (Trial frames start loss) = IsTrial words (record { frames = frames; start = start; loss = loss })
 
 -- the words are one of the commands
@@ -28,3 +30,7 @@ Reads words None = ¬ (IsForm words)
 -- which command a single word is
 abbrev pub ReadsWord : List ℕ → Option Command → Type 0
 ReadsWord word command = Reads (word ∷ []) command
+
+-- which command two words are
+abbrev pub ReadsTwo : List ℕ → List ℕ → Option Command → Type 0
+ReadsTwo word id command = Reads (word ∷ id ∷ []) command

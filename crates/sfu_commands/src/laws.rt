@@ -1,9 +1,10 @@
-// What is true of every converted script, and of every packet of a trial. The functions have no effect: their contracts are the laws.
+// What is true of every converted script, of every packet of a trial, and of what is recorded of a subscriber's takes. The functions have no effect: their contracts are the laws.
 ghost use Rattle.std.specs.Prelude.{◌≡◌, List, None, Some, ℕ};
 ghost use Rattle.stream_maker.specs.declared.place.Place.{Place};
 ghost use Rattle.stream_maker.specs.Bytes.{packet_bytes};
 ghost use Rattle.sfu_commands.specs.Convert.{convert_due, silent_end};
 ghost use Rattle.sfu_commands.specs.MadePackets.{SaysPlace};
+ghost use Rattle.sfu_commands.specs.Recorded.{TakenPacketsArentComplainedOf};
 ghost use Rattle.sfu_commands.specs.Records.{header};
 ghost use Rattle.sfu_commands.specs.Run.{run_due};
 ghost use Rattle.sfu_commands.specs.Script.{form_of, script_in, script_of, stops_at};
@@ -22,4 +23,10 @@ pub fn converted_scripts_run_alike()
 /// (RFC 8285; RTP Payload Format For AV1 v1.0, Appendix A).
 pub fn made_packets_say_their_places()
     ensures { (p : Place) → SaysPlace p (packet_bytes p) }
+{}
+
+/// What goes out to a subscriber of a layered track, and so what its takes gave, is recorded without a complaint by a recorder that knows the
+/// track's extension id.
+pub fn taken_packets_arent_complained_of()
+    ensures complaint { TakenPacketsArentComplainedOf }
 {}

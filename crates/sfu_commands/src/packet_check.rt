@@ -21,8 +21,8 @@ pub struct PacketJudge {
     pub packet: PacketBuf,
 }
 
-// Puts the line of a complaint behind the texts that are ready. After `NoMemory` all is as before.
-fn add_complaint(number: u32, complaint: &Complaint, ready: &mut Blob) -> Result<(), NoMemory>
+/// Puts the line of a complaint behind the texts that are ready. After `NoMemory` all is as before.
+pub fn add_complaint(number: u32, complaint: &Complaint, ready: &mut Blob) -> Result<(), NoMemory>
     ensures ok { OnOk result (ready.new ≡ ready.old ++ complaint_line number complaint.now) }
     ensures err { OnErr result (ready.new ≡ ready.old) }
 {

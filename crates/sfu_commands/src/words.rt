@@ -1,9 +1,9 @@
 // The words after the program's name.
 ghost use Rattle.std.specs.Prelude.{map};
 ghost use Rattle.std.specs.String.{string_bytes};
-ghost use Rattle.sfu_commands.specs.Words.{Reads, ReadsWord};
+ghost use Rattle.sfu_commands.specs.Words.{Reads, ReadsTwo, ReadsWord};
 
-use crate::check_words::read_check;
+use crate::id_words::read_id;
 use crate::stream_trial::read_trial;
 
 /// A command that waits for nobody.
@@ -17,6 +17,8 @@ pub enum Command {
     Convert,
     /// Judges packets as a strict receiver with this id of the descriptors' header extension does.
     Check(u8),
+    /// Records packets as a recorder with this id of the descriptors' header extension does.
+    Record(u8),
     /// Writes what strict receivers find in what three subscribers take of a stream: so many frames, made from the number `start`, of which
     /// `loss` packets of a hundred are lost.
     Trial { frames: u32, start: u64, loss: u8 },
@@ -34,13 +36,23 @@ fn read_word(word: &str) -> Option<Command>
     }
 }
 
+// The command of two words.
+fn read_two(word: &str, id: &str) -> Option<Command>
+    ensures { ReadsTwo word.now id.now result }
+{
+    if let Some(id) = read_id("check", word, id) {
+        return Some(Command::Check(id));
+    }
+    read_id("record", word, id).map(Command::Record)
+}
+
 /// The command that the words are; `None` exactly when they are none.
 pub fn read_words(words: &[String]) -> Option<Command>
     ensures { Reads (map string_bytes words.now) result }
 {
     match words {
         [word] => read_word(word.as_str()),
-        [word, id] => read_check(word.as_str(), id.as_str()).map(Command::Check),
+        [word, id] => read_two(word.as_str(), id.as_str()),
         [name, frames, start, loss] => read_trial(
             name.as_str(),
             frames.as_str(),

@@ -45,6 +45,7 @@ completes_six (Some end) = inr refl
 pub no_status : (n : ℕ) (why : Ending) → (n < 5) ⊎ (n ≡ 6) → n ≡ status_of why → ⊥
 no_status n ending.Outside other is = omega arith
 no_status n ending.Complaint other is = omega arith
+no_status n ending.Obu other is = omega arith
 
 status_above : (why : Ending) (n : ℕ) → status_of why ≡ n → (n < 5) ⊎ (n ≡ 6) → ⊥
 status_above why n is other = no_status n why other (sym is)
@@ -54,6 +55,11 @@ same_why ending.Outside ending.Outside is = refl
 same_why ending.Outside ending.Complaint is = absurd (omega arith)
 same_why ending.Complaint ending.Outside is = absurd (omega arith)
 same_why ending.Complaint ending.Complaint is = refl
+same_why ending.Outside ending.Obu is = absurd (omega arith)
+same_why ending.Complaint ending.Obu is = absurd (omega arith)
+same_why ending.Obu ending.Outside is = absurd (omega arith)
+same_why ending.Obu ending.Complaint is = absurd (omega arith)
+same_why ending.Obu ending.Obu is = refl
 
 -- a count that rose in a later call rose in both together
 pub cause_since : (g0 g g' f f' : ℕ) (result : Result (Unit {0}) Interruption) → g0 ≤ g → CauseOf g g' f f' result → CauseOf g0 g' f f' result

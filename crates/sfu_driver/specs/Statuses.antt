@@ -44,6 +44,7 @@ full_text due = due.text ++ last_text due.end
 abbrev pub status_of : Ending → ℕ
 status_of ending.Outside = 5
 status_of ending.Complaint = 8
+status_of ending.Obu = 10
 
 -- the status of a command
 abbrev pub status_for : Result (Unit {0}) Interruption → ℕ
@@ -92,7 +93,7 @@ pub record Statuses (whole part : List ℕ → Due) (left left' written written'
   -- 4: the sink failed; what was written is a part of what is due before the last text of an ending, and not all of it
   pub sink : status ≡ 4 → Rose writes writes'
   pub unwritten : status ≡ 4 → IfSome left (λ bytes. WritesPart written written' (whole bytes).text)
-  -- 5 and 8: the input ended the command; all that is due before was written, and then the last text, or a front of it where the sink failed
+  -- 5, 8 and 10: the input ended the command; all that is due before was written, and then the last text, or a front of it where the sink failed
   pub ended : (why : Ending) → status ≡ status_of why → IfSome left (λ bytes. (last : List ℕ) × ((whole bytes).end ≡ Some (end_by why last))
       × WritesEnd written written' writes writes' (whole bytes).text last)
   -- and that stands in the bytes that were taken, whatever follows them, or in the input's end

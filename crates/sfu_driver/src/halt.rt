@@ -11,6 +11,8 @@ pub enum Ending {
     Outside,
     /// The strict receiver complains.
     Complaint,
+    /// A packet ends a frame one of whose elements isn't an OBU.
+    Obu,
 }
 
 /// Why a unit lets a command end.

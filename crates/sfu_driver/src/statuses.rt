@@ -19,7 +19,8 @@ pub enum Status {
     NoMemory,
     /// A port failed: 7.
     PortFault,
-    /// What the input says ended the command: 5 where a unit is outside the grammar, 8 where the strict receiver complains.
+    /// What the input says ended the command: 5 where a unit is outside the grammar, 8 where the strict receiver complains, 10 where an element
+    /// of a frame isn't an OBU.
     Ended(Ending),
 }
 
@@ -50,6 +51,7 @@ impl Status {
             Status::NoMemory => 6,
             Status::PortFault => 7,
             Status::Ended(Ending::Complaint) => 8,
+            Status::Ended(Ending::Obu) => 10,
         }
     }
 }

@@ -1,9 +1,10 @@
 -- The words of `serve` are no other command.
 use Rattle.std.proofs.Common.{◌≡◌, ◌⊎◌, inl, inr, ℕ, List, [], ◌∷◌, length, ap, sym, ◌∙◌, ◌<◌, arith}
 use Rattle.sfu_commands.specs.declared.words.Command.{Command}
-use Rattle.sfu_commands.specs.declared.words.Command.TheVariants.{Run, Convert, Help, Check, Trial}
+use Rattle.sfu_commands.specs.declared.words.Command.TheVariants.{Run, Convert, Help, Check, Record, Trial}
 use Rattle.sfu_commands.specs.Run.{IsRun}
 use Rattle.sfu_commands.specs.Check.{IsCheck}
+use Rattle.sfu_commands.specs.Record.{IsRecord}
 use Rattle.sfu_commands.specs.Convert.{IsConvert}
 use Rattle.sfu_commands.specs.Help.{IsHelp}
 use Rattle.sfu_commands.specs.Trial.{IsTrial}
@@ -38,6 +39,9 @@ not_together words s r = clash 1 2 (ap length (sym r ∙ s.1.words_are)) (omega 
 pub not_check : (words : List (List ℕ)) (id : ℕ) → IsServing words → IsCheck words id → ⊥
 not_check words id s r = clash 99 115 (ap first_code (sym r.2 ∙ s.1.words_are)) (omega arith)
 
+pub not_record : (words : List (List ℕ)) (id : ℕ) → IsServing words → IsRecord words id → ⊥
+not_record words id s r = clash 114 115 (ap first_code (sym r.2 ∙ s.1.words_are)) (omega arith)
+
 pub not_trial : (words : List (List ℕ)) (t : Stream) → IsServing words → IsTrial words t → ⊥
 not_trial words t s r = clash 2 4 (ap length (sym s.1.words_are ∙ r.words_are)) (omega arith)
 
@@ -46,6 +50,7 @@ not_said words Run s is = not_run words s is
 not_said words Convert s is = not_convert words s is
 not_said words Help s is = not_help words s is
 not_said words (Check id) s is = not_check words id s is
+not_said words (Record id) s is = not_record words id s is
 not_said words (Trial frames start loss) s is = not_trial words _ s is
 
 pub not_form : (words : List (List ℕ)) → IsServing words → IsForm words → ⊥

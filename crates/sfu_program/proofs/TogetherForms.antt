@@ -1,9 +1,10 @@
 -- The words `together` are no other command.
 use Rattle.std.proofs.Common.{◌≡◌, ◌⊎◌, inl, inr, ℕ, List, [], ◌∷◌, length, ap, sym, ◌∙◌, ◌<◌, arith}
 use Rattle.sfu_commands.specs.declared.words.Command.{Command}
-use Rattle.sfu_commands.specs.declared.words.Command.TheVariants.{Run, Convert, Help, Check, Trial}
+use Rattle.sfu_commands.specs.declared.words.Command.TheVariants.{Run, Convert, Help, Check, Record, Trial}
 use Rattle.sfu_commands.specs.Run.{IsRun}
 use Rattle.sfu_commands.specs.Check.{IsCheck}
+use Rattle.sfu_commands.specs.Record.{IsRecord}
 use Rattle.sfu_commands.specs.Convert.{IsConvert}
 use Rattle.sfu_commands.specs.Help.{IsHelp}
 use Rattle.sfu_commands.specs.Trial.{IsTrial}
@@ -31,11 +32,15 @@ not_convert words t r = clash 7 8 (ap first_length (sym r ∙ t)) (omega arith)
 pub not_check : (words : List (List ℕ)) (id : ℕ) → IsTogether words → IsCheck words id → ⊥
 not_check words id t r = clash 1 2 (ap length (sym t ∙ r.2)) (omega arith)
 
+pub not_record : (words : List (List ℕ)) (id : ℕ) → IsTogether words → IsRecord words id → ⊥
+not_record words id t r = clash 1 2 (ap length (sym t ∙ r.2)) (omega arith)
+
 not_said : (words : List (List ℕ)) (command : Command) → IsTogether words → Says words command → ⊥
 not_said words Run t is = not_run words t is
 not_said words Convert t is = not_convert words t is
 not_said words Help t is = not_help words t is
 not_said words (Check id) t is = not_check words id t is
+not_said words (Record id) t is = not_record words id t is
 not_said words (Trial frames start loss) t is = clash 1 4 (ap length (sym t ∙ is.words_are)) (omega arith)
 
 pub not_form : (words : List (List ℕ)) → IsTogether words → IsForm words → ⊥

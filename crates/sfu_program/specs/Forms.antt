@@ -14,7 +14,7 @@ IsCommand words = IsForm words ⊎ IsTogether words ⊎ IsServing words
 
 -- the statuses of the commands that wait for nobody
 abbrev pub IsStatus : ℕ → Type 0
-IsStatus status = (status ≡ 0) ⊎ (status ≡ 2) ⊎ (status ≡ 3) ⊎ (status ≡ 4) ⊎ (status ≡ 5) ⊎ (status ≡ 6) ⊎ (status ≡ 8)
+IsStatus status = (status ≡ 0) ⊎ (status ≡ 2) ⊎ (status ≡ 3) ⊎ (status ≡ 4) ⊎ (status ≡ 5) ⊎ (status ≡ 6) ⊎ (status ≡ 8) ⊎ (status ≡ 10)
 
 -- the statuses of the program: 7 is that of ports alone
 abbrev pub IsEnd : ℕ → Type 0

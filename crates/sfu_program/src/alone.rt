@@ -6,6 +6,7 @@ ghost use Rattle.sfu_commands.specs.Convert.{Converts, IsConvert};
 ghost use Rattle.stream_maker.specs.Stream.{Stream};
 ghost use Rattle.sfu_commands.specs.Help.{Helps, IsHelp, Refuses};
 ghost use Rattle.sfu_commands.specs.Promise.{AreServed};
+ghost use Rattle.sfu_commands.specs.Record.{IsRecord, Records};
 ghost use Rattle.sfu_commands.specs.Run.{IsRun, Runs};
 ghost use Rattle.sfu_commands.specs.Trial.{IsTrial, Tries};
 ghost use Rattle.sfu_commands.specs.Words.{IsForm};
@@ -13,15 +14,17 @@ ghost use Rattle.sfu_program.specs.Forms.{IsStatus};
 ghost use Rattle.sfu_driver.specs.Exchange.{exchange_of};
 
 use sfu_base::{Sink, Source};
-use sfu_commands::{Command, check, convert, help, read_words, refuse, run, trial};
+use sfu_commands::{Command, check, convert, help, read_words, record, refuse, run, trial};
 use std::alloc::Global;
 
 /// Does what the words say where the command waits for nobody, and answers the program's status. It always returns.
 ///
 /// Status 0: the source was read to its end, where the command reads it, and all that is due was written. 2: the words are no command;
 /// nothing was read, and the usage line was written. 3 and 4: the source or the sink failed. 5: a line is outside the grammar; what is due
-/// before it and `line N` were written, or `record N` in a script of records; `convert` doesn't write which it is. 6: want of memory. 8: the strict receiver of `check` complains; `line N` and the complaint were
-/// written. The first that is met ends the call; 2, 5 and 8 stay where the sink fails in their own text.
+/// before it and `line N` were written, or `record N` in a script of records; `convert` doesn't write which it is. 6: want of memory. 8: the
+/// strict receiver of `check` or `record` complains; `line N` and the complaint were written. 10: in `record` a packet ends a frame one of whose
+/// elements isn't an OBU; `line N obu` was written. The first that is met ends the call; 2, 5, 8 and 10 stay where the sink fails in their own
+/// text.
 pub fn sfu_alone<S: Source, K: Sink>(
     alloc: Global,
     words: &[String],
@@ -33,6 +36,8 @@ pub fn sfu_alone<S: Source, K: Sink>(
     ensures headline { IsRun (map string_bytes words.now) → AreServed (S.left source.old) }
     ensures check { (id : ℕ) → IsCheck (map string_bytes words.now) id
         → Checks id (exchange_of S.left S.faults K.written K.faults source.old source.new sink.old sink.new) result }
+    ensures record { (id : ℕ) → IsRecord (map string_bytes words.now) id
+        → Records id (exchange_of S.left S.faults K.written K.faults source.old source.new sink.old sink.new) result }
     ensures convert { IsConvert (map string_bytes words.now)
         → Converts (exchange_of S.left S.faults K.written K.faults source.old source.new sink.old sink.new) result }
     ensures help { IsHelp (map string_bytes words.now) → Helps source.old source.new (K.written sink.old) (K.written sink.new) (K.faults sink.old) (K.faults sink.new) result }
@@ -48,6 +53,7 @@ pub fn sfu_alone<S: Source, K: Sink>(
         Some(Command::Convert) => convert(alloc, source, sink).number(),
         Some(Command::Help) => help(sink).number(),
         Some(Command::Check(id)) => check(alloc, id, source, sink).number(),
+        Some(Command::Record(id)) => record(alloc, id, source, sink).number(),
         Some(
             Command::Trial {
                 frames,

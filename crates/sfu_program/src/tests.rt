@@ -2,6 +2,7 @@
 mod check;
 mod gate;
 mod meeting;
+mod record;
 mod records;
 mod run;
 mod serve;

@@ -5,31 +5,37 @@ use sfu_base::{MemSink, MemSource, Source};
 use std::alloc::{AllocError, Global};
 use std::test::Fail;
 
-// The two packets that go out for the layered track of `run.rt`: a key frame of one packet, and a frame that refers to it.
-const KEY: &str = "90e0ffff0000000022222222bede000348c00001c0003a4101400000183000\n";
+/// The two packets that go out for the layered track of `run.rt`: a key frame of one packet, and a frame that refers to it.
+pub const KEY: &str = "90e0ffff0000000022222222bede000348c00001c0003a4101400000183000\n";
 
-const NEXT: &str = "90e000000000000022222222bede000142c10002103000\n";
+pub const NEXT: &str = "90e000000000000022222222bede000142c10002103000\n";
 
-// The first packet of a frame that isn't finished.
-const BEGUN: &str = "906000000000000011111111bede00034880000180003a4101000000183000\n";
+/// The first packet of a frame that isn't finished.
+pub const BEGUN: &str = "906000000000000011111111bede00034880000180003a4101000000183000\n";
 
-// The status of `check` with this id, and what was written.
-fn check(alloc: Global, id: &str, script: &str) -> Result<(u8, Vec<u8>), AllocError> {
-    let words = words(alloc, &["check", id])?;
+/// The status of this command with this id, and what was written.
+pub fn command(
+    alloc: Global,
+    name: &str,
+    id: &str,
+    script: &str,
+) -> Result<(u8, Vec<u8>), AllocError> {
+    let words = words(alloc, &[name, id])?;
     let mut source = MemSource::new(script.as_bytes().to_vec(alloc)?, Vec::new(alloc));
     let mut sink = MemSink::new(alloc, Vec::new(alloc));
     let status = sfu_alone(alloc, words.as_slice(), &mut source, &mut sink);
     Ok((status, sink.written().to_vec(alloc)?))
 }
 
-// The same of a script that comes byte by byte, where these reads and writes fail; and whether the next read fails.
-fn check_bytes(
+/// The same with id 4 of a script that comes byte by byte, where these reads and writes fail; and whether the next read fails.
+pub fn command_by_bytes(
     alloc: Global,
+    name: &str,
     script: &str,
     read_fails: &[u64],
     write_fails: &[u64],
 ) -> Result<(u8, Vec<u8>, bool), AllocError> {
-    let words = words(alloc, &["check", "4"])?;
+    let words = words(alloc, &[name, "4"])?;
     let inner = MemSource::new(script.as_bytes().to_vec(alloc)?, read_fails.to_vec(alloc)?);
     let mut source = ByteSource { inner };
     let mut sink = MemSink::new(alloc, write_fails.to_vec(alloc)?);
@@ -101,7 +107,7 @@ fn packets_are_counted_or_complained_of(rt: HostRuntime) -> Result<(), Fail> {
         for line in lines {
             script.push_str(line)?;
         }
-        let (got, written) = check(alloc, "4", script.as_str())?;
+        let (got, written) = command(alloc, "check", "4", script.as_str())?;
         assert_eq!(rt; got, status, "{script}");
         assert_eq!(rt; written.as_slice(), text.as_bytes(), "{script}");
     }
@@ -120,7 +126,7 @@ fn the_id_is_that_of_the_words(rt: HostRuntime) -> Result<(), Fail> {
         ("255", last, 0, "ok 1 packets 1 frames\n"),
         ("254", last, 8, "line 1 unread\n"),
     ] {
-        let (got, written) = check(alloc, id, script)?;
+        let (got, written) = command(alloc, "check", id, script)?;
         assert_eq!(rt; got, status, "{id}");
         assert_eq!(rt; written.as_slice(), text.as_bytes(), "{id}");
     }
@@ -143,7 +149,7 @@ fn each_fault_of_the_outside_ends_the_check(rt: HostRuntime) -> Result<(), Fail>
     ] {
         // The n-th read fails: nothing was written before.
         for n in 0..=reads {
-            let (got, written, unread) = check_bytes(alloc, script, &[n], &[])?;
+            let (got, written, unread) = command_by_bytes(alloc, "check", script, &[n], &[])?;
             let (wanted, all) = if n < reads { (3, "") } else { (status, text) };
             assert_eq!(rt; got, wanted, "read {n} of {script}");
             assert_eq!(rt; written.as_slice(), all.as_bytes(), "read {n} of {script}");
@@ -151,7 +157,7 @@ fn each_fault_of_the_outside_ends_the_check(rt: HostRuntime) -> Result<(), Fail>
         }
         // The n-th write fails: there is one.
         for (n, wanted, all) in [(0, unwritten, ""), (1, status, text)] {
-            let (got, written, _) = check_bytes(alloc, script, &[], &[n])?;
+            let (got, written, _) = command_by_bytes(alloc, "check", script, &[], &[n])?;
             assert_eq!(rt; got, wanted, "write {n} of {script}");
             assert_eq!(rt; written.as_slice(), all.as_bytes(), "write {n} of {script}");
         }

@@ -12,7 +12,7 @@ const FIRST_REPLIES: &str = "ok\nok\nempty\nok\n";
 // The texts of `FIRST`, one for each line, and the last text where its next line is outside the grammar.
 const TEXTS: [&str; 5] = ["ok\n", "ok\n", "empty\n", "ok\n", "line 5\n"];
 
-const USAGE: &str = "usage: run, together, trial, check, serve, convert, help\n";
+const USAGE: &str = "usage: run, together, trial, check, record, serve, convert, help\n";
 
 /// Gives a script byte by byte.
 #[derive(Drop)]
@@ -215,6 +215,11 @@ fn other_words_get_the_usage_line(rt: HostRuntime) -> Result<(), Fail> {
         &["check", "4", "4"],
         &["4", "check"],
         &["Check", "4"],
+        &["record"],
+        &["record", "0"],
+        &["record", "256"],
+        &["record", "04"],
+        &["record", "4", "4"],
         &["trial", "0", "7", "0"],
         &["help", "run"],
         &["Run"],

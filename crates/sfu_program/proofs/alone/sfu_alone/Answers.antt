@@ -1,14 +1,16 @@
 use Rattle.std.proofs.Common.{ℕ, map, refl, subst}
+use Rattle.std.specs.Prelude.{codes}
 use Rattle.std.specs.String.{string_bytes}
 use Rattle.sfu_driver.specs.Statuses.{number_of}
 use Rattle.sfu_driver.specs.Exchange.{exchange_by}
 use Rattle.stream_maker.specs.Stream.{Stream}
 use Rattle.sfu_commands.specs.declared.words.Command.{Command}
-use Rattle.sfu_commands.specs.declared.words.Command.TheVariants.{Check, Trial}
+use Rattle.sfu_commands.specs.declared.words.Command.TheVariants.{Check, Record, Trial}
 use Rattle.sfu_commands.specs.Check.{Checks, IsCheck}
+use Rattle.sfu_commands.specs.Record.{IsRecord, Records}
 use Rattle.sfu_commands.specs.Trial.{ShowsTrial}
 use Rattle.sfu_commands.specs.Words.{Says}
-use Rattle.sfu_commands.proofs.CheckWords.{one_id}
+use Rattle.sfu_commands.proofs.IdWords.{one_id}
 use Rattle.sfu_commands.proofs.TrialNumbers.{same_trial}
 use Rattle.sfu_program.proofs.alone.sfu_alone.Goals as goal
 
@@ -18,7 +20,7 @@ returns-in-Some-Check-clause-check g c = λ id is.
     rw c.number-in-Some-Check.ensures (subst
     (λ (id : ℕ). Checks id (exchange_by (g.S.Source.left c.args.source.now) (g.S.Source.left c.check.new.source) (g.K.Sink.written c.args.sink.now) (g.K.Sink.written c.check.new.sink) (g.S.Source.faults c.args.source.now) (g.S.Source.faults c.check.new.source)
     (g.K.Sink.faults c.args.sink.now) (g.K.Sink.faults c.check.new.sink)) (number_of c.check.result))
-    (one_id (map string_bytes c.args.words.now) c.in-Some-Check.id id read is) c.check.ensures.checks)
+    (one_id (codes "check") (map string_bytes c.args.words.now) c.in-Some-Check.id id read is) c.check.ensures.checks)
 
 pub returns-in-None-clause-check : goal.returns-in-None-clause-check
 returns-in-None-clause-check g c = λ id is. absurd (c.in-None.ensures (Check id, is))
@@ -35,3 +37,14 @@ returns-in-Some-Trial-clause-trial g c s is = record {
 
 pub returns-in-None-clause-trial : goal.returns-in-None-clause-trial
 returns-in-None-clause-trial g c s is = absurd (c.in-None.ensures (Trial s.frames s.start s.loss, is))
+
+pub returns-in-Some-Record-clause-record : goal.returns-in-Some-Record-clause-record
+returns-in-Some-Record-clause-record g c = λ id is.
+    let read : IsRecord (map string_bytes c.args.words.now) c.in-Some-Record.id = subst (λ (command : Command). Says (map string_bytes c.args.words.now) command) c.in-Some-Record.field-0-is c.in-Some-Record.ensures in
+    rw c.number-in-Some-Record.ensures (subst
+    (λ (id : ℕ). Records id (exchange_by (g.S.Source.left c.args.source.now) (g.S.Source.left c.record.new.source) (g.K.Sink.written c.args.sink.now) (g.K.Sink.written c.record.new.sink) (g.S.Source.faults c.args.source.now) (g.S.Source.faults c.record.new.source)
+    (g.K.Sink.faults c.args.sink.now) (g.K.Sink.faults c.record.new.sink)) (number_of c.record.result))
+    (one_id (codes "record") (map string_bytes c.args.words.now) c.in-Some-Record.id id read is) c.record.ensures.records)
+
+pub returns-in-None-clause-record : goal.returns-in-None-clause-record
+returns-in-None-clause-record g c = λ id is. absurd (c.in-None.ensures (Record id, is))

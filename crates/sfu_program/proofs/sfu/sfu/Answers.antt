@@ -4,7 +4,7 @@ use Rattle.sfu_driver.specs.Exchange.{exchange_by}
 use Rattle.sfu_program.specs.Serve.{Serves}
 use Rattle.sfu_program.specs.ServePorts.{seen_ports}
 use Rattle.std.proofs.lemmas.Bool.{false≢true}
-use Rattle.sfu_program.proofs.TogetherForms.{is_status, not_check, not_convert, not_help, not_run, not_trial, not_two}
+use Rattle.sfu_program.proofs.TogetherForms.{is_status, not_check, not_convert, not_help, not_record, not_run, not_trial, not_two}
 use Rattle.sfu_program.proofs.ServeForms as serve
 use Rattle.sfu_program.proofs.sfu.sfu.Goals as goal
 
@@ -16,6 +16,9 @@ returns-then-are_together-clause-headline g c = λ is. absurd (not_run _ (c.if-a
 
 pub returns-then-are_together-clause-check : goal.returns-then-are_together-clause-check
 returns-then-are_together-clause-check g c = λ id is. absurd (not_check _ id (c.if-are_together.ensures.0 refl) is)
+
+pub returns-then-are_together-clause-record : goal.returns-then-are_together-clause-record
+returns-then-are_together-clause-record g c = λ id is. absurd (not_record _ id (c.if-are_together.ensures.0 refl) is)
 
 pub returns-then-are_together-clause-convert : goal.returns-then-are_together-clause-convert
 returns-then-are_together-clause-convert g c = λ is. absurd (not_convert _ (c.if-are_together.ensures.0 refl) is)
@@ -49,6 +52,9 @@ returns-in-Some-clause-headline g c = λ is. absurd (serve.not_run _ (_, c.in-So
 
 pub returns-in-Some-clause-check : goal.returns-in-Some-clause-check
 returns-in-Some-clause-check g c = λ id is. absurd (serve.not_check _ id (_, c.in-Some.ensures) is)
+
+pub returns-in-Some-clause-record : goal.returns-in-Some-clause-record
+returns-in-Some-clause-record g c = λ id is. absurd (serve.not_record _ id (_, c.in-Some.ensures) is)
 
 pub returns-in-Some-clause-convert : goal.returns-in-Some-clause-convert
 returns-in-Some-clause-convert g c = λ is. absurd (serve.not_convert _ (_, c.in-Some.ensures) is)

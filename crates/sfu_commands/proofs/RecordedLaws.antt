@@ -1,0 +1,54 @@
+-- What `record` makes of what a subscriber took.
+use Rattle.std.proofs.Common.{◌≡◌, ℕ, Bool, true, false, List, [], ◌∷◌, ◌++◌, map, Option, Some, None, refl, sym, ap, ◌∙◌, append_assoc}
+use Rattle.forwarding_model.specs.declared.complaint.Complaint.{Complaint}
+use Rattle.forwarding_model.specs.Receiver.{complaint}
+use Rattle.packet_format.specs.Packets.{read_packet}
+use Rattle.strict_receiver.specs.Receivers.{complaint_over}
+use Rattle.room_core.specs.Formats.{format_of}
+use Rattle.ivf_recorder.specs.Frames.{are_sound, fault_by, gathered_over}
+use Rattle.sfu_driver.specs.declared.halt.Ending.{Ending}
+use Rattle.sfu_driver.specs.declared.halt.Ending.TheVariants as ending
+use Rattle.sfu_driver.specs.Drive.{outside_end}
+use Rattle.sfu_driver.specs.Outcome.{End}
+use Rattle.sfu_commands.specs.Check.{bytes_in}
+use Rattle.sfu_commands.specs.PacketScript.{NumberedPacket}
+use Rattle.sfu_commands.specs.Record.{end_from, end_unless}
+use Rattle.sfu_commands.specs.Recorded.{TakenPacketsArentComplainedOf}
+use Rattle.script_texts.specs.WholeLines.{fault_line}
+
+why_in : Ending → Option End → Ending
+why_in other None = other
+why_in other (Some end) = end.why
+
+last_end : (line : Option ℕ) (end : End) → outside_end fault_line line ≡ Some end → end.why ≡ ending.Complaint → ⊥
+unfolding why_in
+last_end None end e is = cc
+last_end (Some n) end e is = let why : ending.Outside ≡ ending.Complaint = ap (why_in ending.Outside) e ∙ is in cc
+
+one_end : (sound : Bool) (o : Option Complaint) (n : ℕ) (rest : Option End) (end : End) → o ≡ None → end_unless (fault_by sound o) n rest ≡ Some end
+    → end.why ≡ ending.Complaint → (rest ≡ Some end → ⊥) → ⊥
+unfolding why_in
+one_end sound (Some c) n rest end none e is more = cc
+one_end true None n rest end none e is more = more e
+one_end false None n rest end none e is more = let why : ending.Obu ≡ ending.Complaint = ap (why_in ending.Obu) e ∙ is in cc
+
+calm_from : (id : ℕ) (came : List (List ℕ)) (packets : List NumberedPacket) (line : Option ℕ)
+    → ((front rest : List (List ℕ)) → front ++ rest ≡ bytes_in packets → complaint_over id (came ++ front) ≡ None)
+    → (end : End) → end_from id came packets (outside_end fault_line line) ≡ Some end → end.why ≡ ending.Complaint → ⊥
+calm_from id came [] line calm end e is = last_end line end e is
+calm_from id came (p ∷ packets) line calm end e is =
+    one_end (are_sound (gathered_over id (came ++ p.bytes ∷ [])).frames) (complaint_over id (came ++ p.bytes ∷ [])) p.number (end_from id (came ++ p.bytes ∷ []) packets (outside_end fault_line line)) end
+    (calm (p.bytes ∷ []) (bytes_in packets) refl) e is
+    (λ rest. calm_from id (came ++ p.bytes ∷ []) packets line
+    (λ front behind same. ap (complaint_over id) (append_assoc came (p.bytes ∷ []) front) ∙ calm (p.bytes ∷ front) behind (ap (λ (x : List (List ℕ)). p.bytes ∷ x) same)) end rest is)
+
+same_complaint : (id : ℕ) (history : List (List ℕ)) → complaint (format_of id) (map read_packet history) ≡ complaint_over id history
+unfolding format_of
+same_complaint id history = refl
+
+pub taken_calm : TakenPacketsArentComplainedOf
+taken_calm past n id j headline is kind sends queued split script said end e why =
+    let receivers = (headline.layered n id j is kind).receivers in
+    calm_from id [] script.packets script.fault
+    (λ front rest same. sym (same_complaint id front)
+    ∙ receivers.fronts front (rest ++ queued) (sym (append_assoc front rest queued) ∙ (ap (λ (x : List (List ℕ)). x ++ queued) (same ∙ said) ∙ split))) end e why
