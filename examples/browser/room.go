@@ -92,6 +92,8 @@ func ask(format string, words ...interface{}) string {
 	if err != nil {
 		return "no answer"
 	}
-	log.Printf("%s: %s", line, answer[:n])
+	if !strings.HasPrefix(line, "why") {
+		log.Printf("%s: %s", line, answer[:n])
+	}
 	return string(answer[:n])
 }
