@@ -7,3 +7,4 @@ pub mod Parts
 pub mod Runs
 pub mod Playing
 pub mod Packets
+pub mod SentPackets

@@ -5,6 +5,7 @@
 
 mod control;
 mod ends;
+mod laws;
 mod playing;
 mod publisher;
 mod rtcp;
@@ -15,6 +16,7 @@ mod subscriber;
 
 pub use control::control_session;
 pub use ends::SessionEnd;
+pub use laws::subscribers_send_what_they_were_given;
 pub use publisher::publisher_session;
 pub use run::{Ended, Job, Role, run_sessions};
 pub use shared_room::SharedRoom;
