@@ -114,7 +114,7 @@ func (p *page) say(format string, words ...interface{}) {
 
 type track struct {
 	number int
-	newest int64          // of its frames, counted on from the first key frame without wrapping, as the room counts; 0 before it
+	newest int64          // of its frames, counted on from the first key frame without wrapping, as the room counts; -1 before it
 	pages  map[*page]bool // the publisher's and the players'
 }
 
@@ -168,11 +168,11 @@ func feedbackFor(ssrc uint32, packets []rtcp.Packet) (kept []rtcp.Packet) {
 func (t *track) tell(word string, descriptor []byte, pages map[*page]bool) {
 	lock.Lock()
 	defer lock.Unlock()
-	if len(descriptor) < 3 || descriptor[0]&0x80 == 0 || t.newest == 0 && (len(descriptor) < 6 || descriptor[3]&0x80 == 0) {
+	if len(descriptor) < 3 || descriptor[0]&0x80 == 0 || t.newest < 0 && (len(descriptor) < 6 || descriptor[3]&0x80 == 0) {
 		return
 	}
 	number := int64(descriptor[1])<<8 | int64(descriptor[2])
-	if t.newest != 0 {
+	if t.newest >= 0 {
 		number = t.newest + int64(int16(number-t.newest))
 	}
 	if number > t.newest {
@@ -189,7 +189,7 @@ func publish(offer string, n, _, _ int) (int, string, error) {
 		return 0, "", fmt.Errorf("all %d ports for publishers were used: start the gateway again", *forPublishers)
 	}
 	p := newPage(true)
-	t := &track{number: n, pages: map[*page]bool{p: true}}
+	t := &track{number: n, newest: -1, pages: map[*page]bool{p: true}}
 	p.pc.OnTrack(func(media *webrtc.TrackRemote, receiver *webrtc.RTPReceiver) { t.bring(p, media, receiver) })
 	sdp, err := p.answer(offer, func() {})
 	return n, sdp, err
@@ -234,7 +234,7 @@ func find(n int) (*track, error) {
 		}
 	}
 	if n > reserved && live[n] == nil {
-		live[n] = &track{number: n, pages: map[*page]bool{}}
+		live[n] = &track{number: n, newest: -1, pages: map[*page]bool{}}
 	}
 	if live[n] == nil {
 		return nil, fmt.Errorf("nobody publishes that now")
@@ -317,7 +317,7 @@ func (p *player) hear(line string) {
 
 // An offer is posted by a page of this server, and its answer comes back with the number of the track and how long lost packets are waited for.
 func takeOffer(w http.ResponseWriter, r *http.Request) {
-	if origin := r.Header.Get("Origin"); r.Method != "POST" || origin != "" && origin != "http://"+r.Host {
+	if origin := r.Header.Get("Origin"); r.Method != "POST" || origin != "" && !strings.HasSuffix(origin, "://"+r.Host) {
 		http.Error(w, "this is for pages of this server", http.StatusForbidden)
 		return
 	}

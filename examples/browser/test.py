@@ -25,7 +25,7 @@ HERE = os.path.dirname(os.path.abspath(__file__))
 ROOM, WEB, PROXY, TOOLS = 21000, 28080, 28081, 29333   # ports: the room's first, the gateway's pages, the same through relays, Chromium's
 MODES = {'L1T1': ('320x180', 15, 300), 'L1T3': ('320x180', 15, 300), 'L2T2': ('480x270', 15, 500), 'L3T3': ('960x540', 10, 900),
          'L3T3_KEY': ('960x540', 10, 900)}              # size, frames a second, kbit/s: three spatial layers need this size
-GAP, SOON = 500, 1000                                   # milliseconds: the longest freeze, and the longest wait for another size
+GAP, SOON, TORN = 500, 1000, 2000                       # milliseconds: the longest freeze, wait for another size, freeze where no NACK mends a loss
 GO = dict(os.environ, GO111MODULE='off', GOPATH='/usr/share/gocode')
 FLAGS = ('--headless=new --no-sandbox --no-first-run --disable-gpu --disable-background-networking --disable-component-update --window-size=1100,1000 '
          '--autoplay-policy=no-user-gesture-required --disable-background-timer-throttling --disable-renderer-backgrounding '
@@ -224,9 +224,10 @@ def longest_gap(shown):
     return max((b[0] - a[0] for a, b in zip(shown, shown[1:])), default=10 ** 6)
 
 
-def lose(share, for_good=False):
+def lose(before, after=0, for_good=False):
+    """Shares of RTP packets that are lost from publishers and to players; a publisher's for good, so that no NACK mends it."""
     for relay in Relay.all:
-        relay.share, relay.for_good = share, for_good and relay.media == 1
+        relay.share, relay.for_good = (before, for_good) if relay.media == 1 else (after, False)
 
 
 def address(mode, port):
@@ -248,7 +249,7 @@ def direct(browser, mode, seconds):
     q.wait('seen.length > 5', 20, 'the first pictures')
     time.sleep(2)
     Measured(p, q, seconds).row(mode, 'direct', '–')
-    lose(0.03)
+    lose(0.03, 0.03)
     Measured(p, q, seconds).row(mode, 'direct', '3 %')
     lose(0)
     browser.shut(p)
@@ -278,7 +279,7 @@ class Run:
 
     def steady(self):
         for share, lost in ((0, '–'), (0.03, '3 % before, 3 % after')):
-            lose(share)
+            lose(share, share)
             measured = Measured(self.p, self.q, self.seconds)
             measured.row(self.mode, 'serve', lost)
             self.smooth(f'lost {lost}', measured.gap)
@@ -286,6 +287,20 @@ class Run:
         low = Measured(self.p, self.low, self.seconds)
         low.row(self.mode, 'serve, wish 0 0', '–')
         self.smooth('wish 0 0', max(low.gap - 400, 0))   # a picture in 400 ms is the whole rate of such a wish
+
+    def for_good(self):
+        """Layers whose base frames are lost begin again at the next key frame, which the page and the gateway ask for."""
+        if self.layers == 1:
+            return []
+        begin = self.q.run('Date.now()')
+        lose(0.02, for_good=True)
+        time.sleep(self.seconds)
+        lose(0)
+        time.sleep(2)
+        shown = pictures(self.q, begin)
+        if longest_gap(shown) > TORN or shown[-1][1] != int(MODES[self.mode][0].split('x')[0]):
+            complain(f'{self.mode}, 2 % lost for good: a freeze of {longest_gap(shown)} ms, and at the end {shown[-1][1]} × {shown[-1][2]}')
+        return [f'2 % lost for good {longest_gap(shown)}']
 
     def late(self):
         q = self.browser.open(f'http://127.0.0.1:{PROXY}/play.html?wait=1')
@@ -347,7 +362,7 @@ class Run:
 
     def all(self):
         self.steady()
-        times = [self.late(), *self.wishes(), self.mute(), *self.resize()]
+        times = [*self.for_good(), self.late(), *self.wishes(), self.mute(), *self.resize()]
         print(f'{self.mode}, milliseconds: {"; ".join(times)}; load {os.getloadavg()[0]:.0f}', flush=True)
         if self.folder:
             self.p.shoot(f'{self.folder}/publish_{self.mode}.png')
