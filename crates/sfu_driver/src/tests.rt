@@ -82,7 +82,7 @@ fn run(
     let mut source = Pieces { inner, most };
     let mut sink = MemSink::new(alloc, write_fails.to_vec(alloc)?);
     let mut units = Units::new(Lines, Echo, 1);
-    let status = answer(alloc, &mut units, &mut source, &mut sink);
+    let status = answer(alloc, &mut units, &mut source, &mut sink).number();
     Ok((status, sink.written().to_vec(alloc)?))
 }
 
