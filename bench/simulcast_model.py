@@ -741,7 +741,8 @@ class Stream:
         others = [(dice.choice([1, 2]), bytes(dice.randrange(1, 4))) for _ in range(dice.choice([0, 0, 0, 1, 2]))]
         found = others + [(name, own)] if dice.random() < .7 else [(name, own)] + others
         two = len(own) > 16 or name > 14 or dice.random() < .1
-        block = b''.join((bytes([n, len(v)]) if two else bytes([n << 4 | len(v) - 1])) + v + bytes(dice.choice([0, 0, 0, 1])) for n, v in found)
+        head = (lambda n, v: bytes([n, len(v)])) if two else (lambda n, v: bytes([n << 4 | len(v) - 1]))
+        block = b''.join(head(n, v) + v + bytes(dice.choice([0, 0, 0, 1])) for n, v in found)
         block += bytes(-len(block) % 4)
         first = 0x90
         body = (b'\x10\x00' if two else b'\xbe\xde') + (len(block) // 4).to_bytes(2, 'big') + block + bytes.fromhex(payload)
@@ -751,13 +752,15 @@ class Stream:
             first, body = 0x80, body[4 + len(block):]
         self.seq += 1
         ssrc = self.ssrc if dice.random() < .99 else self.ssrc ^ 1
-        return (bytes([first, 0x60 | marker << 7]) + (self.seq % 65536).to_bytes(2, 'big') + self.stamp.to_bytes(4, 'big') + ssrc.to_bytes(4, 'big') + body).hex()
+        return (bytes([first, 0x60 | marker << 7]) + (self.seq % 65536).to_bytes(2, 'big') + self.stamp.to_bytes(4, 'big') + ssrc.to_bytes(4,
+            'big') + body).hex()
 
     def frame(self):
         """The packets of a frame, some of them lost, late, repeated or broken."""
         dice = self.dice
         key = not self.begun or dice.random() < .15
-        self.begun, self.number, self.stamp = True, self.number + dice.choice([1, 1, 1, 1, 2]), (self.stamp + dice.choice([3000, 3000, 90])) % 2**32
+        self.begun, self.number = True, self.number + dice.choice([1, 1, 1, 1, 2])
+        self.stamp = (self.stamp + dice.choice([3000, 3000, 90])) % 2**32
         template = 0 if key else dice.choice([1, 1, 2, 3] if self.structure == 2 else [1])
         if key and dice.random() < .2:
             self.structure = dice.randrange(3)
@@ -803,7 +806,8 @@ def lines_of(seed):
         streams.append(Stream(dice, track, ssrc, name))
     for number in range(1, dice.choice([4, 6, 8, 9]) + 1):
         track = dice.choice(streams).track if number > len(streams) else streams[number - 1].track
-        lines.append('join %d %d %08x %d %d %d' % (number, track, 0x22222220 + number, dice.choice([0, 10, 65534]), dice.choice([0, 1, 3]), dice.choice([0, 1, 7])))
+        first, spatial, temporal = dice.choice([0, 10, 65534]), dice.choice([0, 1, 3]), dice.choice([0, 1, 7])
+        lines.append('join %d %d %08x %d %d %d' % (number, track, 0x22222220 + number, first, spatial, temporal))
         subscribers.append(number)
 
     bound = []
@@ -811,7 +815,8 @@ def lines_of(seed):
     def bundle(number):
         count = dice.choice([2, 2, 3])
         unbound = [s for s in subscribers if s not in bound] if dice.random() < .8 else subscribers
-        legs = dice.sample(unbound, count) if dice.random() < .9 and len(unbound) >= count else [dice.choice(subscribers + [99] * (dice.random() < .3)) for _ in range(count)]
+        legs = dice.sample(unbound,
+            count) if dice.random() < .9 and len(unbound) >= count else [dice.choice(subscribers + [99] * (dice.random() < .3)) for _ in range(count)]
         bound.extend(legs)
         return 'bundle %d %d %08x %d %s' % (number, usual if dice.random() < .9 else 5, 0x55555555, dice.choice([0, 10, 65530]), ' '.join(map(str, legs)))
 
@@ -845,13 +850,16 @@ def lines_of(seed):
         elif word == 'room':
             s, t = dice.choice(subscribers + [77]), dice.choice(streams).track
             lines.append(dice.choice([
-                'take %d' % s, 'take %d' % s, 'leave %d' % s, 'aim %d %d %d' % (s, dice.choice([0, 1]), dice.choice([0, 1])), 'resend %d %d' % (s, dice.choice([0, 10, 11])),
-                'missing %d' % t, 'key %d' % t, 'key %d' % t, 'plead %d' % s, 'why %d %d' % (s, dice.randrange(20)), 'why %d %d' % (s, 65536 + dice.randrange(10)),
+                'take %d' % s, 'take %d' % s, 'leave %d' % s, 'aim %d %d %d' % (s, dice.choice([0, 1]), dice.choice([0, 1])), 'resend %d %d' % (s,
+                    dice.choice([0, 10, 11])),
+                'missing %d' % t, 'key %d' % t, 'key %d' % t, 'plead %d' % s, 'why %d %d' % (s, dice.randrange(20)), 'why %d %d' % (s,
+                    65536 + dice.randrange(10)),
                 'join %d %d 22222222 0 1 1' % (len(subscribers) + 1, t), '# nothing', '', 'unpublish %d' % (t if dice.random() < .1 else 9)]))
             if lines[-1].startswith('join') and dice.random() < 1:
                 subscribers.append(len(subscribers) + 1)
         else:
-            lines.append(dice.choice(['pump', 'pump x', 'draw 01', 'choose 1 256', 'bundle 3 4 5555555 0 1 2', 'bundle 3 4 55555555 0 1', 'bundle 3 4 55555555 0 1 2 3 4', 'redraw 1 65536',
+            lines.append(dice.choice(['pump', 'pump x', 'draw 01', 'choose 1 256', 'bundle 3 4 5555555 0 1 2', 'bundle 3 4 55555555 0 1',
+                'bundle 3 4 55555555 0 1 2 3 4', 'redraw 1 65536',
                                       'draw  1', 'take 4294967296', 'Pump 1', 'packet 1 0 9', 'bundle 3 256 55555555 0 1 2', 'choose 1', 'nonsense']))
     return lines
 
