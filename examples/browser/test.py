@@ -221,7 +221,8 @@ def pictures(player, since):
 
 
 def longest_gap(shown):
-    return max((b[0] - a[0] for a, b in zip(shown, shown[1:])), default=10 ** 6)
+    """Milliseconds; a minute where there are no two pictures."""
+    return max((b[0] - a[0] for a, b in zip(shown, shown[1:])), default=60000)
 
 
 def lose(before, after=0, for_good=False):
@@ -236,7 +237,7 @@ def address(mode, port):
 
 
 def direct(browser, mode, seconds):
-    """From one page to the other, with a relay alone between them."""
+    """From one page to the other, with a relay alone between them; tells the longest gap."""
     p, q, relay = browser.open(address(mode, WEB)), browser.open(f'http://127.0.0.1:{WEB}/play.html?wait=1'), Relay(1)
     offer = relay.instead(p.run('start().then(() => described(pc))'), 0)
     answer = q.run(f'''(async () => {{
@@ -248,19 +249,23 @@ def direct(browser, mode, seconds):
     p.run(f"pc.setRemoteDescription({{type: 'answer', sdp: {json.dumps(relay.instead(answer, 1))}}})")
     q.wait('seen.length > 5', 20, 'the first pictures')
     time.sleep(2)
-    Measured(p, q, seconds).row(mode, 'direct', '–')
-    lose(0.03, 0.03)
-    Measured(p, q, seconds).row(mode, 'direct', '3 %')
+    gaps = []
+    for share, lost in ((0, '–'), (0.03, '3 %')):
+        lose(share, share)
+        measured = Measured(p, q, seconds)
+        measured.row(mode, 'direct', lost)
+        gaps.append(measured.gap)
     lose(0)
     browser.shut(p)
     browser.shut(q)
+    return max(gaps)
 
 
 class Run:
     """Everything that is tried with one mode through the room."""
 
-    def __init__(self, browser, mode, seconds, folder):
-        self.browser, self.mode, self.seconds, self.folder = browser, mode, seconds, folder
+    def __init__(self, browser, mode, seconds, folder, direct_gap):
+        self.browser, self.mode, self.seconds, self.folder, self.direct_gap = browser, mode, seconds, folder, direct_gap
         self.layers = int(mode[1])
         self.p = browser.open(address(mode, PROXY) + '&start=1')
         self.p.wait("pc.connectionState === 'connected'", 20, 'the publisher')
@@ -275,7 +280,7 @@ class Run:
 
     def smooth(self, what, gap):
         if gap > GAP:
-            complain(f'{self.mode}, {what}: a freeze of {gap} ms')
+            complain(f'{self.mode}, {what}: a freeze of {gap} ms' + (f'; page to page of {self.direct_gap}' if self.direct_gap > GAP else ''))
 
     def steady(self):
         for share, lost in ((0, '–'), (0.03, '3 % before, 3 % after')):
@@ -299,7 +304,7 @@ class Run:
         time.sleep(2)
         shown = pictures(self.q, begin)
         if longest_gap(shown) > TORN or shown[-1][1] != int(MODES[self.mode][0].split('x')[0]):
-            complain(f'{self.mode}, 2 % lost for good: a freeze of {longest_gap(shown)} ms, and at the end {shown[-1][1]} × {shown[-1][2]}')
+            complain(f'{self.mode}, 2 % lost for good: a freeze of {longest_gap(shown)} ms, and then pictures of {shown[-1][1:3] if shown else "no size"}')
         return [f'2 % lost for good {longest_gap(shown)}']
 
     def late(self):
@@ -317,7 +322,7 @@ class Run:
         at = page.run(f'{script}, Date.now()')
         time.sleep(2.5)
         shown = pictures(self.q, at - 1000)
-        before = [s for s in shown if s[0] <= at][-1]
+        before = ([s for s in shown if s[0] <= at] or [[0, 0, 0]])[-1]
         after = [s for s in shown if s[0] > at]
         took = next((s[0] - at for s in after if s[1:3] != before[1:3]), None)
         if took is None or took > SOON:
@@ -409,8 +414,7 @@ def main():
             flags = ['-sfu', sfu, '-http', str(WEB), '-port', str(ROOM), '-publishers', '2', '-players', '4', '-dump']
             gateway, browser = subprocess.Popen(['out/gateway', *flags], cwd=HERE, stdout=dump, stderr=log), Browser()
             try:
-                direct(browser, mode, asked.seconds)
-                Run(browser, mode, asked.seconds, asked.pictures).all()
+                Run(browser, mode, asked.seconds, asked.pictures, direct(browser, mode, asked.seconds)).all()
             except Exception as fault:
                 complain(f'{mode}: {fault}')
             finally:
