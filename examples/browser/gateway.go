@@ -37,6 +37,7 @@ var (
 	lock              sync.Mutex         // of what follows, and of what it holds
 	live              = map[int]*track{} // by number
 	published, joined int                // how many ever did
+	joining           sync.Mutex
 )
 
 func must(err error) {
@@ -271,11 +272,11 @@ func play(offer string, n, spatial, temporal int) (int, string, error) {
 // Joins once the browser is connected, since what goes out before is lost. The room takes numbers in rising order alone, so nobody else gets
 // one before the room was told of this one.
 func (p *player) join(temporal int) error {
-	lock.Lock()
-	defer lock.Unlock()
-	joined++
-	p.number, p.room, p.track.pages[p.page] = joined, peerOf(*forPublishers+joined), true
-	if said := ask("join %d %d %08x 1 %s %d", reserved+joined, p.track.number, playerSSRC+joined, p.spatial, temporal); said != "ok" {
+	joining.Lock()
+	defer joining.Unlock()
+	locked(func() { joined++; p.number, p.track.pages[p.page] = joined, true })
+	p.room = peerOf(*forPublishers + p.number)
+	if said := ask("join %d %d %08x 1 %s %d", reserved+p.number, p.track.number, playerSSRC+p.number, p.spatial, temporal); said != "ok" {
 		return fmt.Errorf("join: %s", said)
 	}
 	return nil

@@ -81,13 +81,12 @@ func fromRoom(room *net.UDPConn, each func([]byte)) {
 	}
 }
 
-// One line to the control port, and its answer. An answer doesn't say which line it is for, so one is asked after the other.
+// One line to the control port, and its answer. An answer doesn't say which line it is for, so each is waited for, however long it takes.
 func ask(format string, words ...interface{}) string {
 	asking.Lock()
 	defer asking.Unlock()
 	line, answer := fmt.Sprintf(format, words...), make([]byte, 200)
 	control.Write([]byte(line))
-	control.SetReadDeadline(time.Now().Add(3 * time.Second))
 	n, err := control.Read(answer)
 	if err != nil {
 		return "no answer"
