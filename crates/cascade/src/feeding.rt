@@ -1,0 +1,90 @@
+// A feed: what a subscriber of one room takes is brought to a track of another.
+ghost use Rattle.std.specs.Prelude.{◌≡◌, ◌⊎◌, IsTrue, List, Some};
+ghost use Rattle.sfu_base.specs.declared.call.Refusal.TheVariants.{NoMemory};
+ghost use Rattle.room_core.specs.History.{Entry};
+ghost use Rattle.room_core.specs.Serves.{Stands, StandsHeadline, recorder_may_refuse};
+ghost use Rattle.cascade.specs.Feeding.{Feeds};
+ghost use Rattle.cascade.specs.Moving.{MovesOrEnds, refused_by};
+
+use room_core::{Recorder, Room};
+use sfu_base::{Refusal, Reply, Scratch};
+
+/// What a feed did.
+#[derive(Clone, Copy, Debug, PartialEq, Eq)]
+pub struct Fed {
+    /// How many packets the second room accepted, at most 512.
+    pub moved: u32,
+    /// The refusal at which it ended: `Empty` where all that waited was moved.
+    pub end: Refusal,
+}
+
+// The seat that makes all calls of a feed.
+const SEAT: u32 = 0;
+
+// At most so many packets wait for a subscriber.
+const MOST_QUEUED: u32 = 512;
+
+// The refusal that a reply is, if it is one.
+fn refused_by(reply: Reply) -> Option<Refusal>
+    ensures { result ≡ refused_by reply }
+{
+    match reply {
+        Reply::Refused(why) => Some(why),
+        _ => None,
+    }
+}
+
+// Takes one packet and brings it, or answers the refusal of either call.
+fn move_one<A: Recorder, B: Recorder>(
+    first: &mut Room<A>,
+    subscriber: u32,
+    second: &mut Room<B>,
+    track: u32,
+    moment: u64,
+    scratch: &mut Scratch,
+) -> Option<Refusal>
+    ensures moves { (h1 h2 : List Entry) → Stands A.noted first.old h1 → Stands B.noted second.old h2
+        → MovesOrEnds A.noted B.noted first.new second.new subscriber track moment result h1 h2 }
+    ensures memory { result ≡ Some NoMemory → IsTrue (recorder_may_refuse A.may_refuse first.old) ⊎ IsTrue (recorder_may_refuse B.may_refuse second.old) }
+    ensures recorder1 { recorder_may_refuse A.may_refuse first.new ≡ recorder_may_refuse A.may_refuse first.old }
+    ensures recorder2 { recorder_may_refuse B.may_refuse second.new ≡ recorder_may_refuse B.may_refuse second.old }
+{
+    if let Some(why) = refused_by(first.take(SEAT, subscriber, scratch)) {
+        return Some(why);
+    }
+    refused_by(second.packet(SEAT, track, moment, &scratch.packet))
+}
+
+/// Takes packets of a subscriber of the first room and brings each to a track of the second at this moment (milliseconds), as seat 0 of both,
+/// until a call is refused. That refusal is the end: `Empty` where all was moved, `NoSubscriber` where there is none with the number, and any
+/// of [`Room::packet`] where the second room refused a packet: that one was taken, and isn't in the second room, and the rest still waits in
+/// the first. Only the recorders may want memory.
+pub fn feed<A: Recorder, B: Recorder>(
+    first: &mut Room<A>,
+    subscriber: u32,
+    second: &mut Room<B>,
+    track: u32,
+    moment: u64,
+    scratch: &mut Scratch,
+) -> Fed
+    ensures feeds { (h1 h2 : List Entry) → Stands A.noted first.old h1 → Stands B.noted second.old h2
+        → Feeds A.noted B.noted first.new second.new subscriber track moment result h1 h2 }
+    ensures memory { result.end ≡ NoMemory → IsTrue (recorder_may_refuse A.may_refuse first.old) ⊎ IsTrue (recorder_may_refuse B.may_refuse second.old) }
+    ensures headline1 { StandsHeadline A.noted first.new }
+    ensures headline2 { StandsHeadline B.noted second.new }
+    ensures recorder1 { recorder_may_refuse A.may_refuse first.new ≡ recorder_may_refuse A.may_refuse first.old }
+    ensures recorder2 { recorder_may_refuse B.may_refuse second.new ≡ recorder_may_refuse B.may_refuse second.old }
+{
+    let mut moved = 0;
+    'moves: for _count in 0..MOST_QUEUED + 1 {
+        match move_one(first, subscriber, second, track, moment, scratch) {
+            Some(end) => return Fed { moved, end },
+            None => moved += 1,
+        }
+    }
+    // Not reached, since no more packets wait.
+    Fed {
+        moved,
+        end: Refusal::Empty,
+    }
+}

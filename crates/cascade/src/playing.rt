@@ -1,0 +1,33 @@
+// A whole cascade.
+ghost use Rattle.std.specs.Prelude.{◌≡◌, ◌≤◌, IfOk};
+ghost use Rattle.std.specs.String.{string_bytes};
+ghost use Rattle.cascade.specs.Summary.{cascade_text};
+
+use crate::stage::Stage;
+use crate::summing::summary;
+use sfu_base::{NoMemory, PacketBuf};
+use std::alloc::Global;
+use stream_maker::{Event, Maker};
+
+/// Sends a stream of so many frames, made from the number `start`, of which so many packets of a hundred are lost, through two rooms to the three
+/// subscribers of the second. Answers five lines: what was made (two), and what a strict receiver counts and complains of in what each of the
+/// three took. `NoMemory`: there wasn't enough for the rooms, the receivers or the text.
+pub fn play(alloc: Global, frames: u32, start: u64, loss: u8) -> Result<String, NoMemory>
+    requires some_frames { 1 ≤ frames }
+    requires few_frames { frames ≤ 1000000 }
+    requires loss { loss ≤ 50 }
+    ensures { IfOk result (λ text. string_bytes text ≡ cascade_text (record { frames = frames; start = start; loss = loss })) }
+{
+    let mut stage = Stage::new(alloc)?;
+    let mut maker = Maker::new(frames, start, loss);
+    let mut packet = PacketBuf::new();
+    'events: loop {
+        match maker.next_event(&mut packet) {
+            Event::Packet { moment } => stage.packet(moment, &packet),
+            Event::Tick { moment } => stage.tick(moment),
+            Event::End => break 'events,
+        }
+    }
+    let text = summary(alloc, maker.counts(), &stage)?;
+    Ok(text)
+}
