@@ -32,7 +32,7 @@ fn streams_go_through_both_rooms(rt: HostRuntime) -> Result<(), Fail> {
         let mut pleased = 0u32;
         for line in text.as_str().split("\n") {
             if line.starts_with("subscriber") && line.ends_with(" complaints 0") {
-                pleased += 1;
+                pleased = pleased.wrapping_add(1);
             }
         }
         assert_eq!(rt; pleased, 3);
