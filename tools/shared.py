@@ -204,7 +204,7 @@ Frame = namedtuple('Frame', 'number spatial temporal is_key moment packets fdiff
 
 
 class Frames:
-    """The frames that a layered track's packets say, in the order in which they came: number, layer, first moment, sequence numbers."""
+    """The frames that a layered track's packets say, in the order in which they came: number, layer, first moment, each packet's number and moment."""
 
     def __init__(self, extension_id):
         self.id, self.force, self.newest, self.frames = extension_id, None, None, {}
@@ -227,7 +227,7 @@ class Frames:
         frame = self.frames.get(number)
         if frame is None:
             frame = self.frames[number] = Frame(number, said.spatial, said.temporal, is_key, moment, [], said.fdiffs)
-        frame.packets.append(rtp.seq)
+        frame.packets.append((rtp.seq, moment))
         return number
 
 
@@ -354,7 +354,7 @@ def study(calls):
                 if not reply.startswith('refused') and not reply.startswith('hole none'):
                     each.verdicts[at], each.judged[at] = reply, track.moment
                     if reply == 'passed':
-                        each.count(track.moment, len(set(track.frames.frames[at].packets)) if at in track.frames.frames else 1)
+                        each.count(track.moment, len({seq for seq, _ in track.frames.frames[at].packets}) if at in track.frames.frames else 1)
                 each.next = at + 1
 
     for count, call in enumerate(calls):
