@@ -8,8 +8,6 @@ mod laws;
 mod leb;
 mod left;
 mod payload;
-#[cfg(test)]
-mod tests;
 
 pub use elements::PayloadElements;
 pub use fault::PayloadFault;

@@ -5,8 +5,6 @@
 mod book;
 mod laws;
 mod path;
-#[cfg(test)]
-mod tests;
 
 pub use book::CauseBook;
 pub use laws::a_book_tells_causes;

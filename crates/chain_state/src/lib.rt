@@ -12,9 +12,6 @@ ghost use Rattle.chain_state.specs.Links.{link_of, numbers_of};
 use ref_window::RefWindow;
 use sfu_base::FrameMeaning;
 
-#[cfg(test)]
-mod tests;
-
 /// Whether a chain is broken at a frame.
 #[derive(Clone, Copy, Debug, PartialEq, Eq)]
 pub enum LinkState {

@@ -13,6 +13,3 @@ mod writer;
 pub use laws::{bits_read_back, ns_reads_back};
 pub use reader::{BitReader, Short};
 pub use writer::{BitWriter, NoRoom};
-
-#[cfg(test)]
-mod tests;

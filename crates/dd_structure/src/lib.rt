@@ -26,6 +26,3 @@ pub use reading::indications::read_indications_into;
 pub use structure::Structure;
 pub use writing::chains::put_links;
 pub use writing::indications::put_indications;
-
-#[cfg(test)]
-mod tests;

@@ -5,8 +5,6 @@ mod assembly;
 mod laws;
 mod mark;
 mod packets;
-#[cfg(test)]
-mod tests;
 
 pub use assembly::Assembly;
 pub use laws::parts_join_as_their_packets_do;

@@ -5,8 +5,6 @@
 mod joiner;
 mod laws;
 mod obu_header;
-#[cfg(test)]
-mod tests;
 
 pub use joiner::{JoinFault, Joiner};
 pub use laws::{a_header_has_one_reading, faultless_bytes_begin_with_a_header};

@@ -5,8 +5,6 @@
 mod laws;
 mod ring;
 mod slot;
-#[cfg(test)]
-mod tests;
 
 pub use laws::a_ring_stores_what_goes_out;
 pub use ring::OutRing;

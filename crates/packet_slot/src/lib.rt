@@ -55,6 +55,3 @@ impl PacketSlot {
         &self.room[self.start..]
     }
 }
-
-#[cfg(test)]
-mod tests;

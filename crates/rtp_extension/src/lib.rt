@@ -7,8 +7,6 @@ mod form;
 mod laws;
 mod reblocked;
 mod replaced;
-#[cfg(test)]
-mod tests;
 mod writers;
 
 pub use block::{elements, find};

@@ -4,8 +4,6 @@
 mod laws;
 mod outgoing;
 mod packet;
-#[cfg(test)]
-mod tests;
 
 pub use laws::{
     a_packet_is_read, bytes_are_one_packet, bytes_without_fault_are_a_packet, plain_packets_read,

@@ -6,8 +6,6 @@ mod header;
 mod laws;
 mod original;
 mod retransmission;
-#[cfg(test)]
-mod tests;
 
 pub use fault::RtxFault;
 pub use laws::{

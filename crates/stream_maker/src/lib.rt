@@ -10,8 +10,6 @@ mod maker;
 mod packet;
 mod place;
 mod state;
-#[cfg(test)]
-mod tests;
 
 pub use counts::Counts;
 pub use event::Event;

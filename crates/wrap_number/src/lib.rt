@@ -61,6 +61,3 @@ pub fn values_are_nearest_and_least()
 pub fn near_above_is_nearest()
     ensures { NearIsNearestAbove }
 {}
-
-#[cfg(test)]
-mod tests;

@@ -1,6 +1,6 @@
 // OBU headers laid out by hand from the AV1 Bitstream Specification, sections 5.3.2 and 5.3.3, and packets that join or don't.
 
-use crate::{JoinFault, Joiner, ObuFault, ObuHeader, header};
+use obu_element::{JoinFault, Joiner, ObuFault, ObuHeader, header};
 use std::process::Abort;
 use std::test::Fail;
 

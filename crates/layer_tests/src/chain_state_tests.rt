@@ -1,7 +1,8 @@
 ghost use Rattle.std.specs.Prelude.{◌≤◌};
 
-use super::*;
-use sfu_base::Dti;
+use chain_state::*;
+use ref_window::RefWindow;
+use sfu_base::{Dti, FrameMeaning};
 use std::process::Abort;
 
 // One target, protected by the one chain.

@@ -1,5 +1,5 @@
 // Rows of verdicts and of paths.
-use crate::{CauseBook, check_path};
+use cause_book::{CauseBook, check_path};
 use sfu_base::{Refusal, Step, Verdict};
 use std::test::Fail;
 

@@ -1,6 +1,6 @@
 // Blocks laid out by hand from RFC 8285, sections 4.2 and 4.3.
 
-use crate::{Element, elements, find, reblock, write_one, write_two};
+use rtp_extension::{Element, elements, find, reblock, write_one, write_two};
 use sfu_base::{NoFit, PacketBuf};
 use std::process::Abort;
 

@@ -1,4 +1,4 @@
-use super::*;
+use ref_window::*;
 use std::process::Abort;
 
 // After these numbers were inserted, those are held, and the others aren't.

@@ -2,8 +2,8 @@
 
 mod remasking;
 
-use crate::{PayloadFlags, Shown, begins_epoch, show};
 use dd_descriptor::NewestDescriptor;
+use packet_format::{PayloadFlags, Shown, begins_epoch, show};
 use std::test::Fail;
 
 // One descriptor in the one-byte form, with id 4: a key descriptor of one target, and a frame by its template 1.

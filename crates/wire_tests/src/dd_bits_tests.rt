@@ -1,4 +1,4 @@
-use super::*;
+use dd_bits::*;
 use std::test::Fail;
 
 #[test]

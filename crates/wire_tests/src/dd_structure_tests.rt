@@ -1,5 +1,5 @@
-use super::*;
 use dd_bits::{BitReader, BitWriter, NoRoom};
+use dd_structure::*;
 use sfu_base::{Dti, Wish};
 use std::process::Abort;
 use std::test::Fail;

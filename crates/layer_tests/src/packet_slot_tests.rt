@@ -1,5 +1,5 @@
 // What stands in a slot is what it was filled with last.
-use super::*;
+use packet_slot::*;
 
 #[test]
 fn a_slot_has_the_bytes_that_it_was_filled_with_last(rt: HostRuntime) {

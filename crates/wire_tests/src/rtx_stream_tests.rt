@@ -1,7 +1,7 @@
 // Packets laid out by hand from RFC 3550, section 5.1, and RFC 4588, section 4.
 
-use crate::{Rtx, RtxFault, unwrap, wrap};
 use rtp_packet::read;
+use rtx_stream::{Rtx, RtxFault, unwrap, wrap};
 use sfu_base::{PacketBuf, RtpFault};
 use std::process::Abort;
 use std::test::Fail;

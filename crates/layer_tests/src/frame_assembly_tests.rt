@@ -1,6 +1,6 @@
 // Rows of marks, and the frames that they make.
 
-use crate::{Assembly, Mark, Outcome};
+use frame_assembly::{Assembly, Mark, Outcome};
 use std::process::Abort;
 use std::test::Fail;
 

@@ -1,4 +1,4 @@
-use super::*;
+use wrap_number::*;
 
 #[test]
 fn half_a_turn_is_behind(rt: HostRuntime) {

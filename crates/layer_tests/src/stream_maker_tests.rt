@@ -1,6 +1,6 @@
-use super::*;
 use sfu_base::PacketBuf;
 use std::process::Abort;
+use stream_maker::*;
 
 // The next event is a packet of this sequence number, or a tick where none is given, at this moment.
 fn expect_next(rt: &impl Abort, maker: &mut Maker, sequence: Option<u8>, moment: u64) {

@@ -1,6 +1,6 @@
 // Payloads laid out by hand from RTP Payload Format For AV1, section 4.4, and AV1 Bitstream Specification, section 4.10.5.
 
-use crate::{PayloadFault, read};
+use av1_payload::{PayloadFault, read};
 use std::process::Abort;
 use std::test::Fail;
 

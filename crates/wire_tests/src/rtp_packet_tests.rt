@@ -2,7 +2,7 @@
 
 ghost use Rattle.std.specs.Prelude.{◌≤◌, length};
 
-use crate::{Rtp, read, restamp, rewrite};
+use rtp_packet::{Rtp, read, restamp, rewrite};
 use sfu_base::{PacketBuf, RtpFault};
 use std::test::Fail;
 

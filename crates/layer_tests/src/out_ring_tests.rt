@@ -1,5 +1,5 @@
 // Rows of packets in and out of a ring.
-use crate::OutRing;
+use out_ring::OutRing;
 use rtp_packet::read;
 use sfu_base::{PacketBuf, Refusal};
 use std::test::Fail;

@@ -2,8 +2,8 @@
 
 ghost use Rattle.std.specs.Prelude.{◌≤◌, ◌+◌, length};
 
-use crate::Remasker;
 use dd_structure::Structure;
+use packet_format::Remasker;
 use sfu_base::PacketBuf;
 use std::test::Fail;
 
