@@ -40,7 +40,7 @@ pub struct Last {
     pub sequence: u16,
 }
 
-/// What a receiver keeps. The newest descriptor is only there to be read into.
+/// What a receiver keeps. The newest descriptor is scratch space for the parser.
 #[derive(Drop)]
 pub struct State {
     pub id: u8,

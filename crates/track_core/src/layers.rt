@@ -23,7 +23,7 @@ use sfu_base::{Dti, FrameMeaning, NoMemory};
 use std::alloc::Global;
 
 /// A layered track between two items: what is in force, the frame under assembly, and what is kept of that frame's first descriptor. The
-/// newest descriptor is only there to be read into.
+/// newest descriptor is scratch space for the parser.
 #[derive(Drop)]
 pub struct Layers {
     pub id: u8,
