@@ -27,16 +27,6 @@ use Rattle.stream_maker.specs.Turn.{Given}
 use Rattle.strict_receiver.specs.Receivers.{complaint_over, frames_over, greatest_count, packets_over}
 use Rattle.sfu_driver.specs.Drive.{WritesPart}
 
--- ---- words
-
--- `trial N START LOSS`: so many frames, the number that makes the stream, and the packets of a hundred that are lost
-pub record IsTrial (words : List (List ℕ)) (s : Stream) : Type 0 where
-  pub words_are : words ≡ codes "trial" ∷ decimal s.frames ∷ decimal s.start ∷ decimal s.loss ∷ []
-  pub some_frames : 1 ≤ s.frames
-  pub few_frames : s.frames ≤ 1000000
-  pub start : s.start < 2 ^ 64
-  pub loss : s.loss ≤ 50
-
 -- ---- calls; the accepted ones stand newest first
 
 -- the accepted calls after one more call
