@@ -7,7 +7,6 @@ mod serve;
 mod sfu;
 #[cfg(test)]
 mod tests;
-mod together;
 
 use sfu_driver::Status;
 use sfu_edge::{StdSink, StdSource, SysClock, UdpPorts};

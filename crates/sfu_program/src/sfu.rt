@@ -13,13 +13,13 @@ ghost use Rattle.sfu_program.specs.Forms.{IsCommand, IsEnd, IsServing};
 ghost use Rattle.sfu_program.specs.Serve.{Serves};
 ghost use Rattle.sfu_program.specs.ServePorts.{seen_ports};
 ghost use Rattle.sfu_program.specs.ServeWords.{IsServe};
-ghost use Rattle.sfu_program.specs.Together.{IsTogether, Plays};
+ghost use Rattle.sfu_together.specs.Together.{IsTogether, Plays};
 ghost use Rattle.sfu_driver.specs.Exchange.{exchange_of};
 
 use crate::alone::sfu_alone;
 use crate::serve::{read_serve, serve};
-use crate::together::play_script;
 use sfu_base::{Clock, Ports, Sink, Source};
+use sfu_together::play_script;
 use std::alloc::Global;
 use std::sync::Wait;
 use std::thread::Threads;
