@@ -53,7 +53,7 @@ use Rattle.cascade.proofs.Fronts.{first_please}
 use Rattle.cascade.proofs.Moving.{none_waits, takes_waiting}
 use Rattle.cascade.proofs.Plainly.{AreCalls, goes_on}
 use Rattle.cascade.proofs.Standing.{given_more}
-use Rattle.cascade.proofs.StreamSizes.{events_few, made_short}
+use Rattle.cascade.proofs.StreamSizes.{made_short, tick_count, ticks_few, ticks_in}
 
 -- ---- who is there
 
@@ -470,21 +470,25 @@ tick_holds a b m both h low1 low2 =
     let full = two.between.waiting in
     third_takes 513 (a + 513) (b + 513) _ _ two (omega (arith, full))
 
+-- only ticks give anything
 event_holds : (a b : ℕ) (both : Both) (e : Event) (place : Option Place) → HoldOf a b 0 both → a + 70000 < 2 ^ 46 → b + 70000 < 2 ^ 46
-    → HoldOf (a + 513) (b + 513) 0 (after_event both e place)
+    → HoldOf (a + 513 * ticks_in e) (b + 513 * ticks_in e) 0 (after_event both e place)
 unfolding after_event
-event_holds a b both (event.Packet moment) None h low1 low2 = weaker a b 0 (a + 513) (b + 513) 0 both.first both.second h (omega arith) (omega arith) (omega arith)
+event_holds a b both (event.Packet moment) None h low1 low2 = weaker a b 0 (a + 513 * 0) (b + 513 * 0) 0 both.first both.second h (omega arith) (omega arith) (omega arith)
 event_holds a b both (event.Packet moment) (Some p) h low1 low2 =
-    weaker a b 0 (a + 513) (b + 513) 0 _ _ (packet_holds a b moment p both h) (omega arith) (omega arith) (omega arith)
+    weaker a b 0 (a + 513 * 0) (b + 513 * 0) 0 _ _ (packet_holds a b moment p both h) (omega arith) (omega arith) (omega arith)
 event_holds a b both (event.Tick moment) place h low1 low2 = tick_holds a b moment both h low1 low2
-event_holds a b both event.End place h low1 low2 = weaker a b 0 (a + 513) (b + 513) 0 both.first both.second h (omega arith) (omega arith) (omega arith)
+event_holds a b both event.End place h low1 low2 = weaker a b 0 (a + 513 * 0) (b + 513 * 0) 0 both.first both.second h (omega arith) (omega arith) (omega arith)
 
-all_hold : (gs : List Given) (a : ℕ) (both : Both) → HoldOf a a 0 both → a + 513 * length gs + 70000 < 2 ^ 46 → HoldOf (a + 513 * length gs) (a + 513 * length gs) 0 (fold after_given both gs)
+all_hold : (gs : List Given) (a : ℕ) (both : Both) → HoldOf a a 0 both → a + 513 * tick_count gs + 70000 < 2 ^ 46
+    → HoldOf (a + 513 * tick_count gs) (a + 513 * tick_count gs) 0 (fold after_given both gs)
 all_hold [] a both h low = weaker a a 0 (a + 513 * 0) (a + 513 * 0) 0 both.first both.second h (omega arith) (omega arith) (omega arith)
 all_hold (x ∷ gs) a both h low =
+    let next : ℕ = a + 513 * ticks_in x.event in
     let one = event_holds a a both x.event x.place h (omega (arith, low)) (omega (arith, low)) in
-    let rest = all_hold gs (a + 513) (after_given both x) one (omega (arith, low)) in
-    weaker (a + 513 + 513 * length gs) (a + 513 + 513 * length gs) 0 (a + 513 * suc (length gs)) (a + 513 * suc (length gs)) 0 _ _ rest (omega arith) (omega arith) (omega arith)
+    let rest = all_hold gs next (after_given both x) one (omega (arith, low)) in
+    weaker (next + 513 * tick_count gs) (next + 513 * tick_count gs) 0 (a + 513 * (ticks_in x.event + tick_count gs)) (a + 513 * (ticks_in x.event + tick_count gs)) 0 _ _ rest
+    (omega arith) (omega arith) (omega arith)
 
 opened_holds : HoldOf 0 0 0 opened
 opened_holds = record {
@@ -538,5 +542,5 @@ feeds_all a b first second h = record {
 pub cascades_feed : (s : Stream) → s.frames ≤ 1000000 → FeedsAll (cascade_calls s)
 unfolding cascade_calls
 cascades_feed s few =
-    let events_are = events_few s in
-    feeds_all (0 + 513 * length (events s)) (0 + 513 * length (events s)) _ _ (all_hold (events s) 0 opened opened_holds (omega (arith, few, events_are)))
+    let ticks = ticks_few s in
+    feeds_all (0 + 513 * tick_count (events s)) (0 + 513 * tick_count (events s)) _ _ (all_hold (events s) 0 opened opened_holds (omega (arith, few, ticks)))

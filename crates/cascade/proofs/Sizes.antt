@@ -155,12 +155,4 @@ remasked_short id mask force bytes new e =
 -- Another sequence number, SSRC and marker keep the length.
 pub rewritten_short : (sequence ssrc : ℕ) (marker : Bool) (bytes : List ℕ) → 12 ≤ length bytes → length (rewritten sequence ssrc marker bytes) ≤ length bytes
 unfolding rewritten
-rewritten_short sequence ssrc marker bytes long =
-    omega (
-      arith,
-      length-append (take 1 bytes) (second_byte marker (payload_type_of bytes) ∷ big_bytes 2 sequence ++ take 4 (drop 4 bytes) ++ big_bytes 4 ssrc ++ drop 12 bytes),
-      length-append (take 4 (drop 4 bytes)) (big_bytes 4 ssrc ++ drop 12 bytes),
-      length-take 1 bytes,
-      length-take 4 (drop 4 bytes),
-      length-drop 12 bytes,
-    )
+rewritten_short sequence ssrc marker bytes long = simp (length-append, length-take, length-drop) (omega arith)

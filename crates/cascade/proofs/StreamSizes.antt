@@ -1,4 +1,4 @@
--- How long the packets of a stream are, and how many events it gives.
+-- How long the packets of a stream are, and how many ticks it gives.
 use Rattle.std.proofs.Common.{◌≡◌, ◌+◌, ◌-◌, ◌*◌, ◌≤◌, ℕ, zero, suc, arith, Bool, true, false, cond, not, ◌&&◌, List, [], ◌∷◌, ◌++◌, length, length-append, map, refl, sym, ap, ◌∙◌, Option, None, Some}
 use Rattle.std.specs.Prelude.{flat_map}
 use Rattle.std.specs.List.{enumerate_from}
@@ -6,8 +6,8 @@ use Rattle.std.specs.Option.{option_to_list}
 use Rattle.std.proofs.lemmas.List.{length-map}
 use Rattle.std.proofs.lemmas.List.FromFn.{length-enumerate_from}
 use Rattle.stream_maker.specs.declared.counts.Counts.{Counts}
-use Rattle.stream_maker.specs.declared.fate.Fate.{Fate}
-use Rattle.stream_maker.specs.declared.fate.Fate.TheVariants.{Lost, Twice, Held, Once}
+use Rattle.stream_maker.specs.declared.event.Event.{Event}
+use Rattle.stream_maker.specs.declared.event.Event.TheVariants as event
 use Rattle.stream_maker.specs.declared.place.Place.{Place}
 use Rattle.stream_maker.specs.Bytes.{extension, header, long_extension, packet_bytes, payload, short_extension, starts_key_frame}
 use Rattle.stream_maker.specs.Order.{ends_stream, tick_due}
@@ -47,7 +47,7 @@ made_short p =
     let a = header_short p in
     let b = extension_short p in
     let c = payload_short p in
-    omega (arith, a, b, c, length-append (header p) (extension p ++ payload p), length-append (extension p) (payload p), length-append (header p ++ extension p) (payload p))
+    omega (arith, a, b, c, length-append (header p) (extension p), length-append (header p ++ extension p) (payload p))
 
 -- ---- how many there are
 
@@ -88,48 +88,45 @@ packets_few frames =
       length-enumerate_from 0 (flat_map parts_of (numbers 0 frames)),
     )
 
-option_small : {X : Type 0} (o : Option X) → length (option_to_list o) ≤ 1
-option_small None = omega arith
-option_small (Some x) = omega arith
+-- ---- ticks
 
-sent_few : (f : Fate) (o : Option Place) (p : Place) → length (sent f o p) ≤ 3
-sent_few Lost o p = omega arith
-sent_few Twice o p = let one = option_small o in omega (arith, one)
-sent_few Once o p = let one = option_small o in omega (arith, one)
-sent_few Held None p = omega arith
-sent_few Held (Some q) p = omega arith
+abbrev pub ticks_in : Event → ℕ
+ticks_in (event.Packet moment) = 0
+ticks_in (event.Tick moment) = 1
+ticks_in event.End = 0
 
-last_few : (b : Bool) (o : Option Place) → length (cond b (option_to_list o) []) ≤ 1
-last_few true o = option_small o
-last_few false o = omega arith
+abbrev pub tick_count : List Given → ℕ
+tick_count [] = 0
+tick_count (g ∷ gs) = ticks_in g.event + tick_count gs
 
-turn_few : (frames : ℕ) (f : Fate) (now later : Option Place) (counts : Counts) (p : Place) → length (turn frames f now later counts p) ≤ 5
-unfolding turn
-turn_few frames f now later counts p =
-    let a = sent_few f now p in
-    let b = last_few (ends_stream frames p) later in
-    let c = option_small (tick_due frames p) in
-    omega (
-      arith,
-      a,
-      b,
-      c,
-      length-append (map (sent_event counts) (sent f now p ++ cond (ends_stream frames p) (option_to_list later) [])) (map (tick_event counts) (option_to_list (tick_due frames p))),
-      length-map (sent f now p ++ cond (ends_stream frames p) (option_to_list later) []) (sent_event counts),
-      length-map (option_to_list (tick_due frames p)) (tick_event counts),
-      length-append (sent f now p) (cond (ends_stream frames p) (option_to_list later) []),
-    )
+ticks-append : (xs ys : List Given) → tick_count (xs ++ ys) ≡ tick_count xs + tick_count ys
+ticks-append [] ys = omega arith
+ticks-append (x ∷ xs) ys = let rest = ticks-append xs ys in omega (arith, rest)
 
-turns_few : (s : Stream) (before left : List Place) → length (turns s before left) ≤ 5 * length left + 1
-unfolding turns
+none_sent : (counts : Counts) (ps : List Place) → tick_count (map (sent_event counts) ps) ≡ 0
+none_sent counts [] = refl
+none_sent counts (p ∷ ps) = let rest = none_sent counts ps in omega (arith, rest)
+
+one_tick : (counts : Counts) (o : Option ℕ) → tick_count (map (tick_event counts) (option_to_list o)) ≤ 1
+one_tick counts None = omega arith
+one_tick counts (Some moment) = omega arith
+
+turns_few : (s : Stream) (before left : List Place) → tick_count (turns s before left) ≤ length left + 1
+unfolding turns turn
 turns_few s before [] = omega arith
 turns_few s before (p ∷ left) =
-    let one = turn_few s.frames (fate s p) (waiting s before) (waiting s (p ∷ before)) (counts_of s (p ∷ before)) p in
+    let counts : Counts = counts_of s (p ∷ before) in
+    let places : List Place = sent (fate s p) (waiting s before) p ++ cond (ends_stream s.frames p) (option_to_list (waiting s (p ∷ before))) [] in
+    let moments : List ℕ = option_to_list (tick_due s.frames p) in
     let rest = turns_few s (p ∷ before) left in
-    omega (arith, one, rest, length-append (turn s.frames (fate s p) (waiting s before) (waiting s (p ∷ before)) (counts_of s (p ∷ before)) p) (turns s (p ∷ before) left))
+    let none = none_sent counts places in
+    let one = one_tick counts (tick_due s.frames p) in
+    let all = ticks-append (map (sent_event counts) places ++ map (tick_event counts) moments) (turns s (p ∷ before) left) in
+    let these = ticks-append (map (sent_event counts) places) (map (tick_event counts) moments) in
+    omega (arith, rest, none, one, all, these)
 
-pub events_few : (s : Stream) → length (events s) ≤ 15 * s.frames + 1
-events_few s =
+pub ticks_few : (s : Stream) → tick_count (events s) ≤ 3 * s.frames + 1
+ticks_few s =
     let all = turns_few s [] (packets s.frames) in
     let few = packets_few s.frames in
     omega (arith, all, few)
