@@ -4,42 +4,13 @@ ghost use Rattle.std.specs.String.{string_bytes};
 ghost use Rattle.sfu_base.specs.Bytes.{bit};
 ghost use Rattle.cascade.specs.Calls.{Both};
 ghost use Rattle.cascade.specs.Standing.{AreAfter, WasFed};
-ghost use Rattle.cascade.specs.Summary.{counts_text, made_text, subscriber_text, summary_of};
+ghost use Rattle.cascade.specs.Summary.{subscriber_text, summary_of};
 
 use crate::endpoint::Endpoint;
 use crate::two_rooms::TwoRooms;
 use sfu_base::NoMemory;
 use std::alloc::{AllocError, Global};
-use stream_maker::Counts;
-
-fn made_text(alloc: Global, counts: Counts) -> Result<String, AllocError>
-    ensures { IfOk result (λ text. string_bytes text ≡ made_text counts) }
-{
-    let Counts {
-        frames,
-        packets,
-        lost,
-        repeated,
-        swapped,
-    } = counts;
-    format!(in alloc;
-        "made {frames} frames {packets} packets\nlost {lost} repeated {repeated} swapped {swapped}\n"
-    )
-}
-
-fn counts_text(
-    alloc: Global,
-    number: u32,
-    frames: u64,
-    packets: u64,
-    complaints: u8,
-) -> Result<String, AllocError>
-    ensures { IfOk result (λ text. string_bytes text ≡ counts_text number frames packets complaints) }
-{
-    format!(in alloc;
-        "subscriber {number} frames {frames} packets {packets} complaints {complaints}\n"
-    )
-}
+use stream_maker::{Counts, counts_text, made_text};
 
 fn bit(set: bool) -> u8
     ensures { result ≡ bit set }
