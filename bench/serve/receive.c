@@ -1,7 +1,9 @@
 // Receives streams of RTP packets at ports of 127.0.0.1 until it is told to end (SIGTERM), judges each packet, and prints a line for each port.
 // usage: receive NACKED PLIS DUMP PORT:PEER:SSRC...
+//        receive NACKED PLIS DUMP:BYTES PORT:PEER:SSRC...
 // Each NACKED-th new packet is asked for again, as though it were lost (0: none), and must come again with the same bytes. A picture loss indication
-// goes out each PLIS milliseconds (0: none). DUMP is a file for the first 20,000 packets of the first port in hex, one a line, or - for none.
+// goes out each PLIS milliseconds (0: none). DUMP is a file for the first 20,000 packets of the first port in hex, one a line, or - for none;
+// with BYTES it is one for the first so many bytes of each of its packets.
 #include "packets.h"
 
 enum { FINEST = 200000, ASKED = 64, DUMPED = 20000, SYSTEM_ROOM = 1 << 22 };
@@ -29,6 +31,18 @@ static volatile sig_atomic_t stopped;
 static void stop(int number) {
   (void)number;
   stopped = 1;
+}
+
+// A line of hex.
+static void dump_line(FILE *dump, const uint8_t *bytes, size_t count) {
+  static const char digits[] = "0123456789abcdef";
+  char line[2 * ROOM + 1];
+  for (size_t at = 0; at < count; at++) {
+    line[2 * at] = digits[bytes[at] >> 4];
+    line[2 * at + 1] = digits[bytes[at] & 15];
+  }
+  line[2 * count] = '\n';
+  fwrite(line, 1, 2 * count + 1, dump);
 }
 
 static void ask(struct port *port, const uint8_t *bytes, size_t count, uint16_t number) {
@@ -109,6 +123,9 @@ static uint64_t share(const struct port *port, uint64_t part) {
 int main(int words, char **word) {
   if (words < 5) return 2;
   uint64_t nacked = strtoul(word[1], NULL, 10), apart = strtoul(word[2], NULL, 10) * 1000000, dumped = 0;
+  char *colon = strchr(word[3], ':');
+  size_t cut = colon == NULL ? 0 : strtoul(colon + 1, NULL, 10);
+  if (colon != NULL) *colon = 0;
   FILE *dump = strcmp(word[3], "-") == 0 ? NULL : fopen(word[3], "w");
   int count = words - 4;
   struct port *ports = calloc((size_t)count, sizeof *ports);
@@ -133,7 +150,8 @@ int main(int words, char **word) {
       if ((polls[i].revents & POLLIN) == 0) continue;
       while ((got = recv(ports[i].socket, bytes, sizeof bytes, MSG_DONTWAIT)) >= 0) {
         judge(&ports[i], bytes, (size_t)got, now(), nacked);
-        if (dump == NULL || i != 0 || dumped == DUMPED) continue;
+        if (dump != NULL && i == 0 && cut != 0) dump_line(dump, bytes, (size_t)got < cut ? (size_t)got : cut);
+        if (dump == NULL || i != 0 || cut != 0 || dumped == DUMPED) continue;
         kept[dumped].length = (size_t)got;
         memcpy(kept[dumped++].bytes, bytes, (size_t)got);
       }
@@ -147,10 +165,7 @@ int main(int words, char **word) {
       }
     }
   }
-  for (uint64_t i = 0; i < dumped; i++) {
-    for (size_t at = 0; at < kept[i].length; at++) fprintf(dump, "%02x", kept[i].bytes[at]);
-    fputc('\n', dump);
-  }
+  for (uint64_t i = 0; i < dumped; i++) dump_line(dump, kept[i].bytes, kept[i].length);
   if (dump != NULL) fclose(dump);
   for (int i = 0; i < count; i++) {
     const struct port *port = &ports[i];

@@ -7,4 +7,5 @@ mod run;
 mod serve;
 mod together;
 mod trial;
+mod two_rooms;
 mod words;
