@@ -865,24 +865,24 @@ def lines_of(seed):
 
 
 def compare(count, command):
-    """Random scripts through a command, all of them in one run: a line `#### SEED` stands before each, and is written before its replies."""
-    script, wanted, words = '', '', {}
+    """Random scripts through a command, each by itself: what it writes, and whether it ends with 0, or with 5 at a line outside the grammar."""
+    words, lines = {}, 0
     for seed in range(count):
         text = '\n'.join(lines_of(seed)) + '\n'
         answers, broken = replies(text)
         for answer in answers:
             word = ' '.join(answer.split(' ')[:2]) if answer.startswith('refused') else answer.split(' ')[0]
             words[word] = words.get(word, 0) + 1
-        script += '#### %d\n' % seed + text
-        wanted += '#### %d\n' % seed + ''.join(a + '\n' for a in answers) + ('line %d\n' % broken if broken else '')
-    got = subprocess.run(command, input=script.encode(), stdout=subprocess.PIPE, check=True).stdout.decode()
-    for n, (one, other) in enumerate(zip(got.split('\n'), wanted.split('\n')), 1):
-        if one != other:
-            seed = [line for line in wanted.split('\n')[:n] if line.startswith('####')][-1]
-            sys.exit('%s: line %d of what was written is\n%s\nand has to be\n%s' % (seed, n, one, other))
-    if got != wanted:
-        sys.exit('%d bytes were written, and %d have to be' % (len(got), len(wanted)))
-    print('%d scripts, %d replies: no difference' % (count, wanted.count('\n') - count))
+        wanted = answers + (['line %d' % broken] if broken else [])
+        ran = subprocess.run(command, input=text.encode(), stdout=subprocess.PIPE, check=False)
+        got = ran.stdout.decode().split('\n')[:-1]
+        for n, (one, other) in enumerate(zip(got, wanted), 1):
+            if one != other:
+                sys.exit('script %d: line %d of what was written is\n%s\nand has to be\n%s' % (seed, n, one, other))
+        if len(got) != len(wanted) or ran.returncode != (5 if broken else 0):
+            sys.exit('script %d: %d lines and status %d; %d lines and %d have to be' % (seed, len(got), ran.returncode, len(wanted), 5 if broken else 0))
+        lines += len(wanted)
+    print('%d scripts, %d replies: no difference' % (count, lines))
     print(' '.join('%s:%d' % pair for pair in sorted(words.items())))
 
 

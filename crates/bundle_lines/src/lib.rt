@@ -1,10 +1,12 @@
-//! The lines of scripts that also speak of bundles, each of which makes one stream out of what two or three subscribers are sent.
+//! The lines of scripts that also speak of bundles, each of which makes one stream out of what two or three subscribers are sent, and the
+//! replies that such lines alone have.
 #![tactic(auto)]
 
 mod command;
 mod laws;
 mod line;
 mod reader;
+mod replies;
 #[cfg(test)]
 mod tests;
 
@@ -13,3 +15,4 @@ pub use laws::{
 };
 pub use line::BundleLine;
 pub use reader::read_bundle_line;
+pub use replies::{BundleReply, add_bundle_reply};

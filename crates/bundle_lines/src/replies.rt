@@ -1,0 +1,61 @@
+// Replies to lines of bundles that no call of the room has.
+ghost use Rattle.std.specs.Prelude.{◌≡◌, ◌++◌, ◌∷◌, [], OnErr, OnOk, decimal};
+ghost use Rattle.script_texts.specs.Texts.{GoesOn};
+ghost use Rattle.bundle_lines.specs.Replies.{bundle_reply_text};
+
+use itoa::Buffer;
+use script_texts::end_line;
+use sfu_base::{Blob, NoMemory};
+
+/// What a line that speaks of a bundle is replied, where no call of the room has the reply. Own rule.
+#[derive(Clone, Copy, Debug, PartialEq, Eq)]
+pub enum BundleReply {
+    /// So many of the packets that a pump took go out, and so many were dropped.
+    Pumped { forwarded: u32, dropped: u32 },
+    /// No bundle has the number.
+    NoBundle,
+    /// The bundle's legs are 1 to `legs`.
+    NoLeg { legs: u8 },
+    /// A leg's track isn't layered with the line's header extension id.
+    WrongKind,
+    /// A subscriber of the line is a leg of this bundle.
+    Bound { bundle: u32 },
+}
+
+fn append_numbered(words: &[u8], number: u32, out: &mut Blob) -> Result<(), NoMemory>
+    ensures ok { OnOk result (out.new ≡ out.old ++ (words.now ++ decimal number)) }
+    ensures begun { GoesOn out.old out.new }
+{
+    let mut digits = Buffer::new();
+    out.append(words)?;
+    out.append(digits.format(number).as_bytes())
+}
+
+fn append_bundle_reply(reply: BundleReply, out: &mut Blob) -> Result<(), NoMemory>
+    ensures ok { OnOk result (out.new ≡ out.old ++ bundle_reply_text reply) }
+    ensures begun { GoesOn out.old out.new }
+{
+    match reply {
+        BundleReply::Pumped { forwarded, dropped } => {
+            append_numbered(b"pumped ", forwarded, out)?;
+            append_numbered(b" ", dropped, out)
+        }
+        BundleReply::NoBundle => out.append(b"refused nobundle"),
+        BundleReply::NoLeg { legs } => append_numbered(b"refused noleg ", u32::from(legs), out),
+        BundleReply::WrongKind => out.append(b"refused wrongkind"),
+        BundleReply::Bound { bundle } => append_numbered(b"refused bound ", bundle, out),
+    }
+}
+
+/// Puts the line of a reply behind the texts that are ready. After `NoMemory` all is as before.
+pub fn add_bundle_reply(reply: BundleReply, ready: &mut Blob) -> Result<(), NoMemory>
+    ensures ok { OnOk result (ready.new ≡ ready.old ++ (bundle_reply_text reply ++ 10 ∷ [])) }
+    ensures err { OnErr result (ready.new ≡ ready.old) }
+{
+    let start = ready.bytes().len();
+    if append_bundle_reply(reply, ready).is_err() {
+        ready.truncate(start);
+        return Err(NoMemory);
+    }
+    end_line(start, ready)
+}
