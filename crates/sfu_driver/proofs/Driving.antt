@@ -8,7 +8,7 @@ use Rattle.sfu_driver.specs.declared.halt.Interruption.{Interruption}
 use Rattle.sfu_driver.specs.declared.halt.Interruption.TheVariants.{SourceFault, SinkFault, Halted}
 use Rattle.sfu_driver.specs.Outcome.{End, Outcome, before, takes, then_due}
 use Rattle.sfu_driver.specs.Drive.{Drove, DroveBy, EndsBy, Fed, Stopped, Took, WritesEnd, WritesFor, WritesFront, WritesPart, end_by}
-use Rattle.sfu_driver.specs.Statuses.{end_of, last_text}
+use Rattle.sfu_driver.specs.Statuses.{due_of, end_of, full_text, last_text}
 use Rattle.sfu_driver.proofs.Takes.{takes_err, takes_front, then_err, then_front, then_ok}
 use Rattle.sfu_driver.proofs.Fronts.{end_after, end_front, front_all, front_longer, part_after, part_front, part_longer}
 use Rattle.sfu_driver.proofs.Feeding.{all_flushed, goes_ok}
@@ -148,31 +148,48 @@ told_begun {S} {T} byte ends s all left' w w' f f' result b =
         subst (λ (x : Result T End). WritesFront w w' (due.text ++ last_text (end_of x))) (sym b.1) (end_front w w' f f' due.text b.0 b.2)
     by_result (Err (Halted Starved)) b = longer (front_of_all byte ends s all w w' b)
 
+-- the same of the bytes that were taken
+taken_by : {U S T : Type 0} (stands : U → T → Type 0) (byte : S → ℕ → Outcome S) (ends : S → Outcome T) (s : S) (xs : List ℕ) (new : U) (left' w w' : Option (List ℕ)) (f f' : ℕ) (result : Result (Unit {0}) Interruption)
+    → DroveBy stands byte ends s xs new left' w w' f f' result → ToldBy byte ends s xs left' w w' f f' result
+taken_by stands byte ends s xs new left' w w' f f' (Ok _) d = (d.0, (d.1.0, d.1.1), d.1.3)
+taken_by stands byte ends s xs new left' w w' f f' (Err SourceFault) d = record { front = xs; more = []; split = sym (append-nil xs); goes = d.0; wrote = d.1 }
+taken_by stands byte ends s xs new left' w w' f f' (Err SinkFault) (inl part) =
+    let more = then_front (takes byte s xs) ends in subst (WritesPart w w') (sym more.1) (part_longer w w' (takes byte s xs).text more.0 part)
+taken_by stands byte ends s xs new left' w w' f f' (Err SinkFault) (inr last) = last.1
+taken_by stands byte ends s xs new left' w w' f f' (Err (Halted (Ended why))) d = d.1
+taken_by stands byte ends s xs new left' w w' f f' (Err (Halted Starved)) d = d
+
+pub begun_of : {U S T : Type 0} (stands : U → T → Type 0) (byte : S → ℕ → Outcome S) (ends : S → Outcome T) (s : S) (xs : List ℕ) (new : U) (left' w w' : Option (List ℕ)) (f f' : ℕ) (result : Result (Unit {0}) Interruption)
+    → DroveBy stands byte ends s xs new left' w w' f f' result → WritesFront w w' (full_text (due_of (then_due (takes byte s xs) ends)))
+begun_of stands byte ends s xs new left' w w' f f' result d = told_begun byte ends s xs left' w w' f f' result (taken_by stands byte ends s xs new left' w w' f f' result d)
+
 -- ---- causes
 
 -- ---- the bytes and the end
 
-pub drove_took : {U V S T : Type 0} (at : V → S → Type 0) (stands : U → T → Type 0) (byte : S → ℕ → Outcome S) (ends : S → Outcome T) (u u1 : V) (new : U) (r r1 : List ℕ) (left left' w0 w1 : Option (List ℕ)) (f0 f1 : ℕ) (stop : Interruption)
+abbrev pub drove_took : {U V S T : Type 0} (at : V → S → Type 0) (stands : U → T → Type 0) (byte : S → ℕ → Outcome S) (ends : S → Outcome T) (u u1 : V) (new : U) (r r1 : List ℕ) (left left' w0 w1 : Option (List ℕ)) (f0 f1 : ℕ) (stop : Interruption)
     → r ≡ [] → Took at byte u u1 r r1 left left' w0 w1 f0 f1 (Err stop) → (s : S) → at u s → Drove stands byte ends s new left left' w0 w1 f0 f1 (Err stop)
 drove_took {U} {V} {S} {T} at stands byte ends u u1 new r r1 left left' w0 w1 f0 f1 stop none took s stand = record {
   earlier = took.earlier;
   piece = took.piece;
   consumed = took.consumed;
   small = took.small;
+  reads = took.reads;
+  bounded = took.bounded;
   first = took.first s stand;
   by_result = stopped_drove stands byte ends s (took.earlier ++ took.piece) new left' w0 w1 f0 f1 stop
       (subst (λ (xs : List ℕ). Stopped stop byte s (took.earlier ++ took.piece) xs w0 w1 f0 f1) none (took.feeds s stand));
 }
 
 -- whatever came of the end, some text was written
-some_end : {U T : Type 0} (stands : U → T → Type 0) (due : Outcome T) (new : U) (w w' : Option (List ℕ)) (f f' : ℕ) (result : Result (Unit {0}) Interruption) → EndsBy stands due new w w' f f' result → (text : List ℕ) × Appends w w' text
+pub some_end : {U T : Type 0} (stands : U → T → Type 0) (due : Outcome T) (new : U) (w w' : Option (List ℕ)) (f f' : ℕ) (result : Result (Unit {0}) Interruption) → EndsBy stands due new w w' f f' result → (text : List ℕ) × Appends w w' text
 some_end stands due new w w' f f' (Ok _) e = (due.text, e.3)
 some_end stands due new w w' f f' (Err SourceFault) e = absurd e
 some_end stands due new w w' f f' (Err SinkFault) e = (e.text, e.wrote)
 some_end stands due new w w' f f' (Err (Halted (Ended why))) e = (due.text ++ e.2.front, e.2.wrote)
 some_end stands due new w w' f f' (Err (Halted Starved)) e = ([], e)
 
-pub drove_ended : {U V S T : Type 0} (at : V → S → Type 0) (stands : U → T → Type 0) (byte : S → ℕ → Outcome S) (ends : S → Outcome T) (u u1 : V) (new : U) (r r1 : List ℕ) (left left' w0 w1 w2 : Option (List ℕ)) (f0 f1 f2 : ℕ)
+abbrev pub drove_ended : {U V S T : Type 0} (at : V → S → Type 0) (stands : U → T → Type 0) (byte : S → ℕ → Outcome S) (ends : S → Outcome T) (u u1 : V) (new : U) (r r1 : List ℕ) (left left' w0 w1 w2 : Option (List ℕ)) (f0 f1 f2 : ℕ)
     (result : Result (Unit {0}) Interruption) → f0 ≤ f1 → r ≡ [] → Took at byte u u1 r r1 left left' w0 w1 f0 f1 (Ok tt) → r1 ≡ [] → IsAtEnd left'
     → ((p : S) → at u1 p → EndsBy stands (ends p) new w1 w2 f1 f2 result) → (s : S) → at u s → Drove stands byte ends s new left left' w0 w2 f0 f2 result
 drove_ended {U} {V} {S} {T} at stands byte ends u u1 new r r1 left left' w0 w1 w2 f0 f1 f2 result le none took empty end e s stand =
@@ -186,6 +203,8 @@ drove_ended {U} {V} {S} {T} at stands byte ends u u1 new r r1 left left' w0 w1 w
       piece = took.piece;
       consumed = took.consumed;
       small = took.small;
+      reads = took.reads;
+      bounded = took.bounded;
       first = (first.0, first.1 ++ more.0, subst (Appends w0 w2) (append_assoc text first.1 more.0) (Appends-trans w0 w1 w2 (text ++ first.1) more.0 first.2 more.1));
       by_result = ended_drove at stands byte ends s bytes u1 new r1 left' w0 w1 w2 f0 f1 f2 result le a empty end last;
     }

@@ -1,5 +1,5 @@
 -- What pieces do, one after another, and a flush, and an end.
-use Rattle.std.proofs.Common.{◌≡◌, ◌≤◌, ℕ, ◌-◌, List, [], ◌∷◌, ◌++◌, length, take, drop, refl, sym, ap, ◌∙◌, subst, arith, Option, Result, Ok, Err, append_assoc, append-nil}
+use Rattle.std.proofs.Common.{◌≡◌, ◌<◌, ◌≤◌, ℕ, ◌-◌, List, [], ◌∷◌, ◌++◌, length, take, drop, refl, sym, ap, ◌∙◌, subst, arith, Option, Result, Ok, Err, append_assoc, append-nil}
 use Rattle.std.specs.Prelude.{IsOk, OnErr, OnOk}
 use Rattle.std.specs.Io.KnownBytes.{Appends, Consumes, Keeps}
 use Rattle.std.proofs.KnownBytes.{Appends-trans, Appends-nil, Consumes-kept, Consumes-nil, Consumes-trans}
@@ -14,7 +14,9 @@ use Rattle.sfu_driver.specs.declared.halt.Interruption.TheVariants.{SourceFault,
 use Rattle.sfu_driver.specs.Outcome.{End, Outcome, takes}
 use Rattle.sfu_driver.specs.Drive.{Fed, Feeds, FeedsBy, Halts, Judges, Nexts, Stopped, Took, WritesEnd, WritesPart, end_by}
 use Rattle.sfu_driver.proofs.Takes.{takes_err, takes_front, takes_ok}
+use Rattle.sfu_driver.specs.Reads.{BeginsWith, most_bytes}
 use Rattle.sfu_driver.proofs.Fronts.{end_after, part_after, part_longer, rose_since}
+use Rattle.sfu_driver.proofs.Reading.{reads_none, reads_on}
 
 -- ---- bytes after others
 
@@ -165,7 +167,7 @@ next_halts stands byte u u' piece r r' r2 mark w w' f f' why stop at nexts h s s
 -- ---- what was written
 
 -- whatever comes of the bytes, some text was written
-some_by : {U S : Type 0} (stands : U → S → Type 0) (byte : S → ℕ → Outcome S) (s : S) (bytes : List ℕ) (u' : U) (r r' : List ℕ) (w w' : Option (List ℕ)) (f f' : ℕ) (result : Result (Unit {0}) Interruption)
+pub some_by : {U S : Type 0} (stands : U → S → Type 0) (byte : S → ℕ → Outcome S) (s : S) (bytes : List ℕ) (u' : U) (r r' : List ℕ) (w w' : Option (List ℕ)) (f f' : ℕ) (result : Result (Unit {0}) Interruption)
     → FeedsBy stands byte s bytes u' r r' w w' f f' result → (text : List ℕ) × Appends w w' text
 some_by stands byte s bytes u' r r' w w' f f' (Ok _) b = (b.flushed, b.wrote)
 some_by stands byte s bytes u' r r' w w' f f' (Err SourceFault) b = (r ++ (takes byte s bytes).text, b.1)
@@ -185,25 +187,30 @@ goes_ok {S} r s is = subst (λ (x : Result S End). IsOk x) (sym is) refl
 
 -- ---- the source
 
-pub took_none : {U S : Type 0} (stands : U → S → Type 0) (byte : S → ℕ → Outcome S) (u : U) (r : List ℕ) (left w : Option (List ℕ)) (f f' : ℕ) → Took stands byte u u r r left left w w f f' (Ok tt)
+abbrev pub took_none : {U S : Type 0} (stands : U → S → Type 0) (byte : S → ℕ → Outcome S) (u : U) (r : List ℕ) (left w : Option (List ℕ)) (f f' : ℕ) → Took stands byte u u r r left left w w f f' (Ok tt)
 took_none stands byte u r left w f f' = record {
   earlier = [];
   piece = [];
   consumed = Consumes-nil left;
   small = omega arith;
+  reads = reads_none;
+  bounded = omega arith;
   first = λ s stand. (refl, [], Appends-nil w);
   feeds = feeds_none stands byte u r w f f';
 }
 
 -- a further piece was taken, behind bytes all of whose texts were written
-pub took_on : {U S : Type 0} (stands : U → S → Type 0) (byte : S → ℕ → Outcome S) (u0 u1 u2 : U) (r0 r1 r2 : List ℕ) (left0 left1 left2 w0 w1 w2 : Option (List ℕ)) (f0 f1 f2 : ℕ) (piece : List ℕ) (result : Result (Unit {0}) Interruption) → f0 ≤ f1
+abbrev pub took_on : {U S : Type 0} (stands : U → S → Type 0) (byte : S → ℕ → Outcome S) (u0 u1 u2 : U) (r0 r1 r2 : List ℕ) (left0 left1 left2 w0 w1 w2 : Option (List ℕ)) (f0 f1 f2 : ℕ) (piece : List ℕ) (result : Result (Unit {0}) Interruption) → f0 ≤ f1
     → r0 ≡ [] → r1 ≡ [] → length piece ≤ 65536
-    → Took stands byte u0 u1 r0 r1 left0 left1 w0 w1 f0 f1 (Ok tt) → Consumes left1 left2 piece → Feeds stands byte u1 piece u2 r1 r2 w1 w2 f1 f2 result → Took stands byte u0 u2 r0 r2 left0 left2 w0 w2 f0 f2 result
-took_on stands byte u0 u1 u2 r0 r1 r2 left0 left1 left2 w0 w1 w2 f0 f1 f2 piece result le none empty small took consumed feeds = record {
+    → (took : Took stands byte u0 u1 r0 r1 left0 left1 w0 w1 f0 f1 (Ok tt)) → length (took.earlier ++ took.piece) < most_bytes → Consumes left1 left2 piece → Feeds stands byte u1 piece u2 r1 r2 w1 w2 f1 f2 result
+    → Took stands byte u0 u2 r0 r2 left0 left2 w0 w2 f0 f2 result
+took_on stands byte u0 u1 u2 r0 r1 r2 left0 left1 left2 w0 w1 w2 f0 f1 f2 piece result le none empty small took bounded consumed feeds = record {
   earlier = took.earlier ++ took.piece;
   piece = piece;
   consumed = Consumes-trans left0 left1 left2 (took.earlier ++ took.piece) piece took.consumed consumed;
   small = small;
+  reads = reads_on took.earlier took.piece took.reads took.small;
+  bounded = bounded;
   first = λ s stand.
       let bytes = took.earlier ++ took.piece in
       let a = took.feeds s stand in
@@ -212,32 +219,38 @@ took_on stands byte u0 u1 u2 r0 r1 r2 left0 left1 left2 w0 w1 w2 f0 f1 f2 piece 
   feeds = feeds_on stands byte u0 u1 u2 (took.earlier ++ took.piece) piece r0 r1 r2 w0 w1 w2 f0 f1 f2 result le took.feeds feeds;
 }
 
--- bytes were taken, and a piece was read behind them
-pub record HasRead {U S : Type 0} (stands : U → S → Type 0) (byte : S → ℕ → Outcome S) (old new : U) (ready ready' : List ℕ) (left left' written written' : Option (List ℕ)) (faults faults' : ℕ) (piece : List ℕ) : Type 0 where
+-- bytes were taken, no more than units have so far, and a piece was read behind them; the first read gave these
+pub record HasRead {U S : Type 0} (stands : U → S → Type 0) (byte : S → ℕ → Outcome S) (old new : U) (ready ready' : List ℕ) (left left' written written' : Option (List ℕ)) (faults faults' : ℕ) (piece first : List ℕ) (most : ℕ) : Type 0 where
   pub before : Option (List ℕ)
   pub took : Took stands byte old new ready ready' left before written written' faults faults' (Ok tt)
   pub read : Consumes before left' piece
+  pub far : length (took.earlier ++ took.piece) ≤ most
+  pub begins : BeginsWith first ((took.earlier ++ took.piece) ++ piece)
 
 -- nothing was read behind the bytes that were taken
-pub took_all : {U S : Type 0} (stands : U → S → Type 0) (byte : S → ℕ → Outcome S) (u0 u1 : U) (r0 r1 : List ℕ) (left left1 left2 w0 w1 : Option (List ℕ)) (f0 f1 : ℕ) (result : Result (Unit {0}) Interruption)
+abbrev pub took_all : {U S : Type 0} (stands : U → S → Type 0) (byte : S → ℕ → Outcome S) (u0 u1 : U) (r0 r1 : List ℕ) (left left1 left2 w0 w1 : Option (List ℕ)) (f0 f1 : ℕ) (result : Result (Unit {0}) Interruption)
     → Took stands byte u0 u1 r0 r1 left left1 w0 w1 f0 f1 result → Consumes left1 left2 [] → Took stands byte u0 u1 r0 r1 left left2 w0 w1 f0 f1 result
 took_all stands byte u0 u1 r0 r1 left left1 left2 w0 w1 f0 f1 result took none = record {
   earlier = took.earlier;
   piece = took.piece;
   consumed = subst (Consumes left left2) (append-nil (took.earlier ++ took.piece)) (Consumes-trans left left1 left2 (took.earlier ++ took.piece) [] took.consumed none);
   small = took.small;
+  reads = took.reads;
+  bounded = took.bounded;
   first = took.first;
   feeds = took.feeds;
 }
 
 -- the source failed behind bytes all of whose texts were written
-pub took_fails : {U S : Type 0} (stands : U → S → Type 0) (byte : S → ℕ → Outcome S) (u0 u1 : U) (r0 r1 : List ℕ) (left left1 left2 w0 w1 : Option (List ℕ)) (f0 f1 : ℕ)
+abbrev pub took_fails : {U S : Type 0} (stands : U → S → Type 0) (byte : S → ℕ → Outcome S) (u0 u1 : U) (r0 r1 : List ℕ) (left left1 left2 w0 w1 : Option (List ℕ)) (f0 f1 : ℕ)
     → r1 ≡ [] → Took stands byte u0 u1 r0 r1 left left1 w0 w1 f0 f1 (Ok tt) → Keeps left1 left2 → Took stands byte u0 u1 r0 r1 left left2 w0 w1 f0 f1 (Err SourceFault)
 took_fails stands byte u0 u1 r0 r1 left left1 left2 w0 w1 f0 f1 empty took keeps = record {
   earlier = took.earlier;
   piece = took.piece;
   consumed = Consumes-kept left left1 left2 (took.earlier ++ took.piece) took.consumed keeps;
   small = took.small;
+  reads = took.reads;
+  bounded = took.bounded;
   first = took.first;
   feeds = λ s stand.
       let bytes = took.earlier ++ took.piece in

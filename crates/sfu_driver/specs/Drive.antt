@@ -9,6 +9,7 @@ use Rattle.sfu_driver.specs.declared.halt.Halt.TheVariants.{Ended, Starved}
 use Rattle.sfu_driver.specs.declared.halt.Interruption.{Interruption}
 use Rattle.sfu_driver.specs.declared.halt.Interruption.TheVariants.{SourceFault, SinkFault, Halted}
 use Rattle.sfu_driver.specs.Outcome.{End, Outcome, ends_with, takes, then_due}
+use Rattle.sfu_driver.specs.Reads.{BeginsWith, CameInReads, most_bytes}
 
 -- ---- what is written
 
@@ -111,8 +112,15 @@ pub record Took {U S : Type 0} (stands : U → S → Type 0) (byte : S → ℕ �
   pub piece : List ℕ
   pub consumed : Consumes left left' (earlier ++ piece)
   pub small : length piece ≤ 65536
+  pub reads : CameInReads earlier
+  pub bounded : length earlier < most_bytes
   pub first : (state : S) → stands old state → WritesFirst byte state earlier written written'
   pub feeds : Feeds stands byte old (earlier ++ piece) new ready ready' written written' faults faults' result
+
+-- The same behind a first read.
+pub record TookBehind {U S : Type 0} (first : List ℕ) (stands : U → S → Type 0) (byte : S → ℕ → Outcome S) (old new : U) (ready ready' : List ℕ) (left left' written written' : Option (List ℕ)) (faults faults' : ℕ) (result : Result (Unit {0}) Interruption) : Type 0 where
+  pub took : Took stands byte old new ready ready' left left' written written' faults faults' result
+  pub begins : BeginsWith first (took.earlier ++ took.piece)
 
 -- A fault comes only where the count of its object rose.
 abbrev pub CauseOf : ℕ → ℕ → ℕ → ℕ → Result (Unit {0}) Interruption → Type 0
@@ -153,5 +161,12 @@ pub record Drove {U S T : Type 0} (stands : U → T → Type 0) (byte : S → �
   pub piece : List ℕ
   pub consumed : Consumes left left' (earlier ++ piece)
   pub small : length piece ≤ 65536
+  pub reads : CameInReads earlier
+  pub bounded : length earlier < most_bytes
   pub first : WritesFirst byte state earlier written written'
   pub by_result : DroveBy stands byte ends state (earlier ++ piece) new left' written written' faults faults' result
+
+-- The same behind a first read.
+pub record DroveBehind {U S T : Type 0} (first : List ℕ) (stands : U → T → Type 0) (byte : S → ℕ → Outcome S) (ends : S → Outcome T) (state : S) (new : U) (left left' written written' : Option (List ℕ)) (faults faults' : ℕ) (result : Result (Unit {0}) Interruption) : Type 0 where
+  pub drove : Drove stands byte ends state new left left' written written' faults faults' result
+  pub begins : BeginsWith first (drove.earlier ++ drove.piece)

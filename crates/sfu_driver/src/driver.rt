@@ -2,7 +2,7 @@
 ghost use Rattle.std.specs.Prelude.{◌≡◌, ◌≢◌, ◌≤◌, ◌<◌, ◌+◌, ℕ, List, Option, [], Ok, Err, OnOk, OnErr, IfOk, take, drop, length};
 ghost use Rattle.std.specs.Io.KnownBytes.{Appends, Consumes, IsAtEnd};
 ghost use Rattle.sfu_base.specs.Faults.{Rose};
-ghost use Rattle.sfu_driver.specs.Drive.{CauseOf, Drove, EndsBy, Feeds, Halts, Took, WritesPart};
+ghost use Rattle.sfu_driver.specs.Drive.{CauseOf, Drove, DroveBehind, EndsBy, Feeds, Halts, TookBehind, WritesPart};
 ghost use Rattle.sfu_driver.specs.Point.{Point, byte, ends};
 ghost use Rattle.sfu_driver.specs.Units.{JudgeStands, StandsAt, progress, rule_of};
 
@@ -117,7 +117,7 @@ fn take_all<C: Cut, J: Judge, S: Source, K: Sink>(
     requires within { first ≤ MOST_PIECE }
     requires end { first ≡ 0 → IsAtEnd (S.left source.old) }
     ensures took { (left : Option (List ℕ)) → Consumes left (S.left source.old) (take first piece.old)
-        → Took (StandsAt J.stands) (byte (rule_of C.scan C.scan_end J.step J.outside J.closing)) units.old units.new ready.old ready.new left (S.left source.new)
+        → TookBehind (take first piece.old) (StandsAt J.stands) (byte (rule_of C.scan C.scan_end J.step J.outside J.closing)) units.old units.new ready.old ready.new left (S.left source.new)
         (K.written sink.old) (K.written sink.new) (K.faults sink.old) (K.faults sink.new) result }
     ensures end { OnOk result (IsAtEnd (S.left source.new)) }
     ensures written { OnOk result (ready.new ≡ []) }
@@ -165,7 +165,7 @@ pub fn drive_behind<C: Cut, J: Judge, S: Source, K: Sink>(
     requires within { first ≤ MOST_PIECE }
     requires end { first ≡ 0 → IsAtEnd (S.left source.old) }
     ensures drove { (left : Option (List ℕ)) (point : Point J.State) → Consumes left (S.left source.old) (take first piece.old) → StandsAt J.stands units.old point
-        → Drove (JudgeStands J.stands) (byte (rule_of C.scan C.scan_end J.step J.outside J.closing)) (ends (rule_of C.scan C.scan_end J.step J.outside J.closing)) point units.new
+        → DroveBehind (take first piece.old) (JudgeStands J.stands) (byte (rule_of C.scan C.scan_end J.step J.outside J.closing)) (ends (rule_of C.scan C.scan_end J.step J.outside J.closing)) point units.new
         left (S.left source.new) (K.written sink.old) (K.written sink.new) (K.faults sink.old) (K.faults sink.new) result }
     ensures cause { CauseOf (S.faults source.old) (S.faults source.new) (K.faults sink.old) (K.faults sink.new) result }
     ensures never_falls { K.faults sink.old ≤ K.faults sink.new }
