@@ -2,6 +2,7 @@
 use Rattle.std.proofs.Common.{◌≡◌, ◌<◌, ◌≤◌, ◌⊎◌, inl, inr, ℕ, List, ◌++◌, refl, sym, ap, ◌∙◌, subst, arith, Option, Some, None, Result, Ok, Err}
 use Rattle.std.specs.Prelude.{IfSome, IsOk}
 use Rattle.std.specs.Io.KnownBytes.{Consumes, IsAtEnd}
+use Rattle.sfu_base.specs.Faults.{Rose}
 use Rattle.sfu_driver.specs.declared.halt.Ending.{Ending}
 use Rattle.sfu_driver.specs.declared.halt.Ending.TheVariants as ending
 use Rattle.sfu_driver.specs.declared.halt.Halt.TheVariants.{Ended, Starved}
@@ -155,14 +156,24 @@ says_by {U} {S} {T} stands byte ends s taken new left' w w' f f' (Err (Halted (E
   begun = begun_of stands byte ends s taken new left' w w' f f' (Err (Halted (Ended why))) d;
 }
 
-abbrev pub every_of : {U S T : Type 0} (stands : U → T → Type 0) (byte : S → ℕ → Outcome S) (ends : S → Outcome T) (s : S) (new : U) (left left' w w' : Option (List ℕ)) (f f' : ℕ) (result : Result (Unit {0}) Interruption)
-    → Drove stands byte ends s new left left' w w' f f' result
-    → OfEvery (λ bytes. due_of (then_due (takes byte s bytes) ends)) (λ taken. due_of (takes byte s taken)) left left' w w' f f' (status_for result)
-every_of stands byte ends s new left left' w w' f f' result d = record {
+pub completes_by : {U S T : Type 0} (stands : U → T → Type 0) (byte : S → ℕ → Outcome S) (ends : S → Outcome T) (s : S) (taken : List ℕ) (new : U) (left' w w' : Option (List ℕ)) (g g' f f' : ℕ) (result : Result (Unit {0}) Interruption)
+    → CauseOf g g' f f' result → DroveBy stands byte ends s taken new left' w w' f f' result → ¬ (Rose g g') → ¬ (Rose f f') → Completes (end_of (then_due (takes byte s taken) ends).result) (status_for result)
+completes_by stands byte ends s taken new left' w w' g g' f f' (Ok _) cause d a c = completes_none (end_of (then_due (takes byte s taken) ends).result) 0 (goes_by (then_due (takes byte s taken) ends).result d.1.0 d.1.1) (inl refl)
+completes_by stands byte ends s taken new left' w w' g g' f f' (Err SourceFault) cause d a c = absurd (a cause)
+completes_by stands byte ends s taken new left' w w' g g' f f' (Err SinkFault) cause d a c = absurd (c cause)
+completes_by stands byte ends s taken new left' w w' g g' f f' (Err (Halted Starved)) cause d a c = completes_six (end_of (then_due (takes byte s taken) ends).result)
+completes_by stands byte ends s taken new left' w w' g g' f f' (Err (Halted (Ended why))) cause d a c =
+    completes_some (end_of (then_due (takes byte s taken) ends).result) (end_by why d.1.0) (status_of why) (ended_by (then_due (takes byte s taken) ends).result (end_by why d.1.0) d.1.1) refl
+
+abbrev pub every_of : {U S T : Type 0} (stands : U → T → Type 0) (byte : S → ℕ → Outcome S) (ends : S → Outcome T) (s : S) (new : U) (left left' w w' : Option (List ℕ)) (g g' f f' : ℕ) (result : Result (Unit {0}) Interruption)
+    → CauseOf g g' f f' result → Drove stands byte ends s new left left' w w' f f' result
+    → OfEvery (λ bytes. due_of (then_due (takes byte s bytes) ends)) (λ taken. due_of (takes byte s taken)) left left' w w' g g' f f' (status_for result)
+every_of stands byte ends s new left left' w w' g g' f f' result cause d = record {
   prompt = prompt_of stands byte ends s new left left' w w' f f' result d;
-  reads = d.reads;
+  in_reads = d.reads;
   bounded = d.bounded;
   says = says_by stands byte ends s (d.earlier ++ d.piece) new left' w w' f f' result d.by_result;
+  complete = completes_by stands byte ends s (d.earlier ++ d.piece) new left' w w' g g' f f' result cause d.by_result;
 }
 
 pub statuses : {U S T : Type 0} (stands : U → T → Type 0) (byte : S → ℕ → Outcome S) (ends : S → Outcome T) (s : S) (new : U) (left left' w w' : Option (List ℕ)) (g g' f f' : ℕ) (result : Result (Unit {0}) Interruption)
@@ -182,7 +193,7 @@ statuses {U} {S} {T} stands byte ends s new left left' w w' g g' f f' (Ok _) cau
       begun = begun_by stands byte ends s new left left' w w' f f' (Ok tt) d;
       only = inl refl;
       complete = λ a c. if_some left _ _ (λ b x. completes_none (end_of (then_due (takes byte s b) ends).result) 0 (goes_by (then_due (takes byte s b) ends).result x.1.0 x.1.1) (inl refl)) t;
-      every = every_of stands byte ends s new left left' w w' f f' (Ok tt) d;
+      every = every_of stands byte ends s new left left' w w' g g' f f' (Ok tt) cause d;
     }
 statuses {U} {S} {T} stands byte ends s new left left' w w' g g' f f' (Err SourceFault) cause d =
     let t = told_if stands byte ends s new left left' w w' f f' (Err SourceFault) d in record {
@@ -198,7 +209,7 @@ statuses {U} {S} {T} stands byte ends s new left left' w w' g g' f f' (Err Sourc
       begun = begun_by stands byte ends s new left left' w w' f f' (Err SourceFault) d;
       only = inr (inl refl);
       complete = λ a c. absurd (a cause);
-      every = every_of stands byte ends s new left left' w w' f f' (Err SourceFault) d;
+      every = every_of stands byte ends s new left left' w w' g g' f f' (Err SourceFault) cause d;
     }
 statuses {U} {S} {T} stands byte ends s new left left' w w' g g' f f' (Err SinkFault) cause d =
     let t = told_if stands byte ends s new left left' w w' f f' (Err SinkFault) d in record {
@@ -214,7 +225,7 @@ statuses {U} {S} {T} stands byte ends s new left left' w w' g g' f f' (Err SinkF
       begun = begun_by stands byte ends s new left left' w w' f f' (Err SinkFault) d;
       only = inr (inr (inl refl));
       complete = λ a c. absurd (c cause);
-      every = every_of stands byte ends s new left left' w w' f f' (Err SinkFault) d;
+      every = every_of stands byte ends s new left left' w w' g g' f f' (Err SinkFault) cause d;
     }
 statuses {U} {S} {T} stands byte ends s new left left' w w' g g' f f' (Err (Halted Starved)) cause d =
     let t = told_if stands byte ends s new left left' w w' f f' (Err (Halted Starved)) d in record {
@@ -230,7 +241,7 @@ statuses {U} {S} {T} stands byte ends s new left left' w w' g g' f f' (Err (Halt
       begun = begun_by stands byte ends s new left left' w w' f f' (Err (Halted Starved)) d;
       only = inr (inr (inr (inl refl)));
       complete = λ a c. if_some left _ _ (λ b x. completes_six (end_of (then_due (takes byte s b) ends).result)) t;
-      every = every_of stands byte ends s new left left' w w' f f' (Err (Halted Starved)) d;
+      every = every_of stands byte ends s new left left' w w' g g' f f' (Err (Halted Starved)) cause d;
     }
 statuses {U} {S} {T} stands byte ends s new left left' w w' g g' f f' (Err (Halted (Ended why))) cause d =
     let t = told_if stands byte ends s new left left' w w' f f' (Err (Halted (Ended why))) d in record {
@@ -246,7 +257,7 @@ statuses {U} {S} {T} stands byte ends s new left left' w w' g g' f f' (Err (Halt
       begun = begun_by stands byte ends s new left left' w w' f f' (Err (Halted (Ended why))) d;
       only = inr (inr (inr (inr (d.earlier ++ d.piece, end_by why d.by_result.1.0, ended_by (then_due (takes byte s (d.earlier ++ d.piece)) ends).result (end_by why d.by_result.1.0) d.by_result.1.1, refl))));
       complete = λ a c. if_some left _ _ (λ b x. completes_some (end_of (then_due (takes byte s b) ends).result) (end_by why x.0) (status_of why) (ended_by (then_due (takes byte s b) ends).result (end_by why x.0) x.1) refl) t;
-      every = every_of stands byte ends s new left left' w w' f f' (Err (Halted (Ended why))) d;
+      every = every_of stands byte ends s new left left' w w' g g' f f' (Err (Halted (Ended why))) cause d;
     }
 
 -- the same behind a first read
@@ -255,6 +266,6 @@ pub statuses_behind : {U S T : Type 0} (first : List ℕ) (stands : U → T → 
     → StatusesBehind first (λ bytes. due_of (then_due (takes byte s bytes) ends)) (λ taken. due_of (takes byte s taken)) left left' w w' g g' f f' (status_for result)
 statuses_behind first stands byte ends s new left left' w w' g g' f f' result cause d = record {
   statuses = statuses stands byte ends s new left left' w w' g g' f f' result cause d.drove;
-  every = every_of stands byte ends s new left left' w w' f f' result d.drove;
+  every = every_of stands byte ends s new left left' w w' g g' f f' result cause d.drove;
   begins = d.begins;
 }

@@ -51,14 +51,15 @@ prompt_alike part part' left left' w w' x same = record {
   wrote = λ some. let y = x.wrote some in (y.0, subst (λ (d : Due). Appends w w' (d.text ++ y.0)) same y.1);
 }
 
-abbrev pub every_alike : (whole part whole' part' : List ℕ → Due) (left left' w w' : Option (List ℕ)) (f f' status : ℕ) (x : OfEvery whole part left left' w w' f f' status)
+abbrev pub every_alike : (whole part whole' part' : List ℕ → Due) (left left' w w' : Option (List ℕ)) (g g' f f' status : ℕ) (x : OfEvery whole part left left' w w' g g' f f' status)
     → whole (x.prompt.earlier ++ x.prompt.piece) ≡ whole' (x.prompt.earlier ++ x.prompt.piece)
-    → ((front more : List ℕ) → x.prompt.earlier ++ x.prompt.piece ≡ front ++ more → part front ≡ part' front) → OfEvery whole' part' left left' w w' f f' status
-every_alike whole part whole' part' left left' w w' f f' status x same same_part = record {
+    → ((front more : List ℕ) → x.prompt.earlier ++ x.prompt.piece ≡ front ++ more → part front ≡ part' front) → OfEvery whole' part' left left' w w' g g' f f' status
+every_alike whole part whole' part' left left' w w' g g' f f' status x same same_part = record {
   prompt = prompt_alike part part' left left' w w' x.prompt (same_part x.prompt.earlier x.prompt.piece refl);
-  reads = x.reads;
+  in_reads = x.in_reads;
   bounded = x.bounded;
   says = says_alike whole part whole' part' (x.prompt.earlier ++ x.prompt.piece) left' w w' f f' status same same_part x.says;
+  complete = λ a c. subst (λ (d : Due). Completes d.end status) same (x.complete a c);
 }
 
 -- What is due may be said in other words.
@@ -77,7 +78,7 @@ statuses_same whole part whole' part' left left' w w' g g' f f' status same same
   begun = if_some left _ _ (λ b x. subst (λ (d : Due). WritesFront w w' (full_text d)) (same b) x) s.begun;
   only = only_also s.only;
   complete = λ a c. if_some left _ _ (λ b x. subst (λ (d : Due). Completes d.end status) (same b) x) (s.complete a c);
-  every = every_alike whole part whole' part' left left' w w' f f' status s.every (same (s.every.prompt.earlier ++ s.every.prompt.piece)) (λ front more split. same_part front);
+  every = every_alike whole part whole' part' left left' w w' g g' f f' status s.every (same (s.every.prompt.earlier ++ s.every.prompt.piece)) (λ front more split. same_part front);
 }
   where
     decided_also : (why : Ending) (taken : List ℕ) → Decides part why left' taken → Decides part' why left' taken
@@ -97,6 +98,6 @@ pub behind_same : (first : List ℕ) (whole part whole' part' : List ℕ → Due
     → StatusesBehind first whole part left left' w w' g g' f f' status → StatusesBehind first whole' part' left left' w w' g g' f f' status
 behind_same first whole part whole' part' left left' w w' g g' f f' status same same_part s = record {
   statuses = statuses_same whole part whole' part' left left' w w' g g' f f' status same same_part s.statuses;
-  every = every_alike whole part whole' part' left left' w w' f f' status s.every (same (s.every.prompt.earlier ++ s.every.prompt.piece)) (λ front more split. same_part front);
+  every = every_alike whole part whole' part' left left' w w' g g' f f' status s.every (same (s.every.prompt.earlier ++ s.every.prompt.piece)) (λ front more split. same_part front);
   begins = s.begins;
 }

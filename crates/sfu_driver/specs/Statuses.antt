@@ -102,11 +102,13 @@ pub record SaysOf (whole part : List ℕ → Due) (taken : List ℕ) (left' writ
 
 -- What is said of every source. The bytes before the last piece came in reads that took some each, and units are bounded in length and
 -- number: so the reads are.
-pub record OfEvery (whole part : List ℕ → Due) (left left' written written' : Option (List ℕ)) (writes writes' status : ℕ) : Type 0 where
+pub record OfEvery (whole part : List ℕ → Due) (left left' written written' : Option (List ℕ)) (reads reads' writes writes' status : ℕ) : Type 0 where
   pub prompt : IsPrompt part left left' written written'
-  pub reads : CameInReads prompt.earlier
+  pub in_reads : CameInReads prompt.earlier
   pub bounded : length prompt.earlier < most_bytes
   pub says : SaysOf whole part (prompt.earlier ++ prompt.piece) left' written written' writes writes' status
+  -- where nothing outside fails, the status is the one of the bytes that were taken, or 6
+  pub complete : ¬ (Rose reads reads') → ¬ (Rose writes writes') → Completes (whole (prompt.earlier ++ prompt.piece)).end status
 
 -- What a status says. The first that is met ends the command.
 pub record Statuses (whole part : List ℕ → Due) (left left' written written' : Option (List ℕ)) (reads reads' writes writes' status : ℕ) : Type 0 where
@@ -132,10 +134,10 @@ pub record Statuses (whole part : List ℕ → Due) (left left' written written'
   pub only : (status ≡ 0) ⊎ (status ≡ 3) ⊎ (status ≡ 4) ⊎ (status ≡ 6) ⊎ ((bytes : List ℕ) × (end : End) × ((whole bytes).end ≡ Some end) × (status ≡ status_of end.why))
   pub complete : ¬ (Rose reads reads') → ¬ (Rose writes writes') → IfSome left (λ bytes. Completes (whole bytes).end status)
   -- of every source, also of one that tells nothing
-  pub every : OfEvery whole part left left' written written' writes writes' status
+  pub every : OfEvery whole part left left' written written' reads reads' writes writes' status
 
 -- The same behind a first read, with which the bytes begin that were taken.
 pub record StatusesBehind (first : List ℕ) (whole part : List ℕ → Due) (left left' written written' : Option (List ℕ)) (reads reads' writes writes' status : ℕ) : Type 0 where
   pub statuses : Statuses whole part left left' written written' reads reads' writes writes' status
-  pub every : OfEvery whole part left left' written written' writes writes' status
+  pub every : OfEvery whole part left left' written written' reads reads' writes writes' status
   pub begins : BeginsWith first (every.prompt.earlier ++ every.prompt.piece)
