@@ -16,8 +16,11 @@ usage: bench/serve/run.py [--program FILE] [--seconds N] [--rate N] [PART...]   
   idle      64 ports at which nothing comes: the processors that they take
   burst     the longest burst, sent back to back, of which the system drops nothing: at one publisher's port of 2, 16 and 64, and at all at once
   strangers a track before and while strangers send 200,000 datagrams a second to its publisher's port
+  calls     how often the system is called for a packet that goes out; it needs perf, and leave to count (root)
 """
 import argparse
+import shutil
+import signal
 import socket
 import subprocess
 import sys
@@ -30,7 +33,7 @@ from common import (
     sound, tool, wait_for, waits,
 )
 
-PARTS = ['plain', 'layered', 'resend', 'hostile', 'control', 'ports', 'idle', 'burst', 'strangers']
+PARTS = ['plain', 'layered', 'resend', 'hostile', 'control', 'ports', 'idle', 'burst', 'strangers', 'calls']
 RELAY = 23000
 
 
@@ -227,6 +230,40 @@ def dialogue():
     print(f'control: {len(first) + len(second)} lines; the subscriber that a line joined received {counts[1]} packets, the other {counts[0]}')
 
 
+CALLS = ['recvfrom', 'sendto', 'clock_nanosleep', 'sched_yield', 'futex']
+
+
+def calls():
+    """How often the system is called, and threads are switched, for a packet that goes out."""
+    names = [f'syscalls:sys_enter_{name}' for name in CALLS] + ['raw_syscalls:sys_enter', 'context-switches']
+    counting = ['perf', 'stat', '-x', ',', '-e', ','.join(names)]
+    if shutil.which('perf') is None or subprocess.run(counting + ['true'], capture_output=True).returncode != 0:
+        print('calls: perf isn\'t here or may not count: left out')
+        return
+    seconds = min(options.seconds, 10)
+    print(f'calls of the system for a packet that goes out, {options.rate} come in a second, {seconds} s')
+    print('  track    subscribers  packets out  ' + '  '.join(CALLS) + '  others  switches')
+    for kind in ('plain', 'layered'):
+        for count in (1, 2, 4):
+            ssrcs = [f'222222{s:02x}' for s in range(1, count + 1)]
+            head = f'publish 1 {kind} 11111111 30' + (' 4' if kind == 'layered' else '')
+            serving = Serving([head] + [f'join {s + 1} 1 {ssrcs[s]} 0 1 1' for s in range(count)],
+                              ['publisher 1 11111111'] + [f'subscriber {s + 1} {ssrcs[s]}' for s in range(count)])
+            taking = receivers(range(1, count + 1), ssrcs)
+            watching = subprocess.Popen(counting + ['-p', str(serving.sfu.pid)], stderr=subprocess.PIPE, text=True)
+            time.sleep(0.5)
+            sender(0, kind, '11111111', options.rate, seconds).wait()
+            watching.send_signal(signal.SIGINT)
+            counted = [int(row.split(',')[0]) for row in watching.communicate()[1].splitlines() if ',' in row]
+            taking.stop()
+            serving.end()
+            out = sum(row['received'] for row in taking.rows())
+            *named, whole, switched = counted
+            parts = [*named, whole - sum(named), switched]
+            print(f'  {kind:<9}{count:11}  {out:11}  ' + '  '.join(f'{part / out:{max(len(name), 6)}.3f}'
+                  for name, part in zip([*CALLS, 'others', 'switches'], parts)), flush=True)
+
+
 def ports():
     """21 publishers, 42 subscribers and a controller."""
     opening, roles = room_of(TRACKS)
@@ -356,7 +393,7 @@ options = reader.parse_args()
 if any(part not in PARTS for part in options.parts):
     reader.error(f'the parts are {", ".join(PARTS)}')
 run = {'plain': lambda: rates('plain'), 'layered': lambda: rates('layered'), 'resend': resend, 'hostile': hostile, 'control': dialogue, 'ports': ports,
-       'idle': idle, 'burst': burst, 'strangers': strangers}
+       'idle': idle, 'burst': burst, 'strangers': strangers, 'calls': calls}
 with prepared(options.program):
     for part in PARTS:
         if part in (options.parts or PARTS):
