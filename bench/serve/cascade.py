@@ -16,7 +16,7 @@ import tempfile
 import time
 from pathlib import Path
 
-from running import NEVER, Started, built, check, compile_tools, drops, problems, processor_seconds, wait_for
+from common import NEVER, Started, built, check, compile_tools, drops, problems, processor_seconds, wait_for
 
 SIZE = 1200
 LEAVES, SUBSCRIBERS = 2, 2                    # leaves of the root, and subscribers of each leaf
@@ -91,7 +91,7 @@ def tree(percent):
     wait_for([PEER + link(leaf)[3] + s - LEAF for leaf, s in places])
     leaves = [leaf_room(leaf, percent) for leaf in range(1, LEAVES + 1)]
     rooms = [root(percent)] + leaves
-    sending = Started([work / 'send', PEER, ROOT, 'layered', '11111111', options.rate, options.seconds, SIZE, 0, 1, 0])
+    sending = Started([work / 'send', PEER, ROOT, 'layered', '11111111', options.rate, options.seconds, SIZE, 0, 1, 0, 1])
     sent = sending.rows()[0]
     costs = [room.cost() for room in rooms]
     time.sleep(1)
