@@ -1,5 +1,6 @@
 // What the program does, by the words that it is given.
 mod check;
+mod faults;
 mod meeting;
 mod record;
 mod records;

@@ -283,3 +283,73 @@ fn a_controllers_link_fails(rt: HostRuntime) -> Result<(), Fail> {
     }
     Ok(())
 }
+
+// A key frame and a frame that refers to it, as they come to a layered track and as they go out to a subscriber from number 65535 on.
+const CAME: [&[u8]; 2] = [
+    b"\x90\xe0\x03\xe8\0\0\0\0\x11\x11\x11\x11\xbe\xde\0\x03\x48\xc0\0\x01\x80\0\x3a\x41\x01\0\0\0\x18\x30\0",
+    b"\x90\xe0\x03\xe9\0\0\0\0\x11\x11\x11\x11\xbe\xde\0\x01\x42\xc1\0\x02\x10\x30\0",
+];
+
+const GOES: [&[u8]; 2] = [
+    b"\x90\xe0\xff\xff\0\0\0\0\x22\x22\x22\x22\xbe\xde\0\x03\x48\xc0\0\x01\xc0\0\x3a\x41\x01\x40\0\0\x18\x30\0",
+    b"\x90\xe0\0\0\0\0\0\0\x22\x22\x22\x22\xbe\xde\0\x01\x42\xc1\0\x02\x10\x30\0",
+];
+
+// Each receive and each send of a subscriber's link fails in turn.
+#[test]
+fn a_subscriber_of_a_layered_track_is_sent_its_frames(rt: HostRuntime) -> Result<(), Fail> {
+    let mut calls = Vec::new(rt.alloc());
+    calls.push(Call::Publish {
+        track: 1,
+        kind: Kind::Layered { id: 4 },
+        ssrc: SSRC,
+        hold: 100,
+    })?;
+    calls.push(Call::Join {
+        subscriber: 1,
+        track: 1,
+        ssrc: OUT_SSRC,
+        first: 65535,
+        wish: Wish {
+            spatial: 0,
+            temporal: 0,
+        },
+    })?;
+    for came in CAME {
+        let mut bytes = PacketBuf::new();
+        if came.len() <= 2048 {
+            bytes.fill(came);
+        }
+        calls.push(Call::Packet {
+            track: 1,
+            moment: 0,
+            bytes,
+        })?;
+    }
+    let cases: [(&[u64], &[u64], SessionEnd, &[&[u8]]); 4] = [
+        (&[], &[], SessionEnd::AllTurns, &GOES),
+        (&[0], &[], SessionEnd::LinkFault { turn: 0 }, &[]),
+        (&[], &[0], SessionEnd::LinkFault { turn: 0 }, &[]),
+        (&[], &[1], SessionEnd::LinkFault { turn: 0 }, &GOES[..1]),
+    ];
+    for (receive_fails, send_fails, wanted, sent) in cases {
+        let (turns, mut seat) = room_after(&rt, rt.alloc(), calls.as_slice())?;
+        let mut link = link(rt.alloc(), &[], receive_fails, send_fails)?;
+        let clock = StepClock::new(0, 20);
+        let mut scratch = empty_scratch();
+        let end = subscriber_session(
+            &rt,
+            &turns,
+            &mut seat,
+            1,
+            OUT_SSRC,
+            &mut link,
+            &clock,
+            1,
+            &mut scratch,
+        );
+        assert_eq!(rt; end, wanted);
+        assert!(rt; has_sent(&link, sent));
+    }
+    Ok(())
+}
