@@ -13,3 +13,4 @@ pub mod ServeBacks
 pub mod ServeRun
 pub mod ServeActing
 pub mod ServeForms
+pub mod ServeRoles
