@@ -120,19 +120,19 @@ owes_now way i (Post what next) owed o = o.0
 owes_now way i Over owed o = o
 
 all_sent : (way : Option Rtx) (i : ℕ) (d : Doing) (ss : List (Step Call Answer)) (rest : Doing) (owed : List Datagram) → Leads IsOne d ss rest → Owes way i d owed
-    → AreSent (owed ++ all_given way i (said_of ss)) (sent_of ss) (unsent_datagram rest)
+    → AreSent (sent_of ss) (owed ++ all_given way i (said_of ss)) (unsent_datagram rest)
 unfolding Owes all_given
 all_sent way i d [] rest owed p o = append-nil owed ∙ (owes_now way i d owed o ∙ ap unsent_datagram p)
 all_sent way i (Listen f) (Heard got moment ∷ ss) rest owed p o =
-    subst (λ (l : List Datagram). AreSent (l ++ all_given way i (said_of ss)) (sent_of ss) (unsent_datagram rest)) (sym o.0)
+    subst (λ (l : List Datagram). AreSent (sent_of ss) (l ++ all_given way i (said_of ss)) (unsent_datagram rest)) (sym o.0)
     (all_sent way i p.0 ss rest [] p.2 (subst (λ (e : Doing). Owes way i e []) p.1 (o.1 got moment)))
 all_sent way i (Ask call f) (Said said answer ∷ ss) rest owed p o =
     let later : Owes way (count_on i call answer) p.0 (given_on way i call answer) = subst (λ (e : Doing). Owes way (count_on i call answer) e (given_on way i call answer)) p.1.1 (o.1 answer) in
     let now : Owes way (count_on i said answer) p.0 (given_on way i said answer) = subst (λ (c : Call). Owes way (count_on i c answer) p.0 (given_on way i c answer)) (sym p.1.0) later in
-    subst (λ (l : List Datagram). AreSent (l ++ (given_on way i said answer ++ all_given way (count_on i said answer) (said_of ss))) (sent_of ss) (unsent_datagram rest)) (sym o.0)
+    subst (λ (l : List Datagram). AreSent (sent_of ss) (l ++ (given_on way i said answer ++ all_given way (count_on i said answer) (said_of ss))) (unsent_datagram rest)) (sym o.0)
     (all_sent way (count_on i said answer) p.0 ss rest (given_on way i said answer) p.2 now)
 all_sent way i (Post what next) (Posted packet ∷ ss) rest owed p o =
-    subst (λ (l : List Datagram). AreSent (l ++ all_given way i (said_of ss)) (packet ∷ sent_of ss) (unsent_datagram rest)) (sym o.0)
+    subst (λ (l : List Datagram). AreSent (packet ∷ sent_of ss) (l ++ all_given way i (said_of ss)) (unsent_datagram rest)) (sym o.0)
     (p.1.0, all_sent way i p.0 ss rest [] p.2 (subst (λ (e : Doing). Owes way i e []) p.1.1 o.1))
 all_sent way i d (s ∷ ss) rest owed p o = absurd p.1
 
@@ -185,17 +185,19 @@ module _ (way : Option Rtx) where
   deed_owes : (i subscriber ssrc limit : ℕ) → Owes way i (outgoing_deed subscriber ssrc way limit (i % 65536)) []
   unfolding Owes AllOwe
   deed_owes i subscriber ssrc zero = refl
-  deed_owes i subscriber ssrc (suc left) =
-      (refl, λ got moment. hears_owe i subscriber ssrc got (λ (later : ℕ). takes subscriber 32 (outgoing_deed subscriber ssrc way left later))
-      (λ j. takes_owe j subscriber 32 (outgoing_deed subscriber ssrc way left (j % 65536)) (deed_owes j subscriber ssrc left)))
+  deed_owes i subscriber ssrc (suc left) = (
+    refl,
+    λ got moment. hears_owe i subscriber ssrc got (λ (later : ℕ). takes subscriber 32 (outgoing_deed subscriber ssrc way left later))
+        (λ j. takes_owe j subscriber 32 (outgoing_deed subscriber ssrc way left (j % 65536)) (deed_owes j subscriber ssrc left)),
+  )
 
   -- What such a session sent is what its seat's takes and resends gave in the history, in order; where its last send failed, that
   -- datagram is unsent.
   pub sent_datagrams : (subscriber ssrc limit number found : ℕ) (history : List (Entry Call)) (told told' : Option Traffic) (before after : ℕ) (end : SessionEnd)
       → (s : IsSession (outgoing_deed subscriber ssrc way limit 0) limit number found history told told' before after end)
-      → AreSent (datagrams_given way 0 (words_of number history)) (sent_of s.steps) (unsent_datagram s.rest)
+      → AreSent (sent_of s.steps) (datagrams_given way 0 (words_of number history)) (unsent_datagram s.rest)
   sent_datagrams subscriber ssrc limit number found history told told' before after end s =
-      subst (λ (l : List Datagram). AreSent l (sent_of s.steps) (unsent_datagram s.rest)) (ap (all_given way 0) (sym s.words) ∙ words_only way 0 [] number history)
+      subst (λ (l : List Datagram). AreSent (sent_of s.steps) l (unsent_datagram s.rest)) (ap (all_given way 0) (sym s.words) ∙ words_only way 0 [] number history)
       (all_sent way 0 (outgoing_deed subscriber ssrc way limit 0) s.steps s.rest [] s.leads (deed_owes 0 subscriber ssrc limit))
 
 -- ---- resent packets that go out as they were sent
@@ -225,7 +227,7 @@ bytes_again : (ps : List (List ℕ)) → bytes_of_all (map Bytes ps) ≡ ps
 bytes_again [] = refl
 bytes_again (p ∷ ps) = ap (λ (l : List (List ℕ)). p ∷ l) (bytes_again ps)
 
-as_bytes : (ps sent : List (List ℕ)) (left : List Datagram) → AreSent (map Bytes ps) sent left → ps ≡ sent ++ bytes_of_all left
+as_bytes : (ps sent : List (List ℕ)) (left : List Datagram) → AreSent sent (map Bytes ps) left → ps ≡ sent ++ bytes_of_all left
 as_bytes ps [] left are = sym (bytes_again ps) ∙ ap bytes_of_all are
 as_bytes [] (x ∷ sent) left are = absurd are
 as_bytes (p ∷ ps) (x ∷ sent) left are = ap (λ (y : List ℕ). y ∷ ps) (sym are.0) ∙ ap (λ (l : List (List ℕ)). x ∷ l) (as_bytes ps sent left are.1)
@@ -243,6 +245,6 @@ pub sent_packets : (subscriber ssrc limit number found : ℕ) (history : List (E
     → (s : IsSession (subscriber_deed subscriber ssrc limit) limit number found history told told' before after end) → packets_given (words_of number history) ≡ sent_of s.steps ++ unsent s.rest
 sent_packets subscriber ssrc limit number found history told told' before after end s =
     as_bytes (packets_given (words_of number history)) (sent_of s.steps) (unsent_datagram s.rest)
-    (subst (λ (l : List Datagram). AreSent l (sent_of s.steps) (unsent_datagram s.rest)) (all_bytes 0 (words_of number history))
+    (subst (λ (l : List Datagram). AreSent (sent_of s.steps) l (unsent_datagram s.rest)) (all_bytes 0 (words_of number history))
     (sent_datagrams None subscriber ssrc limit number found history told told' before after end s))
     ∙ ap (λ (l : List (List ℕ)). sent_of s.steps ++ l) (unsent_bytes s.rest)

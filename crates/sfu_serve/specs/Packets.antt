@@ -54,7 +54,7 @@ unsent_datagram (Post what next) = what ∷ []
 unsent_datagram rest = []
 
 -- these bytes were sent as the datagrams, in order, and the others are left
-abbrev pub AreSent : List Datagram → List (List ℕ) → List Datagram → Type 0
-AreSent datagrams [] left = datagrams ≡ left
-AreSent [] (bytes ∷ sent) left = ⊥
-AreSent (what ∷ datagrams) (bytes ∷ sent) left = IsOne what bytes × AreSent datagrams sent left
+abbrev pub AreSent : List (List ℕ) → List Datagram → List Datagram → Type 0
+AreSent [] datagrams left = datagrams ≡ left
+AreSent (bytes ∷ sent) [] left = ⊥
+AreSent (bytes ∷ sent) (what ∷ datagrams) left = IsOne what bytes × AreSent sent datagrams left

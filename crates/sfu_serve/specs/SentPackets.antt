@@ -23,4 +23,4 @@ SubscribersSendWhatTheyWereGiven = (subscriber ssrc limit number found : ℕ) (h
 abbrev pub RtxSessionsSendWhatTheyWereGiven : Type 0
 RtxSessionsSendWhatTheyWereGiven = (subscriber ssrc : ℕ) (rtx : Rtx) (limit number found : ℕ) (history : List (Entry Call)) (told told' : Option Traffic) (before after : ℕ) (end : SessionEnd)
     → (s : IsSession (rtx_deed subscriber ssrc rtx limit) limit number found history told told' before after end)
-    → AreSent (datagrams_given (Some rtx) 0 (words_of number history)) (sent_of s.steps) (unsent_datagram s.rest)
+    → AreSent (sent_of s.steps) (datagrams_given (Some rtx) 0 (words_of number history)) (unsent_datagram s.rest)

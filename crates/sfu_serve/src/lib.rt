@@ -17,9 +17,7 @@ mod subscriber;
 
 pub use control::control_session;
 pub use ends::SessionEnd;
-pub use laws::{
-    rtx_sessions_send_what_they_were_given, subscribers_send_what_they_were_given,
-};
+pub use laws::{rtx_sessions_send_what_they_were_given, subscribers_send_what_they_were_given};
 pub use publisher::publisher_session;
 pub use run::{Ended, Job, Role, run_sessions};
 pub use shared_room::SharedRoom;

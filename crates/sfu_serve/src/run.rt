@@ -18,9 +18,15 @@ use turn_lock::{Seat, Turns};
 #[derive(Clone, Copy, Debug, PartialEq, Eq)]
 pub enum Role {
     /// The publisher of a track.
-    Publisher { track: u32, ssrc: u32 },
+    Publisher {
+        track: u32,
+        ssrc: u32,
+    },
     /// A subscriber.
-    Subscriber { subscriber: u32, ssrc: u32 },
+    Subscriber {
+        subscriber: u32,
+        ssrc: u32,
+    },
     /// A controller.
     Control,
     /// A subscriber whose resent packets go out on a stream of their own (RFC 4588). Its SSRC differs from that of the media, and its payload

@@ -1,4 +1,4 @@
-use Rattle.std.proofs.Common.{◌≡◌, ◌+◌, ◌%◌, ℕ, ap, sym}
+use Rattle.std.proofs.Common.{◌+◌, ◌%◌, ℕ}
 use Rattle.sfu_base.specs.Answer.{Answer}
 use Rattle.deeds.specs.Deeds.{Post}
 use Rattle.sfu_serve.specs.Sessions.{Doing, resends, resent}
@@ -14,7 +14,7 @@ returns-in-Ok-post_again g c = record {
       let more : Doing = next ((n + 1) % 65536) in
       let d = c.in-Ok.ensures.said f (g.L.Link.told c.args.link.now) (g.L.Link.faults c.args.link.now) in
       let e = leaves (f _) (Post (resent c.args.way n c.say.new.scratch.packet) more) (resends_packet c.args.way n c.in-Ok.reply c.say.new.scratch.packet c.say.new.scratch.names next c.in-Packet.is) d in
-      leaves more (next _) (ap next (sym c.wrapping_add.ensures)) (after e (c.in-Ok-post_again.ensures.part more c.say.new.seat e.fits));
+      after e (c.in-Ok-post_again.ensures.part more c.say.new.seat e.fits);
 }
 
 pub returns-in-Err-post_again : goal.returns-in-Err-post_again

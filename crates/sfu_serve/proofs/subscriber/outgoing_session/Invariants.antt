@@ -7,4 +7,4 @@ abbrev pub invariant-loop-turn : goal.invariant-loop-turn
 invariant-loop-turn g l =
     (l.turn ≤ l.limit)
     × Done (outgoing_deed l.fn.subscriber l.fn.ssrc l.fn.way l.limit 0) (outgoing_deed l.fn.subscriber l.fn.ssrc l.fn.way (l.limit - l.turn) l.number)
-        l.fn.seat l.seat (g.L.Link.told l.fn.link) (g.L.Link.told l.link) (g.L.Link.faults l.fn.link) (g.L.Link.faults l.link) l.turn
+    l.fn.seat l.seat (g.L.Link.told l.fn.link) (g.L.Link.told l.link) (g.L.Link.faults l.fn.link) (g.L.Link.faults l.link) l.turn
