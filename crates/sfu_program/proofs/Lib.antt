@@ -5,3 +5,4 @@ pub mod ServeBacks
 pub mod ServeRun
 pub mod ServeActing
 pub mod ServeForms
+pub mod ServeRoles

@@ -13,6 +13,10 @@ use std::thread::Threads;
 pub const CONFIGURATION: &str =
     "publish 1 plain 11111111 100\njoin 1 1 22222222 7 0 0\nport 127.0.0.1:5000 127.0.0.1:6000 publisher 1 11111111\nport 127.0.0.1:5001 127.0.0.1:6001 subscriber 1 22222222\n";
 
+// The subscriber's resends go out on a stream of their own.
+const WITH_RTX: &str =
+    "publish 1 plain 11111111 100\njoin 1 1 22222222 7 0 0\nport 127.0.0.1:5000 127.0.0.1:6000 publisher 1 11111111\nport 127.0.0.1:5001 127.0.0.1:6001 rtx 1 22222222 33333333 97\n";
+
 const REPLIES: &str = "ok\nok\n";
 
 const ALL: &str = "ok\nok\nsession 1 all\nsession 2 all\n";
@@ -81,9 +85,15 @@ fn links(alloc: Global, place: u64, turn: u64) -> Result<Vec<MemLink>, AllocErro
 #[test]
 fn sessions_over_calm_ports_make_all_their_turns(rt: HostRuntime) -> Result<(), Fail> {
     let alloc = rt.alloc();
-    for turns in ["1", "20"] {
+    let rows = [
+        ("1", CONFIGURATION),
+        ("20", CONFIGURATION),
+        ("1", WITH_RTX),
+        ("20", WITH_RTX),
+    ];
+    for (turns, configuration) in rows {
         let mut ports = CalmPorts::new(alloc)?;
-        let (status, written) = served(&rt, alloc, turns, CONFIGURATION.as_bytes(), &mut ports)?;
+        let (status, written) = served(&rt, alloc, turns, configuration.as_bytes(), &mut ports)?;
         assert_eq!(rt; written.as_slice(), ALL.as_bytes());
         assert_eq!(rt; status, 0);
     }
@@ -209,8 +219,12 @@ fn a_failed_bind_starts_no_session_and_gives_the_ports_back(rt: HostRuntime) -> 
 #[test]
 fn a_line_outside_the_grammar_binds_no_port(rt: HostRuntime) -> Result<(), Fail> {
     let alloc = rt.alloc();
-    let rows: [(&str, &str); 4] = [
+    let rows: [(&str, &str); 5] = [
         ("take 1\n", "line 1\n"),
+        (
+            "port 127.0.0.1:5000 127.0.0.1:6000 rtx 1 22222222 33333333 64\n",
+            "line 1\n",
+        ),
         (
             "publish 1 plain 11111111 100\nport 127.0.0.1:5000\n",
             "line 2\n",

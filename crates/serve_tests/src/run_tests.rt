@@ -1,9 +1,10 @@
 //! Sessions at once, over links in memory and over calm ones.
 
 use crate::session_tests::{NACK, SSRC, has_sent, link, room_after, rtp};
-use crate::tests::publish;
-use crate::{Job, Role, SessionEnd, run_sessions};
+use crate::shared_room_tests::publish;
+use rtx_stream::Rtx;
 use sfu_base::{CalmLink, StepClock};
+use sfu_serve::{Job, Role, SessionEnd, run_sessions};
 use std::test::Fail;
 
 // A controller and a publisher, whose second packet comes too early: whichever turns come first, the one is refused and the other is asked
@@ -55,15 +56,23 @@ fn calm_links_have_all_their_turns(rt: HostRuntime) -> Result<(), Fail> {
             ssrc: SSRC,
         },
         Role::Control,
+        Role::Rtx {
+            subscriber: 1,
+            ssrc: SSRC,
+            rtx: Rtx {
+                ssrc: 0x3333_3333,
+                payload_type: 97,
+            },
+        },
     ];
-    let [first, second, third] = roles.map(|role| Job {
+    let [first, second, third, fourth] = roles.map(|role| Job {
         role,
         link: CalmLink::new(),
     });
-    let jobs = vec![in rt.alloc(); first, second, third]?;
+    let jobs = vec![in rt.alloc(); first, second, third, fourth]?;
     let clock = StepClock::new(0, 1);
     let ended = run_sessions(&rt, rt.alloc(), &turns, &mut seat, jobs, &clock, 3)?;
-    assert_eq!(rt; ended.len(), 3);
+    assert_eq!(rt; ended.len(), 4);
     for one in &ended {
         assert_eq!(rt; one.end, SessionEnd::AllTurns);
     }

@@ -1,9 +1,9 @@
 //! A room behind the lock, used by seats of one thread and of two.
 ghost use Rattle.std.specs.Prelude.{◌≡◌, []};
 
-use crate::SharedRoom;
 use room_core::{KeepNone, Room};
 use sfu_base::{Call, Kind, PacketBuf, Refusal, Reply, Scratch, SeqList, Wish};
+use sfu_serve::SharedRoom;
 use std::alloc::Global;
 use std::sync::Wait;
 use std::test::Fail;
