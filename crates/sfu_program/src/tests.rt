@@ -1,6 +1,5 @@
 // What the program does, by the words that it is given.
 mod check;
-mod gate;
 mod meeting;
 mod record;
 mod records;
