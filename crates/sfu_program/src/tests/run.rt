@@ -10,7 +10,8 @@ const FIRST: &str =
 
 const FIRST_REPLIES: &str = "ok\nok\nempty\nok\n";
 
-pub const USAGE: &str = "usage: run, together, trial, check, record, serve, convert, cascade, help\n";
+pub const USAGE: &str =
+    "usage: run, together, trial, check, record, serve, convert, cascade, help\n";
 
 /// Words of these texts.
 pub fn words(alloc: Global, texts: &[&str]) -> Result<Vec<String>, AllocError> {
