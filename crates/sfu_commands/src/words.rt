@@ -59,12 +59,14 @@ fn read_four(name: &str, frames: &str, start: &str, loss: &str) -> Option<Comman
             loss: made.loss,
         });
     }
-    let made = read_stream("cascade", name, frames, start, loss)?;
-    Some(Command::Cascade {
-        frames: made.frames,
-        start: made.start,
-        loss: made.loss,
-    })
+    match read_stream("cascade", name, frames, start, loss) {
+        Some(made) => Some(Command::Cascade {
+            frames: made.frames,
+            start: made.start,
+            loss: made.loss,
+        }),
+        None => None,
+    }
 }
 
 /// The command that the words are; `None` exactly when they are none.
