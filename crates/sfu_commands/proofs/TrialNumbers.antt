@@ -8,7 +8,7 @@ use Rattle.sfu_script.proofs.Filled.{number_again, number_found}
 use Rattle.sfu_script.proofs.Options.{bind_some, some_same}
 use Rattle.stream_maker.specs.Stream.{Stream}
 use Rattle.sfu_commands.specs.declared.words.Command.{Command}
-use Rattle.sfu_commands.specs.declared.words.Command.TheVariants.{Run, Convert, Help, Check, Record, Trial}
+use Rattle.sfu_commands.specs.declared.words.Command.TheVariants.{Run, Convert, Simulcast, Help, Check, Record, Trial}
 use Rattle.sfu_commands.specs.Trial.{IsTrial}
 use Rattle.sfu_commands.specs.TrialWords.{IsNumber, SaysTrial}
 use Rattle.sfu_commands.specs.Words.{Reads, Says}
@@ -84,6 +84,7 @@ no_other : (name frames start loss : List ℕ) (c : Command) → ((s : Stream) �
     → ¬ (Says (name ∷ frames ∷ start ∷ loss ∷ []) c)
 no_other name frames start loss Run none says = cc
 no_other name frames start loss Convert none says = cc
+no_other name frames start loss Simulcast none says = cc
 no_other name frames start loss Help none says = cc
 no_other name frames start loss (Check id) none says = let e = says.2 in cc
 no_other name frames start loss (Record id) none says = let e = says.2 in cc
@@ -95,6 +96,7 @@ four_read : (name frames start loss : List ℕ) (o : Option Command)
 four_read name frames start loss None h = λ form. no_other name frames start loss form.0 h form.1
 four_read name frames start loss (Some Run) h = absurd h
 four_read name frames start loss (Some Convert) h = absurd h
+four_read name frames start loss (Some Simulcast) h = absurd h
 four_read name frames start loss (Some Help) h = absurd h
 four_read name frames start loss (Some (Check id)) h = absurd h
 four_read name frames start loss (Some (Record id)) h = absurd h

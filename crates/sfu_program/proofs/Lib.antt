@@ -13,3 +13,5 @@ pub mod ServeBacks
 pub mod ServeRun
 pub mod ServeActing
 pub mod ServeForms
+mod SimulcastServing
+mod SimulcastReplies

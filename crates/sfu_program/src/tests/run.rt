@@ -12,7 +12,7 @@ const FIRST_REPLIES: &str = "ok\nok\nempty\nok\n";
 // The texts of `FIRST`, one for each line, and the last text where its next line is outside the grammar.
 const TEXTS: [&str; 5] = ["ok\n", "ok\n", "empty\n", "ok\n", "line 5\n"];
 
-const USAGE: &str = "usage: run, together, trial, check, record, serve, convert, help\n";
+const USAGE: &str = "usage: run, together, trial, check, record, serve, convert, simulcast, help\n";
 
 /// Gives a script byte by byte.
 #[derive(Drop)]

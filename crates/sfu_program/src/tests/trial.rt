@@ -23,7 +23,7 @@ const MANY_LOST: &str = "made 203 frames 310 packets\nlost 52 repeated 51 swappe
     subscriber 1 frames 12 packets 21 complaints 0\nsubscriber 2 frames 9 packets 17 complaints 0\n\
     subscriber 3 frames 5 packets 9 complaints 0\n";
 
-const USAGE: &str = "usage: run, together, trial, check, record, serve, convert, help\n";
+const USAGE: &str = "usage: run, together, trial, check, record, serve, convert, simulcast, help\n";
 
 // Takes a text byte by byte.
 #[derive(Drop)]
