@@ -13,5 +13,6 @@ pub fn bits_read_back()
 /// ns(n), for n below 2^32: a number below n reads back, and what is read has these bits alone.
 pub fn ns_reads_back()
     ensures back { (n v : ℕ) (rest : List Bool) → n < 2 ^ 32 → v < n → non_symmetric n (non_symmetric_bits n v ++ rest) ≡ Some (v, rest) }
-    ensures spelled { (n v : ℕ) (bits rest : List Bool) → 1 ≤ n → n < 2 ^ 32 → non_symmetric n bits ≡ Some (v, rest) → (bits ≡ non_symmetric_bits n v ++ rest) × (v < n) }
+    ensures spelled { (n v : ℕ) (bits rest : List Bool) → 1 ≤ n → n < 2 ^ 32 → non_symmetric n bits ≡ Some (v, rest)
+        → (bits ≡ non_symmetric_bits n v ++ rest) × (v < n) }
 {}

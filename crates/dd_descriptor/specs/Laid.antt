@@ -43,7 +43,8 @@ laid_distances (size ∷ sizes) (d ∷ ds) = laid_distance size d ++ laid_distan
 
 unfoldable pub laid_frame : List ℕ → Custom → FrameContent → List Bool
 laid_frame sizes custom f =
-    where_custom custom.dtis (flat_map indication_bits f.indications) ++ (where_custom custom.fdiffs (laid_distances sizes f.distances) ++ where_custom custom.chains (flat_map (bits_of 8) f.links))
+    where_custom custom.dtis (flat_map indication_bits f.indications)
+    ++ (where_custom custom.fdiffs (laid_distances sizes f.distances) ++ where_custom custom.chains (flat_map (bits_of 8) f.links))
 
 -- what stands after the first three bytes
 unfoldable pub laid_more : ℕ → Layout → Content → List Bool

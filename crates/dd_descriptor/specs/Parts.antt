@@ -62,7 +62,8 @@ GivesParts (Err e) given = given ≡ Err e
 -- the same parts with another mask, whose flag is set
 abbrev pub with_mask : PartBits → ℕ → List Bool
 with_mask p mask =
-    p.head ++ ((flag_bits p.flags.structure ++ (flag_bits true ++ (flag_bits p.flags.dtis ++ (flag_bits p.flags.fdiffs ++ flag_bits p.flags.chains)))) ++ (p.structure ++ (bits_of p.targets mask ++ p.frame)))
+    p.head ++ ((flag_bits p.flags.structure ++ (flag_bits true ++ (flag_bits p.flags.dtis ++ (flag_bits p.flags.fdiffs ++ flag_bits p.flags.chains))))
+    ++ (p.structure ++ (bits_of p.targets mask ++ p.frame)))
 
 -- these are the bytes of the parts with this mask, as many as an element has room for
 abbrev pub MakesBytes : Result PartBits DdFault → ℕ → List ℕ → Type 0

@@ -11,7 +11,8 @@ use Rattle.dd_descriptor.specs.Spelling.{head_bits, carried_bits}
 
 -- the first three bytes, five flags, the structure if one is carried, the new mask, and the frame's definition
 unfoldable pub remasked_bits : TemplateStructure → Layout → Content → ℕ → List Bool
-remasked_bits s l c mask = head_bits c ++ (laid_flags true c ++ (carried_bits c.structure ++ (bits_of s.target_count mask ++ laid_frame l.sizes c.custom c.frame)))
+remasked_bits s l c mask = head_bits c ++
+    (laid_flags true c ++ (carried_bits c.structure ++ (bits_of s.target_count mask ++ laid_frame l.sizes c.custom c.frame)))
 
 -- the bits of a descriptor with another mask
 abbrev pub remasked : {bytes : List ℕ} {force : Option TemplateStructure} {c : Content} → IsDescriptor bytes force c → ℕ → List Bool

@@ -47,7 +47,8 @@ impl NewestDescriptor {
     /// The next descriptor, as [`read_into`] reads it. After a fault the newest may say anything.
     pub fn read(&mut self, bytes: &[u8], force: Option<&Structure>) -> Result<(), DdFault>
         ensures read { AnswersIn (option_copied force.entry) self.new result (descriptor_at bytes.now (option_copied force.entry)) }
-        ensures writable { OnOk result (IsWritableBy (holding self.new.structure (option_copied force.entry)) (content_of (option_copied force.entry) self.new)) }
+        ensures writable { OnOk result (IsWritableBy (holding self.new.structure (option_copied force.entry))
+            (content_of (option_copied force.entry) self.new)) }
         ensures few { OnOk result (self.new.ref_count ≤ 16) }
     {
         if is_flagged(bytes) {

@@ -122,7 +122,11 @@ fn held_body(
     links: &mut [u8; 32],
 ) -> Result<(Option<u32>, FrameHead), DdFault>
     requires { template < 64 }
-    ensures { Gives (λ x. (x.0, frame_of (targets_in (holding carried.now (option_copied force.entry))) (chains_in (holding carried.now (option_copied force.entry))) x.1 dtis.new refs.new links.new))
+    ensures { Gives (λ x. (
+      x.0,
+      frame_of (targets_in (holding carried.now (option_copied force.entry)))
+          (chains_in (holding carried.now (option_copied force.entry))) x.1 dtis.new refs.new links.new,
+    ))
         result bits.new (held_body_at template flags carried.now (option_copied force.entry) (bits_left bits.old)) }
 {
     match held(carried, force) {

@@ -215,7 +215,8 @@ pub fn remask(
     requires { TakesMask bytes.now (option_copied force) mask }
     ensures remasked { (c : Content) (d : IsDescriptor bytes.now (option_copied force.entry) c) → OnOk result (IsPadded (remasked d mask) out.new) }
     ensures full { (c : Content) (d : IsDescriptor bytes.now (option_copied force.entry) c) → IsErr result ↔ (8 * 255 < length (remasked d mask)) }
-    ensures reads { (c : Content) → descriptor_at bytes.now (option_copied force.entry) ≡ Ok c → OnOk result (descriptor_at out.new (option_copied force.entry) ≡ Ok (with_new_mask c mask)) }
+    ensures reads { (c : Content) → descriptor_at bytes.now (option_copied force.entry) ≡ Ok c
+        → OnOk result (descriptor_at out.new (option_copied force.entry) ≡ Ok (with_new_mask c mask)) }
     ensures unchanged { OnErr result (out.new ≡ out.old) }
 {
     lemma_force_is_well_formed(force);

@@ -19,7 +19,8 @@ abbrev pub filled_up : {A : Type 0} → ℕ → A → List A → List A
 filled_up n x xs = xs ++ drop (length xs) (replicate n x)
 
 -- what a descriptor says to the forwarder, with its frame's definition written as a template is
-abbrev pub descriptor_with : (start end : Bool) (number : ℕ) (structure : Option TemplateStructure) (mask : Option ℕ) (frame : Template) → Descriptor TemplateStructure
+abbrev pub descriptor_with : (start end : Bool) (number : ℕ) (structure : Option TemplateStructure) (mask : Option ℕ) (frame : Template)
+    → Descriptor TemplateStructure
 descriptor_with start end number structure mask frame = record {
   start = start;
   end = end;

@@ -25,7 +25,8 @@ below_at n bits = or_fault faults.Short (non_symmetric n bits)
 -- what next_layer_idc says of the next template's layer, none where there is no next template
 abbrev pub layer_after : Layer → ℕ → Result (Option Layer) StructureFault
 layer_after layer zero = Ok (Some layer)
-layer_after layer (suc zero) = if nat_lt layer.temporal 7 then Ok (Some (record { spatial = layer.spatial; temporal = layer.temporal + 1 })) else Err faults.Layer
+layer_after layer (suc zero) =
+    if nat_lt layer.temporal 7 then Ok (Some (record { spatial = layer.spatial; temporal = layer.temporal + 1 })) else Err faults.Layer
 layer_after layer (suc (suc zero)) = if nat_lt layer.spatial 3 then Ok (Some (record { spatial = layer.spatial + 1; temporal = 0 })) else Err faults.Layer
 layer_after layer (suc (suc (suc n))) = Ok None
 

@@ -57,7 +57,8 @@ template_bits s = flat_map (flat_map indication_bits) (indications_of s.template
 
 unfoldable pub chain_bits : TemplateStructure → List Bool
 chain_bits s =
-    non_symmetric_bits (s.target_count + 1) s.chain_count ++ (flat_map (non_symmetric_bits s.chain_count) s.guards ++ flat_map (flat_map (bits_of 4)) (links_of s.templates))
+    non_symmetric_bits (s.target_count + 1) s.chain_count
+    ++ (flat_map (non_symmetric_bits s.chain_count) s.guards ++ flat_map (flat_map (bits_of 4)) (links_of s.templates))
 
 unfoldable pub structure_bits : TemplateStructure → List Bool
 structure_bits s = head_bits s ++ (template_bits s ++ (chain_bits s ++ resolutions_bits s.resolutions))

@@ -125,7 +125,8 @@ UnlinkedCause = cause (layers_wish 1 0) (one_target 4 1 1 false Required 0 (3 �
 abbrev pub EarlyLinkCauses : Type 0
 EarlyLinkCauses =
     map
-    (cause (layers_wish 1 0) (one_target 4 2 1 false Required 2 (1 ∷ []) (packet true ∷ []) ∷ one_target 3 2 1 false Required 2 (1 ∷ []) (packet true ∷ []) ∷ key_a 2 1 ∷ []))
+    (cause (layers_wish 1 0) (one_target 4 2 1 false Required 2 (1 ∷ []) (packet true ∷ [])
+    ∷ one_target 3 2 1 false Required 2 (1 ∷ []) (packet true ∷ []) ∷ key_a 2 1 ∷ []))
     (3 ∷ 4 ∷ [])
     ≡ Passed ∷ Passed ∷ []
 
@@ -232,7 +233,8 @@ wishes last_refs =
     ∷ []
 
 abbrev pub WishCauses : Type 0
-WishCauses = map (cause (layers_wish 1 0) (wishes (1 ∷ []))) (1 ∷ 2 ∷ 3 ∷ 4 ∷ 5 ∷ 6 ∷ []) ≡ Passed ∷ Passed ∷ Passed ∷ NotOfTarget (Some 1) ∷ Passed ∷ Passed ∷ []
+WishCauses = map (cause (layers_wish 1 0) (wishes (1 ∷ []))) (1 ∷ 2 ∷ 3 ∷ 4 ∷ 5 ∷ 6 ∷ []) ≡ Passed ∷ Passed ∷ Passed ∷ NotOfTarget (Some 1) ∷ Passed
+    ∷ Passed ∷ []
 
 -- frames 3 and 5 go out with the marker
 abbrev pub WishMarkers : Type 0

@@ -99,11 +99,13 @@ OtherStructureInside = told (came (last_rest 2) ∷ came (0 ∷ 0 ∷ 2 ∷ 8 �
 
 -- a key start acts though its payload is broken: number 4 doesn't lie above it, and number 6 does
 abbrev pub BrokenKeyStart : Type 0
-BrokenKeyStart = told (came (frame_rest 6 1) ∷ came (frame_rest 4 1) ∷ came (1 ∷ 1 ∷ 5 ∷ 7 ∷ 0 ∷ 3 ∷ 0 ∷ []) ∷ came (key_rest 1) ∷ []) ≡ (6 ∷ 1 ∷ 3 ∷ []) ∷ (1 ∷ 1 ∷ 3 ∷ []) ∷ []
+BrokenKeyStart = told (came (frame_rest 6 1) ∷ came (frame_rest 4 1) ∷ came (1 ∷ 1 ∷ 5 ∷ 7 ∷ 0 ∷ 3 ∷ 0 ∷ []) ∷ came (key_rest 1) ∷ [])
+    ≡ (6 ∷ 1 ∷ 3 ∷ []) ∷ (1 ∷ 1 ∷ 3 ∷ []) ∷ []
 
 -- and though its frame is torn
 abbrev pub TornKeyFrame : Type 0
-TornKeyFrame = told (came (frame_rest 6 1) ∷ came (frame_rest 4 1) ∷ Missing ∷ came (1 ∷ 0 ∷ 5 ∷ 7 ∷ 0 ∷ 0 ∷ 1 ∷ []) ∷ came (key_rest 1) ∷ []) ≡ (6 ∷ 1 ∷ 3 ∷ []) ∷ (1 ∷ 1 ∷ 3 ∷ []) ∷ []
+TornKeyFrame = told (came (frame_rest 6 1) ∷ came (frame_rest 4 1) ∷ Missing ∷ came (1 ∷ 0 ∷ 5 ∷ 7 ∷ 0 ∷ 0 ∷ 1 ∷ []) ∷ came (key_rest 1) ∷ [])
+    ≡ (6 ∷ 1 ∷ 3 ∷ []) ∷ (1 ∷ 1 ∷ 3 ∷ []) ∷ []
 
 -- so does a mask
 abbrev pub BrokenMask : Type 0
@@ -111,7 +113,8 @@ BrokenMask = told (came (frame_rest 3 1) ∷ came (1 ∷ 1 ∷ 2 ∷ 0 ∷ 3 ∷
 
 -- a packet without a payload says nothing, whether a mask or a key start
 abbrev pub PaddingSaysNothing : Type 0
-PaddingSaysNothing = told (came (frame_rest 2 1) ∷ came (1 ∷ 1 ∷ 5 ∷ 8 ∷ 0 ∷ 2 ∷ 0 ∷ []) ∷ came (0 ∷ 0 ∷ 1 ∷ 0 ∷ 3 ∷ 2 ∷ 0 ∷ []) ∷ came (key_rest 1) ∷ []) ≡ (2 ∷ 1 ∷ 3 ∷ []) ∷ (1 ∷ 1 ∷ 3 ∷ []) ∷ []
+PaddingSaysNothing = told (came (frame_rest 2 1) ∷ came (1 ∷ 1 ∷ 5 ∷ 8 ∷ 0 ∷ 2 ∷ 0 ∷ []) ∷ came (0 ∷ 0 ∷ 1 ∷ 0 ∷ 3 ∷ 2 ∷ 0 ∷ []) ∷ came (key_rest 1)
+    ∷ []) ≡ (2 ∷ 1 ∷ 3 ∷ []) ∷ (1 ∷ 1 ∷ 3 ∷ []) ∷ []
 
 -- a frame has the mask in force once its last packet was read
 abbrev pub LastMask : Type 0
@@ -119,7 +122,8 @@ LastMask = told (came (0 ∷ 1 ∷ 2 ∷ 0 ∷ 3 ∷ 1 ∷ 0 ∷ []) ∷ came (f
 
 -- the same structure without a mask makes all targets active again
 abbrev pub MaskAgain : Type 0
-MaskAgain = told (came (1 ∷ 1 ∷ 3 ∷ 7 ∷ 0 ∷ 0 ∷ 0 ∷ 1 ∷ []) ∷ came (1 ∷ 1 ∷ 2 ∷ 0 ∷ 3 ∷ 0 ∷ 0 ∷ 1 ∷ []) ∷ came (key_rest 1) ∷ []) ≡ (3 ∷ 1 ∷ 3 ∷ []) ∷ (2 ∷ 1 ∷ 2 ∷ []) ∷ (1 ∷ 1 ∷ 3 ∷ []) ∷ []
+MaskAgain = told (came (1 ∷ 1 ∷ 3 ∷ 7 ∷ 0 ∷ 0 ∷ 0 ∷ 1 ∷ []) ∷ came (1 ∷ 1 ∷ 2 ∷ 0 ∷ 3 ∷ 0 ∷ 0 ∷ 1 ∷ []) ∷ came (key_rest 1) ∷ []) ≡ (3 ∷ 1 ∷ 3 ∷ [])
+    ∷ (2 ∷ 1 ∷ 2 ∷ []) ∷ (1 ∷ 1 ∷ 3 ∷ []) ∷ []
 
 -- the first key frame may have the number 0
 abbrev pub FirstNumberZero : Type 0
@@ -134,7 +138,8 @@ NearestBehind = told (came (1 ∷ 1 ∷ 32769 ∷ 0 ∷ 0 ∷ 0 ∷ 0 ∷ []) �
 
 -- 512 packets are a frame, and 513 are none
 abbrev pub LongFrame : Type 0
-LongFrame = told (came (last_rest 2) ∷ replicate 510 (came (middle_rest 2)) ++ came (first_rest 2) ∷ came (key_rest 1) ∷ []) ≡ (2 ∷ 512 ∷ 3 ∷ []) ∷ (1 ∷ 1 ∷ 3 ∷ []) ∷ []
+LongFrame = told (came (last_rest 2) ∷ replicate 510 (came (middle_rest 2)) ++ came (first_rest 2) ∷ came (key_rest 1) ∷ []) ≡ (2 ∷ 512 ∷ 3 ∷ [])
+    ∷ (1 ∷ 1 ∷ 3 ∷ []) ∷ []
 
 abbrev pub TooLongFrame : Type 0
 TooLongFrame = told (came (last_rest 2) ∷ replicate 511 (came (middle_rest 2)) ++ came (first_rest 2) ∷ came (key_rest 1) ∷ []) ≡ (1 ∷ 1 ∷ 3 ∷ []) ∷ []
@@ -222,7 +227,8 @@ ThirdSubscriber = map (λ (p : Packet). p.sequence_number) (sent_to 3 (joined_as
 
 -- frame 2 got whole after subscriber 3 joined, and what it refers to before
 abbrev pub ThirdSubscriberCauses : Type 0
-ThirdSubscriberCauses = map (cause (layered_wish 1) (timeline worked_format send_marked 3 three_subscribers)) (1 ∷ 2 ∷ 3 ∷ 4 ∷ []) ≡ Hole None 2 ∷ Reference 1 ∷ Passed ∷ Passed ∷ []
+ThirdSubscriberCauses = map (cause (layered_wish 1) (timeline worked_format send_marked 3 three_subscribers)) (1 ∷ 2 ∷ 3 ∷ 4 ∷ []) ≡ Hole None 2
+    ∷ Reference 1 ∷ Passed ∷ Passed ∷ []
 
 -- ---- a strict receiver: the packets stand with the oldest first
 
@@ -317,7 +323,8 @@ BrokenPayload = complaint_at (read_from 10 (key_rest 1 ∷ (1 ∷ 1 ∷ 2 ∷ 0 
 
 -- another structure in a frame that is no key frame, where the same one does no harm
 abbrev pub StructureRule : Type 0
-StructureRule = complaint_at (read_from 10 (key_rest 1 ∷ (1 ∷ 1 ∷ 2 ∷ 7 ∷ 0 ∷ 0 ∷ 0 ∷ 1 ∷ []) ∷ (1 ∷ 1 ∷ 3 ∷ 8 ∷ 0 ∷ 0 ∷ 0 ∷ 1 ∷ []) ∷ [])) ≡ Some Complaint.Unread
+StructureRule = complaint_at (read_from 10 (key_rest 1 ∷ (1 ∷ 1 ∷ 2 ∷ 7 ∷ 0 ∷ 0 ∷ 0 ∷ 1 ∷ []) ∷ (1 ∷ 1 ∷ 3 ∷ 8 ∷ 0 ∷ 0 ∷ 0 ∷ 1 ∷ []) ∷ []))
+    ≡ Some Complaint.Unread
 
 abbrev pub SameStructure : Type 0
 SameStructure = complaint_at (read_from 10 (key_rest 1 ∷ (1 ∷ 1 ∷ 2 ∷ 7 ∷ 0 ∷ 0 ∷ 0 ∷ 1 ∷ []) ∷ [])) ≡ None
@@ -328,7 +335,8 @@ NoStructureFirst = complaint_at (read_from 10 ((1 ∷ 1 ∷ 2 ∷ 0 ∷ 0 ∷ 2 
 
 -- the source comes before the number
 abbrev pub SourceFirst : Type 0
-SourceFirst = complaint_at (Some (sent_as 10 (key_rest 1)) ∷ Some (record { sequence_number = 13; ssrc = 2; marker = false; rest = frame_rest 2 1 }) ∷ []) ≡ Some (Complaint.OtherSource 1 2)
+SourceFirst = complaint_at (Some (sent_as 10 (key_rest 1)) ∷ Some (record { sequence_number = 13; ssrc = 2; marker = false; rest = frame_rest 2 1 })
+    ∷ []) ≡ Some (Complaint.OtherSource 1 2)
 
 -- and the number before what the packet says
 abbrev pub NumberBeforeContent : Type 0

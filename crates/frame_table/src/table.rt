@@ -189,7 +189,8 @@ impl FrameTable {
         requires structure { is_some self.old.structure ≡ true }
         requires references { HasReferences head.now }
         requires bound { self.old.newest < 2 ^ 63 }
-        ensures meaning { (s : TemplateStructure) → self.old.structure ≡ Some s → written_or_stale result out.new self.old.newest ≡ meant_at s self.old head.now }
+        ensures meaning { (s : TemplateStructure) → self.old.structure ≡ Some s → written_or_stale result out.new self.old.newest
+            ≡ meant_at s self.old head.now }
         ensures valid { result ≡ true → IsValid out.new }
         ensures untouched { result ≡ false → out.new ≡ out.old }
         ensures force { self.new ≡ numbered_at self.old head.now }

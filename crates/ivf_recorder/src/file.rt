@@ -131,7 +131,8 @@ impl IvfFile {
         requires timestamp { timestamp_in frame.now.timestamp ≡ self.old.timestamp }
         ensures grows { (size : Size) (contents : List RecordedFrame) → IsFileOf self.old size contents
             → Grows result frame.now.timestamp (obus_in (segments_in frame.now)) size contents self.new }
-        ensures capacity { result ≡ Growth.TooLong → (vec_len self.new.bytes ≡ vec_len self.old.bytes) × (vec_capacity self.old.bytes ≤ vec_capacity self.new.bytes) }
+        ensures capacity { result ≡ Growth.TooLong → (vec_len self.new.bytes ≡ vec_len self.old.bytes)
+            × (vec_capacity self.old.bytes ≤ vec_capacity self.new.bytes) }
     {
         let start = self.bytes.len();
         if !frame.lay(&[], &mut self.bytes) {

@@ -91,7 +91,8 @@ impl Recording {
     // A packet was accepted: puts the frame into the file, where it has ended it.
     fn end_frame(&mut self) -> Result<(), RecordFault>
         requires room { vec_len self.old.file.bytes + (14 + most_bytes self.old.frame) ≤ vec_capacity self.old.file.bytes }
-        ensures ends { (history : List (List ℕ)) (packet : List ℕ) → IsFed self.old history packet → Feeds None self.old.receiver.id self.new history packet result }
+        ensures ends { (history : List (List ℕ)) (packet : List ℕ) → IsFed self.old history packet
+            → Feeds None self.old.receiver.id self.new history packet result }
         ensures receiver { self.new.receiver ≡ self.old.receiver }
     {
         if !self.receiver.has_ended_a_frame() {

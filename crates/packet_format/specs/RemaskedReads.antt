@@ -36,7 +36,8 @@ PacketsAreRemasked = (id mask : ℕ) (force : Option TemplateStructure) (bytes n
 
 -- Where the old packet shows a descriptor of this structure, carried or in force, the new one shows it too, with the new mask.
 abbrev pub RemaskedPacketsShow : Type 0
-RemaskedPacketsShow = (id mask : ℕ) (s : TemplateStructure) (force : Option TemplateStructure) (rest new : List ℕ) (d : Descriptor TemplateStructure) (payload : Payload)
+RemaskedPacketsShow = (id mask : ℕ) (s : TemplateStructure) (force : Option TemplateStructure) (rest new : List ℕ) (d : Descriptor TemplateStructure)
+    (payload : Payload)
     → IsCarried (format_of id) s → mask < 2 ^ s.target_count → remasked id (Some s) mask rest ≡ Some new
     → read_by force d.structure ≡ Some s → shown (format_of id) force rest ≡ Shows d payload → shown (format_of id) force new ≡ Shows (telling mask d) payload
 
@@ -53,8 +54,10 @@ FirstPacketsShow = (id mask : ℕ) (s : TemplateStructure) (key : Bool) (rest : 
 
 -- Where the descriptor carries a structure, it is remasked alike whatever is in force.
 abbrev pub CarriedStructuresDecide : Type 0
-CarriedStructuresDecide = (id mask : ℕ) (s : TemplateStructure) (force other : Option TemplateStructure) (rest : List ℕ) (d : Descriptor TemplateStructure) (payload : Payload)
-    → MayBeInForce (format_of id) force → shown (format_of id) force rest ≡ Shows d payload → d.structure ≡ Some s → remasked id other mask rest ≡ remasked id force mask rest
+CarriedStructuresDecide = (id mask : ℕ) (s : TemplateStructure) (force other : Option TemplateStructure) (rest : List ℕ)
+    (d : Descriptor TemplateStructure) (payload : Payload)
+    → MayBeInForce (format_of id) force → shown (format_of id) force rest ≡ Shows d payload → d.structure ≡ Some s
+    → remasked id other mask rest ≡ remasked id force mask rest
 
 -- The model's packet of the remasked bytes is the remasked packet: the definition looks at no sequence number, SSRC and marker.
 abbrev pub RestsAreRemasked : Type 0

@@ -40,11 +40,13 @@ pub fn remasked_packets_show_the_new_mask()
 /// A law: a descriptor that reads tells which decode targets there are exactly where it has a mask: one that it carries, or that of all the
 /// targets of a structure that it carries.
 pub fn descriptors_tell_their_mask()
-    ensures { (bytes : List ℕ) (force : Option TemplateStructure) (c : Content) → AreBytes bytes → descriptor_at bytes force ≡ Ok c → tells_in (Some bytes) ≡ is_some c.mask }
+    ensures { (bytes : List ℕ) (force : Option TemplateStructure) (c : Content) → AreBytes bytes → descriptor_at bytes force ≡ Ok c
+        → tells_in (Some bytes) ≡ is_some c.mask }
 {}
 
 /// A law: the new value of a packet's element is the descriptor with another mask, as the bits of descriptors are laid end to end, and zero
 /// bits to a whole byte.
 pub fn new_values_are_remasked_descriptors()
-    ensures { (bytes : List ℕ) (force : Option TemplateStructure) (c : Content) (mask : ℕ) → (d : IsDescriptor bytes force c) → new_value force mask (Some bytes) ≡ Some (whole_bytes (remasked_bits d mask)) }
+    ensures { (bytes : List ℕ) (force : Option TemplateStructure) (c : Content) (mask : ℕ) → (d : IsDescriptor bytes force c)
+        → new_value force mask (Some bytes) ≡ Some (whole_bytes (remasked_bits d mask)) }
 {}

@@ -22,9 +22,11 @@ pub record Stands {R : Type 0} (noted : R → Option (List Noted)) (room : Room 
 
 -- Whatever history the room stood for, the reply is that history's, unless it is want of memory, and the room then stands for the
 -- history with this entry, which is starved exactly where the reply is want of memory.
-pub record Serves {R : Type 0} (noted : R → Option (List Noted)) (old new : Room R) (seat : ℕ) (call : Call) (reply : Reply) (bytes numbers : List ℕ) : Type 0 where
+pub record Serves {R : Type 0} (noted : R → Option (List Noted)) (old new : Room R) (seat : ℕ) (call : Call) (reply : Reply)
+    (bytes numbers : List ℕ) : Type 0 where
   pub answered : (history : List Entry) → Stands noted old history → is_starved reply ≡ false → answer_of reply bytes numbers ≡ reply_of history call
-  pub stands : (history : List Entry) → Stands noted old history → Stands noted new (history ++ record { seat = seat; call = call; starved = is_starved reply } ∷ [])
+  pub stands : (history : List Entry) → Stands noted old history
+      → Stands noted new (history ++ record { seat = seat; call = call; starved = is_starved reply } ∷ [])
 
 -- whatever history the room stands for, its subscribers were sent what they should be
 abbrev pub StandsHeadline : {R : Type 0} → (R → Option (List Noted)) → Room R → Type 0
@@ -45,7 +47,8 @@ MemoryIsLast noted may_refuse room call reply = (history : List Entry) → Stand
     → IsTrue (is_accepted (reply_of history call)) ⊎ IsTrue (recorder_may_refuse may_refuse room)
 
 -- What a call on a room does and answers, whatever stands in the scratch: it leaves nothing there.
-pub record DoesAsServe {R : Type 0} (noted : R → Option (List Noted)) (may_refuse : R → Bool) (old new : Room R) (seat : ℕ) (call : Call) (reply : Reply) : Type 0 where
+pub record DoesAsServe {R : Type 0} (noted : R → Option (List Noted)) (may_refuse : R → Bool) (old new : Room R) (seat : ℕ) (call : Call)
+    (reply : Reply) : Type 0 where
   pub serves : (bytes numbers : List ℕ) → Serves noted old new seat call reply bytes numbers
   pub headline : StandsHeadline noted new
   pub memory : MemoryHasCause may_refuse old call reply
@@ -54,7 +57,8 @@ pub record DoesAsServe {R : Type 0} (noted : R → Option (List Noted)) (may_ref
   pub sends_none : reply ≢ Packet
 
 -- The same of a call that may leave a packet or names in the scratch. No other reply changes the scratch, and a packet there can be sent.
-pub record ServesInto {R : Type 0} (noted : R → Option (List Noted)) (may_refuse : R → Bool) (old new : Room R) (seat : ℕ) (call : Call) (reply : Reply) (before after : Scratch) : Type 0 where
+pub record ServesInto {R : Type 0} (noted : R → Option (List Noted)) (may_refuse : R → Bool) (old new : Room R) (seat : ℕ) (call : Call) (reply : Reply)
+    (before after : Scratch) : Type 0 where
   pub serves : Serves noted old new seat call reply after.packet after.names
   pub headline : StandsHeadline noted new
   pub memory : MemoryHasCause may_refuse old call reply

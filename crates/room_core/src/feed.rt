@@ -26,7 +26,7 @@ pub struct Feed {
 }
 
 impl Feed {
-    /// Of a subscriber to which nothing happened yet, of a track of this kind. Its packets go out with this SSRC, numbered from `first` on.
+    /// Creates the state of a new subscriber of a track of this kind. Its packets go out with this SSRC, numbered from `first` on.
     pub fn new(
         alloc: Global,
         kind: Kind,
@@ -44,14 +44,14 @@ impl Feed {
         })
     }
 
-    /// The wish is changed.
+    /// Changes the wish.
     pub fn aim(&mut self, wish: Wish)
         ensures follows { FollowsAim self.old self.new wish }
     {
         self.selector.aim(wish);
     }
 
-    /// A packet of its plain track came in order: it passes where fewer than 512 are queued.
+    /// Offers the next packet of a plain track: it is queued where fewer than 512 are.
     pub fn pass_packet(&mut self, packet: &[u8])
         requires reads { first_fault packet.now ≡ None }
         requires fits { length packet.now ≤ 1500 }
@@ -62,9 +62,9 @@ impl Feed {
         }
     }
 
-    /// A frame of its layered track got whole, the one that the track made last; `tells` is whether its first packet tells which decode
-    /// targets there are. Where it does, or the frame opens the target, that packet goes out with the mask of the targets that the subscriber
-    /// gets; `cache` keeps it for the frame's next subscriber.
+    /// Offers a layered track's most recently completed frame. `tells` is whether its first packet carries a structure or a mask. Where it
+    /// does, or the frame opens the target, that packet goes out with the mask of the targets that the subscriber gets; `cache` keeps it for
+    /// the frame's next subscriber.
     pub fn pass_frame(
         &mut self,
         track: &Track,

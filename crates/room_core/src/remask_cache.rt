@@ -1,4 +1,4 @@
-// The first packet of the frame in hand with the mask of a subscriber.
+// The current frame's first packet, rewritten with the mask of active decode targets that a subscriber gets.
 ghost use Rattle.std.specs.Prelude.{◌≡◌, ◌≤◌, None, Some, length, true};
 ghost use Rattle.std.specs.Option.{option_copied};
 ghost use Rattle.rtp_packet.specs.Faults.{first_fault};
@@ -9,8 +9,8 @@ use dd_structure::Structure;
 use packet_format::Remasker;
 use sfu_base::PacketBuf;
 
-/// A cache of the first packet of the frame in hand as it tells a mask: the last one that was asked for, since most subscribers of a frame
-/// want the same. Where it is never asked, all is sent alike. It is filled in place, so that no frame clears a buffer.
+/// Caches the current frame's first packet, rewritten with one mask of active decode targets: the mask that was asked for last, since most
+/// subscribers of a frame get the same. It changes no packet that is sent. The buffer is filled in place, so that no frame clears it.
 #[derive(Drop)]
 pub struct RemaskCache {
     pub mask: Option<u32>,
@@ -19,7 +19,7 @@ pub struct RemaskCache {
 }
 
 impl RemaskCache {
-    /// Of no frame yet.
+    /// An empty cache.
     pub fn new() -> RemaskCache
         ensures { result.mask ≡ None }
     {
@@ -30,15 +30,15 @@ impl RemaskCache {
         }
     }
 
-    /// Another frame is in hand.
+    /// Empties the cache: another frame begins.
     pub fn forget(&mut self)
         ensures { self.new.mask ≡ None }
     {
         self.mask = None;
     }
 
-    /// What is kept becomes the packet as it tells this mask, or as it is where it can't be remasked. The packet is the one in hand, read by
-    /// this structure.
+    /// Makes the cache hold the packet with this mask, or unchanged where it can't be rewritten. The packet is the current frame's first one;
+    /// its descriptor is read by this structure.
     pub fn tell(&mut self, packet: &[u8], id: u8, force: Option<&Structure>, mask: u32)
         requires reads { first_fault packet.now ≡ None }
         requires fits { length packet.now ≤ 1500 }
@@ -51,7 +51,7 @@ impl RemaskCache {
         }
     }
 
-    // Whether it tells this mask. It may always say no: then the packet is made anew.
+    // Whether the cached packet has this mask. It may always say no: then the packet is made anew.
     fn has(&self, mask: u32) -> bool
         ensures { result ≡ true → self.now.mask ≡ Some mask }
     {

@@ -102,7 +102,8 @@ fn push_told(
     requires reads { first_fault packet.now ≡ None }
     requires fits { length packet.now ≤ 1500 }
     requires told { TellsOne id (option_copied force) packet.now cache.old.mask cache.old.packet }
-    ensures pushed { ring.new ≡ pushed_all (remasked_packet id (option_copied force.entry) mask (record (packet_of packet.now) { marker = marker }) ∷ []) ring.old }
+    ensures pushed { ring.new ≡ pushed_all (remasked_packet id (option_copied force.entry) mask (record (packet_of packet.now) { marker = marker })
+        ∷ []) ring.old }
     ensures told { TellsOne id (option_copied force.entry) packet.now cache.new.mask cache.new.packet }
 {
     cache.tell(packet, id, force, mask);

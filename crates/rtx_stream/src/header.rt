@@ -46,7 +46,8 @@ pub(crate) fn fill_header(
 /// The bytes of the whole header.
 fn header_len(packet: &[u8], read: &Rtp<'_>) -> usize
     requires { IsPacket packet.now (parts read.now) }
-    ensures { (is : IsPacket packet.now (parts read.now)) → result ≡ 12 + length is.csrcs + length (extension_bytes read.now.profile is.block_words read.now.block.now) }
+    ensures { (is : IsPacket packet.now (parts read.now))
+        → result ≡ 12 + length is.csrcs + length (extension_bytes read.now.profile is.block_words read.now.block.now) }
 {
     let csrcs = 4 * (packet[0] % 16) as usize;
     match read.profile {

@@ -46,7 +46,8 @@ call_at kind.Join bytes =
     (numbers_at (Number32 ∷ Number32 ∷ Ssrc ∷ Number16 ∷ Number8 ∷ Number8 ∷ []) bytes)
 call_at kind.Leave bytes = of_one (λ subscriber. call.Leave subscriber) (numbers_at (Number32 ∷ []) bytes)
 call_at kind.Aim bytes =
-    of_three (λ subscriber spatial temporal. call.Aim subscriber (record { spatial = spatial; temporal = temporal })) (numbers_at (Number32 ∷ Number8 ∷ Number8 ∷ []) bytes)
+    of_three (λ subscriber spatial temporal. call.Aim subscriber (record { spatial = spatial; temporal = temporal }))
+    (numbers_at (Number32 ∷ Number8 ∷ Number8 ∷ []) bytes)
 call_at kind.Take bytes = of_one (λ subscriber. call.Take subscriber) (numbers_at (Number32 ∷ []) bytes)
 call_at kind.Resend bytes = of_two (λ subscriber seq. call.Resend subscriber seq) (numbers_at (Number32 ∷ Number16 ∷ []) bytes)
 call_at kind.Missing bytes = of_one (λ track. call.Missing track) (numbers_at (Number32 ∷ []) bytes)

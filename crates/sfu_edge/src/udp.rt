@@ -212,6 +212,7 @@ pub struct UdpPorts<'a, R> {
     bound: u64,
     back_count: u64,
     faults: u64,
+    ghost within: { back_count ≤ bound },
 }
 
 impl<'a, R: Net + time::Clock + Sync> UdpPorts<'a, R> {
@@ -269,5 +270,9 @@ impl<'a, R: Net + time::Clock + Sync> Ports for UdpPorts<'a, R> {
         if port.faults > 0 {
             self.faults = self.faults.saturating_add(1);
         }
+    }
+
+    fn lemma_were_bound(&self) {
+        let _ = &self.bound;
     }
 }

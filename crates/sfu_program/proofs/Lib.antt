@@ -1,11 +1,3 @@
-pub mod TogetherPlacing
-pub mod TogetherCounting
-pub mod TogetherHistories
-pub mod TogetherEnding
-pub mod TogetherTurning
-pub mod TogetherSeating
-pub mod TogetherStatuses
-pub mod TogetherBytes
 pub mod TogetherForms
 pub mod ServeTurns
 pub mod ServeLines

@@ -12,7 +12,7 @@ use Rattle.std.specs.Prelude.{decimal}
 use Rattle.std.proofs.lemmas.Fmt.{decimal_injective}
 use Rattle.stream_maker.specs.Stream.{Stream}
 use Rattle.sfu_commands.specs.Words.{IsForm, IsSimulcast, Says}
-use Rattle.sfu_program.specs.Together.{IsTogether}
+use Rattle.sfu_together.specs.Together.{IsTogether}
 use Rattle.sfu_program.specs.ServeWords.{IsServe}
 use Rattle.sfu_program.specs.Forms.{IsCommand, IsEnd, IsServing}
 

@@ -11,7 +11,7 @@ use Rattle.sfu_commands.specs.Trial.{IsTrial}
 use Rattle.stream_maker.specs.Stream.{Stream}
 use Rattle.sfu_commands.specs.Words.{IsForm, IsSimulcast, Says}
 use Rattle.sfu_program.specs.Forms.{IsStatus}
-use Rattle.sfu_program.specs.Together.{IsTogether}
+use Rattle.sfu_together.specs.Together.{IsTogether}
 
 clash : (a b : ℕ) → a ≡ b → a < b → ⊥
 clash a b e low = omega arith

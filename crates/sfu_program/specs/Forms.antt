@@ -2,7 +2,7 @@
 use Rattle.std.specs.Prelude.{◌≡◌, ◌⊎◌, ℕ, List}
 use Rattle.sfu_commands.specs.Words.{IsForm}
 use Rattle.sfu_program.specs.ServeWords.{IsServe}
-use Rattle.sfu_program.specs.Together.{IsTogether}
+use Rattle.sfu_together.specs.Together.{IsTogether}
 
 -- the words are `serve` and a number of turns
 abbrev pub IsServing : List (List ℕ) → Type 0

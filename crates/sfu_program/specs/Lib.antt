@@ -1,6 +1,3 @@
-pub mod TogetherHistory
-pub mod TogetherActing
-pub mod Together
 pub mod Forms
 pub mod ServeWords
 pub mod ServeOpening

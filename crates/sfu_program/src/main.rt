@@ -8,14 +8,13 @@ mod serve;
 mod sfu;
 #[cfg(test)]
 mod tests;
-mod together;
 
 use sfu_driver::Status;
 use sfu_edge::{StdSink, StdSource, SysClock, UdpPorts};
 use std::process::ExitCode;
 use std::{env, io};
 
-// The words after the program's name. None is no command: so are words that aren't UTF-8.
+// The words after the program's name. Empty, and so no command, where one isn't UTF-8.
 fn arguments(rt: &HostRuntime) -> io::Result<Vec<String>> {
     let mut words = Vec::new(rt.alloc());
     let all = match env::args(rt) {

@@ -15,13 +15,13 @@ ghost use Rattle.sfu_program.specs.Serve.{Serves};
 ghost use Rattle.sfu_program.specs.ServePorts.{seen_ports};
 ghost use Rattle.sfu_program.specs.ServeWords.{IsServe};
 ghost use Rattle.sfu_program.specs.Simulcast.{Simulcasts};
-ghost use Rattle.sfu_program.specs.Together.{IsTogether, Plays};
+ghost use Rattle.sfu_together.specs.Together.{IsTogether, Plays};
 ghost use Rattle.sfu_driver.specs.Exchange.{exchange_of};
 
 use crate::alone::sfu_alone;
 use crate::serve::{read_serve, serve};
-use crate::together::play_script;
 use sfu_base::{Clock, Ports, Sink, Source};
+use sfu_together::play_script;
 use std::alloc::Global;
 use std::sync::Wait;
 use std::thread::Threads;
@@ -65,7 +65,6 @@ pub fn sfu<W: Threads + Wait + Sync, S: Source, K: Sink, P: Ports, C: Clock + Sy
     clock: &C,
 ) -> u8
     requires unbound { P.bound ports.old ≡ 0 }
-    requires none_back { P.back_count ports.old ≡ 0 }
     ensures run { IsRun (map string_bytes words.now)
         → Runs (exchange_of S.left S.faults K.written K.faults source.old source.new sink.old sink.new) result }
     ensures headline { IsRun (map string_bytes words.now) → AreServed (S.left source.old) }
@@ -96,6 +95,7 @@ pub fn sfu<W: Threads + Wait + Sync, S: Source, K: Sink, P: Ports, C: Clock + Sy
         return play_script(rt, alloc, source, sink).number();
     }
     if let Some(turns) = read_serve(words) {
+        ports.lemma_were_bound();
         return serve(rt, alloc, turns, source, sink, ports, clock).number();
     }
     sfu_alone(alloc, words, source, sink)

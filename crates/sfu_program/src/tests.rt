@@ -1,7 +1,6 @@
 // What the program does, by the words that it is given.
 mod bundling;
 mod check;
-mod gate;
 mod meeting;
 mod record;
 mod records;

@@ -48,7 +48,8 @@ AreBundles (b ∷ bs) (m ∷ ms) = IsBundle b m × AreBundles bs ms
 
 -- no subscriber is two legs, of one bundle or of two
 abbrev pub NoneIsTwo : List Made → Type 0
-NoneIsTwo made = (i j k l n : ℕ) (m p : Made) → slice_get made i ≡ Some m → slice_get made j ≡ Some p → leg_at k m.legs ≡ Some n → leg_at l p.legs ≡ Some n → (i ≡ j) × (k ≡ l)
+NoneIsTwo made = (i j k l n : ℕ) (m p : Made) → slice_get made i ≡ Some m → slice_get made j ≡ Some p → leg_at k m.legs ≡ Some n
+    → leg_at l p.legs ≡ Some n → (i ≡ j) × (k ≡ l)
 
 pub record StandsFor {R : Type 0} (noted : R → Option (List Noted)) (b : Bundles R) (h : Simulcast) : Type 0 where
   pub room_is : Stands noted b.room h.history
@@ -88,7 +89,8 @@ forbids_by own other = None
 abbrev pub forbids : Call → List Made → Option ℕ
 forbids call made = forbids_by (λ n. owner n made) call
 
-abbrev pub CallsAs : {R : Type 0} → (R → Option (List Noted)) → Bundles R → Simulcast → ℕ → Call → (bytes numbers : List ℕ) → Option ℕ → Result Reply BundleFault → Type 0
+abbrev pub CallsAs : {R : Type 0} → (R → Option (List Noted)) → Bundles R → Simulcast → ℕ → Call → (bytes numbers : List ℕ) → Option ℕ
+    → Result Reply BundleFault → Type 0
 CallsAs noted b h seat call bytes numbers (Some bundle) result = (result ≡ Err (fault.Bound bundle)) × StandsFor noted b h
 CallsAs noted b h seat call bytes numbers None (Err why) = ⊥
 CallsAs noted b h seat call bytes numbers None (Ok reply) =
@@ -97,7 +99,8 @@ CallsAs noted b h seat call bytes numbers None (Ok reply) =
 
 -- what the room's own call does, but where a bundle forbids it
 abbrev pub Calls : {R : Type 0} → (R → Option (List Noted)) → (old new : Bundles R) → ℕ → Call → (bytes numbers : List ℕ) → Result Reply BundleFault → Type 0
-Calls noted old new seat call bytes numbers result = (h : Simulcast) → StandsFor noted old h → CallsAs noted new h seat call bytes numbers (forbids call h.made) result
+Calls noted old new seat call bytes numbers result = (h : Simulcast) → StandsFor noted old h
+    → CallsAs noted new h seat call bytes numbers (forbids call h.made) result
 
 -- want of memory is that of the room's recorder
 abbrev pub StarvesBy : {R A : Type 0} → (R → Bool) → Bundles R → Result A BundleFault → Type 0
@@ -143,7 +146,8 @@ PumpsOne noted old new number result = (h : Simulcast) → StandsFor noted old h
 
 abbrev pub DrawnTo : {R : Type 0} → (R → Option (List Noted)) → Bundles R → Simulcast → ℕ → Made → List ℕ → Result ℕ BundleFault → Type 0
 DrawnTo noted b h i m bytes (Ok n) =
-    StandsFor noted b (with_made h i (and_drawn m)) × (slice_get (outgoing (marks_of m.id) m.first m.ssrc m.events) m.draws ≡ Some bytes) × (n ≡ (m.first + m.draws) % 65536)
+    StandsFor noted b (with_made h i (and_drawn m)) × (slice_get (outgoing (marks_of m.id) m.first m.ssrc m.events) m.draws ≡ Some bytes)
+    × (n ≡ (m.first + m.draws) % 65536)
 DrawnTo noted b h i m bytes (Err why) = StandsFor noted b h × (why ≡ fault.Room Empty) × (m.draws ≡ length (outgoing (marks_of m.id) m.first m.ssrc m.events))
 
 abbrev pub DrawsAt : {R : Type 0} → (R → Option (List Noted)) → Bundles R → Simulcast → Option ℕ → List ℕ → Result ℕ BundleFault → Type 0
@@ -173,9 +177,11 @@ and_asked false starved n history = called starved (Plead n) history
 
 abbrev pub ChoosesLeg : {R : Type 0} → (R → Option (List Noted)) → Bundles R → Simulcast → ℕ → Made → ℕ → Option ℕ → Result (Unit {0}) BundleFault → Type 0
 ChoosesLeg noted b h i m leg None result = (result ≡ Err (NoLeg (length m.legs))) × StandsFor noted b h
-ChoosesLeg noted b h i m leg (Some n) (Ok x) = StandsFor noted b (record { history = and_asked (is_active_in leg m) false n h.history; made = slice_set h.made i (and_chosen leg m) })
+ChoosesLeg noted b h i m leg (Some n) (Ok x) = StandsFor noted b
+    (record { history = and_asked (is_active_in leg m) false n h.history; made = slice_set h.made i (and_chosen leg m) })
 ChoosesLeg noted b h i m leg (Some n) (Err why) =
-    (why ≡ NoMemory) × (is_active_in leg m ≡ false) × StandsFor noted b (record { history = called true (Plead n) h.history; made = slice_set h.made i (and_chosen leg m) })
+    (why ≡ NoMemory) × (is_active_in leg m ≡ false)
+    × StandsFor noted b (record { history = called true (Plead n) h.history; made = slice_set h.made i (and_chosen leg m) })
 
 abbrev pub ChoosesAt : {R : Type 0} → (R → Option (List Noted)) → Bundles R → Simulcast → Option ℕ → ℕ → Result (Unit {0}) BundleFault → Type 0
 ChoosesAt noted b h None leg result = (result ≡ Err NoBundle) × StandsFor noted b h
@@ -189,7 +195,8 @@ Chooses noted old new number leg result = (h : Simulcast) → StandsFor noted ol
 -- A strict receiver of what a bundle sends, and of each front of it, has no complaint, whatever the bundles stand for.
 abbrev pub PleasesReceivers : {R : Type 0} → (R → Option (List Noted)) → Bundles R → Type 0
 PleasesReceivers noted b = (h : Simulcast) (i : ℕ) (m : Made) → StandsFor noted b h → slice_get h.made i ≡ Some m
-    → (sends queued : List (List ℕ)) → sends ++ queued ≡ outgoing (marks_of m.id) m.first m.ssrc m.events → complaint (format_of m.id) (map read_packet sends) ≡ None
+    → (sends queued : List (List ℕ)) → sends ++ queued ≡ outgoing (marks_of m.id) m.first m.ssrc m.events
+    → complaint (format_of m.id) (map read_packet sends) ≡ None
 
 -- ---- a bundle
 

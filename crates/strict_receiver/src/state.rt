@@ -40,7 +40,7 @@ pub struct Last {
     pub sequence: u16,
 }
 
-/// What a receiver keeps. The newest descriptor is only there to be read into.
+/// What a receiver keeps. The newest descriptor is scratch space for the parser.
 #[derive(Drop)]
 pub struct State {
     pub id: u8,
@@ -166,7 +166,8 @@ impl State {
         requires { HasDistances self.old.newest }
         ensures id { self.new.id ≡ self.old.id }
         ensures joined { (r : Reception TemplateStructure) → IsExpected self.old last.ssrc r
-            → Answers self.new result (part_as r last.sequence (said_by self.old.structure self.old.newest) (record { continues = continues; carries = carries })) }
+            → Answers self.new result (part_as r last.sequence (said_by self.old.structure self.old.newest)
+            (record { continues = continues; carries = carries })) }
     {
         let key = begins_epoch(self.newest.get());
         self.keep_structure(key);
@@ -201,7 +202,8 @@ impl State {
         ensures rest { self.new ≡ record self.old { frame = self.new.frame } }
         ensures some { result ≡ true → is_some self.new.frame ≡ true }
         ensures joined { (force : Option TemplateStructure)
-            → Joined self.new.frame result (joined_as (option_map frame_said self.old.frame) (said_by force self.old.newest) (record { continues = continues; carries = carries })) }
+            → Joined self.new.frame result (joined_as (option_map frame_said self.old.frame) (said_by force self.old.newest)
+            (record { continues = continues; carries = carries })) }
     {
         let newest = self.newest.get();
         match &mut self.frame {
@@ -227,7 +229,8 @@ impl State {
     fn finish(&mut self) -> Result<(), Complaint>
         requires { is_some self.old.frame ≡ true }
         ensures rest { self.new ≡ record self.old { frame = self.new.frame; received = self.new.received } }
-        ensures finished { (r : Reception TemplateStructure) (frame : ModelFrame) → AreKeptOf self.old.received r.received → option_map frame_said self.old.frame ≡ Some frame
+        ensures finished { (r : Reception TemplateStructure) (frame : ModelFrame) → AreKeptOf self.old.received r.received
+            → option_map frame_said self.old.frame ≡ Some frame
             → Finishes self.new result r (with_frame r frame self.old.newest.end) }
     {
         let Some(frame) = &self.frame else {

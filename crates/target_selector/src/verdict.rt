@@ -24,7 +24,8 @@ pub fn verdict(
     queued: u16,
 ) -> Verdict
     requires valid { IsValid frame.now }
-    ensures { result ≡ target_verdict frame.now (target_of wish frame.now candidate) (reference_verdict frame.now missing (candidate_verdict queued packets candidate)) }
+    ensures { result ≡ target_verdict frame.now (target_of wish frame.now candidate)
+        (reference_verdict frame.now missing (candidate_verdict queued packets candidate)) }
 {
     if missing.is_none() && is_present_in(frame, candidate) && has_room(packets, queued) {
         Verdict::Passed
@@ -44,7 +45,8 @@ fn first_verdict(
     queued: u16,
 ) -> Verdict
     requires valid { IsValid frame.now }
-    ensures { result ≡ target_verdict frame.now (target_of wish frame.now candidate) (reference_verdict frame.now missing (candidate_verdict queued packets candidate)) }
+    ensures { result ≡ target_verdict frame.now (target_of wish frame.now candidate)
+        (reference_verdict frame.now missing (candidate_verdict queued packets candidate)) }
 {
     let Some(target) = target_of(wish, frame, candidate) else {
         return Verdict::NotOfTarget { target: None };

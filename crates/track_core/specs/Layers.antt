@@ -107,10 +107,12 @@ written false meaning = None
 written true meaning = Some meaning
 
 -- what a mark makes of the frame under assembly
-abbrev pub framed_by : Force TemplateStructure → List (Mark (ReadPacket TemplateStructure)) → Mark (ReadPacket TemplateStructure) → Option (Frame TemplateStructure)
+abbrev pub framed_by : Force TemplateStructure → List (Mark (ReadPacket TemplateStructure)) → Mark (ReadPacket TemplateStructure)
+    → Option (Frame TemplateStructure)
 framed_by force marks mark = frame_of structures_alone force (cut_by (run_of marks) mark)
 
-pub record Pushed (old new : Layers) (result : Option FrameMeaning) (marks : List (Mark (ReadPacket TemplateStructure))) (mark : Mark (ReadPacket TemplateStructure)) : Type 0 where
+pub record Pushed (old new : Layers) (result : Option FrameMeaning) (marks : List (Mark (ReadPacket TemplateStructure)))
+    (mark : Mark (ReadPacket TemplateStructure)) : Type 0 where
   pub running : IsRunning new (mark ∷ marks)
   pub force : new.table ≡ with_frame old.table (framed_by old.table marks mark)
   pub made : result ≡ option_map meaning_of (framed_by old.table marks mark)

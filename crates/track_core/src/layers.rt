@@ -23,7 +23,7 @@ use sfu_base::{Dti, FrameMeaning, NoMemory};
 use std::alloc::Global;
 
 /// A layered track between two items: what is in force, the frame under assembly, and what is kept of that frame's first descriptor. The
-/// newest descriptor is only there to be read into.
+/// newest descriptor is scratch space for the parser.
 #[derive(Drop)]
 pub struct Layers {
     pub id: u8,
@@ -129,7 +129,8 @@ impl Layers {
         ensures id { self.new.id ≡ self.old.id }
         ensures near { self.new.table.newest ≤ self.old.table.newest + 65536 }
         ensures pushed { (marks : List (CutMark (ReadPacket TemplateStructure))) (m : CutMark (ReadPacket TemplateStructure)) → IsRunning self.old marks
-            → marked mark.now bytes.now ≡ mark_with sent_of m → StartsAs self.old.table self.old.newest m → Pushed self.old self.new (written result meaning.new) marks m }
+            → marked mark.now bytes.now ≡ mark_with sent_of m → StartsAs self.old.table self.old.newest m
+            → Pushed self.old self.new (written result meaning.new) marks m }
         ensures valid { IfSome (written result meaning.new) IsValid }
     {
         keep_head(mark, &self.table, self.newest.get(), &mut self.head);

@@ -80,7 +80,8 @@ pub fn fill_link_table(
 ) -> Result<(), StructureFault>
     requires chains { chains ≤ 32 }
     requires templates { templates ≤ 64 }
-    ensures read { Gives (λ _. map (take chains) (take templates out.new)) result bits.new (repeat_at (repeat_at (number_at 4) chains) templates (bits_left bits.old)) }
+    ensures read { Gives (λ _. map (take chains) (take templates out.new)) result bits.new
+        (repeat_at (repeat_at (number_at 4) chains) templates (bits_left bits.old)) }
     ensures len { OnOk result (length out.new ≡ 64) }
 {
     for i in 0..templates {

@@ -42,7 +42,8 @@ pub fn fill_indication_table(
 ) -> Result<(), StructureFault>
     requires targets { targets ≤ 32 }
     requires templates { templates ≤ 64 }
-    ensures read { Gives (λ _. map (take targets) (take templates out.new)) result bits.new (repeat_at (repeat_at indication_at targets) templates (bits_left bits.old)) }
+    ensures read { Gives (λ _. map (take targets) (take templates out.new)) result bits.new
+        (repeat_at (repeat_at indication_at targets) templates (bits_left bits.old)) }
     ensures len { OnOk result (length out.new ≡ 64) }
 {
     for i in 0..templates {

@@ -43,7 +43,8 @@ OldestIsKept S = (send : Sender S) (subscriber : Subscriber) (events : List (Eve
 abbrev pub OldestIsTold : Type 0 → Type 0
 OldestIsTold S = (send : Sender S) (subscriber : Subscriber) (events : List (Event S))
     → (kept send subscriber events ≡ [] → oldest_number send subscriber events ≡ next_number send subscriber events)
-    × ((packet : Packet) (packets : List Packet) → kept send subscriber events ≡ packet ∷ packets → oldest_number send subscriber events ≡ packet.sequence_number)
+    × ((packet : Packet) (packets : List Packet) → kept send subscriber events ≡ packet ∷ packets
+    → oldest_number send subscriber events ≡ packet.sequence_number)
 
 -- a number that lies behind the kept ones isn't resent, and each kept one is
 abbrev pub ResendsTheKeptNumbers : Type 0 → Type 0

@@ -103,7 +103,8 @@ WhatWasReadIsInForce S = (format : Format S) (items : List Item) → IsInForceBy
 
 -- a key start of the first epoch has its own number, and a later one the least above the newest
 abbrev pub KeyStartsAreNumbered : Type 0 → Type 0
-KeyStartsAreNumbered S = (format : Format S) (item : Item) (past : List Item) (d : Descriptor S) → said_by format (structure_of (said format past)) item ≡ Some d
+KeyStartsAreNumbered S = (format : Format S) (item : Item) (past : List Item) (d : Descriptor S) → said_by format (structure_of (said format past)) item
+    ≡ Some d
     → is_key_start d ≡ true
     → (structure_of (said format past) ≡ None → start_number format (item ∷ past) ≡ d.number)
     × ((s : S) → structure_of (said format past) ≡ Some s → IsLeastAbove (newest_number format past) d.number (start_number format (item ∷ past)))
@@ -112,7 +113,8 @@ KeyStartsAreNumbered S = (format : Format S) (item : Item) (past : List Item) (d
 
 pub record IsPartOf {S : Type 0} (format : Format S) (force : Option S) (item : Item) (part : Part (ReadPacket S)) : Type 0 where
   pub came : item ≡ Arrived part.brings.packet
-  pub reads : shown format force part.brings.packet.rest ≡ Shows part.brings.descriptor (Elements (record { continues = part.continues; carries = part.carries }))
+  pub reads : shown format force part.brings.packet.rest
+      ≡ Shows part.brings.descriptor (Elements (record { continues = part.continues; carries = part.carries }))
   pub start : part.start ≡ part.brings.descriptor.start
   pub end : part.end ≡ part.brings.descriptor.end
   pub number : part.number ≡ part.brings.descriptor.number
@@ -162,7 +164,8 @@ pub record IsLaidOutBy {S : Type 0} (format : Format S) (s : S) (f : FrameMeanin
   pub guards : f.guards ≡ (format.layout s).guards
 
 -- the frame of a whole cut
-pub record IsFrameOf {S : Type 0} (format : Format S) (item : Item) (past : List Item) (first : Part (ReadPacket S)) (more : List (Part (ReadPacket S))) (frame : Frame S) : Type 0 where
+pub record IsFrameOf {S : Type 0} (format : Format S) (item : Item) (past : List Item) (first : Part (ReadPacket S)) (more : List (Part (ReadPacket S)))
+    (frame : Frame S) : Type 0 where
   pub packets : frame.packets ≡ map packet_of (first ∷ more)
   pub structure : structure_of (said format (item ∷ past)) ≡ Some frame.structure
   pub layout : IsLaidOutBy format frame.structure frame.meaning
@@ -170,14 +173,16 @@ pub record IsFrameOf {S : Type 0} (format : Format S) (item : Item) (past : List
 
 -- where the newest item makes a frame, it ends a whole cut, and the frame is that of the cut
 abbrev pub FramesAreCuts : Type 0 → Type 0
-FramesAreCuts S = (format : Format S) (item : Item) (past : List Item) (marks : List (Mark (ReadPacket S))) (frame : Frame S) → AreMarks format (item ∷ past) marks
+FramesAreCuts S = (format : Format S) (item : Item) (past : List Item) (marks : List (Mark (ReadPacket S))) (frame : Frame S)
+    → AreMarks format (item ∷ past) marks
     → frames_since format past (item ∷ []) ≡ frame ∷ []
     → (first : Part (ReadPacket S)) × (more : List (Part (ReadPacket S))) × IsWholeCut (first ∷ more) × EndsIn marks (first ∷ more)
     × IsFrameOf format item past first more frame
 
 -- and where it ends a whole cut whose number isn't stale, it makes a frame, of that cut's packets
 abbrev pub CutsAreFrames : Type 0 → Type 0
-CutsAreFrames S = (format : Format S) (item : Item) (past : List Item) (marks : List (Mark (ReadPacket S))) (first : Part (ReadPacket S)) (more : List (Part (ReadPacket S)))
+CutsAreFrames S = (format : Format S) (item : Item) (past : List Item) (marks : List (Mark (ReadPacket S))) (first : Part (ReadPacket S))
+    (more : List (Part (ReadPacket S)))
     → IsFormat format → AreMarks format (item ∷ past) marks → IsWholeCut (first ∷ more) → EndsIn marks (first ∷ more)
     → (is_key_start first.brings.descriptor ≡ true) ⊎ ((number : ℕ) × IsNearestAbove (newest_number format past) first.brings.descriptor.number number)
     → (frame : Frame S) × (frames_since format past (item ∷ []) ≡ frame ∷ []) × (frame.packets ≡ map packet_of (first ∷ more))

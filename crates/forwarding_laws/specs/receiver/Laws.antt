@@ -19,7 +19,8 @@ NeverComplains S = (format : Format S) (send : Sender S) (subscriber : Subscribe
 
 -- whatever items came, and whoever joined, changed a wish and took, a strict receiver of what a subscriber has taken has no complaint
 abbrev pub TakenNeverComplains : Type 0 → Type 0
-TakenNeverComplains S = (format : Format S) (send : Sender S) (number : ℕ) (history : List Entry) (subscriber : Subscriber) → IsFormat format → KeepsWhole format send
+TakenNeverComplains S = (format : Format S) (send : Sender S) (number : ℕ) (history : List Entry) (subscriber : Subscriber) → IsFormat format
+    → KeepsWhole format send
     → complaint format (map Some (taken send subscriber (timeline format send number history))) ≡ None
 
 -- nor has one of what goes out to it, or of a prefix of that

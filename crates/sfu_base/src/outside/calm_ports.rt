@@ -49,4 +49,8 @@ impl Ports for CalmPorts {
     fn back(&mut self, port: CalmLink) {
         self.returned.push_reserved(port);
     }
+
+    fn lemma_were_bound(&self) {
+        let _ = &self.bound;
+    }
 }

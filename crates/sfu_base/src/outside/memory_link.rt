@@ -30,7 +30,15 @@ impl Model for MemLink {
 
     ghost Value = { LinkInMemory };
 
-    ghost view = { λ s. record { prepared = drop s.place s.prepared.items; traffic = record { received = map (λ p. datagram p.1 p.0) s.past.items; sent = s.sent.items }; failing_receives = s.receive_fails.items; failing_sends = s.send_fails.items; receives = s.receives; sends = s.sends; faults = s.faults } };
+    ghost view = { λ s. record {
+      prepared = drop s.place s.prepared.items;
+      traffic = record { received = map (λ p. datagram p.1 p.0) s.past.items; sent = s.sent.items };
+      failing_receives = s.receive_fails.items;
+      failing_sends = s.send_fails.items;
+      receives = s.receives;
+      sends = s.sends;
+      faults = s.faults;
+    } };
 
     ghost invariant = { λ s. s.place ≤ vec_len s.prepared };
 }

@@ -1,5 +1,5 @@
 // Ports in memory, with a list of the binds that are to fail.
-ghost use Rattle.std.specs.Prelude.{◌≡◌, ◌+◌, ◌<◌, ◌↔◌, [], All, Some, IsErr, IsTrue, IfOk, OnOk, OnErr, drop, length};
+ghost use Rattle.std.specs.Prelude.{◌≡◌, ◌+◌, ◌<◌, ◌≤◌, ◌↔◌, [], All, Some, IsErr, IsTrue, IfOk, OnOk, OnErr, drop, length};
 ghost use Rattle.sfu_base.specs.Faults.{HasCause};
 ghost use Rattle.sfu_base.specs.Links.{IsFresh, is_listed};
 ghost use Rattle.sfu_base.specs.Ports.{CountsBack, after_back, after_bind, bound_one, came_back, failed_bind, next_link, tells_nothing_yet};
@@ -31,7 +31,14 @@ impl Model for MemPorts {
 
     ghost Value = { PortsInMemory };
 
-    ghost view = { λ s. record { prepared = s.prepared.items; returned = s.returned.items; failing = s.bind_fails.items; binds = s.binds; bound = s.bound; faults = s.faults } };
+    ghost view = { λ s. record {
+      prepared = s.prepared.items;
+      returned = s.returned.items;
+      failing = s.bind_fails.items;
+      binds = s.binds;
+      bound = s.bound;
+      faults = s.faults;
+    } };
 
     ghost invariant = { λ s. HaveRoom (vec_len s.returned) s.bound (vec_capacity s.returned) × All IsFresh s.prepared.items };
 }
@@ -40,7 +47,14 @@ impl MemPorts {
     /// Ports that give these links, on which no call was made yet, and whose binds at the places of `bind_fails` fail.
     pub fn new(alloc: Global, links: Vec<MemLink>, bind_fails: Vec<u64>) -> Result<Self, NoMemory>
         requires { All IsFresh links.items }
-        ensures { IfOk result (λ ports. ports ≡ record { prepared = links.items; returned = []; failing = bind_fails.items; binds = 0; bound = 0; faults = 0 }) }
+        ensures { IfOk result (λ ports. ports ≡ record {
+          prepared = links.items;
+          returned = [];
+          failing = bind_fails.items;
+          binds = 0;
+          bound = 0;
+          faults = 0;
+        }) }
     {
         let returned = Vec::with_capacity(alloc, PORT_LIMIT).map_err(|_| NoMemory)?;
         Ok(MemPorts {
@@ -125,5 +139,11 @@ impl Ports for MemPorts {
             self.faults = self.faults.saturating_add(1);
         }
         self.returned.push_reserved(port);
+    }
+
+    fn lemma_were_bound(&self)
+        ensures { length self.now.returned ≤ self.now.bound }
+    {
+        let _ = &self.bound;
     }
 }

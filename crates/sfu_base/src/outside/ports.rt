@@ -1,5 +1,5 @@
 // Where links are bound, and where they come back to. Own rule.
-ghost use Rattle.std.specs.Prelude.{◌≡◌, ◌+◌, ◌<◌, ℕ, List, Option, IfOk, IsOk, OnErr};
+ghost use Rattle.std.specs.Prelude.{◌≡◌, ◌+◌, ◌<◌, ◌≤◌, ℕ, List, Option, IfOk, IsOk, OnErr};
 ghost use Rattle.sfu_base.specs.Faults.{HasCause};
 ghost use Rattle.sfu_base.specs.Ports.{CountsBack, after_back, after_bind, tells_nothing_yet};
 
@@ -43,4 +43,8 @@ pub trait Ports {
         ensures back_count { back_count self.new ≡ back_count self.old + 1 }
         ensures returned { returned self.new ≡ after_back port (returned self.old) }
         ensures cause { CountsBack (Self.Port.faults port) (faults self.old) (faults self.new) };
+
+    /// A lemma, which does nothing: no more ports came back than were bound.
+    fn lemma_were_bound(&self)
+        ensures { back_count self.now ≤ bound self.now };
 }

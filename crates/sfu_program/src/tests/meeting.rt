@@ -1,5 +1,5 @@
 // Two sessions that are at work at the same time.
-ghost use Rattle.std.specs.Prelude.{None};
+ghost use Rattle.std.specs.Prelude.{◌≤◌, None};
 
 use super::serve::{CONFIGURATION, served};
 use sfu_base::{Address, Failed, Link, PacketBuf, Ports};
@@ -69,6 +69,7 @@ struct MeetingPorts<'a, R> {
     bound: u64,
     back_count: u64,
     faults: u64,
+    ghost within: { back_count ≤ bound },
 }
 
 impl<'a, R: Clock + Sync> Ports for MeetingPorts<'a, R> {
@@ -107,6 +108,10 @@ impl<'a, R: Clock + Sync> Ports for MeetingPorts<'a, R> {
         if port.faults > 0 {
             self.faults = self.faults.saturating_add(1);
         }
+    }
+
+    fn lemma_were_bound(&self) {
+        let _ = &self.bound;
     }
 }
 

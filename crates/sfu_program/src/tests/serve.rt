@@ -32,7 +32,6 @@ pub fn served<W: Threads + Wait + Sync, P: Ports>(
     writes: &[u64],
 ) -> Result<(u8, Vec<u8>), AllocError>
     requires unbound { P.bound ports.old ≡ 0 }
-    requires none_back { P.back_count ports.old ≡ 0 }
 {
     let words = [
         String::from_str(alloc, "serve")?,

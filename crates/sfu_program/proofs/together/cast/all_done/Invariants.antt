@@ -1,5 +1,0 @@
-use Rattle.std.proofs.Common.{◌≡◌, map, Ok}
-use Rattle.sfu_program.proofs.together.cast.all_done.Given as goal
-
-abbrev pub invariant-loop-end : goal.invariant-loop-end
-invariant-loop-end l = map Ok l.dones.items ≡ l.yielded

@@ -1,0 +1,4 @@
+pub mod History
+pub mod Turns
+pub mod Acting
+pub mod Together

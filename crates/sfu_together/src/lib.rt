@@ -1,0 +1,14 @@
+//! The command `together`: actors that make their calls on one room at the same time, and the journal of the history that their turns form.
+#![tactic(auto)]
+
+mod acting;
+mod cast;
+mod command;
+mod gate;
+mod played_room;
+mod running;
+
+pub use command::play_script;
+
+#[cfg(test)]
+mod tests;

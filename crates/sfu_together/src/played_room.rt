@@ -1,0 +1,35 @@
+// The room as the actors' lock holds it.
+ghost use Rattle.std.specs.Prelude.{◌≡◌, false};
+ghost use Rattle.sfu_base.specs.Answer.{is_starved, answer_of};
+ghost use Rattle.sfu_together.specs.Turns.{entries_of};
+ghost use Rattle.room_core.specs.History.{reply_of};
+ghost use Rattle.room_core.specs.Serves.{Stands};
+
+use room_core::{KeepNone, Recorder, Room};
+use sfu_base::{Call, Reply, Scratch};
+use turn_lock::Held;
+
+/// A room behind a lock, that keeps nothing of its calls: a turn is one call of its seat. Between turns the room stands for the history of all
+/// of them.
+#[derive(Drop)]
+pub struct PlayedRoom {
+    pub room: Room<KeepNone>,
+}
+
+impl Held for PlayedRoom {
+    type Call = Call;
+
+    type Reply = Reply;
+
+    type Scratch = Scratch;
+
+    ghost stands = { λ played history. Stands ⟦<KeepNone as Recorder>⟧.noted played.room (entries_of history) };
+
+    ghost gives = { λ history seat call reply scratch. is_starved reply ≡ false → answer_of reply scratch.packet scratch.names ≡ reply_of (entries_of history) call };
+
+    ghost starves = { is_starved };
+
+    fn serve(&mut self, seat: u32, call: &Call, scratch: &mut Scratch) -> Reply {
+        self.room.serve(seat, call, scratch)
+    }
+}
