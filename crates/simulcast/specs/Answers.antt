@@ -1,9 +1,9 @@
 -- What each call on a room with bundles answers, and what it leaves, as functions: so are the code's calls wherever memory is found.
-use Rattle.std.specs.Prelude.{ℕ, ◌==◌, ◌-◌, Bool, false, List, [], ◌∷◌, ◌++◌, Option, None, Some, Result, Ok, Err, length, slice_get, slice_set}
+use Rattle.std.specs.Prelude.{ℕ, ◌-◌, false, List, [], ◌∷◌, ◌++◌, Option, None, Some, Result, Ok, Err, length, slice_get, slice_set}
 use Rattle.sfu_base.specs.Answer.{Answer}
 use Rattle.sfu_base.specs.declared.call.Call.{Call}
 use Rattle.sfu_base.specs.declared.call.Refusal.TheVariants.{Empty, NotKept}
-use Rattle.room_core.specs.History.{Entry, reply_of}
+use Rattle.room_core.specs.History.{reply_of}
 use Rattle.out_ring.specs.Ring.{oldest_in}
 use Rattle.leg_switch.specs.Marks.{marks_of}
 use Rattle.leg_switch.specs.Switching.{passed}
@@ -37,7 +37,7 @@ made_at made (Some i) = slice_get made i
 -- what is done with the bundle that has this number, and with its place; where none has it, the call is refused
 abbrev pub with_found : {A : Type 0} → Simulcast → Option ℕ → Option Made → (ℕ → Made → Answered A) → Answered A
 with_found h (Some i) (Some m) does = does i m
-with_found h other none does = refused_for fault.NoBundle h
+with_found h _ _ does = refused_for fault.NoBundle h
 
 abbrev pub with_number : {A : Type 0} → ℕ → Simulcast → (ℕ → Made → Answered A) → Answered A
 with_number number h does = with_found h (place_of number h.made) (made_at h.made (place_of number h.made)) does
