@@ -1,7 +1,7 @@
 -- What is due for the lines of a script with bundles, one after another, is the replies to them, and then the fault of the first that says nothing.
-use Rattle.std.proofs.Common.{◌≡◌, inl, inr, ℕ, ◌+◌, Bool, true, false, cond, leb, List, [], ◌∷◌, ◌++◌, map, refl, sym, ap, ◌∙◌, arith, Option, Some, None}
+use Rattle.std.proofs.Common.{◌≡◌, inl, inr, ℕ, ◌+◌, Bool, true, false, cond, leb, List, [], ◌∷◌, map, refl, sym, ap, ◌∙◌, arith, Option, Some, None}
 use Rattle.sfu_driver.specs.declared.halt.Ending.TheVariants.{Outside}
-use Rattle.sfu_driver.specs.Drive.{end_by, outside_end}
+use Rattle.sfu_driver.specs.Drive.{outside_end}
 use Rattle.sfu_driver.specs.Outcome.{End, Outcome, goes_on, takes, then_due}
 use Rattle.sfu_driver.specs.Scan.{Scan, More, Whole, NoUnit}
 use Rattle.sfu_driver.specs.Lines.{line_scan, line_scan_end}

@@ -1,7 +1,7 @@
 -- What a server makes of what its bundles answered.
 use Rattle.std.proofs.Common.{◌≡◌, inl, inr, ℕ, ◌≤◌, Bool, true, false, List, [], ◌∷◌, ◌++◌, length, refl, sym, ap, subst, ◌∙◌, Result, Ok, Err, arith, length-append}
 use Rattle.std.specs.Prelude.{OnErr, OnOk}
-use Rattle.sfu_base.specs.Answer.{Answer, answer_of, is_starved}
+use Rattle.sfu_base.specs.Answer.{answer_of, is_starved}
 use Rattle.sfu_base.specs.declared.call.Call.{Call}
 use Rattle.sfu_base.specs.declared.call.Reply.{Reply}
 use Rattle.script_texts.specs.Replies.{answer_text}

@@ -5,7 +5,6 @@ ghost use Rattle.script_texts.specs.Replies.{answer_text};
 ghost use Rattle.script_texts.specs.WholeLines.{fault_line};
 ghost use Rattle.sfu_driver.specs.declared.halt.Halt.TheVariants.{Starved};
 ghost use Rattle.sfu_commands.specs.Run.{untold};
-ghost use Rattle.simulcast.specs.declared.fault.BundleFault.TheVariants.{NoMemory};
 ghost use Rattle.simulcast.specs.Answers.{bundle_made, bundle_pumped, leg_chosen, packet_drawn, packet_redrawn, room_called};
 ghost use Rattle.simulcast.specs.Bundles.{Simulcast, StandsFor, nothing_made};
 ghost use Rattle.simulcast.specs.Made.{just_made};
@@ -64,7 +63,7 @@ impl BundleServer {
 
     // Puts the line of a refusal behind them.
     fn refuse(&mut self, why: BundleFault, ready: &mut Blob) -> Result<(), Halt>
-        ensures starved { why ≡ NoMemory → result ≡ Err Starved }
+        ensures starved { why ≡ BundleFault.NoMemory → result ≡ Err Starved }
         ensures ok { OnOk result (ready.new ≡ ready.old ++ (fault_text why ++ 10 ∷ [])) }
         ensures err { OnErr result (ready.new ≡ ready.old) }
         ensures only { OnErr result (result ≡ Err Starved) }
@@ -87,7 +86,7 @@ impl BundleServer {
     }
 
     fn call(&mut self, call: &Call, ready: &mut Blob) -> Result<(), Halt>
-        ensures serves { ServesLine (λ h. told answer_text (room_called call.now h)) self.old self.new ready.old ready.new result }
+        ensures { ServesLine (λ h. told answer_text (room_called call.now h)) self.old self.new ready.old ready.new result }
     {
         match self.bundles.call(0, call, &mut self.scratch) {
             Ok(reply) => self.answer(&reply, ready),
@@ -106,7 +105,7 @@ impl BundleServer {
     ) -> Result<(), Halt>
         requires two { 2 ≤ length legs.now }
         requires three { length legs.now ≤ 3 }
-        ensures serves { ServesLine (λ h. told done_text (bundle_made (just_made number id ssrc first legs.now) h)) self.old self.new ready.old ready.new result }
+        ensures { ServesLine (λ h. told done_text (bundle_made (just_made number id ssrc first legs.now) h)) self.old self.new ready.old ready.new result }
     {
         match self.bundles.bundle(number, id, ssrc, first, legs) {
             Ok(()) => self.answer(&Reply::Done, ready),
@@ -115,7 +114,7 @@ impl BundleServer {
     }
 
     fn choose(&mut self, number: u32, leg: u8, ready: &mut Blob) -> Result<(), Halt>
-        ensures serves { ServesLine (λ h. told done_text (leg_chosen number leg h)) self.old self.new ready.old ready.new result }
+        ensures { ServesLine (λ h. told done_text (leg_chosen number leg h)) self.old self.new ready.old ready.new result }
     {
         match self.bundles.choose(number, leg, &mut self.scratch) {
             Ok(()) => self.answer(&Reply::Done, ready),
@@ -124,7 +123,7 @@ impl BundleServer {
     }
 
     fn pump(&mut self, number: u32, ready: &mut Blob) -> Result<(), Halt>
-        ensures serves { ServesLine (λ h. told pumped_text (bundle_pumped number h)) self.old self.new ready.old ready.new result }
+        ensures { ServesLine (λ h. told pumped_text (bundle_pumped number h)) self.old self.new ready.old ready.new result }
     {
         match self.bundles.pump(number, &mut self.scratch) {
             Ok(counts) => tell(
@@ -139,7 +138,7 @@ impl BundleServer {
     }
 
     fn draw(&mut self, number: u32, ready: &mut Blob) -> Result<(), Halt>
-        ensures serves { ServesLine (λ h. told packet_text (packet_drawn number h)) self.old self.new ready.old ready.new result }
+        ensures { ServesLine (λ h. told packet_text (packet_drawn number h)) self.old self.new ready.old ready.new result }
     {
         match self.bundles.draw(number, &mut self.scratch.packet) {
             Ok(_) => self.answer(&Reply::Packet, ready),
@@ -148,7 +147,7 @@ impl BundleServer {
     }
 
     fn redraw(&mut self, number: u32, seq: u16, ready: &mut Blob) -> Result<(), Halt>
-        ensures serves { ServesLine (λ h. told packet_text (packet_redrawn number seq h)) self.old self.new ready.old ready.new result }
+        ensures { ServesLine (λ h. told packet_text (packet_redrawn number seq h)) self.old self.new ready.old ready.new result }
     {
         match self.bundles.redraw(number, seq, &mut self.scratch.packet) {
             Ok(()) => self.answer(&Reply::Packet, ready),
@@ -159,7 +158,7 @@ impl BundleServer {
     // Serves what a line says.
     fn serve(&mut self, line: &BundleLine, ready: &mut Blob) -> Result<(), Halt>
         requires { HasLegs line.now }
-        ensures serves { ServesLine (λ h. line_told line.now h) self.old self.new ready.old ready.new result }
+        ensures { ServesLine (λ h. line_told line.now h) self.old self.new ready.old ready.new result }
     {
         match line {
             BundleLine::Room(call) => self.call(call, ready),

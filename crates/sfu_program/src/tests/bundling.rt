@@ -49,7 +49,8 @@ fn one_stream_goes_out_of_two_tracks(rt: HostRuntime) -> Result<(), Fail> {
     let script = format!(in alloc;
         "{BEGUN}{KEY_1}{KEY_2}pump 1\nchoose 1 2\n{SECOND_1}{SECOND_2}pump 1\n{KEY_3_2}{THIRD_1}pump 1\n"
     )?;
-    let ends = "draw 1\ndraw 1\ndraw 1\ndraw 1\ndraw 1\ntake 1\nbundle 2 5 55555555 0 1 2\ndraw 9\n";
+    let ends =
+        "draw 1\ndraw 1\ndraw 1\ndraw 1\ndraw 1\ntake 1\nbundle 2 5 55555555 0 1 2\ndraw 9\n";
     let wanted = format!(in alloc;
         "{BEGUN_REPLIES}ok\nok\npumped 1 1\nok\nok\nok\npumped 1 1\nok\nok\npumped 2 0\n{OUT_10}{OUT_11}{OUT_12}{OUT_13}"
     )?;
@@ -57,7 +58,9 @@ fn one_stream_goes_out_of_two_tracks(rt: HostRuntime) -> Result<(), Fail> {
     assert_eq!(rt; got, 0);
     assert_eq!(rt;
         written.as_slice(),
-        format!(in alloc; "{wanted}empty\nrefused bound 1\nrefused bound 1\nrefused nobundle\n")?.as_bytes()
+        format!(in alloc;
+            "{wanted}empty\nrefused bound 1\nrefused bound 1\nrefused nobundle\n"
+        )?.as_bytes()
     );
     Ok(())
 }
@@ -68,7 +71,8 @@ fn lines_of_bundles_are_refused_for_their_reasons(rt: HostRuntime) -> Result<(),
     // Behind the bundle of the legs 1 and 2, subscriber 3 is one of track 1, 4 of a plain track, 5 of a track with another id, and 6 of track 2.
     let others = "publish 3 plain 77777777 0\npublish 4 layered 88888888 0 5\njoin 3 1 1 0 0 0\n";
     assert_eq!(rt; run(alloc, others)?.0, 5);
-    let others = "publish 3 plain 77777777 0\npublish 4 layered 88888888 0 5\njoin 3 1 00000003 0 0 0\njoin 4 3 00000004 0 0 0\n\
+    let others =
+        "publish 3 plain 77777777 0\npublish 4 layered 88888888 0 5\njoin 3 1 00000003 0 0 0\njoin 4 3 00000004 0 0 0\n\
         join 5 4 00000005 0 0 0\njoin 6 2 00000006 0 0 0\n";
     for (line, reply) in [
         // The first refusal that stands, in their order.
@@ -110,8 +114,12 @@ fn lines_of_bundles_are_refused_for_their_reasons(rt: HostRuntime) -> Result<(),
 #[test]
 fn packets_are_redrawn_and_the_65th_bundle_is_refused(rt: HostRuntime) -> Result<(), Fail> {
     let alloc = rt.alloc();
-    let script = format!(in alloc; "{BEGUN}{KEY_1}{SECOND_1}pump 1\ndraw 1\nredraw 1 10\nredraw 1 11\nredraw 1 9\n")?;
-    let wanted = format!(in alloc; "{BEGUN_REPLIES}ok\nok\npumped 2 0\n{OUT_10}{OUT_10}notkept 10 11\nnotkept 10 11\n")?;
+    let script = format!(in alloc;
+        "{BEGUN}{KEY_1}{SECOND_1}pump 1\ndraw 1\nredraw 1 10\nredraw 1 11\nredraw 1 9\n"
+    )?;
+    let wanted = format!(in alloc;
+        "{BEGUN_REPLIES}ok\nok\npumped 2 0\n{OUT_10}{OUT_10}notkept 10 11\nnotkept 10 11\n"
+    )?;
     let (got, written) = run(alloc, script.as_str())?;
     assert_eq!(rt; got, 0);
     assert_eq!(rt; written.as_slice(), wanted.as_bytes());
@@ -123,7 +131,11 @@ fn packets_are_redrawn_and_the_65th_bundle_is_refused(rt: HostRuntime) -> Result
             "join {one} 1 00000000 0 0 0\njoin {two} 1 00000000 0 0 0\nbundle {number} 4 55555555 0 {one} {two}\n"
         )?;
         script.push_str(lines.as_str())?;
-        wanted.push_str(if number < 65 { "ok\nok\nok\n" } else { "ok\nok\nrefused toomany 64\n" })?;
+        wanted.push_str(if number < 65 {
+            "ok\nok\nok\n"
+        } else {
+            "ok\nok\nrefused toomany 64\n"
+        })?;
     }
     let (got, written) = run(alloc, script.as_str())?;
     assert_eq!(rt; got, 0);
@@ -196,18 +208,38 @@ fn each_fault_of_the_outside_ends_the_script(rt: HostRuntime) -> Result<(), Fail
         // The n-th read fails: the texts of the lines that ended before it were written.
         for n in 0..=reads {
             let (got, written, unread) = run_bytes(alloc, script, &[n], &[])?;
-            let ended = script.bytes().take(n as usize).filter(|byte| *byte == b'\n').count();
+            let ended = script
+                .bytes()
+                .take(n as usize)
+                .filter(|byte| *byte == b'\n')
+                .count();
             let wanted = first_texts(alloc, ended)?;
-            assert_eq!(rt; got, if n < reads { 3 } else { status }, "read {n} of {script}");
-            assert_eq!(rt; written.as_slice(), wanted.as_bytes(), "read {n} of {script}");
+            assert_eq!(rt;
+                got,
+                if n < reads { 3 } else { status },
+                "read {n} of {script}"
+            );
+            assert_eq!(rt;
+                written.as_slice(),
+                wanted.as_bytes(),
+                "read {n} of {script}"
+            );
             assert_eq!(rt; unread, n == reads, "read {n} of {script}");
         }
         // The n-th write fails: the texts before were written. In the last text, the fifth, this leaves the status as it is.
         for n in 0..=writes {
             let (got, written, _) = run_bytes(alloc, script, &[], &[n])?;
             let wanted = first_texts(alloc, n as usize)?;
-            assert_eq!(rt; got, if n < 4 { 4 } else { status }, "write {n} of {script}");
-            assert_eq!(rt; written.as_slice(), wanted.as_bytes(), "write {n} of {script}");
+            assert_eq!(rt;
+                got,
+                if n < 4 { 4 } else { status },
+                "write {n} of {script}"
+            );
+            assert_eq!(rt;
+                written.as_slice(),
+                wanted.as_bytes(),
+                "write {n} of {script}"
+            );
         }
     }
     Ok(())
