@@ -84,7 +84,8 @@ int main(int words, char **word) {
   uint32_t ssrc = (uint32_t)strtoul(word[3], NULL, 16);
   uint64_t rate = strtoul(word[4], NULL, 10), total = rate * strtoul(word[5], NULL, 10), answers = 0, faults = 0, place = 0;
   sleep_exactly();
-  for (uint64_t begin = now(); place < total; place++) {
+  uint64_t begin = now();
+  for (; place < total; place++) {
     sleep_until(begin + place * 1000000000u / rate);
     uint8_t bytes[ROOM];
     size_t length = make(bytes, word[2], ssrc, place);
@@ -97,6 +98,6 @@ int main(int words, char **word) {
       faults += got == 10 && memcmp(answer, "fault line", 10) == 0;
     }
   }
-  printf("{\"sent\": %lu, \"answers\": %lu, \"fault_lines\": %lu}\n", place, answers, faults);
+  printf("{\"sent\": %lu, \"seconds\": %.3f, \"answers\": %lu, \"fault_lines\": %lu}\n", place, (double)(now() - begin) / 1e9, answers, faults);
   return 0;
 }

@@ -1,7 +1,10 @@
 // Receives streams of RTP packets at ports of 127.0.0.1 until it is told to end (SIGTERM), judges each packet, and prints a line for each port.
 // usage: receive NACKED PLIS DUMP PORT:PEER:SSRC...
+//        receive NACKED PLIS DUMP:BYTES PORT:PEER:SSRC...
 // Each NACKED-th new packet is asked for again, as though it were lost (0: none), and must come again with the same bytes. A picture loss indication
-// goes out each PLIS milliseconds (0: none). DUMP is a file for the first 20,000 packets of the first port in hex, one a line, or - for none.
+// goes out each PLIS milliseconds (0: none). DUMP is a file for the first 20,000 packets of the first port in hex, one a line; or a folder, with / at the
+// end of its name, for all new packets of each port, in a file PORT that is written as they come; or - for none. With BYTES it is a file for the first so
+// many bytes of each of the first port's packets.
 #include "packets.h"
 
 enum { FINEST = 200000, ASKED = 64, DUMPED = 20000, SYSTEM_ROOM = 1 << 22 };
@@ -16,6 +19,7 @@ struct port {
   size_t lengths[ASKED];
   uint8_t copies[ASKED][ROOM];
   uint32_t waits[FINEST + 1];  // how many packets took so many microseconds
+  FILE *dump;                  // where all new packets go, or none
 };
 
 // The first packets of the first port, which are written at the end alone, so that those behind them don't wait for it.
@@ -58,6 +62,18 @@ static int is_resent(struct port *port, const uint8_t *bytes, size_t count, uint
   return 0;
 }
 
+// A line of hex.
+static void write_hex(FILE *file, const uint8_t *bytes, size_t count) {
+  static const char digits[] = "0123456789abcdef";
+  char line[2 * ROOM + 1];
+  for (size_t at = 0; at < count; at++) {
+    line[2 * at] = digits[bytes[at] >> 4];
+    line[2 * at + 1] = digits[bytes[at] & 15];
+  }
+  line[2 * count] = '\n';
+  if (fwrite(line, 2 * count + 1, 1, file) != 1) fail("dump");
+}
+
 static void judge(struct port *port, const uint8_t *bytes, size_t count, uint64_t moment, uint64_t nacked) {
   if (count < 12 + BODY || bytes[0] >> 6 != 2 || (bytes[1] & 0x7F) != PAYLOAD_TYPE || get(bytes + 8, 4) != port->ssrc) {
     port->wrong++;
@@ -90,6 +106,7 @@ static void judge(struct port *port, const uint8_t *bytes, size_t count, uint64_
   port->next = (uint16_t)(number + 1);
   port->waits[wait < FINEST ? wait : FINEST]++;
   if (wait > port->worst) port->worst = wait;
+  if (port->dump != NULL) write_hex(port->dump, bytes, count);
   if (nacked != 0 && ++port->since_nack == nacked) {
     port->since_nack = 0;
     ask(port, bytes, count, number);
@@ -109,7 +126,11 @@ static uint64_t share(const struct port *port, uint64_t part) {
 int main(int words, char **word) {
   if (words < 5) return 2;
   uint64_t nacked = strtoul(word[1], NULL, 10), apart = strtoul(word[2], NULL, 10) * 1000000, dumped = 0;
-  FILE *dump = strcmp(word[3], "-") == 0 ? NULL : fopen(word[3], "w");
+  char *colon = strchr(word[3], ':');
+  size_t cut = colon == NULL ? 0 : strtoul(colon + 1, NULL, 10);
+  if (colon != NULL) *colon = 0;
+  int is_folder = word[3][strlen(word[3]) - 1] == '/';
+  FILE *dump = is_folder || strcmp(word[3], "-") == 0 ? NULL : fopen(word[3], "w");
   int count = words - 4;
   struct port *ports = calloc((size_t)count, sizeof *ports);
   struct pollfd *polls = calloc((size_t)count, sizeof *polls);
@@ -121,6 +142,11 @@ int main(int words, char **word) {
     ports[i].socket = open_at(at, SYSTEM_ROOM);
     ports[i].peer = here(peer);
     ports[i].ssrc = ssrc;
+    if (is_folder) {
+      char name[4096];
+      snprintf(name, sizeof name, "%s%lu", word[3], at);
+      if ((ports[i].dump = fopen(name, "w")) == NULL) fail(name);
+    }
     polls[i] = (struct pollfd){.fd = ports[i].socket, .events = POLLIN};
   }
   signal(SIGTERM, stop);
@@ -133,7 +159,8 @@ int main(int words, char **word) {
       if ((polls[i].revents & POLLIN) == 0) continue;
       while ((got = recv(ports[i].socket, bytes, sizeof bytes, MSG_DONTWAIT)) >= 0) {
         judge(&ports[i], bytes, (size_t)got, now(), nacked);
-        if (dump == NULL || i != 0 || dumped == DUMPED) continue;
+        if (dump != NULL && i == 0 && cut != 0) write_hex(dump, bytes, (size_t)got < cut ? (size_t)got : cut);
+        if (dump == NULL || i != 0 || cut != 0 || dumped == DUMPED) continue;
         kept[dumped].length = (size_t)got;
         memcpy(kept[dumped++].bytes, bytes, (size_t)got);
       }
@@ -147,11 +174,10 @@ int main(int words, char **word) {
       }
     }
   }
-  for (uint64_t i = 0; i < dumped; i++) {
-    for (size_t at = 0; at < kept[i].length; at++) fprintf(dump, "%02x", kept[i].bytes[at]);
-    fputc('\n', dump);
-  }
+  for (uint64_t i = 0; i < dumped; i++) write_hex(dump, kept[i].bytes, kept[i].length);
   if (dump != NULL) fclose(dump);
+  for (int i = 0; i < count; i++)
+    if (ports[i].dump != NULL && fclose(ports[i].dump) != 0) fail("dump");
   for (int i = 0; i < count; i++) {
     const struct port *port = &ports[i];
     printf("{\"received\": %lu, \"bytes\": %lu, \"gaps\": %lu, \"again\": %lu, \"wrong\": %lu, \"skipped\": %lu, \"first\": %lu, \"last\": %lu, "

@@ -13,143 +13,28 @@ usage: bench/serve/run.py [--program FILE] [--seconds N] [--rate N] [PART...]   
             subscriber that sends RTCP that doesn't read or asks for what never was, peers that aren't there or go away
   control   what a control port answers
   ports     64 ports for 60 seconds
+  idle      64 ports at which nothing comes: the processors that they take
+  burst     the longest burst, sent back to back, of which the system drops nothing: at one publisher's port of 2, 16 and 64, and at all at once
+  strangers a track before and while strangers send 200,000 datagrams a second to its publisher's port
+  calls     how often the system is called for a packet that goes out; it needs perf, and leave to count (root)
 """
 import argparse
-import atexit
-import json
-import os
+import shutil
 import signal
 import socket
 import subprocess
 import sys
-import tempfile
 import time
 from pathlib import Path
 
-TOP = Path(__file__).resolve().parent.parent.parent
-FOLDER = Path(__file__).resolve().parent
-PARTS = ['plain', 'layered', 'resend', 'hostile', 'control', 'ports']
-LOCAL, PEER, RELAY = 21000, 22000, 23000      # below the ports that the system chooses
-SIZE = 1200
-NEVER = 10**12                                # turns: more than can be made while anybody waits
+import common
+from common import (
+    LOCAL, NEVER, PEER, SIZE, TRACKS, Serving, check, drops, kind_of, milliseconds, prepared, problems, processor_seconds, receivers, room_of, sender,
+    sound, tool, wait_for, waits,
+)
 
-problems = []
-started = []
-
-
-def check(good, text):
-    if not good:
-        problems.append(text)
-        print(f'  WRONG: {text}')
-
-
-def drops(port):
-    """How many datagrams the system dropped at a port of 127.0.0.1 since its socket was opened; none where the port isn't open."""
-    with open('/proc/net/udp') as table:
-        for row in list(table)[1:]:
-            words = row.split()
-            if words[1] == f'0100007F:{port:04X}':
-                return int(words[-1])
-    return None
-
-
-def processor_seconds(pid):
-    words = Path(f'/proc/{pid}/stat').read_text().rsplit(')', 1)[1].split()
-    return (int(words[11]) + int(words[12])) / os.sysconf('SC_CLK_TCK')
-
-
-@atexit.register
-def end_all():
-    for running in started:
-        if running.poll() is None:
-            running.kill()
-
-
-def wait_for(ports):
-    """Waits until each port is open."""
-    end = time.monotonic() + 20
-    while any(drops(port) is None for port in ports):
-        if time.monotonic() > end:
-            sys.exit(f'run.py: no socket at one of the ports {ports}')
-        time.sleep(0.02)
-
-
-class Started:
-    """A program of this folder or sfu, with what it writes."""
-
-    def __init__(self, words, source=''):
-        self.out = tempfile.TemporaryFile('w+')
-        self.running = subprocess.Popen([str(word) for word in words], stdin=subprocess.PIPE, stdout=self.out, text=True)
-        self.pid = self.running.pid
-        started.append(self.running)
-        self.running.stdin.write(source)
-        self.running.stdin.close()
-
-    def stop(self):
-        if self.running.poll() is None:
-            self.running.send_signal(signal.SIGTERM)
-        return self.wait()
-
-    def wait(self, seconds=None):
-        self.running.wait(seconds)
-        self.out.seek(0)
-        return self.out.read()
-
-    def rows(self):
-        return [json.loads(row) for row in self.wait().splitlines()]
-
-    def threads(self):
-        try:
-            return len(os.listdir(f'/proc/{self.pid}/task'))
-        except FileNotFoundError:
-            return 0
-
-
-class Serving:
-    """`serve` on a room: the opening lines, and one port for each role, from LOCAL on, whose peers are from PEER on."""
-
-    def __init__(self, opening, roles, turns=NEVER):
-        lines = opening + [f'port 127.0.0.1:{LOCAL + i} 127.0.0.1:{PEER + i} {role}' for i, role in enumerate(roles)]
-        self.count, self.opening = len(roles), opening
-        self.sfu = Started([program, 'serve', turns], ''.join(line + '\n' for line in lines))
-        wait_for([LOCAL + i for i in range(self.count)])
-        time.sleep(0.2)
-        self.threads = self.sfu.threads()
-        check(self.threads >= self.count, f'{self.threads} threads for {self.count} sessions')
-
-    def end(self):
-        """Stops it, where no session has ended before."""
-        check(self.sfu.threads() == self.threads, f'{self.sfu.threads()} of {self.threads} threads are left')
-        out = self.sfu.stop()
-        check(out == 'ok\n' * len(self.opening), f'the opening lines were answered {out!r}')
-
-
-def tool(name, *words):
-    return Started([binaries / name, *words])
-
-
-def sender(place, kind, ssrc, rate, seconds, *beside, first=0, answers=0, left_out=0):
-    return tool('send', PEER + place, LOCAL + place, kind, ssrc, rate, seconds, SIZE, first, answers, left_out, *beside)
-
-
-def receivers(places, ssrcs, nacked=0, plis=0, dump='-'):
-    taking = tool('receive', nacked, plis, dump, *(f'{PEER + place}:{LOCAL + place}:{ssrc}' for place, ssrc in zip(places, ssrcs)))
-    wait_for([PEER + place for place in places])
-    return taking
-
-
-def sound(row, name):
-    check(row['received'] > 0, f'{name} received nothing')
-    check(row['wrong'] == 0, f'{name} received {row["wrong"]} packets that are none of the stream')
-    check(row['again'] == 0, f'{name} received {row["again"]} packets again')
-
-
-def milliseconds(rows, part):
-    return max(row[part] for row in rows) / 1000
-
-
-def waits(rows):
-    return ' '.join(f'{milliseconds(rows, part):6.2f}' for part in ('p50', 'p99', 'p999', 'worst'))
+PARTS = ['plain', 'layered', 'resend', 'hostile', 'control', 'ports', 'idle', 'burst', 'strangers', 'calls']
+RELAY = 23000
 
 
 def rates(kind):
@@ -165,7 +50,7 @@ def rates(kind):
                           ['publisher 1 11111111'] + [f'subscriber {s + 1} {ssrcs[s]}' for s in range(count)])
         places = range(1, count + 1)
         beside = range(RELAY + 1, RELAY + count + 1)
-        dump = binaries / 'dump'
+        dump = common.binaries / 'dump'
         taking = receivers(places, ssrcs, dump=dump if kind == 'layered' else '-')
         relay = tool('relay', RELAY, *beside)
         relayed = tool('receive', 0, 0, '-', *(f'{port}:{RELAY}:11111111' for port in beside))
@@ -194,7 +79,7 @@ def rates(kind):
             print(f'    (the sender itself was up to {sent["latest_us"] / 1000:.1f} ms late)')
         if kind == 'layered' and behind[0][0] == 0 and at[0] == 0:
             with open(dump) as packets:
-                verdict = subprocess.run([program, 'check', '4'], stdin=packets, capture_output=True, text=True).stdout.strip()
+                verdict = subprocess.run([common.program, 'check', '4'], stdin=packets, capture_output=True, text=True).stdout.strip()
             check(verdict.startswith('ok '), f'a strict receiver says {verdict!r}')
             print(f'    a strict receiver of the first packets that subscriber 1 received: {verdict}')
 
@@ -345,24 +230,53 @@ def dialogue():
     print(f'control: {len(first) + len(second)} lines; the subscriber that a line joined received {counts[1]} packets, the other {counts[0]}')
 
 
+CALLS = ['recvfrom', 'sendto', 'clock_nanosleep', 'sched_yield', 'futex']
+
+
+def calls():
+    """How often the system is called, and threads are switched, for a packet that goes out."""
+    names = [f'syscalls:sys_enter_{name}' for name in CALLS] + ['raw_syscalls:sys_enter', 'context-switches']
+    counting = ['perf', 'stat', '-x', ',', '-e', ','.join(names)]
+    if shutil.which('perf') is None or subprocess.run(counting + ['true'], capture_output=True).returncode != 0:
+        print('calls: perf isn\'t here or may not count: left out')
+        return
+    seconds = min(options.seconds, 10)
+    print(f'calls of the system for a packet that goes out, {options.rate} come in a second, {seconds} s')
+    print('  track    subscribers  packets out  ' + '  '.join(CALLS) + '  others  switches')
+    for kind in ('plain', 'layered'):
+        for count in (1, 2, 4):
+            ssrcs = [f'222222{s:02x}' for s in range(1, count + 1)]
+            head = f'publish 1 {kind} 11111111 30' + (' 4' if kind == 'layered' else '')
+            serving = Serving([head] + [f'join {s + 1} 1 {ssrcs[s]} 0 1 1' for s in range(count)],
+                              ['publisher 1 11111111'] + [f'subscriber {s + 1} {ssrcs[s]}' for s in range(count)])
+            taking = receivers(range(1, count + 1), ssrcs)
+            watching = subprocess.Popen(counting + ['-p', str(serving.sfu.pid)], stderr=subprocess.PIPE, text=True)
+            time.sleep(0.5)
+            sender(0, kind, '11111111', options.rate, seconds).wait()
+            watching.send_signal(signal.SIGINT)
+            counted = [int(row.split(',')[0]) for row in watching.communicate()[1].splitlines() if ',' in row]
+            taking.stop()
+            serving.end()
+            out = sum(row['received'] for row in taking.rows())
+            *named, whole, switched = counted
+            parts = [*named, whole - sum(named), switched]
+            print(f'  {kind:<9}{count:11}  {out:11}  ' + '  '.join(f'{part / out:{max(len(name), 6)}.3f}'
+                  for name, part in zip([*CALLS, 'others', 'switches'], parts)), flush=True)
+
+
 def ports():
     """21 publishers, 42 subscribers and a controller."""
-    opening, roles = [], []
-    for track in range(1, 22):
-        opening.append(f'publish {track} plain 111111{track:02x} 100' if track % 2 else f'publish {track} layered 111111{track:02x} 100 4')
-        opening += [f'join {s} {track} 222222{s:02x} 0 1 1' for s in (2 * track - 1, 2 * track)]
-        roles.append(f'publisher {track} 111111{track:02x}')
-    roles += [f'subscriber {s} 222222{s:02x}' for s in range(1, 43)] + ['control']
+    opening, roles = room_of(TRACKS)
     turns, least = 180000, 65      # a turn takes some 0.55 ms
     serving = Serving(opening, roles, turns)
     begin = time.monotonic()
     time.sleep(5)
     rest = processor_seconds(serving.sfu.pid) / (time.monotonic() - begin)
     taking = receivers(range(21, 63), [f'222222{s:02x}' for s in range(1, 43)])
-    sending = [sender(track - 1, 'plain' if track % 2 else 'layered', f'111111{track:02x}', 100, 600, answers=1) for track in range(1, 22)]
+    sending = [sender(track - 1, kind_of(track), f'111111{track:02x}', 100, 600, answers=1) for track in range(1, 22)]
     while time.monotonic() - begin < least:
         time.sleep(1)
-        lost = [drops(port) or 0 for port in range(LOCAL, LOCAL + 64)]
+        lost = serving.lost()
     alive, cost = serving.sfu.threads(), processor_seconds(serving.sfu.pid) / (time.monotonic() - begin)
     out = serving.sfu.wait(600)
     took = time.monotonic() - begin
@@ -383,6 +297,93 @@ def ports():
           f'worst {milliseconds(rows, "worst"):.2f} ms; {out.count(" all")} sessions made all turns')
 
 
+def switches(pid):
+    """How often threads of the process gave the processor up or had it taken."""
+    count = 0
+    for task in Path(f'/proc/{pid}/task').iterdir():
+        count += sum(int(row.split()[1]) for row in (task / 'status').read_text().splitlines() if 'ctxt_switches' in row)
+    return count
+
+
+def idle():
+    """64 ports at which nothing comes, from when they are quiet."""
+    serving = Serving(*room_of(TRACKS))
+    time.sleep(5)
+    begin, cost, turned = time.monotonic(), processor_seconds(serving.sfu.pid), switches(serving.sfu.pid)
+    time.sleep(20)
+    took = time.monotonic() - begin
+    cost, turned = processor_seconds(serving.sfu.pid) - cost, switches(serving.sfu.pid) - turned
+    serving.end()
+    print(f'idle: 64 ports for {took:.0f} s, {cost / took:.3f} processors (the goal is 0.15), {turned / took:.0f} switches of threads a second')
+
+
+BURSTS = [32, 64, 80, 88, 92, 96, 104, 128, 160, 192, 256, 384, 512]      # a subscriber's queue holds 512
+EACH = 8                                                                # bursts of each length, in a second
+
+
+def longest_burst(tracks, bursting):
+    """The longest burst of which the system drops nothing where each of these publishers sends it."""
+    serving = Serving(*room_of(tracks))
+    taking = receivers(range(tracks, 3 * tracks), [f'222222{s:02x}' for s in range(1, 2 * tracks + 1)])
+    longest, first = 0, 0
+    for length in BURSTS:
+        sending = [sender(track - 1, 'plain', f'111111{track:02x}', EACH * length, 1, first=first, burst=length) for track in bursting]
+        for each in sending:
+            each.wait()
+        if any(serving.lost()):
+            break
+        longest, first = length, first + EACH * length
+    taking.stop()
+    rows = taking.rows()
+    serving.end()
+    for place, row in enumerate(rows, 1):
+        check(row['wrong'] == row['again'] == 0, f'subscriber {place} received packets again, or none of the stream')
+    return longest
+
+
+def burst():
+    """Bursts of packets that are sent back to back, as those of a key frame, with the system's own sizes of buffers."""
+    room = Path('/proc/sys/net/core/rmem_default').read_text().strip()
+    print(f'burst: {EACH} a second of packets of {SIZE} bytes back to back, {room} bytes of buffer; the longest of which the system dropped nothing')
+    for tracks in (1, 5, TRACKS):
+        plain = list(range(1, tracks + 1, 2))
+        lengths = [f'at one publisher\'s {longest_burst(tracks, plain[:1])} packets']
+        if len(plain) > 1:
+            lengths.append(f'at {len(plain)} publishers\' at once {longest_burst(tracks, plain)}')
+        print(f'  {3 * tracks + 1:2} ports: {", ".join(lengths)}', flush=True)
+
+
+def strangers():
+    """A publisher, and strangers who send to its port 20 times as much."""
+    seconds, parts = min(options.seconds, 10), 4
+    print(f'strangers: a plain track, {options.rate} packets a second, {seconds} s, two subscribers; of each figure the worst of them')
+    serving = Serving(['publish 1 plain 11111111 30', 'join 1 1 22222201 0 1 1', 'join 2 1 22222202 0 1 1'],
+                      ['publisher 1 11111111', 'subscriber 1 22222201', 'subscriber 2 22222202'])
+    for name in ('calm', 'strangers'):
+        taking = receivers([1, 2], ['22222201', '22222202'])
+        before, begin, cost = drops(LOCAL), time.monotonic(), processor_seconds(serving.sfu.pid)
+        noises = []
+        if name == 'strangers':
+            kinds = ['forged'] + ['random'] * (parts - 1)
+            noises = [tool('noise', 0, kind, '11111111', 200000 // parts, seconds, LOCAL) for kind in kinds]
+        sent = sender(0, 'plain', '11111111', options.rate, seconds, first=0 if name == 'calm' else options.rate * seconds).rows()[0]
+        took, cost = time.monotonic() - begin, processor_seconds(serving.sfu.pid) - cost
+        time.sleep(0.5)
+        dropped, behind = drops(LOCAL) - before, max(drops(PEER + place) for place in (1, 2))
+        taking.stop()
+        rows = taking.rows()
+        for place, row in enumerate(rows, 1):
+            sound(row, f'subscriber {place}')
+        gone = max(sent['sent'] - row['received'] for row in rows)
+        check(gone <= dropped + behind, f'{gone} packets of the publisher are lost, and the system dropped {dropped} at its port and {behind} behind')
+        print(f'  {name:<10}{sent["sent"]:8} sent, {gone} lost, {dropped + behind} dropped by the system; ms {waits(rows)}; {cost / took:.2f} processors')
+        for noise in noises:
+            row = noise.rows()[0]
+            check(row['answers'] == 0, 'strangers were answered')
+            print(f'    strangers: {row["sent"] / row["seconds"]:.0f} datagrams a second')
+    serving.end()
+
+
 reader = argparse.ArgumentParser(usage=__doc__)
 reader.add_argument('--program')
 reader.add_argument('--seconds', type=int, default=30)
@@ -391,16 +392,9 @@ reader.add_argument('parts', nargs='*')
 options = reader.parse_args()
 if any(part not in PARTS for part in options.parts):
     reader.error(f'the parts are {", ".join(PARTS)}')
-program = options.program
-if program is None:
-    subprocess.run([TOP / 'sfu', 'help'], stdin=subprocess.DEVNULL, stdout=subprocess.DEVNULL, check=True)
-    program = TOP / 'crates/sfu_program/out/sfu_program'
-with tempfile.TemporaryDirectory() as work:
-    binaries = Path(work)
-    for name in ('send', 'receive', 'relay', 'noise'):
-        subprocess.run(['gcc', '-std=gnu11', '-O2', '-Wall', '-Wextra', '-o', binaries / name, FOLDER / f'{name}.c'], check=True)
-    run = {'plain': lambda: rates('plain'), 'layered': lambda: rates('layered'), 'resend': resend, 'hostile': hostile, 'control': dialogue,
-           'ports': ports}
+run = {'plain': lambda: rates('plain'), 'layered': lambda: rates('layered'), 'resend': resend, 'hostile': hostile, 'control': dialogue, 'ports': ports,
+       'idle': idle, 'burst': burst, 'strangers': strangers, 'calls': calls}
+with prepared(options.program):
     for part in PARTS:
         if part in (options.parts or PARTS):
             run[part]()

@@ -1,9 +1,9 @@
 // Sends a stream of RTP packets at an even pace from one port of 127.0.0.1 to another, each stamped with the moment of its send. Prints what it sent
 // and was asked for.
-// usage: send FROM TO KIND SSRC RATE SECONDS BYTES FIRST ANSWERS LEFT_OUT [BESIDE]
+// usage: send FROM TO KIND SSRC RATE SECONDS BYTES FIRST ANSWERS LEFT_OUT BURST [BESIDE]
 // KIND is plain or layered, SSRC in hex, RATE in packets a second; a layered stream ends with its last whole temporal unit. FIRST is the place of the
 // first packet in its stream. ANSWERS is 1 where NACKs are answered, else 0. Each LEFT_OUT-th packet is sent only when it is asked for (0: none).
-// BESIDE is a second port that gets the same datagrams.
+// BURST packets at a time go back to back, at the same pace on the whole. BESIDE is a second port that gets the same datagrams. It ends early at SIGTERM.
 #include "packets.h"
 
 enum { KEPT = 16384 };  // packets that can be resent
@@ -49,21 +49,22 @@ static void hear(int from, const struct sockaddr_in *to, uint64_t next, size_t c
 }
 
 int main(int words, char **word) {
-  if (words < 11) return 2;
+  if (words < 12) return 2;
   int layered = strcmp(word[3], "layered") == 0;
   uint32_t ssrc = (uint32_t)strtoul(word[4], NULL, 16);
-  uint64_t rate = strtoul(word[5], NULL, 10), total = rate * strtoul(word[6], NULL, 10), left_out = strtoul(word[10], NULL, 10);
+  uint64_t rate = strtoul(word[5], NULL, 10), total = rate * strtoul(word[6], NULL, 10);
+  uint64_t left_out = strtoul(word[10], NULL, 10), burst = strtoul(word[11], NULL, 10);
   size_t count = strtoul(word[7], NULL, 10);
   first = strtoul(word[8], NULL, 10);
   answers = strtoul(word[9], NULL, 10);
   if (layered) total -= within_unit(first + total);
   int from = open_at(strtoul(word[1], NULL, 10), 0);
-  struct sockaddr_in to = here(strtoul(word[2], NULL, 10)), beside = here(words > 11 ? strtoul(word[11], NULL, 10) : 0);
+  struct sockaddr_in to = here(strtoul(word[2], NULL, 10)), beside = here(words > 12 ? strtoul(word[12], NULL, 10) : 0);
   signal(SIGTERM, stop);
   sleep_exactly();
   uint64_t begin = now() + 1000000, place = first, latest = 0;
   for (; place < first + total && !stopped; place++) {
-    uint64_t due = begin + (place - first) * 1000000000u / rate;
+    uint64_t due = begin + (place - first) / burst * burst * 1000000000u / rate;
     for (uint64_t moment = now(); moment < due; moment = now()) {  // at a low pace too, what is asked for is sent at once
       sleep_until(due - moment > 2000000 ? moment + 1000000 : due);
       hear(from, &to, place, count);
@@ -73,7 +74,7 @@ int main(int words, char **word) {
     uint8_t *packet = kept[place % KEPT];
     (layered ? make_layered : make_plain)(packet, count, place, ssrc, moment);
     if (left_out == 0 || place % left_out != left_out - 1) send_to(from, packet, count, &to);
-    if (words > 11) send_to(from, packet, count, &beside);
+    if (words > 12) send_to(from, packet, count, &beside);
     if (place % 16 == 0) hear(from, &to, place + 1, count);
   }
   double took = (double)(now() - begin) / 1e9;

@@ -1,4 +1,4 @@
-// gateway puts browsers into a room: it speaks ICE, DTLS and SRTP with them, and plain RTP and RTCP with `sfu serve`, which it starts. Nothing of it is proved.
+// gateway puts browsers into a room: it speaks ICE, DTLS and SRTP with them, and plain RTP and RTCP with a room. Nothing of it is proved.
 package main
 
 import (
@@ -31,7 +31,8 @@ var (
 	forPlayers        = flag.Int("players", 48, "how many may play; with the publishers at most 63")
 	hold              = flag.Int("hold", 300, "milliseconds for which lost packets are waited for: more than the way there and back and 50")
 	also              = flag.String("also", "/dev/null", "a file of more lines for the room, with subscribers 1 to 100 and tracks above 100")
-	dump              = flag.Bool("dump", false, "write each packet that comes from the room: its port, and its bytes in hex")
+	dump              = flag.Bool("dump", false, "write each packet that comes from the room: whom it is for, and its bytes in hex")
+	library           = flag.Bool("library", false, "the room is the library, in this process; -sfu, -publishers, -players and -also are for serve")
 	setting           webrtc.SettingEngine // puts all connections on one socket
 	av1               = webrtc.RTPCodecCapability{MimeType: webrtc.MimeTypeAV1, ClockRate: 90000}
 	lock              sync.Mutex         // of what follows, and of what it holds
@@ -123,7 +124,7 @@ type player struct {
 	*page
 	track   *track
 	number  int // the subscriber's, once it has joined
-	room    *net.UDPConn
+	room    io.ReadWriteCloser
 	spatial string    // of its wish
 	plea    time.Time // the latest
 }
@@ -199,8 +200,8 @@ func publish(offer string, n, _, _ int) (int, string, error) {
 // Brings the room what a browser publishes, until the browser has gone.
 func (t *track) bring(p *page, media *webrtc.TrackRemote, receiver *webrtc.RTPReceiver) {
 	locked(func() { live[t.number] = t })
-	room, id := peerOf(t.number), negotiatedID(receiver.GetParameters().HeaderExtensions)
-	go fromRoom(room, func(bytes []byte) { // what the room asks the browser for
+	room, id := portOf(t.number), negotiatedID(receiver.GetParameters().HeaderExtensions)
+	go fromRoom(room, fmt.Sprint("track", t.number), func(bytes []byte) { // what the room asks the browser for
 		packets, _ := rtcp.Unmarshal(bytes)
 		p.pc.WriteRTCP(feedbackFor(uint32(media.SSRC()), packets))
 	})
@@ -257,10 +258,7 @@ func play(offer string, n, spatial, temporal int) (int, string, error) {
 	sender, err := p.pc.AddTrack(media)
 	must(err)
 	sdp, err := p.answer(offer, func() {
-		if err := p.join(temporal); err != nil {
-			log.Print(err)
-			go p.pc.Close()
-		}
+		p.join(temporal)
 		p.carry(media, sender)
 		ask("leave %d", reserved+p.number)
 		p.room.Close()
@@ -271,22 +269,21 @@ func play(offer string, n, spatial, temporal int) (int, string, error) {
 
 // Joins once the browser is connected, since what goes out before is lost. The room takes numbers in rising order alone, so nobody else gets
 // one before the room was told of this one.
-func (p *player) join(temporal int) error {
+func (p *player) join(temporal int) {
 	joining.Lock()
 	defer joining.Unlock()
 	locked(func() { joined++; p.number, p.track.pages[p.page] = joined, true })
-	p.room = peerOf(*forPublishers + p.number)
-	if said := ask("join %d %d %08x 1 %s %d", reserved+p.number, p.track.number, playerSSRC+p.number, p.spatial, temporal); said != "ok" {
-		return fmt.Errorf("join: %s", said)
+	p.room = portOf(*forPublishers + p.number)
+	if ask("join %d %d %08x 1 %s %d", reserved+p.number, p.track.number, playerSSRC+p.number, p.spatial, temporal) != "ok" {
+		go p.pc.Close()
 	}
-	return nil
 }
 
 // Brings the browser what the room sends, and the room what the browser asks for, until it has gone.
 func (p *player) carry(media *webrtc.TrackLocalStaticRTP, sender *webrtc.RTPSender) {
 	p.channel.OnMessage(func(m webrtc.DataChannelMessage) { p.hear(string(m.Data)) })
 	id := negotiatedID(sender.GetParameters().HeaderExtensions)
-	go fromRoom(p.room, func(bytes []byte) { // pion puts in the SSRC and the payload type that were negotiated
+	go fromRoom(p.room, fmt.Sprint("player", p.number), func(bytes []byte) { // pion puts in the SSRC and the payload type that were negotiated
 		packet := &rtp.Packet{}
 		if packet.Unmarshal(bytes) == nil {
 			p.track.tell("went", exchangeID(packet, descriptorID, id), map[*page]bool{p.page: true})
@@ -300,14 +297,14 @@ func (p *player) carry(media *webrtc.TrackLocalStaticRTP, sender *webrtc.RTPSend
 	}
 }
 
-// Hears a line for the control port that leaves the subscriber's number out: `aim 2 2`, `why 812` or `plead`. Spatial layers begin at key
-// frames, and the room asks for none because of a wish, so a plea follows it; a page that misses a layer may plead again once a second.
+// Hears a line for the control port that leaves the subscriber's number out: `aim 2 2`, `why 812` or `plead`. Spatial layers begin at key frames, and
+// no wish brings one about, so a plea follows it; a page that misses a layer may plead again once a second. In library.go the room's answer pleads.
 func (p *player) hear(line string) {
 	words := strings.Fields(line + " . .")
 	if len(line) < 30 && (words[0] == "aim" || words[0] == "why") {
 		p.say("%s: %s", line, ask("%s %d %s", words[0], reserved+p.number, strings.TrimPrefix(line, words[0]+" ")))
 	}
-	if words[0] == "aim" && words[1] != p.spatial || words[0] == "plead" && time.Since(p.plea) > time.Second {
+	if !*library && (words[0] == "aim" && words[1] != p.spatial || words[0] == "plead" && time.Since(p.plea) > time.Second) {
 		p.plea = time.Now()
 		ask("plead %d", reserved+p.number)
 	}
@@ -324,10 +321,7 @@ func takeOffer(w http.ResponseWriter, r *http.Request) {
 	}
 	body, _ := io.ReadAll(io.LimitReader(r.Body, 100000))
 	number := func(name string) (n int) { fmt.Sscan(r.URL.Query().Get(name), &n); return }
-	serve := play
-	if r.URL.Path == "/publish" {
-		serve = publish
-	}
+	serve := map[string]func(string, int, int, int) (int, string, error){"/publish": publish, "/play": play}[r.URL.Path]
 	track, sdp, err := serve(string(body), number("track"), number("spatial"), number("temporal"))
 	if err != nil {
 		http.Error(w, err.Error(), http.StatusServiceUnavailable)
@@ -338,7 +332,7 @@ func takeOffer(w http.ResponseWriter, r *http.Request) {
 
 func main() {
 	flag.Parse()
-	startRoom()
+	start[*library]()
 	socket, err := net.ListenUDP("udp4", &net.UDPAddr{IP: net.ParseIP(*address), Port: *base + 1000})
 	must(err)
 	setting.SetIncludeLoopbackCandidate(true)

@@ -2,6 +2,7 @@ package main
 
 import (
 	"fmt"
+	"io"
 	"log"
 	"net"
 	"os"
@@ -21,7 +22,12 @@ const (
 	reserved      = 100 // lines of -also may have subscribers up to this number, and tracks above it
 )
 
+// The room is the program `sfu serve`, as below, or the library, which puts what stands in library.go here. Its ports take packets whole, and
+// give them whole: RTP one way, and NACKs and PLIs the other.
 var (
+	start   = map[bool]func(){false: startServe, true: func() { log.Fatal("this was built without -tags library") }}
+	portOf  = func(n int) io.ReadWriteCloser { return peerOf(n) } // publishers' from 1 on, and behind them players'
+	ask     = askServe
 	control *net.UDPConn
 	asking  sync.Mutex
 )
@@ -45,8 +51,8 @@ func configuration() string {
 	return tracks.String() + string(more) + ports.String()
 }
 
-// Starts the room, which ends with this program, and waits until it answers: the first call of sfu builds it.
-func startRoom() {
+// Starts the program, which ends with this one, and waits until it answers: the first call of sfu builds it.
+func startServe() {
 	room := exec.Command(*sfu, "serve", "1000000000000")
 	room.Stdin, room.Stdout, room.Stderr = strings.NewReader(configuration()), os.Stderr, os.Stderr
 	room.SysProcAttr = &syscall.SysProcAttr{Pdeathsig: syscall.SIGTERM}
@@ -54,7 +60,7 @@ func startRoom() {
 	go func() {
 		log.Fatal("the room has ended (5: a line of -also is wrong, 7: a port is taken): ", room.Wait())
 	}()
-	for control = peerOf(0); ask("key 1") == "no answer"; time.Sleep(100 * time.Millisecond) {
+	for control = peerOf(0); askServe("key 1") == "no answer"; time.Sleep(100 * time.Millisecond) {
 	}
 }
 
@@ -66,12 +72,12 @@ func peerOf(n int) *net.UDPConn {
 	return conn
 }
 
-// Each datagram of the room, until the socket is closed. A read fails, too, while nobody has the room's port.
-func fromRoom(room *net.UDPConn, each func([]byte)) {
+// Each packet that comes out of a port, until that is closed. A read fails, too, while nobody has a port of `serve`.
+func fromRoom(room io.Reader, name string, each func([]byte)) {
 	for bytes := make([]byte, 2000); ; {
 		n, err := room.Read(bytes)
 		if err == nil && *dump {
-			fmt.Printf("%s %x\n", room.RemoteAddr(), bytes[:n])
+			fmt.Printf("%s %x\n", name, bytes[:n])
 		}
 		if err == nil {
 			each(bytes[:n])
@@ -82,7 +88,7 @@ func fromRoom(room *net.UDPConn, each func([]byte)) {
 }
 
 // One line to the control port, and its answer. An answer doesn't say which line it is for, so each is waited for, however long it takes.
-func ask(format string, words ...interface{}) string {
+func askServe(format string, words ...interface{}) string {
 	asking.Lock()
 	defer asking.Unlock()
 	line, answer := fmt.Sprintf(format, words...), make([]byte, 200)

@@ -1,9 +1,10 @@
 #!/usr/bin/python3
 """Runs the example in a headless Chromium, and complains of freezes, wishes that aren't met, and packets that `sfu check` doesn't like.
 
-usage: ./test.py [--sfu PROGRAM] [--seconds N] [--pictures DIR] [MODE...]
+usage: ./test.py [--library] [--sfu PROGRAM] [--seconds N] [--pictures DIR] [MODE...]
 MODE is L1T1, L1T3, L2T2, L3T3 or L3T3_KEY; all of them by default. Each has a run from page to page, for comparison, and one through the room,
 with a table's row for each measurement of N seconds (8). Both ways go through a relay that loses 3 % of the RTP packets where the row says so.
+With --library the gateway has the room by the library of crates/room_c, in place of `serve`.
 """
 import argparse
 import base64
@@ -120,6 +121,20 @@ class Browser:
         self.process.terminate()
         self.process.wait()
         shutil.rmtree(self.dir, ignore_errors=True)
+
+
+# ---- the gateway
+
+def build(library):
+    if library and not os.path.exists(f'{HERE}/../../crates/room_c/out/libroom_c.a'):
+        sys.exit('missing: (cd crates/room_c && rt lib)')
+    subprocess.run(['go', 'build', *(['-tags', 'library'] if library else []), '-o', 'out/gateway', '.'], cwd=HERE, env=GO, check=True)
+
+
+def gate(dump, log, *words):
+    """A gateway that writes what comes from the room to a file."""
+    flags = ['-http', str(WEB), '-port', str(ROOM), '-publishers', '2', '-players', '4', '-dump', *words]
+    return subprocess.Popen(['out/gateway', *flags], cwd=HERE, stdout=dump, stderr=log)
 
 
 # ---- relays, which lose packets
@@ -263,6 +278,7 @@ def direct(browser, mode, seconds):
 
 class Run:
     """Everything that is tried with one mode through the room."""
+    way = 'serve'
 
     def __init__(self, browser, mode, seconds, folder, direct_gap):
         self.browser, self.mode, self.seconds, self.folder, self.direct_gap = browser, mode, seconds, folder, direct_gap
@@ -286,11 +302,11 @@ class Run:
         for share, lost in ((0, '–'), (0.03, '3 % before, 3 % after')):
             lose(share, share)
             measured = Measured(self.p, self.q, self.seconds)
-            measured.row(self.mode, 'serve', lost)
+            measured.row(self.mode, self.way, lost)
             self.smooth(f'lost {lost}', measured.gap)
         lose(0)
         low = Measured(self.p, self.low, self.seconds)
-        low.row(self.mode, 'serve, wish 0 0', '–')
+        low.row(self.mode, f'{self.way}, wish 0 0', '–')
         self.smooth('wish 0 0', max(low.gap - 400, 0))   # a picture in 400 ms is the whole rate of such a wish
 
     def for_good(self):
@@ -377,8 +393,8 @@ class Run:
         time.sleep(1)
 
 
-def check(sfu, dump):
-    """What `sfu check` says of each subscriber's packets, in the order in which they were sent first."""
+def sent(dump):
+    """The packets that each page was sent, without those that were sent again, as hex digits."""
     ports = {}
     for line in open(dump):
         where, data = line.split()
@@ -388,7 +404,12 @@ def check(sfu, dump):
             if newest is None or 0 < (number - newest) % 65536 < 32768:
                 ports[where][0] = number
                 packets.append(data)
-    for where, (_, packets) in sorted(ports.items()):
+    return {where: packets for where, (_, packets) in sorted(ports.items())}
+
+
+def check(sfu, dump):
+    """What `sfu check` says of each subscriber's packets, in the order in which they were sent first."""
+    for where, packets in sent(dump).items():
         verdict = subprocess.run([sfu, 'check', '4'], input='\n'.join(packets) + '\n', text=True, capture_output=True).stdout.strip()
         print(f'sfu check of {where}: {verdict}', flush=True)
         if not verdict.startswith('ok'):
@@ -397,6 +418,7 @@ def check(sfu, dump):
 
 def main():
     words = argparse.ArgumentParser(description=__doc__, formatter_class=argparse.RawDescriptionHelpFormatter)
+    words.add_argument('--library', action='store_true')
     words.add_argument('--sfu', default=f'{HERE}/../../sfu')
     words.add_argument('--seconds', type=int, default=8)
     words.add_argument('--pictures')
@@ -405,14 +427,14 @@ def main():
     if what_is_missing():
         sys.exit(f'missing: apt-get install {" ".join(what_is_missing())}')
     sfu = os.path.abspath(asked.sfu)
-    subprocess.run(['go', 'build', '-o', 'out/gateway', '.'], cwd=HERE, env=GO, check=True)
+    Run.way = 'library' if asked.library else 'serve'
+    build(asked.library)
     subprocess.run([sfu, 'help'], check=True, stdout=subprocess.DEVNULL)      # builds it, if it isn't built
     threading.Thread(target=http.server.ThreadingHTTPServer(('127.0.0.1', PROXY), Proxy).serve_forever, daemon=True).start()
     print('| Mode | Way | RTP lost | Picture | Drawn | Decoded | kbit/s | Longest gap, ms | Age p50, p95, ms | NACKs of the player | Load |\n|' + '---|' * 11)
     for mode in asked.modes:
         with tempfile.TemporaryDirectory() as folder, open(f'{folder}/dump', 'w') as dump, open(f'{folder}/log', 'w') as log:
-            flags = ['-sfu', sfu, '-http', str(WEB), '-port', str(ROOM), '-publishers', '2', '-players', '4', '-dump']
-            gateway, browser = subprocess.Popen(['out/gateway', *flags], cwd=HERE, stdout=dump, stderr=log), Browser()
+            gateway, browser = gate(dump, log, '-sfu', sfu, f'-library={str(asked.library).lower()}'), Browser()
             try:
                 Run(browser, mode, asked.seconds, asked.pictures, direct(browser, mode, asked.seconds)).all()
             except Exception as fault:

@@ -37,3 +37,5 @@ pub record ReadsActors (left left' written written' : Option (List ℕ)) (reads 
 pub record ReadsNone (left left' written written' : Option (List ℕ)) (reads reads' writes writes' status : ℕ) : Type 0 where
   pub statuses : Statuses read_due read_part left left' written written' reads reads' writes writes' status
   pub only : (status ≡ 3) ⊎ (status ≡ 5) ⊎ (status ≡ 6)
+  -- unless a line is outside the grammar, nothing was written, whatever the source tells
+  pub unwritten : (status ≡ 3) ⊎ (status ≡ 6) → Appends written written' []

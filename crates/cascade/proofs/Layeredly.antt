@@ -1,5 +1,5 @@
 -- Each packet that goes out of a layered track that was fed is one that was taken.
-use Rattle.std.proofs.Common.{◌≡◌, ◌⊎◌, inl, inr, ◌+◌, ◌%◌, ◌≤◌, ℕ, Bool, true, false, ◌||◌, cond, List, [], ◌∷◌, ◌++◌, refl, sym, ap, subst, ◌∙◌, map, length, Option, None, Some}
+use Rattle.std.proofs.Common.{◌≡◌, ◌⊎◌, inl, inr, ◌+◌, ◌*◌, ◌%◌, ◌≤◌, ℕ, arith, Bool, true, false, ◌||◌, cond, List, [], ◌∷◌, ◌++◌, refl, sym, ap, subst, ◌∙◌, map, length, Option, None, Some}
 use Rattle.std.specs.Prelude.{IfSome}
 use Rattle.std.specs.List.{AllByRecursion}
 use Rattle.sfu_base.specs.declared.call.Call.{Call}
@@ -50,17 +50,18 @@ use Rattle.cascade.specs.Cascades.{AreOfRooms, IsPassedOnOf}
 use Rattle.cascade.specs.Fed.{IsFed}
 use Rattle.cascade.proofs.JoinedAt.{kind_is}
 use Rattle.cascade.proofs.Ordered.{IsInOrder, IsSmall, in_order}
+use Rattle.cascade.proofs.Sizes.{remasked_short, rewritten_short}
 use Rattle.cascade.proofs.Taken.{GivesInOrder, IsRtp, all_rtp, all_small, gives_in_order}
 
 -- ---- packets of these bytes
 
 module _ (took : List (List ℕ)) where
   -- the packet came in as these bytes
-  record CameAs (p : Packet) : Type 0 where
-    bytes : List ℕ
-    member : IsMember bytes took
-    reads : first_fault bytes ≡ None
-    is : p ≡ packet_of bytes
+  pub record CameAs (p : Packet) : Type 0 where
+    pub bytes : List ℕ
+    pub member : IsMember bytes took
+    pub reads : first_fault bytes ≡ None
+    pub is : p ≡ packet_of bytes
 
   -- the packet is that of these bytes, or of the same with another mask, but for its number, SSRC and marker
   record Carries (id : ℕ) (q : Packet) : Type 0 where
@@ -68,6 +69,7 @@ module _ (took : List (List ℕ)) where
     member : IsMember bytes took
     masked : List ℕ
     is_masked : (masked ≡ bytes) ⊎ IsRemasked id bytes masked
+    few : length masked ≤ 276 + 4 * length bytes
     long : 12 ≤ length masked
     rest_is : q.rest ≡ (packet_of masked).rest
 
@@ -77,29 +79,37 @@ module _ (took : List (List ℕ)) where
     member = c.member;
     masked = c.bytes;
     is_masked = inl refl;
+    few = omega arith;
     long = header_there c.bytes c.reads;
     rest_is = ap (λ (q : Packet). q.rest) c.is;
   }
 
   -- ---- what is sent
 
+  record IsMaskedSo (id : ℕ) (bytes masked : List ℕ) : Type 0 where
+    is_masked : (masked ≡ bytes) ⊎ IsRemasked id bytes masked
+    few : length masked ≤ 276 + 4 * length bytes
+    reads : first_fault masked ≡ None
+
   told_carries : (id mask : ℕ) (force : Option TemplateStructure) (p : Packet) → CameAs p → Carries id (remasked_packet id force mask p)
   told_carries id mask force p c = record {
     bytes = c.bytes;
     member = c.member;
     masked = remasked_bytes id force mask c.bytes;
-    is_masked = (is refl).0;
-    long = header_there (remasked_bytes id force mask c.bytes) (is refl).1;
+    is_masked = is.is_masked;
+    few = is.few;
+    long = header_there (remasked_bytes id force mask c.bytes) is.reads;
     rest_is = ap (λ (q : Packet). q.rest) (ap (remasked_packet id force mask) c.is ∙ sym (rests_remasked id mask force c.bytes (header_there c.bytes c.reads)));
   }
     where
-      go : (o : Option (List ℕ)) → remasked id force mask c.bytes ≡ o → ((or_same o c.bytes ≡ c.bytes) ⊎ IsRemasked id c.bytes (or_same o c.bytes)) × (first_fault (or_same o c.bytes) ≡ None)
-      go None e = (inl refl, c.reads)
-      go (Some new) e = let r = packets_remasked id mask force c.bytes new e in (inr r, r.reads c.reads)
+      go : (o : Option (List ℕ)) → remasked id force mask c.bytes ≡ o → IsMaskedSo id c.bytes (or_same o c.bytes)
+      go None e = record { is_masked = inl refl; few = omega arith; reads = c.reads }
+      go (Some new) e =
+          let r = packets_remasked id mask force c.bytes new e in
+          record { is_masked = inr r; few = remasked_short id mask force c.bytes new e; reads = r.reads c.reads }
 
-      is : remasked id force mask c.bytes ≡ remasked id force mask c.bytes
-          → ((remasked_bytes id force mask c.bytes ≡ c.bytes) ⊎ IsRemasked id c.bytes (remasked_bytes id force mask c.bytes)) × (first_fault (remasked_bytes id force mask c.bytes) ≡ None)
-      is e = go (remasked id force mask c.bytes) refl
+      is : IsMaskedSo id c.bytes (remasked_bytes id force mask c.bytes)
+      is = go (remasked id force mask c.bytes) refl
 
   all_carry : (id : ℕ) (ps : List Packet) → AllByRecursion CameAs ps → AllByRecursion (Carries id) ps
   all_carry id [] all = tt
@@ -114,7 +124,7 @@ module _ (took : List (List ℕ)) where
       go (p ∷ ps) all = (told_carries id mask (Some frame.structure) p all.0, all_carry id ps all.1)
 
   other_marker : (id : ℕ) (p : Packet) (marker : Bool) → Carries id p → Carries id (record p { marker = marker })
-  other_marker id p marker c = record { bytes = c.bytes; member = c.member; masked = c.masked; is_masked = c.is_masked; long = c.long; rest_is = c.rest_is }
+  other_marker id p marker c = record { bytes = c.bytes; member = c.member; masked = c.masked; is_masked = c.is_masked; few = c.few; long = c.long; rest_is = c.rest_is }
 
   marked_carries : (id : ℕ) (is_last : Bool) (ps : List Packet) → AllByRecursion (Carries id) ps → AllByRecursion (Carries id) (marked is_last ps)
   marked_carries id is_last [] all = tt
@@ -165,6 +175,22 @@ module _ (took : List (List ℕ)) where
     out_carries id (n + 1) ssrc ps all.1,
   )
 
+  -- so where each of these has at most so many bytes, what goes out has
+  out_short : (most : ℕ) → ((bytes : List ℕ) → IsMember bytes took → length bytes ≤ most) → (id n ssrc : ℕ) (ps : List Packet) → AllByRecursion (Carries id) ps
+      → AllByRecursion (λ new. length new ≤ 276 + 4 * most) (map bytes_of (numbered n ssrc ps))
+  out_short most each id n ssrc [] all = tt
+  out_short most each id n ssrc (p ∷ ps) all = (
+    let c = all.0 in
+        let few = c.few in
+        let long = c.long in
+        let old = each c.bytes c.member in
+        let is : rewritten (n % 65536) ssrc p.marker p.rest ≡ rewritten (n % 65536) ssrc p.marker c.masked =
+        ap (rewritten (n % 65536) ssrc p.marker) c.rest_is ∙ packets_sent.elsewhere (n % 65536) ssrc p.marker c.masked c.long in
+        let same = rewritten_short (n % 65536) ssrc p.marker c.masked c.long in
+        omega (arith, few, old, same, ap length is),
+    out_short most each id (n + 1) ssrc ps all.1,
+  )
+
   -- ---- the frames that these packets make
 
   front_came : (o : Option (Frame TemplateStructure)) (frames : List (Frame TemplateStructure)) → IfSome o (λ f. AllByRecursion CameAs f.packets)
@@ -189,14 +215,37 @@ first_frames : (P : Frame TemplateStructure → Type 0) (xs ys : List (Frame Tem
 first_frames P [] ys h = tt
 first_frames P (x ∷ xs) ys h = (h.0, first_frames P xs ys h.1)
 
+-- ---- all that goes out of a layered track is of these packets, where each that came is
+
+module _ (took : List (List ℕ)) (past : List Call) (u id : ℕ) (j : Joined) (kind : kind_of j.track past ≡ Layered id)
+    (items_came : AllByRecursion (ItemHas (CameAs took)) (items_of (entries_of j.track past))) where
+  abbrev events : List Happened
+  events = timeline_as (Layered id) u (entries_of j.track past)
+
+  sees : SeesNewest events (frames_after (format_of id) (items_of (entries_of j.track past)))
+  sees = sees_newest (format_of id) (sent (Layered id)) u (entries_of j.track past)
+
+  carried : AllByRecursion (Carries took id) (forwarded (sent (Layered id)) j.wish events)
+  carried =
+      forwarded_carries took id j.wish events sees.layered (first_frames (λ frame. AllByRecursion (CameAs took) frame.packets) (frames_of events) sees.older
+      (subst (AllByRecursion (λ frame. AllByRecursion (CameAs took) frame.packets)) (sym sees.is) (made_came took id (items_of (entries_of j.track past)) items_came)))
+
+  out_is : going_out u j past ≡ map bytes_of (numbered j.first j.ssrc (forwarded (sent (Layered id)) j.wish events))
+  out_is = ap (λ (k : Kind). outgoing_bytes k (subscriber_by j) (timeline_as k u (entries_of j.track past))) kind
+
+  pub goes_out_of : AllByRecursion (IsPassedOnOf id took) (going_out u j past)
+  goes_out_of = subst (AllByRecursion (IsPassedOnOf id took)) (sym out_is) (out_carries took id j.first j.ssrc (forwarded (sent (Layered id)) j.wish events) carried)
+
+  pub goes_out_short : (most : ℕ) → ((bytes : List ℕ) → IsMember bytes took → length bytes ≤ most) → AllByRecursion (λ new. length new ≤ 276 + 4 * most) (going_out u j past)
+  goes_out_short most each =
+      subst (AllByRecursion (λ new. length new ≤ 276 + 4 * most)) (sym out_is) (out_short took most each id j.first j.ssrc (forwarded (sent (Layered id)) j.wish events) carried)
+
 -- ---- the law
 
 pub layered_goes_on : (h1 h2 : List Served) (s t u id : ℕ) (i j : Joined) (p : Published) → AreOfRooms h1 h2 → IsFed (accepted h1) s i (accepted h2) t p → p.kind ≡ Layered id
     → joined u (accepted h2) ≡ Some j → j.track ≡ t → (new : List ℕ) → IsMember new (going_out u j (accepted h2)) → IsPassedOnOf id (given_to s (accepted h1)) new
 layered_goes_on h1 h2 s t u id i j p rooms fed layered is on new member =
-    each_member (IsPassedOnOf id took) (going_out u j second) new (subst (AllByRecursion (IsPassedOnOf id took)) (sym out_is) (out_carries took id j.first j.ssrc (forwarded (sent (Layered id)) j.wish events)
-    (forwarded_carries took id j.wish events sees.layered (first_frames (λ frame. AllByRecursion (CameAs took) frame.packets) (frames_of events) sees.older
-    (subst (AllByRecursion (λ frame. AllByRecursion (CameAs took) frame.packets)) (sym sees.is) (made_came took id (items_of (entries_of j.track second)) items_came)))))) member
+    each_member (IsPassedOnOf id took) (going_out u j second) new (goes_out_of took second u id j kind items_came) member
   where
     first : List Call
     first = accepted h1
@@ -207,17 +256,8 @@ layered_goes_on h1 h2 s t u id i j p rooms fed layered is on new member =
     took : List (List ℕ)
     took = given_to s first
 
-    events : List Happened
-    events = timeline_as (Layered id) u (entries_of j.track second)
-
-    sees : SeesNewest events (frames_after (format_of id) (items_of (entries_of j.track second)))
-    sees = sees_newest (format_of id) (sent (Layered id)) u (entries_of j.track second)
-
     kind : kind_of j.track second ≡ Layered id
     kind = ap (λ (n : ℕ). kind_of n second) on ∙ kind_is second t p fed.live ∙ layered
-
-    out_is : going_out u j second ≡ map bytes_of (numbered j.first j.ssrc (forwarded (sent (Layered id)) j.wish events))
-    out_is = ap (λ (k : Kind). outgoing_bytes k (subscriber_by j) (timeline_as k u (entries_of j.track second))) kind
 
     gives : GivesInOrder s i first
     gives = gives_in_order first rooms.first (accepted_are h1) s i fed.subscribed

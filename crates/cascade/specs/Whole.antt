@@ -1,5 +1,5 @@
 -- What holds of feeds and takes until a call is refused, and of the calls of every cascade. Own statements.
-use Rattle.std.specs.Prelude.{◌≡◌, ◌+◌, ℕ, List, None, Some}
+use Rattle.std.specs.Prelude.{◌≡◌, ◌≤◌, ◌+◌, ℕ, List, None, Some}
 use Rattle.sfu_base.specs.declared.call.Kind.TheVariants.{Layered, Plain}
 use Rattle.sfu_base.specs.declared.frame.Wish.{Wish}
 use Rattle.stream_maker.specs.Stream.{Stream}
@@ -8,6 +8,7 @@ use Rattle.room_core.specs.Given.{given_to}
 use Rattle.room_core.specs.History.{Entry, accepted}
 use Rattle.room_core.specs.Live.{Joined, joined, published}
 use Rattle.cascade.specs.Calls.{Both, all_fed, all_taken, fed_on, taken_on, wish_for}
+use Rattle.cascade.specs.Fed.{IsFed}
 use Rattle.cascade.specs.Summary.{cascade_calls}
 
 -- ---- as many as are made are enough: a greater number changes nothing, so a call was refused
@@ -47,3 +48,17 @@ pub record HoldsOf (both : Both) : Type 0 where
 
 abbrev pub CascadesHold : Type 0
 CascadesHold = (s : Stream) → HoldsOf (cascade_calls s)
+
+-- Each track of the second room was fed with what its subscriber of the first room took, so no packet of a feed was refused.
+pub record AreFed (both : Both) : Type 0 where
+  pub layered : IsFed both.first 1 (joined_as 1 0x22222222 (wish_for 1 1)) both.second 1 (record { kind = Layered 4; ssrc = 0x22222222; hold = 50 })
+  pub plain : IsFed both.first 2 (joined_as 1 0x22222223 (wish_for 1 1)) both.second 2 (record { kind = Plain; ssrc = 0x22222223; hold = 50 })
+
+-- Both tracks are fed, and a strict receiver of what the third subscriber took, which has the plain track, has no complaint.
+pub record FeedsAll (both : Both) : Type 0 where
+  pub fed : AreFed both
+  pub third : complaint_over 4 (given_to 3 both.second) ≡ None
+
+-- of each stream of at most 1,000,000 frames
+abbrev pub CascadesFeed : Type 0
+CascadesFeed = (s : Stream) → s.frames ≤ 1000000 → FeedsAll (cascade_calls s)

@@ -3,8 +3,8 @@ ghost use Rattle.std.specs.Prelude.{◌≡◌, ◌≤◌, IfOk};
 ghost use Rattle.std.specs.String.{string_bytes};
 ghost use Rattle.cascade.specs.Summary.{cascade_text};
 
-use crate::stage::Stage;
 use crate::summing::summary;
+use crate::two_rooms::TwoRooms;
 use sfu_base::{NoMemory, PacketBuf};
 use std::alloc::Global;
 use stream_maker::{Event, Maker};
@@ -18,16 +18,16 @@ pub fn play(alloc: Global, frames: u32, start: u64, loss: u8) -> Result<String, 
     requires loss { loss ≤ 50 }
     ensures { IfOk result (λ text. string_bytes text ≡ cascade_text (record { frames = frames; start = start; loss = loss })) }
 {
-    let mut stage = Stage::new(alloc)?;
+    let mut rooms = TwoRooms::new(alloc)?;
     let mut maker = Maker::new(frames, start, loss);
     let mut packet = PacketBuf::new();
     'events: loop {
         match maker.next_event(&mut packet) {
-            Event::Packet { moment } => stage.packet(moment, &packet),
-            Event::Tick { moment } => stage.tick(moment),
+            Event::Packet { moment } => rooms.packet(moment, &packet),
+            Event::Tick { moment } => rooms.tick(moment),
             Event::End => break 'events,
         }
     }
-    let text = summary(alloc, maker.counts(), &stage)?;
+    let text = summary(alloc, maker.counts(), &rooms)?;
     Ok(text)
 }

@@ -13,7 +13,7 @@ use Rattle.sfu_driver.specs.Lines.{line_scan, line_scan_end}
 use Rattle.sfu_driver.specs.Point.{Rule, byte, due, ends, is_outside, judged}
 use Rattle.sfu_driver.specs.Input.{Line, due_all, judged_all, judged_lines, lines_of, said}
 use Rattle.sfu_driver.specs.Drive.{Drove, WritesPart, end_by}
-use Rattle.sfu_driver.specs.Statuses.{Due, due_of, status_for, status_of}
+use Rattle.sfu_driver.specs.Statuses.{Due, Statuses, due_of, status_for, status_of}
 use Rattle.sfu_driver.specs.Units.{rule_of}
 use Rattle.sfu_driver.proofs.Cutting.{at}
 use Rattle.sfu_driver.proofs.LineInputs.{due_is_lines, judged_is_lines}
@@ -133,3 +133,8 @@ read_only stands new left left' w w' f f' (Err (Halted (Ended why))) is d =
     let e = d.by_result.1 in
     inr (inl (outside_of l.setup l.fault why e.0 (sym (ap (λ (o : Outcome Setup). o.result) (read_outcome taken)) ∙ e.1)))
 read_only stands new left left' w w' f f' (Err (Halted Starved)) is d = inr (inr refl)
+
+-- no text is due before an end
+pub none_written : (left left' w w' : Option (List ℕ)) (g g' f f' status : ℕ) → Statuses read_due read_part left left' w w' g g' f f' status → (status ≡ 3) ⊎ (status ≡ 6) → Appends w w' []
+none_written left left' w w' g g' f f' status s (inl is) = let x = s.every.says.judged is in x.1
+none_written left left' w w' g g' f f' status s (inr is) = let x = s.every.says.memory is in x.4

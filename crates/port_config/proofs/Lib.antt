@@ -1,3 +1,4 @@
 pub mod Counts
+pub mod Apart
 pub mod Judging
 pub mod Due

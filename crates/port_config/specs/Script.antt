@@ -1,12 +1,13 @@
 -- What the bytes of a configuration for `serve` say: calls that are made before any session starts, and the ports that are served. Own
 -- rule. The code never has a whole configuration in its hands: it reads pieces of any size, and puts what lines say into lists.
 use Rattle.std.specs.Prelude.{ℕ, ◌+◌, nat_lt, nat_le, if◌then◌else◌, Bool, true, List, [], ◌∷◌, ◌++◌, length, Option, Some, None}
+use Rattle.std.specs.List.{list_all}
 use Rattle.sfu_base.specs.declared.call.Call.{Call}
 use Rattle.sfu_base.specs.declared.call.Call.TheVariants.{Publish, Join}
 use Rattle.sfu_driver.specs.Input.{Line, judged_lines, lines_of, said}
 use Rattle.sfu_driver.specs.Scan.{Scan, More, Whole, NoUnit}
 use Rattle.sfu_script.specs.declared.ports.PortLine.{PortLine}
-use Rattle.sfu_script.specs.Ports.{port_of}
+use Rattle.sfu_script.specs.Ports.{is_apart, port_of}
 use Rattle.sfu_script.specs.ReadLines.{call_of}
 use Rattle.sfu_script.specs.Skipped.{is_skipped}
 
@@ -41,6 +42,10 @@ said_by line = or_port (call_of line) (port_of line)
 pub record Setup : Type 0 where
   pub calls : List Call
   pub ports : List PortLine
+
+-- the resent packets of each port can be told from the others
+abbrev pub all_apart : List PortLine → Bool
+all_apart ports = list_all (λ port. is_apart port.role) ports
 
 abbrev pub nothing_said : Setup
 nothing_said = record { calls = []; ports = [] }

@@ -38,6 +38,7 @@ fn ports(alloc: Global, lines: &[PortLine]) -> Result<Vec<[u32; 3]>, AllocError>
             PortRole::Publisher { track, .. } => track,
             PortRole::Subscriber { subscriber, .. } => subscriber,
             PortRole::Control => 0,
+            PortRole::Rtx { subscriber, .. } => subscriber,
         };
         ports.push([
             u32::from(line.local.port),
@@ -51,7 +52,7 @@ fn ports(alloc: Global, lines: &[PortLine]) -> Result<Vec<[u32; 3]>, AllocError>
 #[test]
 fn a_configuration_says_its_calls_and_ports(rt: HostRuntime) -> Result<(), Fail> {
     let alloc = rt.alloc();
-    let rows: [(&str, &[u32], &[[u32; 3]]); 5] = [
+    let rows: [(&str, &[u32], &[[u32; 3]]); 6] = [
         ("", &[], &[]),
         ("# a\n\npublish 1 plain 11111111 100", &[1], &[]),
         (
@@ -68,6 +69,11 @@ fn a_configuration_says_its_calls_and_ports(rt: HostRuntime) -> Result<(), Fail>
             "publish 3 plain 11111111 0\n# port\nport 0.0.0.0:0 255.255.255.255:65535 publisher 3 00000000\npublish 3 plain 11111111 0\n",
             &[3, 3],
             &[[0, 65535, 3]],
+        ),
+        (
+            "port 127.0.0.1:5000 127.0.0.1:6000 rtx 9 22222222 33333333 63\nport 127.0.0.1:5001 127.0.0.1:6001 rtx 8 22222222 33333333 96\n",
+            &[],
+            &[[5000, 6000, 9], [5001, 6001, 8]],
         ),
     ];
     for (configuration, calls, lines) in rows {
@@ -102,6 +108,14 @@ fn the_first_line_outside_the_grammar_is_named(rt: HostRuntime) -> Result<(), Fa
             "line 1\n",
         ),
         ("port 127.0.0.1:5000 control\n", "line 1\n"),
+        (
+            "port 127.0.0.1:5000 127.0.0.1:6000 rtx 1 22222222 33333333 64\n",
+            "line 1\n",
+        ),
+        (
+            "port 127.0.0.1:5000 127.0.0.1:6000 rtx 1 22222222 22222222 97\n",
+            "line 1\n",
+        ),
         ("port 127.0.0.256:5000 127.0.0.1:6000 control\n", "line 1\n"),
         ("@1 publish 1 plain 11111111 100\n", "line 1\n"),
     ];

@@ -8,7 +8,8 @@ use Rattle.sfu_driver.specs.declared.halt.Ending.{Ending}
 use Rattle.sfu_driver.specs.declared.halt.Ending.TheVariants as ending
 use Rattle.sfu_driver.specs.Outcome.{End}
 use Rattle.sfu_driver.specs.Drive.{WritesEnd, WritesFront, WritesPart, end_by}
-use Rattle.sfu_driver.specs.Statuses.{Completes, Decides, Due, Statuses, full_text, last_text, status_of, text_before}
+use Rattle.sfu_driver.specs.Statuses.{Completes, Decides, Due, IsPrompt, OfEvery, SaysOf, Statuses, full_text, last_text, status_of, text_before}
+use Rattle.sfu_driver.proofs.Reading.{reads_none}
 use Rattle.sfu_driver.proofs.Fronts.{end_after, front_longer, part_after, part_front, part_longer, rose_since}
 
 if_some : (left : Option (List ℕ)) (P Q : List ℕ → Type 0) → ((b : List ℕ) → P b → Q b) → IfSome left P → IfSome left Q
@@ -38,8 +39,8 @@ front_of bytes (Some rest) taken from = (rest, from)
 -- what is due of these bytes, and of each front of them
 pub statuses_alike : (whole part whole' part' : List ℕ → Due) (left left' w w' : Option (List ℕ)) (g g' f f' status : ℕ) → ((bytes : List ℕ) → left ≡ Some bytes → whole bytes ≡ whole' bytes)
     → ((bytes front rest : List ℕ) → left ≡ Some bytes → bytes ≡ front ++ rest → part front ≡ part' front) → IsDue whole' status
-    → Statuses whole part left left' w w' g g' f f' status → Statuses whole' part' left left' w w' g g' f f' status
-statuses_alike whole part whole' part' None left' w w' g g' f f' status same same_part only s = record {
+    → OfEvery whole' part' left left' w w' g g' f f' status → Statuses whole part left left' w w' g g' f f' status → Statuses whole' part' left left' w w' g g' f f' status
+statuses_alike whole part whole' part' None left' w w' g g' f f' status same same_part only every s = record {
   done = λ e. tt;
   source = s.source;
   judged = λ e. tt;
@@ -52,8 +53,9 @@ statuses_alike whole part whole' part' None left' w w' g g' f f' status same sam
   begun = tt;
   only = only;
   complete = λ a c. tt;
+  every = every;
 }
-statuses_alike whole part whole' part' (Some bytes) left' w w' g g' f f' status same same_part only s = record {
+statuses_alike whole part whole' part' (Some bytes) left' w w' g g' f f' status same same_part only every s = record {
   done = λ e. subst (λ (d : Due). IsAtEnd left' × (d.end ≡ None) × Appends w w' d.text) all (s.done e);
   source = s.source;
   judged = λ e.
@@ -81,6 +83,7 @@ statuses_alike whole part whole' part' (Some bytes) left' w w' g g' f f' status 
   begun = subst (λ (d : Due). WritesFront w w' (full_text d)) all s.begun;
   only = only;
   complete = λ a c. subst (λ (d : Due). Completes d.end status) all (s.complete a c);
+  every = every;
 }
   where
     all : whole bytes ≡ whole' bytes
@@ -113,6 +116,20 @@ failed_at_once whole part left left' w g g' f none rose keeps = record {
   begun = if_told left _ (λ b. ([], full_text (whole b), Appends-nil w, refl));
   only = inr (inl refl);
   complete = λ a c. absurd (a rose);
+  every = record {
+    prompt = record { earlier = []; piece = []; consumed = from; small = omega arith; goes = goes; wrote = λ some. absurd (omega arith) };
+    in_reads = reads_none;
+    bounded = omega arith;
+    says = record {
+      done = λ e. absurd (omega arith);
+      judged = λ e. (goes, wrote);
+      unwritten = λ e. absurd (omega arith);
+      ended = λ why e. absurd (no_ending 3 why (inl (omega arith)) e);
+      memory = λ e. absurd (omega arith);
+      begun = ([], full_text (whole []), Appends-nil w, refl);
+    };
+    complete = λ a c. absurd (a rose);
+  };
 }
   where
     from : Consumes left left' []
@@ -127,6 +144,43 @@ failed_at_once whole part left left' w g g' f none rose keeps = record {
 -- ---- a text before all that is due
 
 module _ (head : List ℕ) (whole part : List ℕ → Due) where
+  abbrev prompt_behind : (left left' w0 w1 w' : Option (List ℕ)) → Appends w0 w1 head → IsPrompt part left left' w1 w' → IsPrompt (λ bytes. text_before head (part bytes)) left left' w0 w'
+  prompt_behind left left' w0 w1 w' first x = record {
+    earlier = x.earlier;
+    piece = x.piece;
+    consumed = x.consumed;
+    small = x.small;
+    goes = x.goes;
+    wrote = λ some.
+        let y = x.wrote some in
+        let text = (part x.earlier).text in
+        (y.0, subst (Appends w0 w') (sym (append_assoc head text y.0)) (Appends-trans w0 w1 w' head (text ++ y.0) first y.1));
+  }
+
+  begun_behind : (due : Due) (w0 w1 w' : Option (List ℕ)) → Appends w0 w1 head → WritesFront w1 w' (full_text due) → WritesFront w0 w' (full_text (text_before head due))
+  begun_behind due w0 w1 w' first x =
+      (head ++ x.0, x.1, Appends-trans w0 w1 w' head x.0 first x.2, append_assoc head due.text (last_text due.end) ∙ ap (λ (xs : List ℕ). head ++ xs) x.3 ∙ sym (append_assoc head x.0 x.1))
+
+  says_behind : (taken : List ℕ) (left' w0 w1 w' : Option (List ℕ)) (f0 f1 f' status : ℕ) → f0 ≤ f1 → Appends w0 w1 head → SaysOf whole part taken left' w1 w' f1 f' status
+      → SaysOf (λ bytes. text_before head (whole bytes)) (λ bytes. text_before head (part bytes)) taken left' w0 w' f0 f' status
+  says_behind taken left' w0 w1 w' f0 f1 f' status le first s = record {
+    done = λ e. let x = s.done e in (x.0, x.1, Appends-trans w0 w1 w' head (whole taken).text first x.2);
+    judged = λ e. let x = s.judged e in (x.0, Appends-trans w0 w1 w' head (part taken).text first x.1);
+    unwritten = λ e. unwritten_behind (s.unwritten e);
+    ended = λ why e. let x = s.ended why e in (decided_behind why x.0, x.1, x.2, end_after w0 w1 w' f0 f1 f' head (whole taken).text x.1 le first x.3);
+    memory = λ e. let x = s.memory e in (x.0, x.1, x.2, x.3, Appends-trans w0 w1 w' head (part x.0).text first x.4);
+    begun = begun_behind (whole taken) w0 w1 w' first s.begun;
+  }
+    where
+      unwritten_behind : WritesPart w1 w' (part taken).text ⊎ (IsAtEnd left' × WritesPart w1 w' (whole taken).text)
+          → WritesPart w0 w' (head ++ (part taken).text) ⊎ (IsAtEnd left' × WritesPart w0 w' (head ++ (whole taken).text))
+      unwritten_behind (inl p) = inl (part_after w0 w1 w' head (part taken).text first p)
+      unwritten_behind (inr p) = inr (p.0, part_after w0 w1 w' head (whole taken).text first p.1)
+
+      decided_behind : (why : Ending) → Decides part why left' taken → Decides (λ bytes. text_before head (part bytes)) why left' taken
+      decided_behind why (inl d) = inl d
+      decided_behind why (inr end) = inr end
+
   -- it was written first
   pub statuses_behind : (left left' w0 w1 w' : Option (List ℕ)) (g g' f0 f1 f' status : ℕ) → f0 ≤ f1 → Appends w0 w1 head
       → Statuses whole part left left' w1 w' g g' f1 f' status
@@ -140,23 +194,17 @@ module _ (head : List ℕ) (whole part : List ℕ → Due) where
     ended = λ why e. if_some left _ _ (λ b x. (x.0, x.1, end_after w0 w1 w' f0 f1 f' head (whole b).text x.0 le first x.2)) (s.ended why e);
     decided = s.decided;
     memory = λ e. if_some left _ _ (λ b x. (x.0, x.1, x.2, x.3, Appends-trans w0 w1 w' head (part x.0).text first x.4)) (s.memory e);
-    prompt = if_some left _ _ (λ b x. record {
-      earlier = x.earlier;
-      piece = x.piece;
-      consumed = x.consumed;
-      small = x.small;
-      goes = x.goes;
-      wrote = λ some.
-          let y = x.wrote some in
-          let text = (part x.earlier).text in
-          (y.0, subst (Appends w0 w') (sym (append_assoc head text y.0)) (Appends-trans w0 w1 w' head (text ++ y.0) first y.1));
-    }) s.prompt;
-    begun = if_some left _ _ (λ b x.
-        let text = (whole b).text in
-        let last = last_text (whole b).end in
-        (head ++ x.0, x.1, Appends-trans w0 w1 w' head x.0 first x.2, append_assoc head text last ∙ ap (λ (xs : List ℕ). head ++ xs) x.3 ∙ sym (append_assoc head x.0 x.1))) s.begun;
+    prompt = if_some left _ _ (λ b x. prompt_behind left left' w0 w1 w' first x) s.prompt;
+    begun = if_some left _ _ (λ b x. begun_behind (whole b) w0 w1 w' first x) s.begun;
     only = s.only;
     complete = λ a c. s.complete a (λ rose. c (rose_since f0 f1 f' le rose));
+    every = record {
+      prompt = prompt_behind left left' w0 w1 w' first s.every.prompt;
+      in_reads = s.every.in_reads;
+      bounded = s.every.bounded;
+      says = says_behind (s.every.prompt.earlier ++ s.every.prompt.piece) left' w0 w1 w' f0 f1 f' status le first s.every.says;
+      complete = λ a c. s.every.complete a (λ rose. c (rose_since f0 f1 f' le rose));
+    };
   }
 
   -- the sink failed before all of it was written
@@ -175,4 +223,18 @@ module _ (head : List ℕ) (whole part : List ℕ → Due) where
     begun = if_told left _ (λ b. front_longer w w' (head ++ (whole b).text) (last_text (whole b).end) (part_front w w' (head ++ (whole b).text) (part_longer w w' head (whole b).text wrote)));
     only = inr (inr (inl refl));
     complete = λ a c. absurd (c rose);
+    every = record {
+      prompt = record { earlier = []; piece = []; consumed = Consumes-nil left; small = omega arith; goes = goes; wrote = λ some. absurd (omega arith) };
+      in_reads = reads_none;
+      bounded = omega arith;
+      says = record {
+        done = λ e. absurd (omega arith);
+        judged = λ e. absurd (omega arith);
+        unwritten = λ e. inl (part_longer w w' head (part []).text wrote);
+        ended = λ why e. absurd (no_ending 4 why (inl (omega arith)) e);
+        memory = λ e. absurd (omega arith);
+        begun = front_longer w w' (head ++ (whole []).text) (last_text (whole []).end) (part_front w w' (head ++ (whole []).text) (part_longer w w' head (whole []).text wrote));
+      };
+      complete = λ a c. absurd (c rose);
+    };
   }

@@ -11,7 +11,7 @@ pub mod IdWords
 pub mod Starving
 pub mod Viewers
 pub mod Staging
-pub mod TrialNumbers
+pub mod StreamNumbers
 pub mod Summing
 pub mod Playing
 pub mod EveryTrial

@@ -15,7 +15,8 @@ use Rattle.stream_maker.specs.Order.{ends_stream, tick_due}
 use Rattle.stream_maker.specs.Packets.{packets}
 use Rattle.stream_maker.specs.Stream.{Stream, counts_of, events, fate, turns, waiting}
 use Rattle.stream_maker.specs.Turn.{Given, sent, sent_event, tick_event, turn}
-use Rattle.sfu_commands.specs.Trial.{after_event, after_given, after_takes, and_call, made, opened, trial_calls}
+use Rattle.stream_maker.specs.Summary.{made}
+use Rattle.sfu_commands.specs.Trial.{after_event, after_given, after_takes, and_call, opened, trial_calls}
 use Rattle.sfu_commands.specs.Staged.{IsStaged}
 use Rattle.sfu_commands.specs.declared.stream_trial.stage.Stage.{Stage}
 

@@ -12,9 +12,11 @@ use Rattle.sfu_driver.specs.Scan.{Scan, More, Whole, NoUnit}
 use Rattle.sfu_driver.specs.Lines.{line_scan, line_scan_end}
 use Rattle.sfu_driver.specs.Point.{Rule, byte, due, is_outside, judged}
 use Rattle.sfu_driver.specs.Input.{due_all, judged_all, judged_lines, judged_units, lines_of, said, units_of}
-use Rattle.sfu_driver.specs.Statuses.{Due, Statuses, due_of, status_of, text_before}
+use Rattle.sfu_driver.specs.Statuses.{Due, StatusesBehind, due_of, status_of, text_before}
+use Rattle.sfu_driver.specs.Reads.{BeginsWith}
 use Rattle.sfu_driver.specs.Units.{rule_of}
 use Rattle.sfu_driver.proofs.Cutting.{at}
+use Rattle.sfu_driver.proofs.Meanings.{every_alike}
 use Rattle.sfu_driver.proofs.LineInputs.{due_is_lines, judged_is_lines}
 use Rattle.sfu_driver.proofs.UnitInputs.{due_is_units, judged_is_units}
 use Rattle.sfu_commands.specs.declared.form.Form.{Form}
@@ -120,11 +122,20 @@ due_statuses form status (inr (inr (inr (inl is)))) = inr (inr (inr (inl is)))
 due_statuses form status (inr (inr (inr (inr x)))) =
     inr (inr (inr (inr (0 ∷ [], end_by Outside (record_fault_line 0), refl, fault_status form (script_in form x.0).fault x.1 status x.2 x.3))))
 
+-- the bytes that were taken have the form of those that were read first
+taken_form : (form : Form) (first taken : List ℕ) → form_of first ≡ form → BeginsWith first taken → form_of taken ≡ form
+taken_form form [] taken is begins = ap form_of (begins.none refl) ∙ is
+taken_form form (b ∷ first) taken is begins = ap form_of begins.split ∙ is
+
 -- what is due for a script of its form is what is due for it
-pub runs_in : (form : Form) (left left' w w' : Option (List ℕ)) (g g' f f' status : ℕ) → ((bytes : List ℕ) → left ≡ Some bytes → form_of bytes ≡ form)
-    → Statuses (due_in form) (part_in form) left left' w w' g g' f f' status → Runs (exchange_by left left' w w' g g' f f') status
-runs_in form left left' w w' g g' f f' status known s =
+pub runs_in : (form : Form) (first : List ℕ) (left left' w w' : Option (List ℕ)) (g g' f f' status : ℕ) → form_of first ≡ form → ((bytes : List ℕ) → left ≡ Some bytes → form_of bytes ≡ form)
+    → StatusesBehind first (due_in form) (part_in form) left left' w w' g g' f f' status → Runs (exchange_by left left' w w' g g' f f') status
+runs_in form first left left' w w' g g' f f' status is known s =
+    let taken = s.every.prompt.earlier ++ s.every.prompt.piece in
+    let same = taken_form form first taken is s.begins in
     statuses_alike (due_in form) (part_in form) run_due run_part left left' w w' g g' f f' status
     (λ bytes told. ap (λ (f : Form). due_in f bytes) (sym (known bytes told)))
     (λ bytes front rest told split. same_part form bytes front rest (known bytes told) split)
-    (due_statuses form status s.only) s
+    (due_statuses form status s.statuses.only)
+    (every_alike (due_in form) (part_in form) run_due run_part left left' w w' g g' f f' status s.every (ap (λ (f : Form). due_in f taken) (sym same)) (λ front more split. same_part form taken front more same split))
+    s.statuses

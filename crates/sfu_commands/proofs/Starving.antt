@@ -6,6 +6,7 @@ use Rattle.std.proofs.KnownBytes.{Appends-nil, Consumes-nil}
 use Rattle.sfu_driver.specs.declared.halt.Ending.{Ending}
 use Rattle.sfu_driver.specs.declared.halt.Ending.TheVariants as ending
 use Rattle.sfu_driver.specs.Outcome.{End}
+use Rattle.sfu_driver.proofs.Reading.{reads_none}
 use Rattle.sfu_driver.specs.Statuses.{Completes, Due, Statuses, full_text, status_of}
 
 if_some : {X : Type 0} (o : Option X) (P : X → Type 0) → ((x : X) → P x) → IfSome o P
@@ -44,6 +45,20 @@ starved_at_once whole part left w g f none = record {
   begun = if_some left _ (λ bytes. ([], full_text (whole bytes), Appends-nil w, refl));
   only = inr (inr (inr (inl refl)));
   complete = λ a b. if_some left _ (λ bytes. completes (whole bytes).end);
+  every = record {
+    prompt = record { earlier = []; piece = []; consumed = Consumes-nil left; small = omega arith; goes = ap (λ (d : Due). d.end) none; wrote = λ some. absurd (omega arith) };
+    in_reads = reads_none;
+    bounded = omega arith;
+    says = record {
+      done = λ e. absurd cc;
+      judged = λ e. absurd cc;
+      unwritten = λ e. absurd cc;
+      ended = λ why e. absurd (no_ending why e);
+      memory = λ e. ([], [], refl, ap (λ (d : Due). d.end) none, wrote);
+      begun = ([], full_text (whole []), Appends-nil w, refl);
+    };
+    complete = λ a b. completes (whole []).end;
+  };
 }
   where
     wrote : Appends w w (part []).text

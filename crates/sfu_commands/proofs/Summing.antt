@@ -2,7 +2,8 @@
 use Rattle.std.proofs.Common.{◌≡◌, ℕ, Bool, cond, List, ◌++◌, append_assoc, ap, ◌∙◌}
 use Rattle.std.specs.Prelude.{is_some, min}
 use Rattle.strict_receiver.specs.Receivers.{complaint_over, frames_over, greatest_count, packets_over}
-use Rattle.sfu_commands.specs.Trial.{counts_text, subscriber_text}
+use Rattle.stream_maker.specs.Summary.{counts_text}
+use Rattle.sfu_commands.specs.Trial.{subscriber_text}
 use Rattle.sfu_commands.specs.Staged.{WasFed}
 use Rattle.sfu_commands.specs.declared.stream_trial.viewer.Viewer.{Viewer}
 

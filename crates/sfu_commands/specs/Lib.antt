@@ -12,5 +12,6 @@ pub mod Help
 pub mod Trial
 pub mod MadePackets
 pub mod Staged
-pub mod TrialWords
+pub mod StreamWords
+pub mod StreamNumbers
 pub mod Words

@@ -23,19 +23,10 @@ use Rattle.stream_maker.specs.declared.place.Place.{Place}
 use Rattle.stream_maker.specs.Bytes.{packet_bytes}
 use Rattle.stream_maker.specs.Packets.{packets}
 use Rattle.stream_maker.specs.Stream.{Stream, counts_of, events}
+use Rattle.stream_maker.specs.Summary.{counts_text, made, made_text}
 use Rattle.stream_maker.specs.Turn.{Given}
 use Rattle.strict_receiver.specs.Receivers.{complaint_over, frames_over, greatest_count, packets_over}
 use Rattle.sfu_driver.specs.Drive.{WritesPart}
-
--- ---- words
-
--- `trial N START LOSS`: so many frames, the number that makes the stream, and the packets of a hundred that are lost
-pub record IsTrial (words : List (List ℕ)) (s : Stream) : Type 0 where
-  pub words_are : words ≡ codes "trial" ∷ decimal s.frames ∷ decimal s.start ∷ decimal s.loss ∷ []
-  pub some_frames : 1 ≤ s.frames
-  pub few_frames : s.frames ≤ 1000000
-  pub start : s.start < 2 ^ 64
-  pub loss : s.loss ≤ 50
 
 -- ---- calls; the accepted ones stand newest first
 
@@ -123,21 +114,6 @@ pub record ArePleased (past : List Call) : Type 0 where
   pub third : complaint_over 4 (received 3 past) ≡ None
 
 -- ---- the summary
-
--- what was made of the whole stream
-unfoldable pub made : Stream → Counts
-made s = counts_of s (reverse (packets s.frames))
-
-abbrev pub made_text : Counts → List ℕ
-made_text c =
-    codes "made " ++ (decimal c.frames ++ (codes " frames " ++ (decimal c.packets ++ (codes " packets\nlost "
-    ++ (decimal c.lost ++ (codes " repeated " ++ (decimal c.repeated ++ (codes " swapped " ++ (decimal c.swapped ++ codes "\n")))))))))
-
--- the line of a subscriber, whose receiver accepted so many frames and packets, and has a complaint or none
-abbrev pub counts_text : ℕ → ℕ → ℕ → ℕ → List ℕ
-counts_text n frames packets complaints =
-    codes "subscriber " ++ (decimal n ++ (codes " frames " ++ (decimal frames ++ (codes " packets " ++ (decimal packets
-    ++ (codes " complaints " ++ (decimal complaints ++ codes "\n")))))))
 
 -- the line of a subscriber that took these packets
 unfoldable pub subscriber_text : ℕ → List (List ℕ) → List ℕ

@@ -1,13 +1,13 @@
 -- The words after the program's name, and which command they are. Own rule.
 use Rattle.std.specs.Prelude.{◌≡◌, ◌⊎◌, ℕ, List, [], ◌∷◌, Option, Some, None, codes}
 use Rattle.sfu_commands.specs.declared.words.Command.{Command}
-use Rattle.sfu_commands.specs.declared.words.Command.TheVariants.{Run, Convert, Simulcast, Help, Check, Record, Trial}
+use Rattle.sfu_commands.specs.declared.words.Command.TheVariants.{Run, Convert, Simulcast, Help, Check, Record, Trial, Cascade}
 use Rattle.sfu_commands.specs.Run.{IsRun}
 use Rattle.sfu_commands.specs.Convert.{IsConvert}
 use Rattle.sfu_commands.specs.Check.{IsCheck}
 use Rattle.sfu_commands.specs.Record.{IsRecord}
 use Rattle.sfu_commands.specs.Help.{IsHelp}
-use Rattle.sfu_commands.specs.Trial.{IsTrial}
+use Rattle.sfu_commands.specs.StreamWords.{IsCascade, IsTrial}
 
 -- the command `simulcast`, which `sfu_program` does
 abbrev pub IsSimulcast : List (List ℕ) → Type 0
@@ -22,6 +22,7 @@ Says words Help = IsHelp words
 Says words (Check id) = IsCheck words id
 Says words (Record id) = IsRecord words id
 Says words (Trial frames start loss) = IsTrial words (record { frames = frames; start = start; loss = loss })
+Says words (Cascade frames start loss) = IsCascade words (record { frames = frames; start = start; loss = loss })
 
 -- the words are one of the commands
 abbrev pub IsForm : List (List ℕ) → Type 0
@@ -39,3 +40,7 @@ ReadsWord word command = Reads (word ∷ []) command
 -- which command two words are
 abbrev pub ReadsTwo : List ℕ → List ℕ → Option Command → Type 0
 ReadsTwo word id command = Reads (word ∷ id ∷ []) command
+
+-- which command four words are
+abbrev pub ReadsFour : List ℕ → List ℕ → List ℕ → List ℕ → Option Command → Type 0
+ReadsFour name frames start loss command = Reads (name ∷ frames ∷ start ∷ loss ∷ []) command

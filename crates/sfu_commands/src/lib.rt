@@ -12,6 +12,7 @@ mod record_cut;
 mod script_run;
 mod script_server;
 mod stream_trial;
+mod stream_words;
 mod texts;
 mod usage;
 mod words;

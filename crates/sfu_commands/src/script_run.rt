@@ -1,7 +1,7 @@
 // The command `run`.
 ghost use Rattle.std.specs.Prelude.{◌≡◌, ◌≤◌, ℕ, List, Option, take};
 ghost use Rattle.std.specs.Io.KnownBytes.{Consumes, IsAtEnd};
-ghost use Rattle.sfu_driver.specs.Statuses.{Statuses, number_of};
+ghost use Rattle.sfu_driver.specs.Statuses.{StatusesBehind, number_of};
 ghost use Rattle.sfu_commands.specs.Promise.{AreServed};
 ghost use Rattle.sfu_commands.specs.Run.{IsRunStatus, Runs, due_in, part_in};
 ghost use Rattle.sfu_commands.specs.Script.{form_of};
@@ -36,7 +36,7 @@ fn run_lines<S: Source, K: Sink>(
     requires within { first ≤ MOST_PIECE }
     requires end { first ≡ 0 → IsAtEnd (S.left source.old) }
     ensures { (left : Option (List ℕ)) (reads : ℕ) → Consumes left (S.left source.old) (take first piece.old) → reads ≤ S.faults source.old
-        → Statuses (due_in Form.Lines) (part_in Form.Lines) left (S.left source.new) (K.written sink.old) (K.written sink.new) reads (S.faults source.new)
+        → StatusesBehind (take first piece.old) (due_in Form.Lines) (part_in Form.Lines) left (S.left source.new) (K.written sink.old) (K.written sink.new) reads (S.faults source.new)
         (K.faults sink.old) (K.faults sink.new) (number_of result) }
 {
     let judge = LineServer {
@@ -58,7 +58,7 @@ fn run_records<S: Source, K: Sink>(
     requires within { first ≤ MOST_PIECE }
     requires end { first ≡ 0 → IsAtEnd (S.left source.old) }
     ensures { (left : Option (List ℕ)) (reads : ℕ) → Consumes left (S.left source.old) (take first piece.old) → reads ≤ S.faults source.old
-        → Statuses (due_in Form.Records) (part_in Form.Records) left (S.left source.new) (K.written sink.old) (K.written sink.new) reads (S.faults source.new)
+        → StatusesBehind (take first piece.old) (due_in Form.Records) (part_in Form.Records) left (S.left source.new) (K.written sink.old) (K.written sink.new) reads (S.faults source.new)
         (K.faults sink.old) (K.faults sink.new) (number_of result) }
 {
     let judge = RecordServer {

@@ -7,7 +7,6 @@ ghost use Rattle.sfu_driver.specs.Statuses.{number_of};
 mod stage;
 mod summary;
 mod viewer;
-mod words;
 
 use sfu_base::{NoMemory, PacketBuf, Sink};
 use sfu_driver::{Status, write_all};
@@ -15,7 +14,6 @@ use stage::Stage;
 use std::alloc::Global;
 use stream_maker::{Event, Maker};
 use summary::summary;
-pub use words::read_trial;
 
 // The summary of a trial.
 fn play(alloc: Global, frames: u32, start: u64, loss: u8) -> Result<String, NoMemory>

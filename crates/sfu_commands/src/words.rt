@@ -1,10 +1,10 @@
 // The words after the program's name.
 ghost use Rattle.std.specs.Prelude.{map};
 ghost use Rattle.std.specs.String.{string_bytes};
-ghost use Rattle.sfu_commands.specs.Words.{Reads, ReadsTwo, ReadsWord};
+ghost use Rattle.sfu_commands.specs.Words.{Reads, ReadsFour, ReadsTwo, ReadsWord};
 
 use crate::id_words::read_id;
-use crate::stream_trial::read_trial;
+use crate::stream_words::read_stream;
 
 /// A command that waits for nobody.
 #[derive(Clone, Copy, Debug, PartialEq, Eq)]
@@ -24,6 +24,8 @@ pub enum Command {
     /// Writes what strict receivers find in what three subscribers take of a stream: so many frames, made from the number `start`, of which
     /// `loss` packets of a hundred are lost.
     Trial { frames: u32, start: u64, loss: u8 },
+    /// The same where the stream goes through two rooms, of which the second is fed from the first, to three subscribers of the second.
+    Cascade { frames: u32, start: u64, loss: u8 },
 }
 
 // The command of one word.
@@ -49,6 +51,27 @@ fn read_two(word: &str, id: &str) -> Option<Command>
     read_id("record", word, id).map(Command::Record)
 }
 
+// The command of four words.
+fn read_four(name: &str, frames: &str, start: &str, loss: &str) -> Option<Command>
+    ensures { ReadsFour name.now frames.now start.now loss.now result }
+{
+    if let Some(made) = read_stream("trial", name, frames, start, loss) {
+        return Some(Command::Trial {
+            frames: made.frames,
+            start: made.start,
+            loss: made.loss,
+        });
+    }
+    match read_stream("cascade", name, frames, start, loss) {
+        Some(made) => Some(Command::Cascade {
+            frames: made.frames,
+            start: made.start,
+            loss: made.loss,
+        }),
+        None => None,
+    }
+}
+
 /// The command that the words are; `None` exactly when they are none.
 pub fn read_words(words: &[String]) -> Option<Command>
     ensures { Reads (map string_bytes words.now) result }
@@ -56,7 +79,7 @@ pub fn read_words(words: &[String]) -> Option<Command>
     match words {
         [word] => read_word(word.as_str()),
         [word, id] => read_two(word.as_str(), id.as_str()),
-        [name, frames, start, loss] => read_trial(
+        [name, frames, start, loss] => read_four(
             name.as_str(),
             frames.as_str(),
             start.as_str(),

@@ -2,15 +2,16 @@
 use Rattle.std.proofs.Common.{◌≡◌, ◌<◌, ◌≤◌, ◌⊎◌, inl, inr, ℕ, List, ◌++◌, refl, sym, ap, ◌∙◌, subst, arith, Option, Some, None, Result, Ok, Err}
 use Rattle.std.specs.Prelude.{IfSome, IsOk}
 use Rattle.std.specs.Io.KnownBytes.{Consumes, IsAtEnd}
+use Rattle.sfu_base.specs.Faults.{Rose}
 use Rattle.sfu_driver.specs.declared.halt.Ending.{Ending}
 use Rattle.sfu_driver.specs.declared.halt.Ending.TheVariants as ending
 use Rattle.sfu_driver.specs.declared.halt.Halt.TheVariants.{Ended, Starved}
 use Rattle.sfu_driver.specs.declared.halt.Interruption.{Interruption}
 use Rattle.sfu_driver.specs.declared.halt.Interruption.TheVariants.{SourceFault, SinkFault, Halted}
 use Rattle.sfu_driver.specs.Outcome.{End, Outcome, takes, then_due}
-use Rattle.sfu_driver.specs.Drive.{CauseOf, Drove, WritesFront, end_by}
-use Rattle.sfu_driver.specs.Statuses.{Completes, Decides, IsPrompt, Statuses, due_of, end_of, full_text, status_for, status_of}
-use Rattle.sfu_driver.proofs.Driving.{ToldBy, told, told_begun}
+use Rattle.sfu_driver.specs.Drive.{CauseOf, Drove, DroveBehind, DroveBy, WritesFront, end_by}
+use Rattle.sfu_driver.specs.Statuses.{Completes, Decides, IsPrompt, OfEvery, SaysOf, Statuses, StatusesBehind, due_of, end_of, full_text, status_for, status_of}
+use Rattle.sfu_driver.proofs.Driving.{ToldBy, begun_of, told, told_begun}
 use Rattle.sfu_driver.proofs.Fronts.{rose_since}
 
 if_some : (left : Option (List ℕ)) (P Q : List ℕ → Type 0) → ((b : List ℕ) → P b → Q b) → IfSome left P → IfSome left Q
@@ -21,7 +22,7 @@ always : (left : Option (List ℕ)) (P : Type 0) → P → IfSome left (λ bytes
 always None P p = tt
 always (Some b) P p = p
 
-no_end : {S : Type 0} (r : Result S End) → IsOk r → end_of r ≡ None
+pub no_end : {S : Type 0} (r : Result S End) → IsOk r → end_of r ≡ None
 no_end (Ok s) is = refl
 no_end (Err end) is = absurd cc
 
@@ -74,16 +75,21 @@ told_if : {U S T : Type 0} (stands : U → T → Type 0) (byte : S → ℕ → O
 told_if stands byte ends s new None left' w w' f f' result d = tt
 told_if stands byte ends s new (Some b) left' w w' f f' result d = told stands byte ends s b new left' w w' f f' result d
 
-prompt_by : {U S T : Type 0} (stands : U → T → Type 0) (byte : S → ℕ → Outcome S) (ends : S → Outcome T) (s : S) (new : U) (left left' w w' : Option (List ℕ)) (f f' : ℕ) (result : Result (Unit {0}) Interruption)
-    → Drove stands byte ends s new left left' w w' f f' result → IfSome left (λ b. IsPrompt (λ taken. due_of (takes byte s taken)) left left' w w')
-prompt_by stands byte ends s new left left' w w' f f' result d = always left _ (record {
+-- what was read before the last piece doesn't end the command
+abbrev pub prompt_of : {U S T : Type 0} (stands : U → T → Type 0) (byte : S → ℕ → Outcome S) (ends : S → Outcome T) (s : S) (new : U) (left left' w w' : Option (List ℕ)) (f f' : ℕ) (result : Result (Unit {0}) Interruption)
+    → Drove stands byte ends s new left left' w w' f f' result → IsPrompt (λ taken. due_of (takes byte s taken)) left left' w w'
+prompt_of stands byte ends s new left left' w w' f f' result d = record {
   earlier = d.earlier;
   piece = d.piece;
   consumed = d.consumed;
   small = d.small;
   goes = no_end (takes byte s d.earlier).result d.first.0;
   wrote = λ some. (d.first.1, d.first.2);
-})
+}
+
+prompt_by : {U S T : Type 0} (stands : U → T → Type 0) (byte : S → ℕ → Outcome S) (ends : S → Outcome T) (s : S) (new : U) (left left' w w' : Option (List ℕ)) (f f' : ℕ) (result : Result (Unit {0}) Interruption)
+    → Drove stands byte ends s new left left' w w' f f' result → IfSome left (λ b. IsPrompt (λ taken. due_of (takes byte s taken)) left left' w w')
+prompt_by stands byte ends s new left left' w w' f f' result d = always left _ (prompt_of stands byte ends s new left left' w w' f f' result d)
 
 begun_by : {U S T : Type 0} (stands : U → T → Type 0) (byte : S → ℕ → Outcome S) (ends : S → Outcome T) (s : S) (new : U) (left left' w w' : Option (List ℕ)) (f f' : ℕ) (result : Result (Unit {0}) Interruption)
     → Drove stands byte ends s new left left' w w' f f' result → IfSome left (λ b. WritesFront w w' (full_text (due_of (then_due (takes byte s b) ends))))
@@ -96,6 +102,79 @@ decided_by : {S : Type 0} (byte : S → ℕ → Outcome S) (s : S) (taken : List
 decided_by byte s taken why other left' same (inl bad) =
     inl (bad.0, ended_by (takes byte s taken).result (end_by why bad.0) bad.1 ∙ ap (λ (e : Ending). Some (end_by e bad.0)) same)
 decided_by byte s taken why other left' same (inr end) = inr end
+
+-- ---- of every source
+
+-- what a status says of the bytes that were taken
+pub says_by : {U S T : Type 0} (stands : U → T → Type 0) (byte : S → ℕ → Outcome S) (ends : S → Outcome T) (s : S) (taken : List ℕ) (new : U) (left' w w' : Option (List ℕ)) (f f' : ℕ) (result : Result (Unit {0}) Interruption)
+    → DroveBy stands byte ends s taken new left' w w' f f' result
+    → SaysOf (λ bytes. due_of (then_due (takes byte s bytes) ends)) (λ bytes. due_of (takes byte s bytes)) taken left' w w' f f' (status_for result)
+says_by {U} {S} {T} stands byte ends s taken new left' w w' f f' (Ok _) d = record {
+  done = λ e. (d.0, goes_by (then_due (takes byte s taken) ends).result d.1.0 d.1.1, d.1.3);
+  judged = λ e. absurd (omega arith);
+  unwritten = λ e. absurd (omega arith);
+  ended = λ why e. absurd (no_status 0 why (inl (omega arith)) e);
+  memory = λ e. absurd (omega arith);
+  begun = begun_of stands byte ends s taken new left' w w' f f' (Ok tt) d;
+}
+says_by {U} {S} {T} stands byte ends s taken new left' w w' f f' (Err SourceFault) d = record {
+  done = λ e. absurd (omega arith);
+  judged = λ e. (no_end (takes byte s taken).result d.0, d.1);
+  unwritten = λ e. absurd (omega arith);
+  ended = λ why e. absurd (no_status 3 why (inl (omega arith)) e);
+  memory = λ e. absurd (omega arith);
+  begun = begun_of stands byte ends s taken new left' w w' f f' (Err SourceFault) d;
+}
+says_by {U} {S} {T} stands byte ends s taken new left' w w' f f' (Err SinkFault) d = record {
+  done = λ e. absurd (omega arith);
+  judged = λ e. absurd (omega arith);
+  unwritten = λ e. d;
+  ended = λ why e. absurd (no_status 4 why (inl (omega arith)) e);
+  memory = λ e. absurd (omega arith);
+  begun = begun_of stands byte ends s taken new left' w w' f f' (Err SinkFault) d;
+}
+says_by {U} {S} {T} stands byte ends s taken new left' w w' f f' (Err (Halted Starved)) d = record {
+  done = λ e. absurd (omega arith);
+  judged = λ e. absurd (omega arith);
+  unwritten = λ e. absurd (omega arith);
+  ended = λ why e. absurd (no_status 6 why (inr refl) e);
+  memory = λ e. (d.front, d.more, d.split, no_end (takes byte s d.front).result d.goes, d.wrote);
+  begun = begun_of stands byte ends s taken new left' w w' f f' (Err (Halted Starved)) d;
+}
+says_by {U} {S} {T} stands byte ends s taken new left' w w' f f' (Err (Halted (Ended why))) d = record {
+  done = λ e. absurd (status_above why 0 e (inl (omega arith)));
+  judged = λ e. absurd (status_above why 3 e (inl (omega arith)));
+  unwritten = λ e. absurd (status_above why 4 e (inl (omega arith)));
+  ended = λ other e.
+      let same = same_why why other e in (
+        decided_by byte s taken why other left' same d.0,
+        d.1.0,
+        ended_by (then_due (takes byte s taken) ends).result (end_by why d.1.0) d.1.1 ∙ ap (λ (k : Ending). Some (end_by k d.1.0)) same,
+        d.1.2,
+      );
+  memory = λ e. absurd (status_above why 6 e (inr refl));
+  begun = begun_of stands byte ends s taken new left' w w' f f' (Err (Halted (Ended why))) d;
+}
+
+pub completes_by : {U S T : Type 0} (stands : U → T → Type 0) (byte : S → ℕ → Outcome S) (ends : S → Outcome T) (s : S) (taken : List ℕ) (new : U) (left' w w' : Option (List ℕ)) (g g' f f' : ℕ) (result : Result (Unit {0}) Interruption)
+    → CauseOf g g' f f' result → DroveBy stands byte ends s taken new left' w w' f f' result → ¬ (Rose g g') → ¬ (Rose f f') → Completes (end_of (then_due (takes byte s taken) ends).result) (status_for result)
+completes_by stands byte ends s taken new left' w w' g g' f f' (Ok _) cause d a c = completes_none (end_of (then_due (takes byte s taken) ends).result) 0 (goes_by (then_due (takes byte s taken) ends).result d.1.0 d.1.1) (inl refl)
+completes_by stands byte ends s taken new left' w w' g g' f f' (Err SourceFault) cause d a c = absurd (a cause)
+completes_by stands byte ends s taken new left' w w' g g' f f' (Err SinkFault) cause d a c = absurd (c cause)
+completes_by stands byte ends s taken new left' w w' g g' f f' (Err (Halted Starved)) cause d a c = completes_six (end_of (then_due (takes byte s taken) ends).result)
+completes_by stands byte ends s taken new left' w w' g g' f f' (Err (Halted (Ended why))) cause d a c =
+    completes_some (end_of (then_due (takes byte s taken) ends).result) (end_by why d.1.0) (status_of why) (ended_by (then_due (takes byte s taken) ends).result (end_by why d.1.0) d.1.1) refl
+
+abbrev pub every_of : {U S T : Type 0} (stands : U → T → Type 0) (byte : S → ℕ → Outcome S) (ends : S → Outcome T) (s : S) (new : U) (left left' w w' : Option (List ℕ)) (g g' f f' : ℕ) (result : Result (Unit {0}) Interruption)
+    → CauseOf g g' f f' result → Drove stands byte ends s new left left' w w' f f' result
+    → OfEvery (λ bytes. due_of (then_due (takes byte s bytes) ends)) (λ taken. due_of (takes byte s taken)) left left' w w' g g' f f' (status_for result)
+every_of stands byte ends s new left left' w w' g g' f f' result cause d = record {
+  prompt = prompt_of stands byte ends s new left left' w w' f f' result d;
+  in_reads = d.reads;
+  bounded = d.bounded;
+  says = says_by stands byte ends s (d.earlier ++ d.piece) new left' w w' f f' result d.by_result;
+  complete = completes_by stands byte ends s (d.earlier ++ d.piece) new left' w w' g g' f f' result cause d.by_result;
+}
 
 pub statuses : {U S T : Type 0} (stands : U → T → Type 0) (byte : S → ℕ → Outcome S) (ends : S → Outcome T) (s : S) (new : U) (left left' w w' : Option (List ℕ)) (g g' f f' : ℕ) (result : Result (Unit {0}) Interruption)
     → CauseOf g g' f f' result → Drove stands byte ends s new left left' w w' f f' result
@@ -114,6 +193,7 @@ statuses {U} {S} {T} stands byte ends s new left left' w w' g g' f f' (Ok _) cau
       begun = begun_by stands byte ends s new left left' w w' f f' (Ok tt) d;
       only = inl refl;
       complete = λ a c. if_some left _ _ (λ b x. completes_none (end_of (then_due (takes byte s b) ends).result) 0 (goes_by (then_due (takes byte s b) ends).result x.1.0 x.1.1) (inl refl)) t;
+      every = every_of stands byte ends s new left left' w w' g g' f f' (Ok tt) cause d;
     }
 statuses {U} {S} {T} stands byte ends s new left left' w w' g g' f f' (Err SourceFault) cause d =
     let t = told_if stands byte ends s new left left' w w' f f' (Err SourceFault) d in record {
@@ -129,6 +209,7 @@ statuses {U} {S} {T} stands byte ends s new left left' w w' g g' f f' (Err Sourc
       begun = begun_by stands byte ends s new left left' w w' f f' (Err SourceFault) d;
       only = inr (inl refl);
       complete = λ a c. absurd (a cause);
+      every = every_of stands byte ends s new left left' w w' g g' f f' (Err SourceFault) cause d;
     }
 statuses {U} {S} {T} stands byte ends s new left left' w w' g g' f f' (Err SinkFault) cause d =
     let t = told_if stands byte ends s new left left' w w' f f' (Err SinkFault) d in record {
@@ -144,6 +225,7 @@ statuses {U} {S} {T} stands byte ends s new left left' w w' g g' f f' (Err SinkF
       begun = begun_by stands byte ends s new left left' w w' f f' (Err SinkFault) d;
       only = inr (inr (inl refl));
       complete = λ a c. absurd (c cause);
+      every = every_of stands byte ends s new left left' w w' g g' f f' (Err SinkFault) cause d;
     }
 statuses {U} {S} {T} stands byte ends s new left left' w w' g g' f f' (Err (Halted Starved)) cause d =
     let t = told_if stands byte ends s new left left' w w' f f' (Err (Halted Starved)) d in record {
@@ -159,6 +241,7 @@ statuses {U} {S} {T} stands byte ends s new left left' w w' g g' f f' (Err (Halt
       begun = begun_by stands byte ends s new left left' w w' f f' (Err (Halted Starved)) d;
       only = inr (inr (inr (inl refl)));
       complete = λ a c. if_some left _ _ (λ b x. completes_six (end_of (then_due (takes byte s b) ends).result)) t;
+      every = every_of stands byte ends s new left left' w w' g g' f f' (Err (Halted Starved)) cause d;
     }
 statuses {U} {S} {T} stands byte ends s new left left' w w' g g' f f' (Err (Halted (Ended why))) cause d =
     let t = told_if stands byte ends s new left left' w w' f f' (Err (Halted (Ended why))) d in record {
@@ -174,4 +257,15 @@ statuses {U} {S} {T} stands byte ends s new left left' w w' g g' f f' (Err (Halt
       begun = begun_by stands byte ends s new left left' w w' f f' (Err (Halted (Ended why))) d;
       only = inr (inr (inr (inr (d.earlier ++ d.piece, end_by why d.by_result.1.0, ended_by (then_due (takes byte s (d.earlier ++ d.piece)) ends).result (end_by why d.by_result.1.0) d.by_result.1.1, refl))));
       complete = λ a c. if_some left _ _ (λ b x. completes_some (end_of (then_due (takes byte s b) ends).result) (end_by why x.0) (status_of why) (ended_by (then_due (takes byte s b) ends).result (end_by why x.0) x.1) refl) t;
+      every = every_of stands byte ends s new left left' w w' g g' f f' (Err (Halted (Ended why))) cause d;
     }
+
+-- the same behind a first read
+pub statuses_behind : {U S T : Type 0} (first : List ℕ) (stands : U → T → Type 0) (byte : S → ℕ → Outcome S) (ends : S → Outcome T) (s : S) (new : U) (left left' w w' : Option (List ℕ)) (g g' f f' : ℕ) (result : Result (Unit {0}) Interruption)
+    → CauseOf g g' f f' result → DroveBehind first stands byte ends s new left left' w w' f f' result
+    → StatusesBehind first (λ bytes. due_of (then_due (takes byte s bytes) ends)) (λ taken. due_of (takes byte s taken)) left left' w w' g g' f f' (status_for result)
+statuses_behind first stands byte ends s new left left' w w' g g' f f' result cause d = record {
+  statuses = statuses stands byte ends s new left left' w w' g g' f f' result cause d.drove;
+  every = every_of stands byte ends s new left left' w w' g g' f f' result cause d.drove;
+  begins = d.begins;
+}

@@ -7,8 +7,8 @@ use Rattle.sfu_driver.specs.declared.halt.Halt.TheVariants.{Ended, Starved}
 use Rattle.sfu_driver.specs.declared.halt.Interruption.{Interruption}
 use Rattle.sfu_driver.specs.declared.halt.Interruption.TheVariants.{SourceFault, SinkFault, Halted}
 use Rattle.sfu_driver.specs.Outcome.{End, Outcome, before, takes, then_due}
-use Rattle.sfu_driver.specs.Drive.{Drove, DroveBy, EndsBy, Fed, Stopped, Took, WritesEnd, WritesFor, WritesFront, WritesPart, end_by}
-use Rattle.sfu_driver.specs.Statuses.{end_of, last_text}
+use Rattle.sfu_driver.specs.Drive.{Drove, DroveBy, EndsBy, Fed, HaltsFor, Starves, Stopped, Took, WritesEnd, WritesFor, WritesFront, WritesPart, end_by}
+use Rattle.sfu_driver.specs.Statuses.{due_of, end_of, full_text, last_text}
 use Rattle.sfu_driver.proofs.Takes.{takes_err, takes_front, then_err, then_front, then_ok}
 use Rattle.sfu_driver.proofs.Fronts.{end_after, end_front, front_all, front_longer, part_after, part_front, part_longer}
 use Rattle.sfu_driver.proofs.Feeding.{all_flushed, goes_ok}
@@ -17,16 +17,16 @@ use Rattle.sfu_driver.proofs.Feeding.{all_flushed, goes_ok}
 
 -- ---- the command stopped before the end
 
-pub stopped_drove : {U S T : Type 0} (stands : U → T → Type 0) (byte : S → ℕ → Outcome S) (ends : S → Outcome T) (s : S) (bytes : List ℕ) (new : U) (left' w w' : Option (List ℕ)) (f f' : ℕ) (stop : Interruption)
-    → Stopped stop byte s bytes [] w w' f f' → DroveBy stands byte ends s bytes new left' w w' f f' (Err stop)
-stopped_drove stands byte ends s bytes new left' w w' f f' SourceFault b = b
-stopped_drove stands byte ends s bytes new left' w w' f f' SinkFault b = inl b.1
-stopped_drove {U} {S} {T} stands byte ends s bytes new left' w w' f f' (Halted (Ended why)) b =
+pub stopped_drove : {U S T : Type 0} (wants : S → Type 0) (stands : U → T → Type 0) (byte : S → ℕ → Outcome S) (ends : S → Outcome T) (s : S) (bytes : List ℕ) (new : U) (left' w w' : Option (List ℕ)) (f f' : ℕ) (stop : Interruption)
+    → Stopped wants stop byte s bytes [] w w' f f' → DroveBy stands byte ends s bytes new left' w w' f f' (Err stop)
+stopped_drove wants stands byte ends s bytes new left' w w' f f' SourceFault b = b
+stopped_drove wants stands byte ends s bytes new left' w w' f f' SinkFault b = inl b.1
+stopped_drove {U} {S} {T} wants stands byte ends s bytes new left' w w' f f' (Halted (Ended why)) b =
     let due = then_err (takes byte s bytes) (end_by why b.0) ends b.1 in (
       inl (b.0, b.1),
       (b.0, ap (λ (o : Outcome T). o.result) due, subst (λ (text : List ℕ). WritesEnd w w' f f' text b.0) (sym (ap (λ (o : Outcome T). o.text) due)) b.2),
     )
-stopped_drove stands byte ends s bytes new left' w w' f f' (Halted Starved) b = b
+stopped_drove wants stands byte ends s bytes new left' w w' f f' (Halted Starved) b = b.writes
 
 -- ---- the command came to the end
 
@@ -148,34 +148,51 @@ told_begun {S} {T} byte ends s all left' w w' f f' result b =
         subst (λ (x : Result T End). WritesFront w w' (due.text ++ last_text (end_of x))) (sym b.1) (end_front w w' f f' due.text b.0 b.2)
     by_result (Err (Halted Starved)) b = longer (front_of_all byte ends s all w w' b)
 
+-- the same of the bytes that were taken
+taken_by : {U S T : Type 0} (stands : U → T → Type 0) (byte : S → ℕ → Outcome S) (ends : S → Outcome T) (s : S) (xs : List ℕ) (new : U) (left' w w' : Option (List ℕ)) (f f' : ℕ) (result : Result (Unit {0}) Interruption)
+    → DroveBy stands byte ends s xs new left' w w' f f' result → ToldBy byte ends s xs left' w w' f f' result
+taken_by stands byte ends s xs new left' w w' f f' (Ok _) d = (d.0, (d.1.0, d.1.1), d.1.3)
+taken_by stands byte ends s xs new left' w w' f f' (Err SourceFault) d = record { front = xs; more = []; split = sym (append-nil xs); goes = d.0; wrote = d.1 }
+taken_by stands byte ends s xs new left' w w' f f' (Err SinkFault) (inl part) =
+    let more = then_front (takes byte s xs) ends in subst (WritesPart w w') (sym more.1) (part_longer w w' (takes byte s xs).text more.0 part)
+taken_by stands byte ends s xs new left' w w' f f' (Err SinkFault) (inr last) = last.1
+taken_by stands byte ends s xs new left' w w' f f' (Err (Halted (Ended why))) d = d.1
+taken_by stands byte ends s xs new left' w w' f f' (Err (Halted Starved)) d = d
+
+pub begun_of : {U S T : Type 0} (stands : U → T → Type 0) (byte : S → ℕ → Outcome S) (ends : S → Outcome T) (s : S) (xs : List ℕ) (new : U) (left' w w' : Option (List ℕ)) (f f' : ℕ) (result : Result (Unit {0}) Interruption)
+    → DroveBy stands byte ends s xs new left' w w' f f' result → WritesFront w w' (full_text (due_of (then_due (takes byte s xs) ends)))
+begun_of stands byte ends s xs new left' w w' f f' result d = told_begun byte ends s xs left' w w' f f' result (taken_by stands byte ends s xs new left' w w' f f' result d)
+
 -- ---- causes
 
 -- ---- the bytes and the end
 
-pub drove_took : {U V S T : Type 0} (at : V → S → Type 0) (stands : U → T → Type 0) (byte : S → ℕ → Outcome S) (ends : S → Outcome T) (u u1 : V) (new : U) (r r1 : List ℕ) (left left' w0 w1 : Option (List ℕ)) (f0 f1 : ℕ) (stop : Interruption)
-    → r ≡ [] → Took at byte u u1 r r1 left left' w0 w1 f0 f1 (Err stop) → (s : S) → at u s → Drove stands byte ends s new left left' w0 w1 f0 f1 (Err stop)
-drove_took {U} {V} {S} {T} at stands byte ends u u1 new r r1 left left' w0 w1 f0 f1 stop none took s stand = record {
+abbrev pub drove_took : {U V S T : Type 0} (wants at : V → S → Type 0) (stands : U → T → Type 0) (byte : S → ℕ → Outcome S) (ends : S → Outcome T) (u u1 : V) (new : U) (r r1 : List ℕ) (left left' w0 w1 : Option (List ℕ)) (f0 f1 : ℕ) (stop : Interruption)
+    → r ≡ [] → Took wants at byte u u1 r r1 left left' w0 w1 f0 f1 (Err stop) → (s : S) → at u s → Drove stands byte ends s new left left' w0 w1 f0 f1 (Err stop)
+drove_took {U} {V} {S} {T} wants at stands byte ends u u1 new r r1 left left' w0 w1 f0 f1 stop none took s stand = record {
   earlier = took.earlier;
   piece = took.piece;
   consumed = took.consumed;
   small = took.small;
+  reads = took.reads;
+  bounded = took.bounded;
   first = took.first s stand;
-  by_result = stopped_drove stands byte ends s (took.earlier ++ took.piece) new left' w0 w1 f0 f1 stop
-      (subst (λ (xs : List ℕ). Stopped stop byte s (took.earlier ++ took.piece) xs w0 w1 f0 f1) none (took.feeds s stand));
+  by_result = stopped_drove (wants u1) stands byte ends s (took.earlier ++ took.piece) new left' w0 w1 f0 f1 stop
+      (subst (λ (xs : List ℕ). Stopped (wants u1) stop byte s (took.earlier ++ took.piece) xs w0 w1 f0 f1) none (took.feeds s stand));
 }
 
 -- whatever came of the end, some text was written
-some_end : {U T : Type 0} (stands : U → T → Type 0) (due : Outcome T) (new : U) (w w' : Option (List ℕ)) (f f' : ℕ) (result : Result (Unit {0}) Interruption) → EndsBy stands due new w w' f f' result → (text : List ℕ) × Appends w w' text
+pub some_end : {U T : Type 0} (stands : U → T → Type 0) (due : Outcome T) (new : U) (w w' : Option (List ℕ)) (f f' : ℕ) (result : Result (Unit {0}) Interruption) → EndsBy stands due new w w' f f' result → (text : List ℕ) × Appends w w' text
 some_end stands due new w w' f f' (Ok _) e = (due.text, e.3)
 some_end stands due new w w' f f' (Err SourceFault) e = absurd e
 some_end stands due new w w' f f' (Err SinkFault) e = (e.text, e.wrote)
 some_end stands due new w w' f f' (Err (Halted (Ended why))) e = (due.text ++ e.2.front, e.2.wrote)
 some_end stands due new w w' f f' (Err (Halted Starved)) e = ([], e)
 
-pub drove_ended : {U V S T : Type 0} (at : V → S → Type 0) (stands : U → T → Type 0) (byte : S → ℕ → Outcome S) (ends : S → Outcome T) (u u1 : V) (new : U) (r r1 : List ℕ) (left left' w0 w1 w2 : Option (List ℕ)) (f0 f1 f2 : ℕ)
-    (result : Result (Unit {0}) Interruption) → f0 ≤ f1 → r ≡ [] → Took at byte u u1 r r1 left left' w0 w1 f0 f1 (Ok tt) → r1 ≡ [] → IsAtEnd left'
+abbrev pub drove_ended : {U V S T : Type 0} (wants at : V → S → Type 0) (stands : U → T → Type 0) (byte : S → ℕ → Outcome S) (ends : S → Outcome T) (u u1 : V) (new : U) (r r1 : List ℕ) (left left' w0 w1 w2 : Option (List ℕ)) (f0 f1 f2 : ℕ)
+    (result : Result (Unit {0}) Interruption) → f0 ≤ f1 → r ≡ [] → Took wants at byte u u1 r r1 left left' w0 w1 f0 f1 (Ok tt) → r1 ≡ [] → IsAtEnd left'
     → ((p : S) → at u1 p → EndsBy stands (ends p) new w1 w2 f1 f2 result) → (s : S) → at u s → Drove stands byte ends s new left left' w0 w2 f0 f2 result
-drove_ended {U} {V} {S} {T} at stands byte ends u u1 new r r1 left left' w0 w1 w2 f0 f1 f2 result le none took empty end e s stand =
+drove_ended {U} {V} {S} {T} wants at stands byte ends u u1 new r r1 left left' w0 w1 w2 f0 f1 f2 result le none took empty end e s stand =
     let bytes = took.earlier ++ took.piece in
     let a : Fed at byte s bytes u1 [] r1 w0 w1 = subst (λ (xs : List ℕ). Fed at byte s bytes u1 xs r1 w0 w1) none (took.feeds s stand) in
     let last = e a.later a.at in
@@ -186,6 +203,49 @@ drove_ended {U} {V} {S} {T} at stands byte ends u u1 new r r1 left left' w0 w1 w
       piece = took.piece;
       consumed = took.consumed;
       small = took.small;
+      reads = took.reads;
+      bounded = took.bounded;
       first = (first.0, first.1 ++ more.0, subst (Appends w0 w2) (append_assoc text first.1 more.0) (Appends-trans w0 w1 w2 (text ++ first.1) more.0 first.2 more.1));
       by_result = ended_drove at stands byte ends s bytes u1 new r1 left' w0 w1 w2 f0 f1 f2 result le a empty end last;
     }
+
+-- ---- want of memory
+
+-- memory was wanting for the bytes
+pub starves_took : {U S : Type 0} (wants at : U → S → Type 0) (byte : S → ℕ → Outcome S) (u u1 : U) (r r1 : List ℕ) (left left' w w' : Option (List ℕ)) (f f' : ℕ) (stop : Interruption)
+    → r ≡ [] → Took wants at byte u u1 r r1 left left' w w' f f' (Err stop) → (s : S) → at u s → Starves wants byte s u1 left left' w w' (Err stop)
+starves_took wants at byte u u1 r r1 left left' w w' f f' SourceFault none took s stand = tt
+starves_took wants at byte u u1 r r1 left left' w w' f f' SinkFault none took s stand = tt
+starves_took wants at byte u u1 r r1 left left' w w' f f' (Halted (Ended why)) none took s stand = tt
+starves_took wants at byte u u1 r r1 left left' w w' f f' (Halted Starved) none took s stand =
+    let bytes = took.earlier ++ took.piece in
+    (bytes, took.consumed, subst (λ (xs : List ℕ). HaltsFor (wants u1) byte s bytes xs w w') none (took.feeds s stand))
+
+-- memory was wanting for the end
+pub starves_ended : {U S T : Type 0} (wants at : U → S → Type 0) (stands : U → T → Type 0) (byte : S → ℕ → Outcome S) (ends : S → Outcome T) (u u1 new : U) (r r1 : List ℕ) (left left' w0 w1 w2 : Option (List ℕ)) (f0 f1 f2 : ℕ)
+    (result : Result (Unit {0}) Interruption) → r ≡ [] → Took wants at byte u u1 r r1 left left' w0 w1 f0 f1 (Ok tt) → r1 ≡ []
+    → ((p : S) → at u1 p → EndsBy stands (ends p) new w1 w2 f1 f2 result) → (s : S) → at u s → Starves wants byte s new left left' w0 w2 result
+starves_ended wants at stands byte ends u u1 new r r1 left left' w0 w1 w2 f0 f1 f2 (Ok _) none took empty e s stand = tt
+starves_ended wants at stands byte ends u u1 new r r1 left left' w0 w1 w2 f0 f1 f2 (Err SourceFault) none took empty e s stand = tt
+starves_ended wants at stands byte ends u u1 new r r1 left left' w0 w1 w2 f0 f1 f2 (Err SinkFault) none took empty e s stand = tt
+starves_ended wants at stands byte ends u u1 new r r1 left left' w0 w1 w2 f0 f1 f2 (Err (Halted (Ended why))) none took empty e s stand = tt
+starves_ended wants at stands byte ends u u1 new r r1 left left' w0 w1 w2 f0 f1 f2 (Err (Halted Starved)) none took empty e s stand =
+    let bytes = took.earlier ++ took.piece in
+    let a : Fed at byte s bytes u1 [] r1 w0 w1 = subst (λ (xs : List ℕ). Fed at byte s bytes u1 xs r1 w0 w1) none (took.feeds s stand) in
+    let text = (takes byte s bytes).text in
+    let first : Appends w0 w1 text = all_flushed at byte s bytes u1 [] r1 w0 w1 refl empty a in (
+      bytes,
+      took.consumed,
+      record {
+        writes = record {
+          front = bytes;
+          more = [];
+          split = sym (append-nil bytes);
+          goes = goes_ok (takes byte s bytes).result a.later a.goes;
+          wrote = subst (Appends w0 w2) (append-nil text) (Appends-trans w0 w1 w2 text [] first (e a.later a.at));
+        };
+        later = a.later;
+        goes = a.goes;
+        at = inr refl;
+      },
+    )

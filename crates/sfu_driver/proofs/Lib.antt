@@ -3,6 +3,7 @@ pub mod Takes
 pub mod Cutting
 pub mod Nexts
 pub mod Fronts
+pub mod Reading
 pub mod Feeding
 pub mod Driving
 pub mod LineEnds

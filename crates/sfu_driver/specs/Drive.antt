@@ -9,6 +9,7 @@ use Rattle.sfu_driver.specs.declared.halt.Halt.TheVariants.{Ended, Starved}
 use Rattle.sfu_driver.specs.declared.halt.Interruption.{Interruption}
 use Rattle.sfu_driver.specs.declared.halt.Interruption.TheVariants.{SourceFault, SinkFault, Halted}
 use Rattle.sfu_driver.specs.Outcome.{End, Outcome, ends_with, takes, then_due}
+use Rattle.sfu_driver.specs.Reads.{BeginsWith, CameInReads, most_bytes}
 
 -- ---- what is written
 
@@ -81,24 +82,31 @@ pub record WritesFor {S : Type 0} (byte : S → ℕ → Outcome S) (state : S) (
   pub goes : IsOk ((takes byte state front).result)
   pub wrote : Appends written written' (ready ++ (takes byte state front).text)
 
--- What was written where the command stopped at these bytes, by why it stopped.
-abbrev pub Stopped : {S : Type 0} → Interruption → (S → ℕ → Outcome S) → S → List ℕ → List ℕ → Option (List ℕ) → Option (List ℕ) → ℕ → ℕ → Type 0
-Stopped SourceFault byte state bytes ready written written' faults faults' =
-    IsOk ((takes byte state bytes).result) × Appends written written' (ready ++ (takes byte state bytes).text)
-Stopped SinkFault byte state bytes ready written written' faults faults' =
-    Rose faults faults' × WritesPart written written' (ready ++ (takes byte state bytes).text)
-Stopped (Halted (Ended why)) byte state bytes ready written written' faults faults' =
-    (last : List ℕ) × ((takes byte state bytes).result ≡ Err (end_by why last)) × WritesEnd written written' faults faults' (ready ++ (takes byte state bytes).text) last
-Stopped (Halted Starved) byte state bytes ready written written' faults faults' = WritesFor byte state bytes ready written written'
+-- The same, and the state behind that front is the one in which memory was wanting, or the front is all of the bytes.
+pub record HaltsFor {S : Type 0} (wants : S → Type 0) (byte : S → ℕ → Outcome S) (state : S) (bytes ready : List ℕ) (written written' : Option (List ℕ)) : Type 0 where
+  pub writes : WritesFor byte state bytes ready written written'
+  pub later : S
+  pub goes : (takes byte state writes.front).result ≡ Ok later
+  pub at : wants later ⊎ (writes.more ≡ [])
 
-abbrev pub FeedsBy : {U S : Type 0} → (U → S → Type 0) → (S → ℕ → Outcome S) → S → List ℕ → U → List ℕ → List ℕ → Option (List ℕ) → Option (List ℕ) → ℕ → ℕ → Result (Unit {0}) Interruption → Type 0
-FeedsBy stands byte state bytes new ready ready' written written' faults faults' (Ok _) = Fed stands byte state bytes new ready ready' written written'
-FeedsBy stands byte state bytes new ready ready' written written' faults faults' (Err stop) = Stopped stop byte state bytes ready written written' faults faults'
+-- What was written where the command stopped at these bytes, by why it stopped.
+abbrev pub Stopped : {S : Type 0} → (S → Type 0) → Interruption → (S → ℕ → Outcome S) → S → List ℕ → List ℕ → Option (List ℕ) → Option (List ℕ) → ℕ → ℕ → Type 0
+Stopped wants SourceFault byte state bytes ready written written' faults faults' =
+    IsOk ((takes byte state bytes).result) × Appends written written' (ready ++ (takes byte state bytes).text)
+Stopped wants SinkFault byte state bytes ready written written' faults faults' =
+    Rose faults faults' × WritesPart written written' (ready ++ (takes byte state bytes).text)
+Stopped wants (Halted (Ended why)) byte state bytes ready written written' faults faults' =
+    (last : List ℕ) × ((takes byte state bytes).result ≡ Err (end_by why last)) × WritesEnd written written' faults faults' (ready ++ (takes byte state bytes).text) last
+Stopped wants (Halted Starved) byte state bytes ready written written' faults faults' = HaltsFor wants byte state bytes ready written written'
+
+abbrev pub FeedsBy : {U S : Type 0} → (U → S → Type 0) → (U → S → Type 0) → (S → ℕ → Outcome S) → S → List ℕ → U → List ℕ → List ℕ → Option (List ℕ) → Option (List ℕ) → ℕ → ℕ → Result (Unit {0}) Interruption → Type 0
+FeedsBy wants stands byte state bytes new ready ready' written written' faults faults' (Ok _) = Fed stands byte state bytes new ready ready' written written'
+FeedsBy wants stands byte state bytes new ready ready' written written' faults faults' (Err stop) = Stopped (wants new) stop byte state bytes ready written written' faults faults'
 
 -- The bytes did this, whatever state the object stood for.
-abbrev pub Feeds : {U S : Type 0} → (U → S → Type 0) → (S → ℕ → Outcome S) → U → List ℕ → U → List ℕ → List ℕ → Option (List ℕ) → Option (List ℕ) → ℕ → ℕ → Result (Unit {0}) Interruption → Type 0
-Feeds {U} {S} stands byte old bytes new ready ready' written written' faults faults' result =
-    (state : S) → stands old state → FeedsBy stands byte state bytes new ready ready' written written' faults faults' result
+abbrev pub Feeds : {U S : Type 0} → (U → S → Type 0) → (U → S → Type 0) → (S → ℕ → Outcome S) → U → List ℕ → U → List ℕ → List ℕ → Option (List ℕ) → Option (List ℕ) → ℕ → ℕ → Result (Unit {0}) Interruption → Type 0
+Feeds {U} {S} wants stands byte old bytes new ready ready' written written' faults faults' result =
+    (state : S) → stands old state → FeedsBy wants stands byte state bytes new ready ready' written written' faults faults' result
 
 -- The command goes on behind these bytes, and all that is due for them was written first.
 abbrev pub WritesFirst : {S : Type 0} → (S → ℕ → Outcome S) → S → List ℕ → Option (List ℕ) → Option (List ℕ) → Type 0
@@ -106,13 +114,20 @@ WritesFirst byte state bytes written written' =
     IsOk ((takes byte state bytes).result) × (more : List ℕ) × Appends written written' ((takes byte state bytes).text ++ more)
 
 -- Bytes were taken from the source, of which those before the last piece did the first, and all did the second.
-pub record Took {U S : Type 0} (stands : U → S → Type 0) (byte : S → ℕ → Outcome S) (old new : U) (ready ready' : List ℕ) (left left' written written' : Option (List ℕ)) (faults faults' : ℕ) (result : Result (Unit {0}) Interruption) : Type 0 where
+pub record Took {U S : Type 0} (wants stands : U → S → Type 0) (byte : S → ℕ → Outcome S) (old new : U) (ready ready' : List ℕ) (left left' written written' : Option (List ℕ)) (faults faults' : ℕ) (result : Result (Unit {0}) Interruption) : Type 0 where
   pub earlier : List ℕ
   pub piece : List ℕ
   pub consumed : Consumes left left' (earlier ++ piece)
   pub small : length piece ≤ 65536
+  pub reads : CameInReads earlier
+  pub bounded : length earlier < most_bytes
   pub first : (state : S) → stands old state → WritesFirst byte state earlier written written'
-  pub feeds : Feeds stands byte old (earlier ++ piece) new ready ready' written written' faults faults' result
+  pub feeds : Feeds wants stands byte old (earlier ++ piece) new ready ready' written written' faults faults' result
+
+-- The same behind a first read.
+pub record TookBehind {U S : Type 0} (first : List ℕ) (wants stands : U → S → Type 0) (byte : S → ℕ → Outcome S) (old new : U) (ready ready' : List ℕ) (left left' written written' : Option (List ℕ)) (faults faults' : ℕ) (result : Result (Unit {0}) Interruption) : Type 0 where
+  pub took : Took wants stands byte old new ready ready' left left' written written' faults faults' result
+  pub begins : BeginsWith first (took.earlier ++ took.piece)
 
 -- A fault comes only where the count of its object rose.
 abbrev pub CauseOf : ℕ → ℕ → ℕ → ℕ → Result (Unit {0}) Interruption → Type 0
@@ -153,5 +168,18 @@ pub record Drove {U S T : Type 0} (stands : U → T → Type 0) (byte : S → �
   pub piece : List ℕ
   pub consumed : Consumes left left' (earlier ++ piece)
   pub small : length piece ≤ 65536
+  pub reads : CameInReads earlier
+  pub bounded : length earlier < most_bytes
   pub first : WritesFirst byte state earlier written written'
   pub by_result : DroveBy stands byte ends state (earlier ++ piece) new left' written written' faults faults' result
+
+-- The same behind a first read.
+pub record DroveBehind {U S T : Type 0} (first : List ℕ) (stands : U → T → Type 0) (byte : S → ℕ → Outcome S) (ends : S → Outcome T) (state : S) (new : U) (left left' written written' : Option (List ℕ)) (faults faults' : ℕ) (result : Result (Unit {0}) Interruption) : Type 0 where
+  pub drove : Drove stands byte ends state new left left' written written' faults faults' result
+  pub begins : BeginsWith first (drove.earlier ++ drove.piece)
+
+-- Where memory was wanting, all that is due for the bytes before that was written.
+abbrev pub Starves : {U S : Type 0} → (U → S → Type 0) → (S → ℕ → Outcome S) → S → U → Option (List ℕ) → Option (List ℕ) → Option (List ℕ) → Option (List ℕ) → Result (Unit {0}) Interruption → Type 0
+Starves wants byte state new left left' written written' (Err (Halted Starved)) =
+    (taken : List ℕ) × Consumes left left' taken × HaltsFor (wants new) byte state taken [] written written'
+Starves wants byte state new left left' written written' other = Unit {0}

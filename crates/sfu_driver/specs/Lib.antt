@@ -3,6 +3,7 @@ pub mod Scan
 pub mod Point
 pub mod Lines
 pub mod Input
+pub mod Reads
 pub mod Drive
 pub mod Units
 pub mod Statuses

@@ -1,6 +1,6 @@
 -- What each status says, for every command that reads its input unit by unit. `whole` is what is due for all bytes of the source, its end
--- included, and `part` what is due for bytes whose end hasn't been seen. Where a source or a sink tells nothing of its bytes, nothing is
--- said of them.
+-- included, and `part` what is due for bytes whose end hasn't been seen. A source that tells nothing of its bytes has some too: the clause
+-- `every` speaks of it. Where a sink tells nothing of its bytes, nothing is said of what was written.
 use Rattle.std.specs.Prelude.{◌≡◌, ◌⊎◌, ℕ, ◌<◌, ◌≤◌, List, [], ◌++◌, length, Option, Some, None, IfSome, Result, Ok, Err}
 use Rattle.std.specs.Io.KnownBytes.{Appends, Consumes, IsAtEnd}
 use Rattle.sfu_base.specs.Faults.{Rose}
@@ -13,6 +13,7 @@ use Rattle.sfu_driver.specs.declared.statuses.Status.{Status}
 use Rattle.sfu_driver.specs.declared.statuses.Status.TheVariants as status
 use Rattle.sfu_driver.specs.Outcome.{End, Outcome}
 use Rattle.sfu_driver.specs.Drive.{WritesEnd, WritesFront, WritesPart, end_by}
+use Rattle.sfu_driver.specs.Reads.{BeginsWith, CameInReads, most_bytes}
 
 -- a text, and why the input ends the command behind it, with its last text, if it does
 pub record Due : Type 0 where
@@ -83,6 +84,32 @@ pub record IsPrompt (part : List ℕ → Due) (left left' written written' : Opt
   pub goes : (part earlier).end ≡ None
   pub wrote : 0 < length earlier → (more : List ℕ) × Appends written written' ((part earlier).text ++ more)
 
+-- What a status says of the bytes that were taken.
+pub record SaysOf (whole part : List ℕ → Due) (taken : List ℕ) (left' written written' : Option (List ℕ)) (writes writes' status : ℕ) : Type 0 where
+  -- 0: the source is at its end, and all that is due was written
+  pub done : status ≡ 0 → IsAtEnd left' × ((whole taken).end ≡ None) × Appends written written' (whole taken).text
+  -- 3: they don't end the command, and what is due for them was written
+  pub judged : status ≡ 3 → ((part taken).end ≡ None) × Appends written written' (part taken).text
+  -- 4: a part of what is due for them was written, and not all of it; at the source's end, of what is due there too
+  pub unwritten : status ≡ 4 → WritesPart written written' (part taken).text ⊎ (IsAtEnd left' × WritesPart written written' (whole taken).text)
+  -- 5, 8 and 10: they end the command, or their end does; all that is due before was written, and then the last text, or a front of it where the sink failed
+  pub ended : (why : Ending) → status ≡ status_of why → Decides part why left' taken × (last : List ℕ) × ((whole taken).end ≡ Some (end_by why last))
+      × WritesEnd written written' writes writes' (whole taken).text last
+  -- 6: what is due for a front of them was written, which doesn't end the command
+  pub memory : status ≡ 6 → (front : List ℕ) × (more : List ℕ) × (taken ≡ front ++ more) × ((part front).end ≡ None) × Appends written written' (part front).text
+  -- whatever the status, a front of what is due was written
+  pub begun : WritesFront written written' (full_text (whole taken))
+
+-- What is said of every source. The bytes before the last piece came in reads that took some each, and units are bounded in length and
+-- number: so the reads are.
+pub record OfEvery (whole part : List ℕ → Due) (left left' written written' : Option (List ℕ)) (reads reads' writes writes' status : ℕ) : Type 0 where
+  pub prompt : IsPrompt part left left' written written'
+  pub in_reads : CameInReads prompt.earlier
+  pub bounded : length prompt.earlier < most_bytes
+  pub says : SaysOf whole part (prompt.earlier ++ prompt.piece) left' written written' writes writes' status
+  -- where nothing outside fails, the status is the one of the bytes that were taken, or 6
+  pub complete : ¬ (Rose reads reads') → ¬ (Rose writes writes') → Completes (whole (prompt.earlier ++ prompt.piece)).end status
+
 -- What a status says. The first that is met ends the command.
 pub record Statuses (whole part : List ℕ → Due) (left left' written written' : Option (List ℕ)) (reads reads' writes writes' status : ℕ) : Type 0 where
   -- 0: the source was read to its end, and all that is due was written
@@ -106,3 +133,11 @@ pub record Statuses (whole part : List ℕ → Due) (left left' written written'
   -- no other status comes but those of inputs that end the command
   pub only : (status ≡ 0) ⊎ (status ≡ 3) ⊎ (status ≡ 4) ⊎ (status ≡ 6) ⊎ ((bytes : List ℕ) × (end : End) × ((whole bytes).end ≡ Some end) × (status ≡ status_of end.why))
   pub complete : ¬ (Rose reads reads') → ¬ (Rose writes writes') → IfSome left (λ bytes. Completes (whole bytes).end status)
+  -- of every source, also of one that tells nothing
+  pub every : OfEvery whole part left left' written written' reads reads' writes writes' status
+
+-- The same behind a first read, with which the bytes begin that were taken.
+pub record StatusesBehind (first : List ℕ) (whole part : List ℕ → Due) (left left' written written' : Option (List ℕ)) (reads reads' writes writes' status : ℕ) : Type 0 where
+  pub statuses : Statuses whole part left left' written written' reads reads' writes writes' status
+  pub every : OfEvery whole part left left' written written' reads reads' writes writes' status
+  pub begins : BeginsWith first (every.prompt.earlier ++ every.prompt.piece)

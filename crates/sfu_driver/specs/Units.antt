@@ -15,6 +15,10 @@ pub record StandsAt {C J S : Type 0} (stands : J → S → Type 0) (units : Unit
 abbrev pub JudgeStands : {C J S : Type 0} → (J → S → Type 0) → Units C J → S → Type 0
 JudgeStands stands units state = stands units.judge state
 
+-- its number is that of the unit which the point begins
+abbrev pub IsAtUnit : {C J S : Type 0} → Units C J → Point S → Type 0
+IsAtUnit units point = units.number ≡ point.number
+
 -- the rule of a cut and a judge
 abbrev pub rule_of : {S : Type 0} → (ℕ → List ℕ → ℕ → Scan) → (ℕ → List ℕ → Scan) → (S → ℕ → List ℕ → Outcome S) → (ℕ → List ℕ) → (S → List ℕ) → Rule S
 rule_of scan scan_end step outside closing = record { scan = scan; scan_end = scan_end; step = step; outside = outside; closing = closing }

@@ -3,7 +3,7 @@ ghost use Rattle.std.specs.Prelude.{◌≡◌, ◌≤◌, ℕ, List, Option, tak
 ghost use Rattle.std.specs.Io.KnownBytes.{Consumes, IsAtEnd};
 ghost use Rattle.sfu_driver.specs.Outcome.{takes};
 ghost use Rattle.sfu_driver.specs.Point.{Point, byte, due};
-ghost use Rattle.sfu_driver.specs.Statuses.{Statuses, due_of, number_of};
+ghost use Rattle.sfu_driver.specs.Statuses.{Statuses, StatusesBehind, due_of, number_of};
 ghost use Rattle.sfu_driver.specs.Units.{StandsAt, rule_of};
 
 use crate::{Cut, Judge, MOST_PIECE, Status, Units, drive, drive_behind};
@@ -38,7 +38,7 @@ pub fn answer_behind<C: Cut, J: Judge, S: Source, K: Sink>(
     requires end { first ≡ 0 → IsAtEnd (S.left source.old) }
     ensures { (left : Option (List ℕ)) (reads : ℕ) (point : Point J.State) → Consumes left (S.left source.old) (take first piece.old) → reads ≤ S.faults source.old
         → StandsAt J.stands units.old point
-        → Statuses (λ bytes. due_of (due (rule_of C.scan C.scan_end J.step J.outside J.closing) point bytes))
+        → StatusesBehind (take first piece.old) (λ bytes. due_of (due (rule_of C.scan C.scan_end J.step J.outside J.closing) point bytes))
         (λ taken. due_of (takes (byte (rule_of C.scan C.scan_end J.step J.outside J.closing)) point taken))
         left (S.left source.new) (K.written sink.old) (K.written sink.new) reads (S.faults source.new) (K.faults sink.old) (K.faults sink.new) (number_of result) }
 {

@@ -2,9 +2,9 @@
 ghost use Rattle.std.specs.Prelude.{◌≡◌, ◌≢◌, ◌≤◌, ◌<◌, ◌+◌, ℕ, List, Option, [], Ok, Err, OnOk, OnErr, IfOk, take, drop, length};
 ghost use Rattle.std.specs.Io.KnownBytes.{Appends, Consumes, IsAtEnd};
 ghost use Rattle.sfu_base.specs.Faults.{Rose};
-ghost use Rattle.sfu_driver.specs.Drive.{CauseOf, Drove, EndsBy, Feeds, Halts, Took, WritesPart};
+ghost use Rattle.sfu_driver.specs.Drive.{CauseOf, Drove, DroveBehind, EndsBy, Feeds, Halts, Starves, TookBehind, WritesPart};
 ghost use Rattle.sfu_driver.specs.Point.{Point, byte, ends};
-ghost use Rattle.sfu_driver.specs.Units.{JudgeStands, StandsAt, progress, rule_of};
+ghost use Rattle.sfu_driver.specs.Units.{IsAtUnit, JudgeStands, StandsAt, progress, rule_of};
 
 use crate::sink::write_all;
 use crate::{Cut, Halt, Interruption, Judge, Units};
@@ -59,9 +59,9 @@ fn take_unit<C: Cut, J: Judge, K: Sink>(
     piece: &[u8],
 ) -> Result<usize, Interruption>
     requires { 0 < length piece.now }
-    ensures feeds { IfOk result (λ count. Feeds (StandsAt J.stands) (byte (rule_of C.scan C.scan_end J.step J.outside J.closing)) units.old (take count piece.now) units.new ready.old ready.new
+    ensures feeds { IfOk result (λ count. Feeds IsAtUnit (StandsAt J.stands) (byte (rule_of C.scan C.scan_end J.step J.outside J.closing)) units.old (take count piece.now) units.new ready.old ready.new
         (K.written sink.old) (K.written sink.new) (K.faults sink.old) (K.faults sink.new) (Ok tt)) }
-    ensures stops { (stop : Interruption) → result ≡ Err stop → Feeds (StandsAt J.stands) (byte (rule_of C.scan C.scan_end J.step J.outside J.closing)) units.old piece.now units.new ready.old ready.new
+    ensures stops { (stop : Interruption) → result ≡ Err stop → Feeds IsAtUnit (StandsAt J.stands) (byte (rule_of C.scan C.scan_end J.step J.outside J.closing)) units.old piece.now units.new ready.old ready.new
         (K.written sink.old) (K.written sink.new) (K.faults sink.old) (K.faults sink.new) (Err stop) }
     ensures used { IfOk result (λ count. 0 < count) }
     ensures within { IfOk result (λ count. count ≤ length piece.now) }
@@ -88,7 +88,7 @@ fn feed<C: Cut, J: Judge, K: Sink>(
     sink: &mut K,
     piece: &[u8],
 ) -> Result<(), Interruption>
-    ensures feeds { Feeds (StandsAt J.stands) (byte (rule_of C.scan C.scan_end J.step J.outside J.closing)) units.old piece.now units.new ready.old ready.new
+    ensures feeds { Feeds IsAtUnit (StandsAt J.stands) (byte (rule_of C.scan C.scan_end J.step J.outside J.closing)) units.old piece.now units.new ready.old ready.new
         (K.written sink.old) (K.written sink.new) (K.faults sink.old) (K.faults sink.new) result }
     ensures progress { OnOk result (progress units.old + length piece.now ≤ progress units.new) }
     ensures written { OnOk result (ready.new ≡ []) }
@@ -117,7 +117,7 @@ fn take_all<C: Cut, J: Judge, S: Source, K: Sink>(
     requires within { first ≤ MOST_PIECE }
     requires end { first ≡ 0 → IsAtEnd (S.left source.old) }
     ensures took { (left : Option (List ℕ)) → Consumes left (S.left source.old) (take first piece.old)
-        → Took (StandsAt J.stands) (byte (rule_of C.scan C.scan_end J.step J.outside J.closing)) units.old units.new ready.old ready.new left (S.left source.new)
+        → TookBehind (take first piece.old) IsAtUnit (StandsAt J.stands) (byte (rule_of C.scan C.scan_end J.step J.outside J.closing)) units.old units.new ready.old ready.new left (S.left source.new)
         (K.written sink.old) (K.written sink.new) (K.faults sink.old) (K.faults sink.new) result }
     ensures end { OnOk result (IsAtEnd (S.left source.new)) }
     ensures written { OnOk result (ready.new ≡ []) }
@@ -165,8 +165,10 @@ pub fn drive_behind<C: Cut, J: Judge, S: Source, K: Sink>(
     requires within { first ≤ MOST_PIECE }
     requires end { first ≡ 0 → IsAtEnd (S.left source.old) }
     ensures drove { (left : Option (List ℕ)) (point : Point J.State) → Consumes left (S.left source.old) (take first piece.old) → StandsAt J.stands units.old point
-        → Drove (JudgeStands J.stands) (byte (rule_of C.scan C.scan_end J.step J.outside J.closing)) (ends (rule_of C.scan C.scan_end J.step J.outside J.closing)) point units.new
+        → DroveBehind (take first piece.old) (JudgeStands J.stands) (byte (rule_of C.scan C.scan_end J.step J.outside J.closing)) (ends (rule_of C.scan C.scan_end J.step J.outside J.closing)) point units.new
         left (S.left source.new) (K.written sink.old) (K.written sink.new) (K.faults sink.old) (K.faults sink.new) result }
+    ensures starves { (left : Option (List ℕ)) (point : Point J.State) → Consumes left (S.left source.old) (take first piece.old) → StandsAt J.stands units.old point
+        → Starves IsAtUnit (byte (rule_of C.scan C.scan_end J.step J.outside J.closing)) point units.new left (S.left source.new) (K.written sink.old) (K.written sink.new) result }
     ensures cause { CauseOf (S.faults source.old) (S.faults source.new) (K.faults sink.old) (K.faults sink.new) result }
     ensures never_falls { K.faults sink.old ≤ K.faults sink.new }
 {
@@ -185,6 +187,8 @@ pub fn drive<C: Cut, J: Judge, S: Source, K: Sink>(
     ensures drove { (point : Point J.State) → StandsAt J.stands units.old point
         → Drove (JudgeStands J.stands) (byte (rule_of C.scan C.scan_end J.step J.outside J.closing)) (ends (rule_of C.scan C.scan_end J.step J.outside J.closing)) point units.new
         (S.left source.old) (S.left source.new) (K.written sink.old) (K.written sink.new) (K.faults sink.old) (K.faults sink.new) result }
+    ensures starves { (point : Point J.State) → StandsAt J.stands units.old point
+        → Starves IsAtUnit (byte (rule_of C.scan C.scan_end J.step J.outside J.closing)) point units.new (S.left source.old) (S.left source.new) (K.written sink.old) (K.written sink.new) result }
     ensures cause { CauseOf (S.faults source.old) (S.faults source.new) (K.faults sink.old) (K.faults sink.new) result }
     ensures never_falls { K.faults sink.old ≤ K.faults sink.new }
 {

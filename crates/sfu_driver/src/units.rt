@@ -22,7 +22,7 @@ pub struct Units<C, J> {
 }
 
 impl<C: Cut, J: Judge> Units<C, J> {
-    ghost use Rattle.std.specs.Prelude.{◌≡◌, ◌<◌, ◌++◌, [], Err, IfOk, OnOk};
+    ghost use Rattle.std.specs.Prelude.{◌≡◌, ◌<◌, ◌++◌, [], Err, IfOk, OnErr, OnOk};
     ghost use Rattle.sfu_driver.specs.Drive.{Judges, Nexts};
     ghost use Rattle.sfu_driver.specs.Point.{Point, byte, ended, ends, is_outside, judged};
     ghost use Rattle.sfu_driver.specs.Scan.{Whole, between};
@@ -111,6 +111,7 @@ impl<C: Cut, J: Judge> Units<C, J> {
         ensures judges { (state : J.State) → J.stands self.old.judge state
             → Judges (StandsAt J.stands) (ended (rule_of C.scan C.scan_end J.step J.outside J.closing) state self.old.number
             (Whole (between start end (self.old.kept ++ came.now)))) self.new ready.old ready.new result }
+        ensures number { OnErr result (self.new.number ≡ self.old.number) }
         ensures progress { OnOk result (progress self.old + length came.now ≤ progress self.new) }
         ensures grows { length ready.old ≤ length ready.new }
     {
@@ -130,6 +131,7 @@ impl<C: Cut, J: Judge> Units<C, J> {
             → Nexts (StandsAt J.stands) (byte (rule_of C.scan C.scan_end J.step J.outside J.closing)) point piece.now self.new ready.old ready.new result }
         ensures used { IfOk result (λ count. 0 < count) }
         ensures within { IfOk result (λ count. count ≤ length piece.now) }
+        ensures number { OnErr result (self.new.number ≡ self.old.number) }
         ensures progress { IfOk result (λ count. progress self.old + count ≤ progress self.new) }
         ensures grows { length ready.old ≤ length ready.new }
     {

@@ -5,5 +5,6 @@ pub mod ServeBacks
 pub mod ServeRun
 pub mod ServeActing
 pub mod ServeForms
+pub mod ServeRoles
 mod SimulcastServing
 mod SimulcastReplies

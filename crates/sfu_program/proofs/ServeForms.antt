@@ -1,13 +1,13 @@
 -- The words of `serve` are no other command.
 use Rattle.std.proofs.Common.{◌≡◌, ◌⊎◌, inl, inr, ℕ, List, [], ◌∷◌, length, ap, sym, ◌∙◌, ◌<◌, arith}
 use Rattle.sfu_commands.specs.declared.words.Command.{Command}
-use Rattle.sfu_commands.specs.declared.words.Command.TheVariants.{Run, Convert, Simulcast, Help, Check, Record, Trial}
+use Rattle.sfu_commands.specs.declared.words.Command.TheVariants.{Run, Convert, Simulcast, Help, Check, Record, Trial, Cascade}
 use Rattle.sfu_commands.specs.Run.{IsRun}
 use Rattle.sfu_commands.specs.Check.{IsCheck}
 use Rattle.sfu_commands.specs.Record.{IsRecord}
 use Rattle.sfu_commands.specs.Convert.{IsConvert}
 use Rattle.sfu_commands.specs.Help.{IsHelp}
-use Rattle.sfu_commands.specs.Trial.{IsTrial}
+use Rattle.sfu_commands.specs.StreamWords.{IsCascade, IsTrial}
 use Rattle.std.specs.Prelude.{decimal}
 use Rattle.std.proofs.lemmas.Fmt.{decimal_injective}
 use Rattle.stream_maker.specs.Stream.{Stream}
@@ -48,6 +48,9 @@ not_record words id s r = clash 114 115 (ap first_code (sym r.2 ∙ s.1.words_ar
 pub not_trial : (words : List (List ℕ)) (t : Stream) → IsServing words → IsTrial words t → ⊥
 not_trial words t s r = clash 2 4 (ap length (sym s.1.words_are ∙ r.words_are)) (omega arith)
 
+pub not_cascade : (words : List (List ℕ)) (t : Stream) → IsServing words → IsCascade words t → ⊥
+not_cascade words t s r = clash 2 4 (ap length (sym s.1.words_are ∙ r.words_are)) (omega arith)
+
 not_said : (words : List (List ℕ)) (command : Command) → IsServing words → Says words command → ⊥
 not_said words Run s is = not_run words s is
 not_said words Convert s is = not_convert words s is
@@ -56,6 +59,7 @@ not_said words Help s is = not_help words s is
 not_said words (Check id) s is = not_check words id s is
 not_said words (Record id) s is = not_record words id s is
 not_said words (Trial frames start loss) s is = not_trial words _ s is
+not_said words (Cascade frames start loss) s is = not_cascade words _ s is
 
 pub not_form : (words : List (List ℕ)) → IsServing words → IsForm words → ⊥
 not_form words s is = not_said words is.0 s is.1

@@ -1,13 +1,13 @@
 -- The words `together` are no other command.
 use Rattle.std.proofs.Common.{◌≡◌, ◌⊎◌, inl, inr, ℕ, List, [], ◌∷◌, length, ap, sym, ◌∙◌, ◌<◌, arith}
 use Rattle.sfu_commands.specs.declared.words.Command.{Command}
-use Rattle.sfu_commands.specs.declared.words.Command.TheVariants.{Run, Convert, Simulcast, Help, Check, Record, Trial}
+use Rattle.sfu_commands.specs.declared.words.Command.TheVariants.{Run, Convert, Simulcast, Help, Check, Record, Trial, Cascade}
 use Rattle.sfu_commands.specs.Run.{IsRun}
 use Rattle.sfu_commands.specs.Check.{IsCheck}
 use Rattle.sfu_commands.specs.Record.{IsRecord}
 use Rattle.sfu_commands.specs.Convert.{IsConvert}
 use Rattle.sfu_commands.specs.Help.{IsHelp}
-use Rattle.sfu_commands.specs.Trial.{IsTrial}
+use Rattle.sfu_commands.specs.StreamWords.{IsCascade, IsTrial}
 use Rattle.stream_maker.specs.Stream.{Stream}
 use Rattle.sfu_commands.specs.Words.{IsForm, IsSimulcast, Says}
 use Rattle.sfu_program.specs.Forms.{IsStatus}
@@ -46,12 +46,16 @@ not_said words Help t is = not_help words t is
 not_said words (Check id) t is = not_check words id t is
 not_said words (Record id) t is = not_record words id t is
 not_said words (Trial frames start loss) t is = clash 1 4 (ap length (sym t ∙ is.words_are)) (omega arith)
+not_said words (Cascade frames start loss) t is = clash 1 4 (ap length (sym t ∙ is.words_are)) (omega arith)
 
 pub not_form : (words : List (List ℕ)) → IsTogether words → IsForm words → ⊥
 not_form words t is = not_said words is.0 t is.1
 
 pub not_trial : (words : List (List ℕ)) (s : Stream) → IsTogether words → IsTrial words s → ⊥
 not_trial words s t is = clash 1 4 (ap length (sym t ∙ is.words_are)) (omega arith)
+
+pub not_cascade : (words : List (List ℕ)) (s : Stream) → IsTogether words → IsCascade words s → ⊥
+not_cascade words s t is = clash 1 4 (ap length (sym t ∙ is.words_are)) (omega arith)
 
 -- the statuses of `together` are among those of the program, and not the one of other words
 pub is_status : (status : ℕ) → (status ≡ 0) ⊎ (status ≡ 3) ⊎ (status ≡ 4) ⊎ (status ≡ 5) ⊎ (status ≡ 6) → IsStatus status

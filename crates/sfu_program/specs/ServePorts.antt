@@ -9,7 +9,7 @@ use Rattle.sfu_script.specs.declared.ports.PortRole.{PortRole}
 use Rattle.sfu_script.specs.declared.ports.PortRole.TheVariants as line
 use Rattle.sfu_serve.specs.declared.run.Job.{Job}
 use Rattle.sfu_serve.specs.declared.run.Role.{Role}
-use Rattle.sfu_serve.specs.declared.run.Role.TheVariants.{Publisher, Subscriber, Control}
+use Rattle.sfu_serve.specs.declared.run.Role.TheVariants.{Publisher, Subscriber, Control, Rtx}
 use Rattle.sfu_serve.specs.Runs.{Before, job_before}
 
 -- whose session a port's line asks for
@@ -17,6 +17,7 @@ abbrev pub role_of : PortRole → Role
 role_of (line.Publisher track ssrc) = Publisher track ssrc
 role_of (line.Subscriber subscriber ssrc) = Subscriber subscriber ssrc
 role_of line.Control = Control
+role_of (line.Rtx subscriber ssrc rtx_ssrc payload_type) = Rtx subscriber ssrc (record { ssrc = rtx_ssrc; payload_type = payload_type })
 
 -- ---- ports that are bound
 

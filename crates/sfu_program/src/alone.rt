@@ -8,13 +8,16 @@ ghost use Rattle.sfu_commands.specs.Help.{Helps, IsHelp, Refuses};
 ghost use Rattle.sfu_commands.specs.Promise.{AreServed};
 ghost use Rattle.sfu_commands.specs.Record.{IsRecord, Records};
 ghost use Rattle.sfu_commands.specs.Run.{IsRun, Runs};
-ghost use Rattle.sfu_commands.specs.Trial.{IsTrial, Tries};
+ghost use Rattle.cascade.specs.Command.{PlaysCascade};
+ghost use Rattle.sfu_commands.specs.StreamWords.{IsCascade, IsTrial};
+ghost use Rattle.sfu_commands.specs.Trial.{Tries};
 ghost use Rattle.sfu_commands.specs.Words.{IsForm, IsSimulcast};
 ghost use Rattle.sfu_program.specs.Forms.{IsStatus};
 ghost use Rattle.sfu_program.specs.Simulcast.{Simulcasts};
 ghost use Rattle.sfu_driver.specs.Exchange.{exchange_of};
 
 use crate::bundling::run_with_bundles;
+use cascade::cascade;
 use sfu_base::{Sink, Source};
 use sfu_commands::{Command, check, convert, help, read_words, record, refuse, run, trial};
 use std::alloc::Global;
@@ -47,6 +50,8 @@ pub fn sfu_alone<S: Source, K: Sink>(
     ensures help { IsHelp (map string_bytes words.now) → Helps source.old source.new (K.written sink.old) (K.written sink.new) (K.faults sink.old) (K.faults sink.new) result }
     ensures trial { (s : Stream) → IsTrial (map string_bytes words.now) s
         → Tries source.old source.new s (K.written sink.old) (K.written sink.new) (K.faults sink.old) (K.faults sink.new) result }
+    ensures cascade { (s : Stream) → IsCascade (map string_bytes words.now) s
+        → PlaysCascade source.old source.new s (K.written sink.old) (K.written sink.new) (K.faults sink.old) (K.faults sink.new) result }
     ensures other { ¬ (IsForm (map string_bytes words.now))
         → Refuses source.old source.new (K.written sink.old) (K.written sink.new) (K.faults sink.old) (K.faults sink.new) result }
     ensures form { (result ≡ 2) ↔ ¬ (IsForm (map string_bytes words.now)) }
@@ -66,6 +71,13 @@ pub fn sfu_alone<S: Source, K: Sink>(
                 loss,
             },
         ) => trial(alloc, frames, start, loss, sink).number(),
+        Some(
+            Command::Cascade {
+                frames,
+                start,
+                loss,
+            },
+        ) => cascade(alloc, frames, start, loss, sink).number(),
         None => refuse(sink).number(),
     }
 }

@@ -8,13 +8,15 @@ ghost use Rattle.sfu_commands.specs.Help.{Helps, IsHelp, Refuses};
 ghost use Rattle.sfu_commands.specs.Promise.{AreServed};
 ghost use Rattle.sfu_commands.specs.Record.{IsRecord, Records};
 ghost use Rattle.sfu_commands.specs.Run.{IsRun, Runs};
-ghost use Rattle.sfu_commands.specs.Trial.{IsTrial, Tries};
+ghost use Rattle.cascade.specs.Command.{PlaysCascade};
+ghost use Rattle.sfu_commands.specs.StreamWords.{IsCascade, IsTrial};
+ghost use Rattle.sfu_commands.specs.Trial.{Tries};
 ghost use Rattle.sfu_commands.specs.Words.{IsSimulcast};
+ghost use Rattle.sfu_program.specs.Simulcast.{Simulcasts};
 ghost use Rattle.sfu_program.specs.Forms.{IsCommand, IsEnd, IsServing};
 ghost use Rattle.sfu_program.specs.Serve.{Serves};
 ghost use Rattle.sfu_program.specs.ServePorts.{seen_ports};
 ghost use Rattle.sfu_program.specs.ServeWords.{IsServe};
-ghost use Rattle.sfu_program.specs.Simulcast.{Simulcasts};
 ghost use Rattle.sfu_together.specs.Together.{IsTogether, Plays};
 ghost use Rattle.sfu_driver.specs.Exchange.{exchange_of};
 
@@ -79,6 +81,8 @@ pub fn sfu<W: Threads + Wait + Sync, S: Source, K: Sink, P: Ports, C: Clock + Sy
     ensures help { IsHelp (map string_bytes words.now) → Helps source.old source.new (K.written sink.old) (K.written sink.new) (K.faults sink.old) (K.faults sink.new) result }
     ensures trial { (s : Stream) → IsTrial (map string_bytes words.now) s
         → Tries source.old source.new s (K.written sink.old) (K.written sink.new) (K.faults sink.old) (K.faults sink.new) result }
+    ensures cascade { (s : Stream) → IsCascade (map string_bytes words.now) s
+        → PlaysCascade source.old source.new s (K.written sink.old) (K.written sink.new) (K.faults sink.old) (K.faults sink.new) result }
     ensures together { IsTogether (map string_bytes words.now)
         → Plays (exchange_of S.left S.faults K.written K.faults source.old source.new sink.old sink.new) result }
     ensures serve { (turns : ℕ) → IsServe (map string_bytes words.now) turns

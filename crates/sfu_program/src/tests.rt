@@ -1,6 +1,7 @@
 // What the program does, by the words that it is given.
 mod bundling;
 mod check;
+mod faults;
 mod meeting;
 mod record;
 mod records;
@@ -8,4 +9,5 @@ mod run;
 mod serve;
 mod together;
 mod trial;
+mod two_rooms;
 mod words;

@@ -1,5 +1,5 @@
 -- What the fields of a text are read as is spelled there, and what is spelled there is read.
-use Rattle.std.proofs.Common.{◌≡◌, ◌<◌, ℕ, ◌^◌, true, List, [], ◌∷◌, length, refl, ap, ◌∙◌, arith, subst, Some}
+use Rattle.std.proofs.Common.{◌≡◌, ◌<◌, ℕ, suc, ◌^◌, true, List, [], ◌∷◌, length, refl, sym, ap, ◌∙◌, arith, subst, Some}
 use Rattle.script_texts.specs.Grammar.{Fills, Spells}
 use Rattle.sfu_script.specs.Fields.{field_of, fields_of, place_of, places_of, bits_of, AreWithin}
 use Rattle.sfu_script.specs.Reading.{◌>>=◌, field}
@@ -62,6 +62,15 @@ fields_found places text numbers e =
 pub fields_within : (places : List Field) (text numbers : List ℕ) → fields_of places text ≡ Some numbers → AreWithin places numbers
 fields_within places text numbers e =
     let h = fields_parts places text numbers e in subst (λ (ns : List ℕ). AreWithin places ns) h.2 h.4
+
+pub fields_length : (places : List Field) (text numbers : List ℕ) → fields_of places text ≡ Some numbers → length numbers ≡ length places
+fields_length [] text numbers e = cc
+fields_length (f ∷ []) text numbers e =
+    let a = bind_some (field_of f text) (λ n. Some (n ∷ [])) numbers e in ap length (sym (some_same (a.0 ∷ []) numbers a.2))
+fields_length (f ∷ g ∷ fs) text numbers e =
+    let a = bind_some (field (field_of f) text) (λ n. fields_of (g ∷ fs) n.1 >>= (λ ns. Some (n.0 ∷ ns))) numbers e in
+    let b = bind_some (fields_of (g ∷ fs) (a.0).1) (λ ns. Some ((a.0).0 ∷ ns)) numbers a.2 in
+    ap length (sym (some_same ((a.0).0 ∷ b.0) numbers b.2)) ∙ ap (λ (n : ℕ). suc n) (fields_length (g ∷ fs) (a.0).1 b.0 b.1)
 
 pub fields_again : (places : List Field) (numbers text : List ℕ) → length numbers ≡ length places → 0 < length places
     → Spells (places_of places numbers) text → fields_of places text ≡ Some numbers

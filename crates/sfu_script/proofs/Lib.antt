@@ -15,3 +15,4 @@ pub mod ReadBack
 pub mod ReplyLaws
 pub mod Spaces
 pub mod Steps
+pub mod RtxPorts

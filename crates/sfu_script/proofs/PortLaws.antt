@@ -1,6 +1,6 @@
 -- A line of a port is read exactly where the grammar says so.
 use Rattle.std.proofs.Common.{◌≡◌, ◌<◌, ℕ, ◌^◌, ◌/◌, ◌%◌, Bool, true, false, cond, List, [], ◌∷◌, ◌++◌, get_or, refl, sym, ap, ◌∙◌, arith, subst, Option, Some, None}
-use Rattle.std.specs.Prelude.{codes, decimal}
+use Rattle.std.specs.Prelude.{codes, decimal, IsTrue}
 use Rattle.std.specs.Int.{from_be_bytes, to_be_bytes, w32}
 use Rattle.std.specs.Char.{is_ascii_digit}
 use Rattle.std.specs.Str.{bytes_eq}
@@ -10,14 +10,16 @@ use Rattle.std.proofs.lemmas.Slice.Eq.{bytes_eq-Decides}
 use Rattle.sfu_base.specs.declared.address.Address.{Address}
 use Rattle.script_texts.specs.Grammar.{Place, Fills, Spells, address_text}
 use Rattle.script_texts.specs.Grammar.{Address as AddressPlace}
-use Rattle.sfu_script.specs.Ports.{ip_of, address_of, publisher_of, subscriber_of, named_role_of, role_of, addressed, port_of, role_places, IsPortLine}
+use Rattle.sfu_script.specs.Ports.{ip_of, address_of, publisher_of, subscriber_of, if_apart, is_apart, of_rtx, rtx_of, named_role_of, role_of, addressed, port_of, role_places, IsPortLine}
 use Rattle.sfu_script.specs.Reading.{◌>>=◌, cut, cut_at, field, number_of}
-use Rattle.sfu_script.specs.declared.fields.Field.TheVariants.{Number32, Ssrc}
+use Rattle.sfu_script.specs.Fields.{fields_of, places_of}
+use Rattle.sfu_script.specs.declared.fields.Field.{Field}
+use Rattle.sfu_script.specs.declared.fields.Field.TheVariants.{Number8, Number32, Ssrc}
 use Rattle.sfu_script.specs.declared.ports.PortLine.{PortLine}
 use Rattle.sfu_script.specs.declared.ports.PortRole.{PortRole}
-use Rattle.sfu_script.specs.declared.ports.PortRole.TheVariants.{Publisher, Subscriber, Control}
+use Rattle.sfu_script.specs.declared.ports.PortRole.TheVariants.{Publisher, Subscriber, Control, Rtx}
 use Rattle.sfu_script.proofs.Arities.{two_read}
-use Rattle.sfu_script.proofs.FieldLaws.{fields_again}
+use Rattle.sfu_script.proofs.FieldLaws.{fields_again, fields_found}
 use Rattle.sfu_script.proofs.Filled.{number_found, number_again, four_bytes}
 use Rattle.sfu_script.proofs.Options.{bind_some, chosen, some_same}
 use Rattle.sfu_script.proofs.Parsing.{own}
@@ -143,36 +145,64 @@ address_no_space ip port k =
 
 -- ---- what is read is spelled
 
-named_found : (test : Bool) (word rest : List ℕ) (role : PortRole) (other : Option PortRole) (P : Type 0) → (test ≡ true → publisher_of rest ≡ Some role → P)
-    → (other ≡ Some role → P) → cond test (publisher_of rest) other ≡ Some role → P
-named_found true word rest role other P here there e = here refl e
-named_found false word rest role other P here there e = there e
+-- the text says what a port is for
+abbrev Says : PortRole → List ℕ → Type 0
+Says role text = IsTrue (is_apart role) × Spells (role_places role) text
 
-later_found : (test : Bool) (rest : List ℕ) (role : PortRole) (P : Type 0) → (test ≡ true → subscriber_of rest ≡ Some role → P)
-    → cond test (subscriber_of rest) None ≡ Some role → P
-later_found true rest role P here e = here refl e
-later_found false rest role P here e = cc
+named_found : (test : Bool) (here other : Option PortRole) (role : PortRole) (P : Type 0) → (test ≡ true → here ≡ Some role → P)
+    → (other ≡ Some role → P) → cond test here other ≡ Some role → P
+named_found true here other role P first then e = first refl e
+named_found false here other role P first then e = then e
 
-role_named : (word rest : List ℕ) (role : PortRole) → named_role_of word rest ≡ Some role → Spells (role_places role) (word ++ 32 ∷ rest)
+last_found : (test : Bool) (here : Option PortRole) (role : PortRole) (P : Type 0) → (test ≡ true → here ≡ Some role → P) → cond test here None ≡ Some role → P
+last_found true here role P first e = first refl e
+last_found false here role P first e = cc
+
+apart_found : (test : Bool) (made role : PortRole) → is_apart made ≡ test → cond test (Some made) None ≡ Some role → IsTrue (is_apart made) × (made ≡ role)
+apart_found true made role is e = (is, some_same made role e)
+apart_found false made role is e = cc
+
+rtx_found : (numbers : List ℕ) (role : PortRole) → of_rtx numbers ≡ Some role
+    → (s x y p : ℕ) × (numbers ≡ s ∷ x ∷ y ∷ p ∷ []) × IsTrue (is_apart (Rtx s x y p)) × (Rtx s x y p ≡ role)
+rtx_found [] role e = cc
+rtx_found (s ∷ []) role e = cc
+rtx_found (s ∷ x ∷ []) role e = cc
+rtx_found (s ∷ x ∷ y ∷ []) role e = cc
+rtx_found (s ∷ x ∷ y ∷ p ∷ []) role e = let a = apart_found (is_apart (Rtx s x y p)) (Rtx s x y p) role refl e in (s, x, y, p, refl, a.0, a.1)
+rtx_found (s ∷ x ∷ y ∷ p ∷ more ∷ others) role e = cc
+
+abbrev rtx_fields : List Field
+rtx_fields = Number32 ∷ Ssrc ∷ Ssrc ∷ Number8 ∷ []
+
+rtx_read : (word rest : List ℕ) (role : PortRole) → word ≡ codes "rtx" → rtx_of rest ≡ Some role → Says role (word ++ 32 ∷ rest)
+rtx_read word rest role is e =
+    let r = bind_some (fields_of rtx_fields rest) of_rtx role e in
+    let p = rtx_found r.0 role r.2 in
+    let h : Spells (places_of rtx_fields (p.0 ∷ p.1 ∷ p.2 ∷ p.3 ∷ [])) rest = subst (λ (ns : List ℕ). Spells (places_of rtx_fields ns) rest) p.4 (fields_found rtx_fields rest r.0 r.1) in
+    subst (λ (x : PortRole). Says x (word ++ 32 ∷ rest)) p.6 (p.5, (word, rest, is, h, refl))
+
+role_named : (word rest : List ℕ) (role : PortRole) → named_role_of word rest ≡ Some role → Says role (word ++ 32 ∷ rest)
 role_named word rest role =
-    named_found (bytes_eq word (codes "publisher")) word rest role _ (Spells (role_places role) (word ++ 32 ∷ rest))
+    named_found (bytes_eq word (codes "publisher")) (publisher_of rest) _ role (Says role (word ++ 32 ∷ rest))
     (λ is e.
     let h = two_read (Number32 ∷ Ssrc ∷ []) rest (λ track ssrc. Publisher track ssrc) role e in
-    subst (λ (x : PortRole). Spells (role_places x) (word ++ 32 ∷ rest)) h.3 (word, rest, (bytes_eq-Decides word (codes "publisher")).0 is, h.2, refl))
-    (later_found (bytes_eq word (codes "subscriber")) rest role (Spells (role_places role) (word ++ 32 ∷ rest))
+    subst (λ (x : PortRole). Says x (word ++ 32 ∷ rest)) h.3 (refl, (word, rest, (bytes_eq-Decides word (codes "publisher")).0 is, h.2, refl)))
+    (named_found (bytes_eq word (codes "subscriber")) (subscriber_of rest) _ role (Says role (word ++ 32 ∷ rest))
     (λ is e.
     let h = two_read (Number32 ∷ Ssrc ∷ []) rest (λ subscriber ssrc. Subscriber subscriber ssrc) role e in
-    subst (λ (x : PortRole). Spells (role_places x) (word ++ 32 ∷ rest)) h.3 (word, rest, (bytes_eq-Decides word (codes "subscriber")).0 is, h.2, refl)))
+    subst (λ (x : PortRole). Says x (word ++ 32 ∷ rest)) h.3 (refl, (word, rest, (bytes_eq-Decides word (codes "subscriber")).0 is, h.2, refl)))
+    (last_found (bytes_eq word (codes "rtx")) (rtx_of rest) role (Says role (word ++ 32 ∷ rest))
+    (λ is e. rtx_read word rest role ((bytes_eq-Decides word (codes "rtx")).0 is) e)))
 
 role_case : (test : Bool) (rest : List ℕ) (role : PortRole) → bytes_eq rest (codes "control") ≡ test
-    → cond test (Some Control) (cut rest >>= (λ parts. named_role_of parts.0 parts.1)) ≡ Some role → Spells (role_places role) rest
+    → cond test (Some Control) (cut rest >>= (λ parts. named_role_of parts.0 parts.1)) ≡ Some role → Says role rest
 role_case true rest role is e =
-    subst (λ (x : PortRole). Spells (role_places x) rest) (some_same Control role e) ((bytes_eq-Decides rest (codes "control")).0 is)
+    subst (λ (x : PortRole). Says x rest) (some_same Control role e) (refl, (bytes_eq-Decides rest (codes "control")).0 is)
 role_case false rest role is e =
     let a = bind_some (cut rest) (λ parts. named_role_of parts.0 parts.1) role e in
-    subst (λ (text : List ℕ). Spells (role_places role) text) (sym (cut_found rest a.0 a.1)) (role_named (a.0).0 (a.0).1 role a.2)
+    subst (λ (text : List ℕ). Says role text) (sym (cut_found rest a.0 a.1)) (role_named (a.0).0 (a.0).1 role a.2)
 
-role_found : (rest : List ℕ) (role : PortRole) → role_of rest ≡ Some role → Spells (role_places role) rest
+role_found : (rest : List ℕ) (role : PortRole) → role_of rest ≡ Some role → Says role rest
 unfolding role_of
 role_found rest role e = role_case (bytes_eq rest (codes "control")) rest role refl e
 
@@ -181,11 +211,12 @@ address_before : (role : PortRole) (ip port : ℕ) (text word rest : List ℕ) �
 address_before (Publisher track ssrc) ip port text word rest f h e = (word, rest, f, h, e)
 address_before (Subscriber subscriber ssrc) ip port text word rest f h e = (word, rest, f, h, e)
 address_before Control ip port text word rest f h e = (word, rest, f, h, e)
+address_before (Rtx subscriber ssrc rtx_ssrc payload_type) ip port text word rest f h e = (word, rest, f, h, e)
 
 abbrev behind_places : PortLine → List Place
 behind_places port = AddressPlace port.local.ip port.local.port ∷ AddressPlace port.peer.ip port.peer.port ∷ role_places port.role
 
-addressed_found : (rest : List ℕ) (port : PortLine) → addressed rest ≡ Some port → Spells (behind_places port) rest
+addressed_found : (rest : List ℕ) (port : PortLine) → addressed rest ≡ Some port → IsTrue (is_apart port.role) × Spells (behind_places port) rest
 unfolding addressed
 addressed_found rest port e =
     let a = bind_some (field address_of rest) _ port e in
@@ -194,34 +225,42 @@ addressed_found rest port e =
     let same : record { local = (a.0).0; peer = (b.0).0; role = r.0 } ≡ port = some_same _ port r.2 in
     let first = field_found address_of rest a.0 a.1 in
     let second = field_found address_of (a.0).1 b.0 b.1 in
-    subst (λ (p : PortLine). Spells (behind_places p) rest) same (
-      first.0,
-      (a.0).1,
-      address_found first.0 (a.0).0 first.1,
-      address_before r.0 ((b.0).0).ip ((b.0).0).port (a.0).1 second.0 (b.0).1 (address_found second.0 (b.0).0 second.1) (role_found (b.0).1 r.0 r.1) second.2,
-      first.2,
+    let role = role_found (b.0).1 r.0 r.1 in
+    subst (λ (p : PortLine). IsTrue (is_apart p.role) × Spells (behind_places p) rest) same (
+      role.0,
+      (
+        first.0,
+        (a.0).1,
+        address_found first.0 (a.0).0 first.1,
+        address_before r.0 ((b.0).0).ip ((b.0).0).port (a.0).1 second.0 (b.0).1 (address_found second.0 (b.0).0 second.1) role.1 second.2,
+        first.2,
+      ),
     )
 
 pub port_found : (line : List ℕ) (port : PortLine) → port_of line ≡ Some port → IsPortLine port line
 port_found line port e =
     let a = bind_some (cut line) (λ parts. cond (bytes_eq parts.0 (codes "port")) (addressed parts.1) None) port e in
     let c = chosen (bytes_eq (a.0).0 (codes "port")) (addressed (a.0).1) port a.2 in
-    ((a.0).0, (a.0).1, (bytes_eq-Decides (a.0).0 (codes "port")).0 c.0, addressed_found (a.0).1 port c.1, cut_found line a.0 a.1)
+    let behind = addressed_found (a.0).1 port c.1 in
+    (behind.0, ((a.0).0, (a.0).1, (bytes_eq-Decides (a.0).0 (codes "port")).0 c.0, behind.1, cut_found line a.0 a.1))
 
 -- ---- what is spelled is read
 
 begun : (text word rest wanted : List ℕ) → word ≡ wanted → text ≡ word ++ 32 ∷ rest → text ≡ wanted ++ 32 ∷ rest
 begun text word rest wanted is e = e ∙ ap (λ (w : List ℕ). w ++ 32 ∷ rest) is
 
-role_again : (role : PortRole) (rest : List ℕ) → Spells (role_places role) rest → role_of rest ≡ Some role
+role_again : (role : PortRole) (rest : List ℕ) → IsTrue (is_apart role) → Spells (role_places role) rest → role_of rest ≡ Some role
 unfolding role_of
-role_again (Publisher track ssrc) rest h =
+role_again (Publisher track ssrc) rest apart h =
     let read = fields_again (Number32 ∷ Ssrc ∷ []) (track ∷ ssrc ∷ []) h.1 refl (omega arith) h.3 in
     ap role_of (begun rest h.0 h.1 (codes "publisher") h.2 h.4) ∙ rw read refl
-role_again (Subscriber subscriber ssrc) rest h =
+role_again (Subscriber subscriber ssrc) rest apart h =
     let read = fields_again (Number32 ∷ Ssrc ∷ []) (subscriber ∷ ssrc ∷ []) h.1 refl (omega arith) h.3 in
     ap role_of (begun rest h.0 h.1 (codes "subscriber") h.2 h.4) ∙ rw read refl
-role_again Control rest h = ap role_of h
+role_again Control rest apart h = ap role_of h
+role_again (Rtx subscriber ssrc rtx_ssrc payload_type) rest apart h =
+    let read = fields_again rtx_fields (subscriber ∷ ssrc ∷ rtx_ssrc ∷ payload_type ∷ []) h.1 refl (omega arith) h.3 in
+    ap role_of (begun rest h.0 h.1 (codes "rtx") h.2 h.4) ∙ (ap (λ (o : Option (List ℕ)). o >>= of_rtx) read ∙ ap (λ (b : Bool). cond b (Some (Rtx subscriber ssrc rtx_ssrc payload_type)) None) apart)
 
 address_spelled : (ip port : ℕ) (word rest text : List ℕ) → Fills (AddressPlace ip port) word → text ≡ word ++ 32 ∷ rest
     → field address_of text ≡ Some (record { ip = ip; port = port }, rest)
@@ -234,15 +273,18 @@ after_address : (role : PortRole) (ip port : ℕ) (text : List ℕ) → Spells (
 after_address (Publisher track ssrc) ip port text h = (h.1, address_spelled ip port h.0 h.1 text h.2 h.4, h.3)
 after_address (Subscriber subscriber ssrc) ip port text h = (h.1, address_spelled ip port h.0 h.1 text h.2 h.4, h.3)
 after_address Control ip port text h = (h.1, address_spelled ip port h.0 h.1 text h.2 h.4, h.3)
+after_address (Rtx subscriber ssrc rtx_ssrc payload_type) ip port text h = (h.1, address_spelled ip port h.0 h.1 text h.2 h.4, h.3)
 
-addressed_again : (rest : List ℕ) (port : PortLine) → Spells (behind_places port) rest → addressed rest ≡ Some port
+addressed_again : (rest : List ℕ) (port : PortLine) → IsTrue (is_apart port.role) → Spells (behind_places port) rest → addressed rest ≡ Some port
 unfolding addressed
-addressed_again rest port h =
+addressed_again rest port apart h =
     let first = address_spelled port.local.ip port.local.port h.0 h.1 rest h.2 h.4 in
     let second = after_address port.role port.peer.ip port.peer.port h.1 h.3 in
     let peer = second.1 in
-    let role = role_again port.role second.0 second.2 in
+    let role = role_again port.role second.0 apart second.2 in
     rw (first, peer, role) refl
 
 pub port_again : (line : List ℕ) (port : PortLine) → IsPortLine port line → port_of line ≡ Some port
-port_again line port h = ap port_of (begun line h.0 h.1 (codes "port") h.2 h.4) ∙ addressed_again h.1 port h.3
+port_again line port is =
+    let h = is.1 in
+    ap port_of (begun line h.0 h.1 (codes "port") h.2 h.4) ∙ addressed_again h.1 port is.0 h.3

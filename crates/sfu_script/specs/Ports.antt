@@ -1,15 +1,15 @@
 -- The lines that say which ports are served, and the functions that read them. Own rule.
-use Rattle.std.specs.Prelude.{ℕ, if◌then◌else◌, List, [], ◌∷◌, Option, Some, None, codes}
+use Rattle.std.specs.Prelude.{ℕ, ◌==◌, ◌&&◌, ◌||◌, not, nat_lt, nat_le, Bool, true, IsTrue, if◌then◌else◌, List, [], ◌∷◌, Option, Some, None, codes}
 use Rattle.std.specs.Int.{from_be_bytes, w32}
 use Rattle.std.specs.Str.{bytes_eq}
 use Rattle.sfu_base.specs.declared.address.Address.{Address}
 use Rattle.sfu_script.specs.declared.ports.PortLine.{PortLine}
 use Rattle.sfu_script.specs.declared.ports.PortRole.{PortRole}
-use Rattle.sfu_script.specs.declared.ports.PortRole.TheVariants.{Publisher, Subscriber, Control}
+use Rattle.sfu_script.specs.declared.ports.PortRole.TheVariants.{Publisher, Subscriber, Control, Rtx}
 use Rattle.script_texts.specs.Grammar.{Place, Word, Number, Spells}
 use Rattle.script_texts.specs.Grammar.{Ssrc as SsrcPlace, Address as AddressPlace}
 use Rattle.sfu_script.specs.Fields.{fields_of}
-use Rattle.sfu_script.specs.declared.fields.Field.TheVariants.{Number32, Ssrc}
+use Rattle.sfu_script.specs.declared.fields.Field.TheVariants.{Number8, Number32, Ssrc}
 use Rattle.sfu_script.specs.Reading.{◌>>=◌, cut, cut_at, field, number_of}
 use Rattle.sfu_script.specs.ReadLines.{of_two}
 
@@ -18,10 +18,18 @@ abbrev pub role_places : PortRole → List Place
 role_places (Publisher track ssrc) = Word (codes "publisher") ∷ Number 32 track ∷ SsrcPlace ssrc ∷ []
 role_places (Subscriber subscriber ssrc) = Word (codes "subscriber") ∷ Number 32 subscriber ∷ SsrcPlace ssrc ∷ []
 role_places Control = Word (codes "control") ∷ []
+role_places (Rtx subscriber ssrc rtx_ssrc payload_type) =
+    Word (codes "rtx") ∷ Number 32 subscriber ∷ SsrcPlace ssrc ∷ SsrcPlace rtx_ssrc ∷ Number 8 payload_type ∷ []
+
+-- Resent packets can be told from the others: their stream has an SSRC of its own (RFC 4588, section 5.3), and their payload type is 0 to 63
+-- or 96 to 127, so that with or without the marker's bit their second byte is none of RTCP's (RFC 5761, section 4).
+abbrev pub is_apart : PortRole → Bool
+is_apart (Rtx subscriber ssrc rtx_ssrc payload_type) = not (rtx_ssrc == ssrc) && (nat_lt payload_type 64 || (nat_le 96 payload_type && nat_lt payload_type 128))
+is_apart role = true
 
 -- The line says the port: its own address, its peer's, and what it is for.
 abbrev pub IsPortLine : PortLine → List ℕ → Type 0
-IsPortLine port line = Spells
+IsPortLine port line = IsTrue (is_apart port.role) × Spells
     (Word (codes "port") ∷ AddressPlace port.local.ip port.local.port ∷ AddressPlace port.peer.ip port.peer.port ∷ role_places port.role) line
 
 -- ---- reading
@@ -53,10 +61,23 @@ publisher_of rest = fields_of (Number32 ∷ Ssrc ∷ []) rest >>= of_two (λ tra
 abbrev pub subscriber_of : List ℕ → Option PortRole
 subscriber_of rest = fields_of (Number32 ∷ Ssrc ∷ []) rest >>= of_two (λ subscriber ssrc. Subscriber subscriber ssrc)
 
+-- a role whose resent packets can be told from the others
+abbrev pub if_apart : PortRole → Option PortRole
+if_apart role = if is_apart role then Some role else None
+
+-- a subscriber whose resends go out on a stream of their own: its number, its SSRC, and that stream's SSRC and payload type
+abbrev pub of_rtx : List ℕ → Option PortRole
+of_rtx (subscriber ∷ ssrc ∷ rtx_ssrc ∷ payload_type ∷ []) = if_apart (Rtx subscriber ssrc rtx_ssrc payload_type)
+of_rtx numbers = None
+
+abbrev pub rtx_of : List ℕ → Option PortRole
+rtx_of rest = fields_of (Number32 ∷ Ssrc ∷ Ssrc ∷ Number8 ∷ []) rest >>= of_rtx
+
 abbrev pub named_role_of : List ℕ → List ℕ → Option PortRole
 named_role_of word rest =
     if bytes_eq word (codes "publisher") then publisher_of rest
     else if bytes_eq word (codes "subscriber") then subscriber_of rest
+    else if bytes_eq word (codes "rtx") then rtx_of rest
     else None
 
 -- what a port is for

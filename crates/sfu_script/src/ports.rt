@@ -1,24 +1,39 @@
 // The lines that say which UDP ports are served, and for whom.
-ghost use Rattle.std.specs.Prelude.{◌≡◌, IfOk, OnErr};
+ghost use Rattle.std.specs.Prelude.{◌≡◌, ℕ, IfOk, OnErr};
 ghost use Rattle.std.specs.Result.{result_ok};
 ghost use Rattle.sfu_script.specs.declared.ports.PortLine.{PortLine};
-ghost use Rattle.sfu_script.specs.Ports.{IsPortLine, address_of, addressed, ip_of, named_role_of, port_of, publisher_of, role_of, subscriber_of};
+ghost use Rattle.sfu_script.specs.declared.ports.PortRole.TheVariants.{Rtx};
+ghost use Rattle.sfu_script.specs.Ports.{IsPortLine, address_of, addressed, ip_of, is_apart, named_role_of, port_of, publisher_of, role_of, rtx_of, subscriber_of};
 
 use crate::NoLine;
-use crate::fields::Field::{Number32, Ssrc};
+use crate::fields::Field::{Number8, Number32, Ssrc};
 use crate::fields::read_fields;
 use crate::words::{number8, number16, split, split_at};
 use sfu_base::Address;
 
-/// What a port is for. SSRCs are the publisher's own, and that of what goes out to the subscriber.
+/// What a port is for. SSRCs are the publisher's own, that of what goes out to the subscriber, and that of the stream on which its resends go
+/// out.
 #[derive(Clone, Copy, Debug, PartialEq, Eq)]
 pub enum PortRole {
     /// The packets of a track come in.
-    Publisher { track: u32, ssrc: u32 },
+    Publisher {
+        track: u32,
+        ssrc: u32,
+    },
     /// A subscriber's packets go out, and its feedback comes in.
-    Subscriber { subscriber: u32, ssrc: u32 },
+    Subscriber {
+        subscriber: u32,
+        ssrc: u32,
+    },
     /// Lines of calls come in, and their replies go out.
     Control,
+    /// A subscriber's packets go out, its resends on a stream of their own (RFC 4588), and its feedback comes in.
+    Rtx {
+        subscriber: u32,
+        ssrc: u32,
+        rtx_ssrc: u32,
+        payload_type: u8,
+    },
 }
 
 /// A port that is served: its own address, its peer's, and what it is for.
@@ -73,12 +88,39 @@ fn subscriber(rest: &[u8]) -> Result<PortRole, NoLine>
     })
 }
 
+// Whether resent packets can be told from the others.
+fn are_apart(ssrc: u32, rtx_ssrc: u32, payload_type: u8) -> bool
+    ensures { (subscriber : ℕ) → result ≡ is_apart (Rtx subscriber ssrc rtx_ssrc payload_type) }
+{
+    rtx_ssrc != ssrc && matches!(payload_type, 0..=63 | 96..=127)
+}
+
+fn rtx(rest: &[u8]) -> Result<PortRole, NoLine>
+    ensures { result_ok result ≡ rtx_of rest.now }
+{
+    let [subscriber, ssrc, rtx_ssrc, payload_type] = read_fields(
+        &[Number32, Ssrc, Ssrc, Number8],
+        rest,
+    )?;
+    let (ssrc, rtx_ssrc, payload_type) = (ssrc as u32, rtx_ssrc as u32, payload_type as u8);
+    if !are_apart(ssrc, rtx_ssrc, payload_type) {
+        return Err(NoLine);
+    }
+    Ok(PortRole::Rtx {
+        subscriber: subscriber as u32,
+        ssrc,
+        rtx_ssrc,
+        payload_type,
+    })
+}
+
 fn named_role(word: &[u8], rest: &[u8]) -> Result<PortRole, NoLine>
     ensures { result_ok result ≡ named_role_of word.now rest.now }
 {
     match word {
         b"publisher" => publisher(rest),
         b"subscriber" => subscriber(rest),
+        b"rtx" => rtx(rest),
         _ => Err(NoLine),
     }
 }
@@ -117,7 +159,8 @@ fn port(line: &[u8]) -> Result<PortLine, NoLine>
 }
 
 /// The port that a line `port LOCAL PEER ROLE` says, where both addresses are `a.b.c.d:port` and the role is `publisher T SSRC`,
-/// `subscriber S SSRC` or `control`. `NoLine` exactly when it says none. Takes no memory.
+/// `subscriber S SSRC`, `control`, or `rtx S SSRC RTXSSRC PT`, where RTXSSRC differs from SSRC and PT is 0 to 63 or 96 to 127. `NoLine` exactly
+/// when it says none. Takes no memory.
 pub fn read_port(line: &[u8]) -> Result<PortLine, NoLine>
     ensures value { result_ok result ≡ port_of line.now }
     ensures ok { IfOk result (λ said. IsPortLine said line.now) }

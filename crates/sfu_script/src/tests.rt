@@ -591,11 +591,17 @@ fn an_entry_has_two_lines(rt: HostRuntime) -> Result<(), Fail> {
 }
 
 // A port line's addresses and role, as numbers.
-fn port_numbers(line: &PortLine) -> [u64; 7] {
-    let (role, number, ssrc) = match line.role {
-        PortRole::Publisher { track, ssrc } => (1, track, ssrc),
-        PortRole::Subscriber { subscriber, ssrc } => (2, subscriber, ssrc),
-        PortRole::Control => (3, 0, 0),
+fn port_numbers(line: &PortLine) -> [u64; 9] {
+    let (role, number, ssrc, rtx_ssrc, payload_type) = match line.role {
+        PortRole::Publisher { track, ssrc } => (1, track, ssrc, 0, 0),
+        PortRole::Subscriber { subscriber, ssrc } => (2, subscriber, ssrc, 0, 0),
+        PortRole::Control => (3, 0, 0, 0, 0),
+        PortRole::Rtx {
+            subscriber,
+            ssrc,
+            rtx_ssrc,
+            payload_type,
+        } => (4, subscriber, ssrc, rtx_ssrc, payload_type),
     };
     [
         u64::from(line.local.ip),
@@ -605,34 +611,72 @@ fn port_numbers(line: &PortLine) -> [u64; 7] {
         role,
         u64::from(number),
         u64::from(ssrc),
+        u64::from(rtx_ssrc),
+        u64::from(payload_type),
     ]
 }
 
 #[test]
 fn port_lines_say_addresses_and_roles(rt: HostRuntime) -> Result<(), Fail> {
-    let lines: [(&[u8], [u64; 7]); 4] = [
+    let lines: [(&[u8], [u64; 9]); 8] = [
         (
             b"port 127.0.0.1:5000 10.1.2.3:6000 publisher 1 11111111",
-            [0x7f00_0001, 5000, 0x0a01_0203, 6000, 1, 1, 0x1111_1111],
+            [
+                0x7f00_0001,
+                5000,
+                0x0a01_0203,
+                6000,
+                1,
+                1,
+                0x1111_1111,
+                0,
+                0,
+            ],
         ),
         (
             b"port 0.0.0.0:0 255.255.255.255:65535 subscriber 4294967295 FFFFffff",
-            [0, 0, 4294967295, 65535, 2, 4294967295, 4294967295],
+            [0, 0, 4294967295, 65535, 2, 4294967295, 4294967295, 0, 0],
         ),
         (
             b"port 255.255.255.255:65535 0.0.0.0:0 subscriber 0 00000000",
-            [4294967295, 65535, 0, 0, 2, 0, 0],
+            [4294967295, 65535, 0, 0, 2, 0, 0, 0, 0],
         ),
         (
             b"port 1.2.3.4:5 6.7.8.9:10 control",
-            [0x0102_0304, 5, 0x0607_0809, 10, 3, 0, 0],
+            [0x0102_0304, 5, 0x0607_0809, 10, 3, 0, 0, 0, 0],
+        ),
+        (
+            b"port 1.2.3.4:5 6.7.8.9:10 rtx 7 22222222 33333333 96",
+            [
+                0x0102_0304,
+                5,
+                0x0607_0809,
+                10,
+                4,
+                7,
+                0x2222_2222,
+                0x3333_3333,
+                96,
+            ],
+        ),
+        (
+            b"port 0.0.0.0:0 0.0.0.0:0 rtx 4294967295 ffffFFFF 00000000 0",
+            [0, 0, 0, 0, 4, 4294967295, 4294967295, 0, 0],
+        ),
+        (
+            b"port 0.0.0.0:0 0.0.0.0:0 rtx 0 00000000 00000001 63",
+            [0, 0, 0, 0, 4, 0, 0, 1, 63],
+        ),
+        (
+            b"port 0.0.0.0:0 0.0.0.0:0 rtx 0 00000000 ffffffff 127",
+            [0, 0, 0, 0, 4, 0, 0, 4294967295, 127],
         ),
     ];
     for (line, said) in lines.iter() {
         let port = read_port(line)?;
         assert_eq!(rt; port_numbers(&port), *said);
     }
-    let outside: [&[u8]; 27] = [
+    let outside: [&[u8]; 37] = [
         b"port",
         b"port 1.2.3.4:5 6.7.8.9:10",
         b"port 1.2.3.4:5 6.7.8.9:10 ",
@@ -660,6 +704,16 @@ fn port_lines_say_addresses_and_roles(rt: HostRuntime) -> Result<(), Fail> {
         b"port 1.2.3.4:5 6.7.8.9:10 publisher 4294967296 11111111",
         b"port 1.2.3.4:5 6.7.8.9:10 publisher 1 1111111",
         b"port 1.2.3.4:5 6.7.8.9:10 subscriber 1",
+        b"port 1.2.3.4:5 6.7.8.9:10 rtx 7 22222222 33333333 64",
+        b"port 1.2.3.4:5 6.7.8.9:10 rtx 7 22222222 33333333 95",
+        b"port 1.2.3.4:5 6.7.8.9:10 rtx 7 22222222 33333333 128",
+        b"port 1.2.3.4:5 6.7.8.9:10 rtx 7 22222222 33333333 256",
+        b"port 1.2.3.4:5 6.7.8.9:10 rtx 7 22222222 33333333 097",
+        b"port 1.2.3.4:5 6.7.8.9:10 rtx 7 22222222 33333333",
+        b"port 1.2.3.4:5 6.7.8.9:10 rtx 7 22222222 33333333 97 ",
+        b"port 1.2.3.4:5 6.7.8.9:10 rtx 7 aAaAaAaA AaAaAaAa 97",
+        b"port 1.2.3.4:5 6.7.8.9:10 rtx 4294967296 22222222 33333333 97",
+        b"port 1.2.3.4:5 6.7.8.9:10 rtx 7 22222222 3333333 97",
     ];
     for line in outside {
         assert!(rt; read_port(line).is_err());

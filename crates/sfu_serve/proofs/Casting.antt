@@ -10,7 +10,7 @@ use Rattle.turn_lock.specs.History.{AllBelow}
 use Rattle.turn_lock.specs.Known.{Fits, Known, another, together}
 use Rattle.turn_lock.proofs.Lists.{prefix_self, prefix_trans}
 use Rattle.turn_lock.proofs.Histories.{below_more, own_above}
-use Rattle.sfu_serve.specs.Runs.{Before, After}
+use Rattle.sfu_serve.specs.Runs.{After, Before, CanBe}
 use Rattle.sfu_serve.specs.Playing.{AllKnown, ArePlayed, HaveJoined, IsPlayed, PlayedJob, SeatedJob, counting, joined_as, seated_from, seated_job}
 
 -- ---- lists
@@ -70,6 +70,17 @@ pub seats_lock : (root : Known Call) (n : ℕ) (jobs : List Before) → AllIn (�
 unfolding AllIn
 seats_lock root n [] = tt
 seats_lock root n (job ∷ jobs) = (refl, seats_lock root (n + 1) jobs)
+
+-- jobs whose sessions can be, with their seats
+pub jobs_ready : (root : Known Call) (n : ℕ) (jobs : List Before) → AllIn (λ job. CanBe job.role) jobs → AllIn (λ s. (s.seat.lock ≡ root.lock) × CanBe s.job.role) (seated_from root n jobs)
+unfolding AllIn
+jobs_ready root n [] can = tt
+jobs_ready root n (job ∷ jobs) can = ((refl, can.0), jobs_ready root (n + 1) jobs can.1)
+
+pub all_in : {A B : Type 0} (view : A → B) (Q : B → Type 0) (xs : List A) → All (λ a. Q (view a)) xs → AllIn Q (map view xs)
+unfolding AllIn
+all_in view Q [] p = tt
+all_in view Q (x ∷ xs) p = (p 0 x (omega arith), all_in view Q xs (λ i d low. p (suc i) d (omega (arith, low))))
 
 -- ---- playing
 

@@ -1,5 +1,5 @@
 -- How a deed goes on by what a call replied, and by what is due.
-use Rattle.std.proofs.Common.{◌≡◌, ◌≢◌, ℕ, Bool, true, false, if◌then◌else◌, ◌==◌, ◌&&◌, List, [], ◌∷◌, length, Option, refl, ap, ◌∙◌, arith, eq-eqb, ne_eqb}
+use Rattle.std.proofs.Common.{◌≡◌, ◌≢◌, ℕ, ◌+◌, ◌%◌, Bool, true, false, if◌then◌else◌, ◌==◌, ◌&&◌, List, [], ◌∷◌, length, Option, refl, ap, ◌∙◌, arith, eq-eqb, ne_eqb}
 use Rattle.std.specs.Prelude.{None, Some}
 use Rattle.std.proofs.lemmas.Bool.{cond-true, cond-false}
 use Rattle.sfu_base.specs.Answer.{Named, KeyIs, answer_of}
@@ -11,9 +11,10 @@ use Rattle.rtcp_feedback.specs.declared.feedback.Feedback.{Feedback}
 use Rattle.rtcp_feedback.specs.declared.fault.RtcpFault.{RtcpFault}
 use Rattle.rtcp_feedback.specs.Faults.{first_fault}
 use Rattle.rtcp_feedback.specs.Reading.{feedback_of}
+use Rattle.rtx_stream.specs.declared.retransmission.Rtx.{Rtx}
 use Rattle.deeds.specs.Deeds.{Ask, Post}
 use Rattle.sfu_serve.specs.Datagrams.{Bytes, NackFor, PliFor, is_rtcp, feedback_in, unless_fault, media_of, control_call}
-use Rattle.sfu_serve.specs.Sessions.{Doing, answers, controls, call_for, sends_on, sends, serves_one, serves, hears_feedback, brings, nacks, is_due, pleads, asks}
+use Rattle.sfu_serve.specs.Sessions.{Doing, answers, controls, call_for, sends_on, resends, resent, serves_one, serves, hears_feedback, brings, nacks, is_due, pleads, asks}
 
 -- ---- a packet was given, or not
 
@@ -27,6 +28,18 @@ sends_none reply.Names bytes numbers more next isnt = refl
 sends_none (reply.Key wanted) bytes numbers more next isnt = refl
 sends_none (reply.Cause verdict) bytes numbers more next isnt = refl
 sends_none (reply.Refused why) bytes numbers more next isnt = refl
+
+pub resends_packet : (way : Option Rtx) (number : ℕ) (given : Reply) (bytes numbers : List ℕ) (next : ℕ → Doing) → given ≡ reply.Packet
+    → resends way number (answer_of given bytes numbers) next ≡ Post (resent way number bytes) (next ((number + 1) % 65536))
+resends_packet way number given bytes numbers next is = ap (λ (r : Reply). resends way number (answer_of r bytes numbers) next) is
+
+pub resends_none : (way : Option Rtx) (number : ℕ) (given : Reply) (bytes numbers : List ℕ) (next : ℕ → Doing) → (given ≡ reply.Packet → ⊥) → resends way number (answer_of given bytes numbers) next ≡ next number
+resends_none way number reply.Packet bytes numbers next isnt = absurd (isnt refl)
+resends_none way number reply.Done bytes numbers next isnt = refl
+resends_none way number reply.Names bytes numbers next isnt = refl
+resends_none way number (reply.Key wanted) bytes numbers next isnt = refl
+resends_none way number (reply.Cause verdict) bytes numbers next isnt = refl
+resends_none way number (reply.Refused why) bytes numbers next isnt = refl
 
 -- ---- names
 
@@ -103,11 +116,12 @@ brings_rtcp track moment came bytes next did rtcp = ap (λ (b : Bool). brings tr
 pub brings_packet : (track moment : ℕ) (came : Bool) (bytes : List ℕ) (next : Doing) → came ≡ true → is_rtcp bytes ≡ false → brings track moment (datagram came bytes) next ≡ Ask (Packet track moment bytes) (λ answer. next)
 brings_packet track moment came bytes next did rtp = ap (λ (b : Bool). brings track moment (datagram b bytes) next) did ∙ cond-false (is_rtcp bytes) _ _ rtp
 
-pub serves_other : (subscriber ssrc : ℕ) (item : Feedback) (next : Doing) → media_of item ≢ ssrc → serves_one subscriber ssrc item next ≡ next
-serves_other subscriber ssrc item next isnt = cond-false (media_of item == ssrc) _ _ (ne_eqb (media_of item) ssrc isnt)
+pub serves_other : (subscriber ssrc : ℕ) (way : Option Rtx) (item : Feedback) (number : ℕ) (next : ℕ → Doing) → media_of item ≢ ssrc → serves_one subscriber ssrc way item number next ≡ next number
+serves_other subscriber ssrc way item number next isnt = cond-false (media_of item == ssrc) _ _ (ne_eqb (media_of item) ssrc isnt)
 
-pub serves_own : (subscriber ssrc : ℕ) (item : Feedback) (next : Doing) → media_of item ≡ ssrc → serves_one subscriber ssrc item next ≡ Ask (call_for subscriber item) (λ answer. sends answer next)
-serves_own subscriber ssrc item next is = cond-true (media_of item == ssrc) _ _ (eq-eqb (media_of item) ssrc is)
+pub serves_own : (subscriber ssrc : ℕ) (way : Option Rtx) (item : Feedback) (number : ℕ) (next : ℕ → Doing) → media_of item ≡ ssrc
+    → serves_one subscriber ssrc way item number next ≡ Ask (call_for subscriber item) (λ answer. resends way number answer next)
+serves_own subscriber ssrc way item number next is = cond-true (media_of item == ssrc) _ _ (eq-eqb (media_of item) ssrc is)
 
 pub feedback_rtp : (bytes : List ℕ) → is_rtcp bytes ≡ false → feedback_in bytes ≡ []
 feedback_rtp bytes rtp = cond-false (is_rtcp bytes) _ _ rtp
@@ -118,12 +132,13 @@ feedback_fault bytes fault rtcp is = cond-true (is_rtcp bytes) _ _ rtcp ∙ ap (
 pub feedback_read : (bytes : List ℕ) → is_rtcp bytes ≡ true → first_fault bytes ≡ None → feedback_in bytes ≡ feedback_of bytes
 feedback_read bytes rtcp is = cond-true (is_rtcp bytes) _ _ rtcp ∙ ap (λ (o : Option RtcpFault). unless_fault o (feedback_of bytes)) is
 
-pub hears_nothing : (subscriber ssrc : ℕ) (came : Bool) (bytes : List ℕ) (next : Doing) → (came ≡ true → ⊥) → hears_feedback subscriber ssrc (datagram came bytes) next ≡ next
-hears_nothing subscriber ssrc true bytes next isnt = absurd (isnt refl)
-hears_nothing subscriber ssrc false bytes next isnt = refl
+pub hears_nothing : (subscriber ssrc : ℕ) (way : Option Rtx) (came : Bool) (bytes : List ℕ) (number : ℕ) (next : ℕ → Doing) → (came ≡ true → ⊥) → hears_feedback subscriber ssrc way (datagram came bytes) number next ≡ next number
+hears_nothing subscriber ssrc way true bytes number next isnt = absurd (isnt refl)
+hears_nothing subscriber ssrc way false bytes number next isnt = refl
 
-pub hears_bytes : (subscriber ssrc : ℕ) (came : Bool) (bytes : List ℕ) (next : Doing) → came ≡ true → hears_feedback subscriber ssrc (datagram came bytes) next ≡ serves subscriber ssrc (feedback_in bytes) next
-hears_bytes subscriber ssrc came bytes next did = ap (λ (b : Bool). hears_feedback subscriber ssrc (datagram b bytes) next) did
+pub hears_bytes : (subscriber ssrc : ℕ) (way : Option Rtx) (came : Bool) (bytes : List ℕ) (number : ℕ) (next : ℕ → Doing) → came ≡ true
+    → hears_feedback subscriber ssrc way (datagram came bytes) number next ≡ serves subscriber ssrc way (feedback_in bytes) number next
+hears_bytes subscriber ssrc way came bytes number next did = ap (λ (b : Bool). hears_feedback subscriber ssrc way (datagram b bytes) number next) did
 
 pub controls_nothing : (came : Bool) (bytes : List ℕ) (next : Doing) → (came ≡ true → ⊥) → controls (datagram came bytes) next ≡ next
 controls_nothing true bytes next isnt = absurd (isnt refl)

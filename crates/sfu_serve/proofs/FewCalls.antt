@@ -1,17 +1,18 @@
 -- A session makes at most 10,000 calls a turn.
-use Rattle.std.proofs.Common.{◌≤◌, ◌+◌, ◌*◌, ℕ, zero, suc, Bool, true, false, if◌then◌else◌, ◌==◌, ◌&&◌, List, [], ◌∷◌, length, arith, Option}
+use Rattle.std.proofs.Common.{◌≤◌, ◌+◌, ◌*◌, ◌%◌, ℕ, zero, suc, Bool, true, false, if◌then◌else◌, ◌==◌, ◌&&◌, List, [], ◌∷◌, length, arith, Option}
 use Rattle.std.specs.Prelude.{None, Some}
 use Rattle.sfu_base.specs.Answer.{Answer, Sent, Named}
 use Rattle.sfu_base.specs.declared.call.Call.{Call}
 use Rattle.sfu_base.specs.declared.call.Call.TheVariants.{Packet, Tick, Take, Missing, KeyWanted}
 use Rattle.rtcp_feedback.specs.declared.feedback.Feedback.{Feedback}
+use Rattle.rtx_stream.specs.declared.retransmission.Rtx.{Rtx}
 use Rattle.deeds.specs.Deeds.{Ask, Post}
 use Rattle.deeds.specs.Doing.{FitsBuffer}
 use Rattle.deeds.proofs.Counting.{AsksAtMost, asks_more, asks_one}
 use Rattle.sfu_serve.specs.declared.run.Role.{Role}
-use Rattle.sfu_serve.specs.declared.run.Role.TheVariants.{Publisher, Subscriber, Control}
+use Rattle.sfu_serve.specs.declared.run.Role.TheVariants.{Publisher, Subscriber, Control, Rtx as OnRtx}
 use Rattle.sfu_serve.specs.Datagrams.{PliFor, is_rtcp, feedback_in, media_of, control_call, text_for}
-use Rattle.sfu_serve.specs.Sessions.{Doing, answers, controls, call_for, sends_on, sends, serves_one, serves, hears_feedback, takes, brings, nacks, is_due, wants_key, pleads, asks, control_deed, subscriber_deed, publisher_deed}
+use Rattle.sfu_serve.specs.Sessions.{Doing, answers, controls, call_for, sends_on, resends, serves_one, serves, hears_feedback, takes, brings, nacks, is_due, wants_key, pleads, asks, control_deed, outgoing_deed, publisher_deed}
 use Rattle.sfu_serve.specs.Runs.{deed_of}
 use Rattle.sfu_serve.proofs.FewItems.{feedback_few}
 
@@ -41,25 +42,31 @@ sends_few : (answer : Answer) (more next : Doing) (n : ℕ) → AsksAtMost more 
 sends_few (Sent bytes) more next n p q = p
 sends_few answer more next n p q = q
 
-one_few : (subscriber ssrc : ℕ) (item : Feedback) (next : Doing) (n : ℕ) → AsksAtMost next n → AsksAtMost (serves_one subscriber ssrc item next) (1 + n)
-one_few subscriber ssrc item next n p =
-    chosen (media_of item == ssrc) (Ask (call_for subscriber item) (λ answer. sends answer next)) next (1 + n)
-    (asks_one (call_for subscriber item) (λ answer. sends answer next) n (λ answer. sends_few answer next next n p p))
-    (asks_more next n (1 + n) (omega arith) p)
+resends_few : (way : Option Rtx) (number : ℕ) (answer : Answer) (next : ℕ → Doing) (n : ℕ) → ((later : ℕ) → AsksAtMost (next later) n) → AsksAtMost (resends way number answer next) n
+resends_few way number (Sent bytes) next n p = p ((number + 1) % 65536)
+resends_few way number answer next n p = p number
 
-serves_few : (subscriber ssrc : ℕ) (items : List Feedback) (next : Doing) (n : ℕ) → AsksAtMost next n → AsksAtMost (serves subscriber ssrc items next) (length items + n)
-serves_few subscriber ssrc [] next n p = asks_more next n (0 + n) (omega arith) p
-serves_few subscriber ssrc (item ∷ items) next n p =
-    let others : Doing = serves subscriber ssrc items next in
+one_few : (subscriber ssrc : ℕ) (way : Option Rtx) (item : Feedback) (number : ℕ) (next : ℕ → Doing) (n : ℕ) → ((later : ℕ) → AsksAtMost (next later) n) → AsksAtMost (serves_one subscriber ssrc way item number next) (1 + n)
+one_few subscriber ssrc way item number next n p =
+    chosen (media_of item == ssrc) (Ask (call_for subscriber item) (λ answer. resends way number answer next)) (next number) (1 + n)
+    (asks_one (call_for subscriber item) (λ answer. resends way number answer next) n (λ answer. resends_few way number answer next n p))
+    (asks_more (next number) n (1 + n) (omega arith) (p number))
+
+serves_few : (subscriber ssrc : ℕ) (way : Option Rtx) (items : List Feedback) (number : ℕ) (next : ℕ → Doing) (n : ℕ) → ((later : ℕ) → AsksAtMost (next later) n)
+    → AsksAtMost (serves subscriber ssrc way items number next) (length items + n)
+serves_few subscriber ssrc way [] number next n p = asks_more (next number) n (0 + n) (omega arith) (p number)
+serves_few subscriber ssrc way (item ∷ items) number next n p =
+    let others : ℕ → Doing = λ (later : ℕ). serves subscriber ssrc way items later next in
     let more : 1 + (length items + n) ≤ suc (length items) + n = omega arith in
-    asks_more (serves_one subscriber ssrc item others) (1 + (length items + n)) (suc (length items) + n) more
-    (one_few subscriber ssrc item others (length items + n) (serves_few subscriber ssrc items next n p))
+    asks_more (serves_one subscriber ssrc way item number others) (1 + (length items + n)) (suc (length items) + n) more
+    (one_few subscriber ssrc way item number others (length items + n) (λ later. serves_few subscriber ssrc way items later next n p))
 
-hears_few : (subscriber ssrc : ℕ) (got : Option (List ℕ)) (next : Doing) (n : ℕ) → FitsBuffer got → AsksAtMost next n → AsksAtMost (hears_feedback subscriber ssrc got next) (8704 + n)
-hears_few subscriber ssrc None next n fits p = asks_more next n (8704 + n) (omega arith) p
-hears_few subscriber ssrc (Some bytes) next n fits p =
+hears_few : (subscriber ssrc : ℕ) (way : Option Rtx) (got : Option (List ℕ)) (number : ℕ) (next : ℕ → Doing) (n : ℕ) → FitsBuffer got → ((later : ℕ) → AsksAtMost (next later) n)
+    → AsksAtMost (hears_feedback subscriber ssrc way got number next) (8704 + n)
+hears_few subscriber ssrc way None number next n fits p = asks_more (next number) n (8704 + n) (omega arith) (p number)
+hears_few subscriber ssrc way (Some bytes) number next n fits p =
     let few = feedback_few bytes fits in
-    asks_more (serves subscriber ssrc (feedback_in bytes) next) (length (feedback_in bytes) + n) (8704 + n) (omega (arith, few)) (serves_few subscriber ssrc (feedback_in bytes) next n p)
+    asks_more (serves subscriber ssrc way (feedback_in bytes) number next) (length (feedback_in bytes) + n) (8704 + n) (omega (arith, few)) (serves_few subscriber ssrc way (feedback_in bytes) number next n p)
 
 takes_few : (subscriber most : ℕ) (next : Doing) (n : ℕ) → AsksAtMost next n → AsksAtMost (takes subscriber most next) (most + n)
 takes_few subscriber zero next n p = asks_more next n (0 + n) (omega arith) p
@@ -70,13 +77,13 @@ takes_few subscriber (suc left) next n p =
     asks_more (takes subscriber (suc left) next) (1 + (left + n)) (suc left + n) more
     (asks_one (Take subscriber) (λ answer. sends_on answer others next) (left + n) (λ answer. sends_few answer others next (left + n) (takes_few subscriber left next n p) (asks_more next n (left + n) less p)))
 
-subscriber_few : (subscriber ssrc limit : ℕ) → AsksAtMost (subscriber_deed subscriber ssrc limit) (10000 * limit)
-subscriber_few subscriber ssrc zero = tt
-subscriber_few subscriber ssrc (suc left) = λ got moment fits.
-    let next : Doing = subscriber_deed subscriber ssrc left in
+outgoing_few : (subscriber ssrc : ℕ) (way : Option Rtx) (limit number : ℕ) → AsksAtMost (outgoing_deed subscriber ssrc way limit number) (10000 * limit)
+outgoing_few subscriber ssrc way zero number = tt
+outgoing_few subscriber ssrc way (suc left) number = λ got moment fits.
+    let next : ℕ → Doing = λ (later : ℕ). takes subscriber 32 (outgoing_deed subscriber ssrc way left later) in
     let more : 8704 + (32 + 10000 * left) ≤ 10000 * suc left = omega arith in
-    asks_more (hears_feedback subscriber ssrc got (takes subscriber 32 next)) (8704 + (32 + 10000 * left)) (10000 * suc left) more
-    (hears_few subscriber ssrc got (takes subscriber 32 next) (32 + 10000 * left) fits (takes_few subscriber 32 next (10000 * left) (subscriber_few subscriber ssrc left)))
+    asks_more (hears_feedback subscriber ssrc way got number next) (8704 + (32 + 10000 * left)) (10000 * suc left) more
+    (hears_few subscriber ssrc way got number next (32 + 10000 * left) fits (λ later. takes_few subscriber 32 (outgoing_deed subscriber ssrc way left later) (10000 * left) (outgoing_few subscriber ssrc way left later)))
 
 -- ---- publisher
 
@@ -117,5 +124,6 @@ publisher_few track ssrc (suc left) asked pleaded = λ got moment fits.
 -- ---- a session of any role
 pub deed_few : (role : Role) (limit : ℕ) → AsksAtMost (deed_of role limit) (10000 * limit)
 deed_few (Publisher track ssrc) limit = publisher_few track ssrc limit None None
-deed_few (Subscriber subscriber ssrc) limit = subscriber_few subscriber ssrc limit
+deed_few (Subscriber subscriber ssrc) limit = outgoing_few subscriber ssrc None limit 0
 deed_few Control limit = control_few limit
+deed_few (OnRtx subscriber ssrc rtx) limit = outgoing_few subscriber ssrc (Some rtx) limit 0

@@ -10,6 +10,8 @@ use Rattle.rtcp_feedback.specs.Datagram.{packet_bytes}
 use Rattle.rtcp_feedback.specs.Faults.{first_fault}
 use Rattle.rtcp_feedback.specs.Reading.{feedback_of}
 use Rattle.rtcp_feedback.specs.Writing.{IsNack, pli_of}
+use Rattle.rtx_stream.specs.declared.retransmission.Rtx.{Rtx}
+use Rattle.rtx_stream.specs.Retransmission.{IsRetransmission}
 use Rattle.sfu_script.specs.ReadLines.{call_of}
 use Rattle.sfu_script.specs.Replies.{answer_text}
 
@@ -60,17 +62,20 @@ control_call bytes = if_control (call_of bytes)
 -- ---- what is sent
 
 -- A datagram that is to be sent: these bytes; a generic NACK that names these sequence numbers of a media source (RFC 4585, section
--- 6.2.1); a picture loss indication for one (RFC 4585, section 6.3.1).
+-- 6.2.1); a picture loss indication for one (RFC 4585, section 6.3.1); a packet as it is resent on a stream of its own, with this number
+-- there (RFC 4588, section 4).
 pub data Datagram : Type 0 where
   Bytes : List ℕ → Datagram
   NackFor : (media : ℕ) (names : List ℕ) → Datagram
   PliFor : (media : ℕ) → Datagram
+  Wrapped : (rtx : Rtx) (number : ℕ) (packet : List ℕ) → Datagram
 
 -- The bytes are such a datagram. The sender's SSRC of feedback is 1.
 abbrev pub IsOne : Datagram → List ℕ → Type 0
 IsOne (Bytes bytes) sent = sent ≡ bytes
 IsOne (NackFor media names) sent = IsNack 1 media names sent
 IsOne (PliFor media) sent = sent ≡ packet_bytes (pli_of 1 media)
+IsOne (Wrapped rtx number packet) sent = IsRetransmission packet number rtx sent
 
 -- what is sent for a datagram that is no control line
 abbrev pub fault_line : Datagram

@@ -1,11 +1,12 @@
 -- The packets that calls were answered. Own rule.
-use Rattle.std.specs.Prelude.{ℕ, List, [], ◌∷◌, ◌++◌}
+use Rattle.std.specs.Prelude.{◌≡◌, ℕ, ◌+◌, ◌%◌, List, [], ◌∷◌, ◌++◌, Option}
 use Rattle.sfu_base.specs.Answer.{Answer, Sent}
 use Rattle.sfu_base.specs.declared.call.Call.{Call}
 use Rattle.sfu_base.specs.declared.call.Call.TheVariants.{Take, Resend}
 use Rattle.deeds.specs.Deeds.{Post, Word}
-use Rattle.sfu_serve.specs.Datagrams.{Bytes}
-use Rattle.sfu_serve.specs.Sessions.{Doing}
+use Rattle.rtx_stream.specs.declared.retransmission.Rtx.{Rtx}
+use Rattle.sfu_serve.specs.Datagrams.{Datagram, Bytes, IsOne}
+use Rattle.sfu_serve.specs.Sessions.{Doing, resent}
 
 -- the packet that an answer is, if it is one
 abbrev pub packet_of : Answer → List (List ℕ)
@@ -27,3 +28,33 @@ packets_given (word ∷ words) = packet_given word.call word.answer ++ packets_g
 abbrev pub unsent : Doing → List (List ℕ)
 unsent (Post (Bytes bytes) next) = bytes ∷ []
 unsent rest = []
+
+-- ---- the same as datagrams, where resent packets go out in a way of their own
+
+-- the datagram of a packet that a take or a resend gave, if it gave one; so many resent packets were given before
+abbrev pub datagram_given : Option Rtx → ℕ → Call → Answer → List Datagram
+datagram_given way before (Take subscriber) (Sent bytes) = Bytes bytes ∷ []
+datagram_given way before (Resend subscriber seq) (Sent bytes) = resent way (before % 65536) bytes ∷ []
+datagram_given way before call answer = []
+
+-- how many resent packets were given then
+abbrev pub resent_then : ℕ → Call → Answer → ℕ
+resent_then before (Resend subscriber seq) (Sent bytes) = before + 1
+resent_then before call answer = before
+
+-- the datagrams of the packets that takes and resends gave, in order
+abbrev pub datagrams_given : Option Rtx → ℕ → List (Word Call Answer) → List Datagram
+datagrams_given way before [] = []
+datagrams_given way before (word ∷ words) =
+    datagram_given way before word.call word.answer ++ datagrams_given way (resent_then before word.call word.answer) words
+
+-- the datagram that is to be sent next, where one is
+abbrev pub unsent_datagram : Doing → List Datagram
+unsent_datagram (Post what next) = what ∷ []
+unsent_datagram rest = []
+
+-- these bytes were sent as the datagrams, in order, and the others are left
+abbrev pub AreSent : List (List ℕ) → List Datagram → List Datagram → Type 0
+AreSent [] datagrams left = datagrams ≡ left
+AreSent (bytes ∷ sent) [] left = ⊥
+AreSent (bytes ∷ sent) (what ∷ datagrams) left = IsOne what bytes × AreSent sent datagrams left

@@ -3,9 +3,11 @@ use Rattle.std.specs.Prelude.{◌≡◌, ◌⊎◌, IsTrue, ℕ, Bool, false, Li
 use Rattle.sfu_base.specs.Answer.{answer_of, is_starved}
 use Rattle.sfu_base.specs.declared.call.Call.{Call}
 use Rattle.sfu_base.specs.declared.call.Reply.{Reply}
+use Rattle.sfu_base.specs.declared.call.Reply.TheVariants.{Packet}
 use Rattle.room_core.specs.Content.{TakesMemory}
 use Rattle.room_core.specs.Headline.{Headline}
 use Rattle.room_core.specs.History.{Entry, accepted, is_accepted, reply_of}
+use Rattle.room_core.specs.Sendable.{IsSendable}
 
 -- Some recorder of this type may refuse a call for want of memory.
 abbrev pub SomeMayRefuse : {R : Type 0} → (R → Bool) → Type 0
@@ -24,3 +26,5 @@ pub record IsReplied {R : Type 0} (may_refuse : R → Bool) (history : List Entr
   pub last : IsTrue (is_starved reply) → IsTrue (is_accepted (reply_of history call)) ⊎ SomeMayRefuse may_refuse
   -- with this call each subscriber was sent what it should be
   pub headline : Headline (accepted (with_entry history seat call reply))
+  -- a packet that is given reads as RTP and is short enough to be wrapped
+  pub sendable : reply ≡ Packet → IsSendable bytes

@@ -1,5 +1,5 @@
 -- What sessions that ran at once did together.
-use Rattle.std.specs.Prelude.{◌≡◌, ℕ, ◌+◌, ◌*◌, ◌≤◌, List, [], ◌∷◌, ◌++◌, length, Option, None}
+use Rattle.std.specs.Prelude.{◌≡◌, ◌≢◌, ℕ, ◌+◌, ◌*◌, ◌<◌, ◌≤◌, List, [], ◌∷◌, ◌++◌, length, Option, None}
 use Rattle.sfu_base.specs.Links.{Traffic, with_more}
 use Rattle.sfu_base.specs.Answer.{Answer}
 use Rattle.sfu_base.specs.declared.call.Call.{Call}
@@ -10,9 +10,9 @@ use Rattle.deeds.specs.Deeds.{Step, Leads, received_of, said_of, sent_of}
 use Rattle.deeds.specs.Doing.{AllFitBuffers}
 use Rattle.sfu_serve.specs.declared.ends.SessionEnd.{SessionEnd}
 use Rattle.sfu_serve.specs.declared.run.Role.{Role}
-use Rattle.sfu_serve.specs.declared.run.Role.TheVariants.{Publisher, Subscriber, Control}
+use Rattle.sfu_serve.specs.declared.run.Role.TheVariants.{Publisher, Subscriber, Control, Rtx}
 use Rattle.sfu_serve.specs.Datagrams.{IsOne}
-use Rattle.sfu_serve.specs.Sessions.{Doing, publisher_deed, subscriber_deed, control_deed}
+use Rattle.sfu_serve.specs.Sessions.{Doing, publisher_deed, subscriber_deed, rtx_deed, control_deed}
 use Rattle.sfu_serve.specs.Parts.{MeetsEnd, words_of}
 
 -- what a session of this role does in so many turns
@@ -20,6 +20,12 @@ abbrev pub deed_of : Role → ℕ → Doing
 deed_of (Publisher track ssrc) limit = publisher_deed track ssrc limit None None
 deed_of (Subscriber subscriber ssrc) limit = subscriber_deed subscriber ssrc limit
 deed_of Control limit = control_deed limit
+deed_of (Rtx subscriber ssrc rtx) limit = rtx_deed subscriber ssrc rtx limit
+
+-- A session of this role can be: a stream of resent packets has an SSRC of its own, and a payload type of seven bits.
+abbrev pub CanBe : Role → Type 0
+CanBe (Rtx subscriber ssrc rtx) = (rtx.ssrc ≢ ssrc) × (rtx.payload_type < 128)
+CanBe role = Unit {0}
 
 -- A session of the seat with this number, which began with no entries, read in any later history: `found` is the greatest number of a
 -- ticket that was found there.

@@ -1,12 +1,13 @@
 -- What each session does, turn by turn: a tree of what it listens to, calls and sends. Own rule. Each definition is given what comes next.
-use Rattle.std.specs.Prelude.{ℕ, zero, suc, ◌+◌, nat_le, ◌==◌, ◌&&◌, Bool, true, false, if◌then◌else◌, List, [], ◌∷◌, Option, None, Some}
+use Rattle.std.specs.Prelude.{ℕ, zero, suc, ◌+◌, ◌%◌, nat_le, ◌==◌, ◌&&◌, Bool, true, false, if◌then◌else◌, List, [], ◌∷◌, Option, None, Some}
 use Rattle.sfu_base.specs.Answer.{Answer, Sent, Named, KeyIs}
 use Rattle.sfu_base.specs.declared.call.Call.{Call}
 use Rattle.sfu_base.specs.declared.call.Call.TheVariants.{Packet, Tick, Take, Resend, Missing, KeyWanted, Plead}
 use Rattle.rtcp_feedback.specs.declared.feedback.Feedback.{Feedback}
 use Rattle.rtcp_feedback.specs.declared.feedback.Feedback.TheVariants.{Nack, Pli}
+use Rattle.rtx_stream.specs.declared.retransmission.Rtx.{Rtx}
 use Rattle.deeds.specs.Deeds.{Deed, Listen, Ask, Post, Over}
-use Rattle.sfu_serve.specs.Datagrams.{Datagram, Bytes, NackFor, PliFor, is_rtcp, feedback_in, media_of, control_call, fault_line, text_for}
+use Rattle.sfu_serve.specs.Datagrams.{Datagram, Bytes, NackFor, PliFor, Wrapped, is_rtcp, feedback_in, media_of, control_call, fault_line, text_for}
 
 -- what a session is to do
 abbrev pub Doing : Type 0
@@ -34,37 +35,52 @@ abbrev pub sends_on : Answer → Doing → Doing → Doing
 sends_on (Sent bytes) more next = Post (Bytes bytes) more
 sends_on answer more next = next
 
--- a packet that was given is sent
-abbrev pub sends : Answer → Doing → Doing
-sends answer next = sends_on answer next next
+-- A resent packet as it goes out: as it was sent, or on a stream of its own with this number.
+abbrev pub resent : Option Rtx → ℕ → List ℕ → Datagram
+resent None number packet = Bytes packet
+resent (Some rtx) number packet = Wrapped rtx number packet
+
+-- A packet that was given is sent again. What comes next is told the number of the next one.
+abbrev pub resends : Option Rtx → ℕ → Answer → (ℕ → Doing) → Doing
+resends way number (Sent bytes) next = Post (resent way number bytes) (next ((number + 1) % 65536))
+resends way number answer next = next number
 
 abbrev pub call_for : ℕ → Feedback → Call
 call_for subscriber (Nack media seq) = Resend subscriber seq
 call_for subscriber (Pli media) = Plead subscriber
 
 -- an item with this SSRC as its media source is worked off, any other is passed over
-abbrev pub serves_one : ℕ → ℕ → Feedback → Doing → Doing
-serves_one subscriber ssrc item next = if media_of item == ssrc then Ask (call_for subscriber item) (λ answer. sends answer next) else next
+abbrev pub serves_one : ℕ → ℕ → Option Rtx → Feedback → ℕ → (ℕ → Doing) → Doing
+serves_one subscriber ssrc way item number next =
+    if media_of item == ssrc then Ask (call_for subscriber item) (λ answer. resends way number answer next) else next number
 
-abbrev pub serves : ℕ → ℕ → List Feedback → Doing → Doing
-serves subscriber ssrc [] next = next
-serves subscriber ssrc (item ∷ items) next = serves_one subscriber ssrc item (serves subscriber ssrc items next)
+abbrev pub serves : ℕ → ℕ → Option Rtx → List Feedback → ℕ → (ℕ → Doing) → Doing
+serves subscriber ssrc way [] number next = next number
+serves subscriber ssrc way (item ∷ items) number next = serves_one subscriber ssrc way item number (λ later. serves subscriber ssrc way items later next)
 
 -- feedback that came
-abbrev pub hears_feedback : ℕ → ℕ → Option (List ℕ) → Doing → Doing
-hears_feedback subscriber ssrc None next = next
-hears_feedback subscriber ssrc (Some bytes) next = serves subscriber ssrc (feedback_in bytes) next
+abbrev pub hears_feedback : ℕ → ℕ → Option Rtx → Option (List ℕ) → ℕ → (ℕ → Doing) → Doing
+hears_feedback subscriber ssrc way None number next = next number
+hears_feedback subscriber ssrc way (Some bytes) number next = serves subscriber ssrc way (feedback_in bytes) number next
 
 -- at most so many takes
 abbrev pub takes : ℕ → ℕ → Doing → Doing
 takes subscriber zero next = next
 takes subscriber (suc left) next = Ask (Take subscriber) (λ answer. sends_on answer (takes subscriber left next) next)
 
--- so many turns of a session on this subscriber, whose SSRC is this one
+-- so many turns of a session on this subscriber, whose SSRC is this one, with the number of its next resent packet
+abbrev pub outgoing_deed : ℕ → ℕ → Option Rtx → ℕ → ℕ → Doing
+outgoing_deed subscriber ssrc way zero number = Over
+outgoing_deed subscriber ssrc way (suc left) number =
+    Listen (λ got moment. hears_feedback subscriber ssrc way got number (λ later. takes subscriber 32 (outgoing_deed subscriber ssrc way left later)))
+
+-- resent packets go out as they were sent
 abbrev pub subscriber_deed : ℕ → ℕ → ℕ → Doing
-subscriber_deed subscriber ssrc zero = Over
-subscriber_deed subscriber ssrc (suc left) =
-    Listen (λ got moment. hears_feedback subscriber ssrc got (takes subscriber 32 (subscriber_deed subscriber ssrc left)))
+subscriber_deed subscriber ssrc limit = outgoing_deed subscriber ssrc None limit 0
+
+-- resent packets go out on a stream of their own, numbered from 0
+abbrev pub rtx_deed : ℕ → ℕ → Rtx → ℕ → Doing
+rtx_deed subscriber ssrc rtx limit = outgoing_deed subscriber ssrc (Some rtx) limit 0
 
 -- ---- publisher: a packet where one came, a tick, and at times a question for missing packets and for a key frame
 

@@ -8,6 +8,7 @@ mod ends;
 mod laws;
 mod playing;
 mod publisher;
+mod resending;
 mod rtcp;
 mod run;
 mod shared_room;
@@ -16,15 +17,8 @@ mod subscriber;
 
 pub use control::control_session;
 pub use ends::SessionEnd;
-pub use laws::subscribers_send_what_they_were_given;
+pub use laws::{rtx_sessions_send_what_they_were_given, subscribers_send_what_they_were_given};
 pub use publisher::publisher_session;
 pub use run::{Ended, Job, Role, run_sessions};
 pub use shared_room::SharedRoom;
-pub use subscriber::subscriber_session;
-
-#[cfg(test)]
-mod run_tests;
-#[cfg(test)]
-mod session_tests;
-#[cfg(test)]
-mod tests;
+pub use subscriber::{rtx_session, subscriber_session};

@@ -3,7 +3,7 @@ ghost use Rattle.std.specs.Prelude.{◌≡◌, ◌++◌, ◌∷◌, [], ◌≤�
 ghost use Rattle.std.specs.List.{All};
 ghost use Rattle.turn_lock.specs.Known.{Fits};
 ghost use Rattle.sfu_serve.specs.Parts.{Keeps};
-ghost use Rattle.sfu_serve.specs.Runs.{deed_of, job_after, job_before};
+ghost use Rattle.sfu_serve.specs.Runs.{CanBe, deed_of, job_after, job_before};
 ghost use Rattle.sfu_serve.specs.Playing.{ArePlayed, HaveJoined, counting, played_job, seated_from, seated_job};
 
 use crate::control::control_session;
@@ -11,7 +11,7 @@ use crate::ends::SessionEnd;
 use crate::publisher::publisher_session;
 use crate::run::{Ended, Job, Role};
 use crate::shared_room::SharedRoom;
-use crate::subscriber::subscriber_session;
+use crate::subscriber::{rtx_session, subscriber_session};
 use room_core::Recorder;
 use sfu_base::{Clock, Link, NoMemory, PacketBuf, Scratch, SeqList};
 use std::alloc::Global;
@@ -82,7 +82,8 @@ fn session<R: Recorder, L: Link, C: Clock, W: Wait + Sync>(
     limit: u64,
     scratch: &mut Scratch,
 ) -> SessionEnd
-    requires { seat.old.lock ≡ turns.now }
+    requires lock { seat.old.lock ≡ turns.now }
+    requires role { CanBe role }
     ensures keeps { Keeps (deed_of role limit) limit seat.old seat.new (L.told link.old) (L.told link.new) (L.faults link.old) (L.faults link.new) result }
 {
     match role {
@@ -93,6 +94,13 @@ fn session<R: Recorder, L: Link, C: Clock, W: Wait + Sync>(
             rt, turns, seat, subscriber, ssrc, link, clock, limit, scratch,
         ),
         Role::Control => control_session(rt, turns, seat, link, clock, limit, scratch),
+        Role::Rtx {
+            subscriber,
+            ssrc,
+            rtx,
+        } => rtx_session(
+            rt, turns, seat, subscriber, ssrc, &rtx, link, clock, limit, scratch,
+        ),
     }
 }
 
@@ -104,7 +112,8 @@ fn perform<R: Recorder, L: Link, C: Clock, W: Wait + Sync>(
     limit: u64,
     seated: Seated<R, L>,
 ) -> Played<R, L>
-    requires { seated.seat.lock ≡ turns.now }
+    requires lock { seated.seat.lock ≡ turns.now }
+    requires role { CanBe seated.job.role }
     ensures keeps { Keeps (deed_of seated.job.role limit) limit
         seated.seat result.seat (L.told seated.job.link) (L.told result.link) (L.faults seated.job.link) (L.faults result.link) result.end }
 {
@@ -135,7 +144,7 @@ pub fn play<R: Recorder + Send, L: Link + Send + Drop, C: Clock + Sync, W: Threa
     limit: u64,
     seated: Vec<Seated<R, L>>,
 ) -> Result<Vec<Played<R, L>>, NoMemory>
-    requires locks { All (λ s. s.seat.lock ≡ turns.now) seated.items }
+    requires ready { All (λ s. (s.seat.lock ≡ turns.now) × CanBe s.job.role) seated.items }
     ensures { IfOk result (λ played. ArePlayed limit
         (map (λ s. seated_job s.seat (job_before s.job.role (L.told s.job.link) (L.faults s.job.link))) seated.items)
         (map (λ p. played_job p.seat (job_after p.end (L.told p.link) (L.faults p.link))) played.items)) }
@@ -144,7 +153,7 @@ pub fn play<R: Recorder + Send, L: Link + Send + Drop, C: Clock + Sync, W: Threa
         rt,
         seated,
         &move |one: Seated<R, L>| -> Played<R, L>
-            requires { one.seat.lock ≡ turns.now }
+            requires { (one.seat.lock ≡ turns.now) × CanBe one.job.role }
             ensures { Keeps (deed_of one.job.role limit) limit
                 one.seat result.seat (L.told one.job.link) (L.told result.link) (L.faults one.job.link) (L.faults result.link) result.end }
         { perform(rt, turns, clock, limit, one) },

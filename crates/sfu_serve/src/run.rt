@@ -1,11 +1,13 @@
 // Several sessions at once.
 ghost use Rattle.std.specs.Prelude.{◌≡◌, ◌≤◌, map, vec_len, IfOk};
-ghost use Rattle.sfu_serve.specs.Runs.{HaveRun, job_before, job_after};
+ghost use Rattle.std.specs.List.{All};
+ghost use Rattle.sfu_serve.specs.Runs.{CanBe, HaveRun, job_before, job_after};
 
 use crate::ends::SessionEnd;
 use crate::playing::{cast, gather, play};
 use crate::shared_room::SharedRoom;
 use room_core::Recorder;
+use rtx_stream::Rtx;
 use sfu_base::{Clock, Link, NoMemory};
 use std::alloc::Global;
 use std::sync::Wait;
@@ -16,11 +18,24 @@ use turn_lock::{Seat, Turns};
 #[derive(Clone, Copy, Debug, PartialEq, Eq)]
 pub enum Role {
     /// The publisher of a track.
-    Publisher { track: u32, ssrc: u32 },
+    Publisher {
+        track: u32,
+        ssrc: u32,
+    },
     /// A subscriber.
-    Subscriber { subscriber: u32, ssrc: u32 },
+    Subscriber {
+        subscriber: u32,
+        ssrc: u32,
+    },
     /// A controller.
     Control,
+    /// A subscriber whose resent packets go out on a stream of their own (RFC 4588). Its SSRC differs from that of the media, and its payload
+    /// type is below 128.
+    Rtx {
+        subscriber: u32,
+        ssrc: u32,
+        rtx: Rtx,
+    },
 }
 
 /// A session that is to run over a link.
@@ -57,6 +72,7 @@ pub fn run_sessions<
     requires lock { seat.old.lock ≡ turns.now }
     requires first { (seat.old.number ≡ 0) × (seat.old.count ≡ 1) }
     requires jobs { vec_len jobs ≤ 64 }
+    requires roles { All (λ j. CanBe j.role) jobs.items }
     ensures kept { (seat.new.lock ≡ seat.old.lock) × (seat.new.number ≡ 0) }
     ensures run { IfOk result (λ ended. HaveRun limit seat.old seat.new
         (map (λ j. job_before j.role (L.told j.link) (L.faults j.link)) jobs.items)

@@ -4,8 +4,10 @@ ghost use Rattle.sfu_base.specs.Answer.{Answer, answer_of, is_starved};
 ghost use Rattle.sfu_base.specs.Faults.{HasCause};
 ghost use Rattle.sfu_base.specs.Links.{Traffic, datagram, with_more};
 ghost use Rattle.sfu_base.specs.declared.call.Call.{Call as CallData};
+ghost use Rattle.sfu_base.specs.declared.call.Reply.TheVariants.{Packet as PacketReply};
 ghost use Rattle.turn_lock.specs.Known.{Known, Fits};
 ghost use Rattle.room_core.specs.History.{Entry, reply_of};
+ghost use Rattle.room_core.specs.Sendable.{IsSendable};
 ghost use Rattle.deeds.specs.Deeds.{Ask, Post};
 ghost use Rattle.sfu_serve.specs.Datagrams.{Datagram, IsOne};
 ghost use Rattle.sfu_serve.specs.Sessions.{Doing};
@@ -34,6 +36,7 @@ pub fn say<R: Recorder, W: Wait + Sync>(
         seat.old seat.new told told faults faults stop) }
     ensures replied { IfOk result (λ reply. is_starved reply ≡ false → (history : List Entry)
         × (answer_of reply scratch.new.packet scratch.new.names ≡ reply_of history call.now)) }
+    ensures sendable { IfOk result (λ reply. reply ≡ PacketReply → IsSendable scratch.new.packet) }
 {
     match turns.turn(rt, seat, call, scratch) {
         Ok(turn) => Ok(turn.reply),

@@ -1,19 +1,21 @@
-// The session of a subscriber.
-ghost use Rattle.std.specs.Prelude.{◌≡◌, ℕ, ◌≤◌, length, if◌then◌else◌, IfOk, IfErr};
+// The sessions of subscribers: resent packets go out as they were sent, or on a stream of their own.
+ghost use Rattle.std.specs.Prelude.{◌≡◌, ◌≢◌, ℕ, ◌<◌, ◌≤◌, length, if◌then◌else◌, IfOk, IfErr, IfSome};
 ghost use Rattle.sfu_base.specs.Links.{datagram};
 ghost use Rattle.turn_lock.specs.Known.{Fits};
 ghost use Rattle.rtcp_feedback.specs.declared.feedback.Feedback.{Feedback as FeedbackData};
 ghost use Rattle.deeds.specs.Deeds.{Ask};
 ghost use Rattle.sfu_serve.specs.Datagrams.{media_of, feedback_in};
-ghost use Rattle.sfu_serve.specs.Sessions.{Doing, call_for, sends_on, serves_one, serves, takes, hears_feedback, subscriber_deed};
+ghost use Rattle.sfu_serve.specs.Sessions.{Doing, call_for, sends_on, serves_one, serves, takes, hears_feedback, outgoing_deed, subscriber_deed, rtx_deed};
 ghost use Rattle.sfu_serve.specs.Parts.{Done, IsPart, Keeps, Stops};
 
 use crate::ends::{SessionEnd, TurnStop, end_at};
+use crate::resending::resend;
 use crate::rtcp::is_rtcp;
 use crate::shared_room::SharedRoom;
 use crate::speaking::{listen, post, say};
 use room_core::Recorder;
 use rtcp_feedback::{Feedback, Feedbacks, read};
+use rtx_stream::Rtx;
 use sfu_base::{Call, Clock, Link, PacketBuf, Reply, Scratch};
 use std::sync::Wait;
 use turn_lock::{Seat, Turns};
@@ -106,22 +108,23 @@ fn serve_item<R: Recorder, L: Link, W: Wait + Sync>(
     seat: &mut Seat<SharedRoom<R>>,
     subscriber: u32,
     ssrc: u32,
+    way: Option<Rtx>,
     item: Feedback,
+    number: &mut u16,
     link: &mut L,
     scratch: &mut Scratch,
 ) -> Result<(), TurnStop>
     requires lock { seat.old.lock ≡ turns.now }
     requires fits { Fits seat.old }
-    ensures part { (next : Doing) → IsPart (serves_one subscriber ssrc item next) next
+    requires payload_type { IfSome way (λ rtx. rtx.payload_type < 128) }
+    ensures part { (next : ℕ → Doing) → IsPart (serves_one subscriber ssrc way item number.old next) (next number.new)
         seat.old seat.new (L.told link.old) (L.told link.new) (L.faults link.old) (L.faults link.new) result }
 {
     if media(item) != ssrc {
         return Ok(());
     }
-    match give(rt, turns, seat, &call_of(subscriber, item), link, scratch) {
-        Ok(_gave) => Ok(()),
-        Err(stop) => Err(stop),
-    }
+    let call = call_of(subscriber, item);
+    resend(rt, turns, seat, &call, way, number, link, scratch)
 }
 
 /// Works off items of feedback, one by one.
@@ -132,18 +135,23 @@ fn serve_items<R: Recorder, L: Link, W: Wait + Sync>(
     seat: &mut Seat<SharedRoom<R>>,
     subscriber: u32,
     ssrc: u32,
+    way: Option<Rtx>,
     items: Feedbacks<'_>,
+    number: &mut u16,
     link: &mut L,
     scratch: &mut Scratch,
 ) -> Result<(), TurnStop>
     requires lock { seat.old.lock ≡ turns.now }
     requires fits { Fits seat.old }
-    ensures part { (next : Doing) → IsPart (serves subscriber ssrc items.entry next) next
+    requires payload_type { IfSome way (λ rtx. rtx.payload_type < 128) }
+    ensures part { (next : ℕ → Doing) → IsPart (serves subscriber ssrc way items.entry number.old next) (next number.new)
         seat.old seat.new (L.told link.old) (L.told link.new) (L.faults link.old) (L.faults link.new) result }
 {
     let mut left = items;
     while let Some(item) = left.next() {
-        match serve_item(rt, turns, seat, subscriber, ssrc, item, link, scratch) {
+        match serve_item(
+            rt, turns, seat, subscriber, ssrc, way, item, number, link, scratch,
+        ) {
             Ok(()) => (),
             Err(stop) => return Err(stop),
         }
@@ -158,20 +166,25 @@ fn serve_all<R: Recorder, L: Link, W: Wait + Sync>(
     seat: &mut Seat<SharedRoom<R>>,
     subscriber: u32,
     ssrc: u32,
+    way: Option<Rtx>,
     bytes: &[u8],
+    number: &mut u16,
     link: &mut L,
     scratch: &mut Scratch,
 ) -> Result<(), TurnStop>
     requires lock { seat.old.lock ≡ turns.now }
     requires fits { Fits seat.old }
-    ensures part { (next : Doing) → IsPart (serves subscriber ssrc (feedback_in bytes.now) next) next
+    requires payload_type { IfSome way (λ rtx. rtx.payload_type < 128) }
+    ensures part { (next : ℕ → Doing) → IsPart (serves subscriber ssrc way (feedback_in bytes.now) number.old next) (next number.new)
         seat.old seat.new (L.told link.old) (L.told link.new) (L.faults link.old) (L.faults link.new) result }
 {
     if !is_rtcp(bytes) {
         return Ok(());
     }
     match read(bytes) {
-        Ok(items) => serve_items(rt, turns, seat, subscriber, ssrc, items, link, scratch),
+        Ok(items) => serve_items(
+            rt, turns, seat, subscriber, ssrc, way, items, number, link, scratch,
+        ),
         Err(_fault) => Ok(()),
     }
 }
@@ -184,20 +197,25 @@ fn hear_feedback<R: Recorder, L: Link, W: Wait + Sync>(
     seat: &mut Seat<SharedRoom<R>>,
     subscriber: u32,
     ssrc: u32,
+    way: Option<Rtx>,
     came: bool,
     bytes: &PacketBuf,
+    number: &mut u16,
     link: &mut L,
     scratch: &mut Scratch,
 ) -> Result<(), TurnStop>
     requires lock { seat.old.lock ≡ turns.now }
     requires fits { Fits seat.old }
-    ensures part { (next : Doing) → IsPart (hears_feedback subscriber ssrc (datagram came bytes.now) next) next
+    requires payload_type { IfSome way (λ rtx. rtx.payload_type < 128) }
+    ensures part { (next : ℕ → Doing) → IsPart (hears_feedback subscriber ssrc way (datagram came bytes.now) number.old next) (next number.new)
         seat.old seat.new (L.told link.old) (L.told link.new) (L.faults link.old) (L.faults link.new) result }
     ensures bounded { length bytes.now ≤ 2048 }
 {
     let bytes = bytes.bytes();
     if came {
-        serve_all(rt, turns, seat, subscriber, ssrc, bytes, link, scratch)
+        serve_all(
+            rt, turns, seat, subscriber, ssrc, way, bytes, number, link, scratch,
+        )
     } else {
         Ok(())
     }
@@ -210,24 +228,74 @@ fn subscriber_turn<R: Recorder, L: Link, W: Wait + Sync>(
     seat: &mut Seat<SharedRoom<R>>,
     subscriber: u32,
     ssrc: u32,
+    way: Option<Rtx>,
     most: u32,
     came: bool,
     bytes: &PacketBuf,
+    number: &mut u16,
     link: &mut L,
     scratch: &mut Scratch,
 ) -> Result<(), TurnStop>
     requires lock { seat.old.lock ≡ turns.now }
     requires fits { Fits seat.old }
-    ensures part { (next : Doing) → IsPart (hears_feedback subscriber ssrc (datagram came bytes.now) (takes subscriber most next)) next
+    requires payload_type { IfSome way (λ rtx. rtx.payload_type < 128) }
+    ensures part { (next : ℕ → Doing) → IsPart
+        (hears_feedback subscriber ssrc way (datagram came bytes.now) number.old (λ later. takes subscriber most (next later))) (next number.new)
         seat.old seat.new (L.told link.old) (L.told link.new) (L.faults link.old) (L.faults link.new) result }
     ensures bounded { length bytes.now ≤ 2048 }
 {
     match hear_feedback(
-        rt, turns, seat, subscriber, ssrc, came, bytes, link, scratch,
+        rt, turns, seat, subscriber, ssrc, way, came, bytes, number, link, scratch,
     ) {
         Ok(()) => take_all(rt, turns, seat, subscriber, most, link, scratch),
         Err(stop) => Err(stop),
     }
+}
+
+/// A session of `limit` turns whose resent packets go out in this way: as they were sent, or on a stream of their own.
+fn outgoing_session<R: Recorder, L: Link, C: Clock, W: Wait + Sync>(
+    rt: &W,
+    turns: &Turns<SharedRoom<R>>,
+    seat: &mut Seat<SharedRoom<R>>,
+    subscriber: u32,
+    ssrc: u32,
+    way: Option<Rtx>,
+    link: &mut L,
+    clock: &C,
+    limit: u64,
+    scratch: &mut Scratch,
+) -> SessionEnd
+    requires lock { seat.old.lock ≡ turns.now }
+    requires payload_type { IfSome way (λ rtx. rtx.payload_type < 128) }
+    ensures keeps { Keeps (outgoing_deed subscriber ssrc way limit 0) limit
+        seat.old seat.new (L.told link.old) (L.told link.new) (L.faults link.old) (L.faults link.new) result }
+{
+    seat.lemma_fits();
+    let mut bytes = PacketBuf::new();
+    let mut number = 0u16;
+    for turn in 0..limit {
+        let Ok((came, _moment)) = listen(link, clock, &mut bytes) else {
+            return SessionEnd::LinkFault { turn };
+        };
+        let worked = subscriber_turn(
+            rt,
+            turns,
+            seat,
+            subscriber,
+            ssrc,
+            way,
+            MOST_TAKES,
+            came,
+            &bytes,
+            &mut number,
+            link,
+            scratch,
+        );
+        if let Err(stop) = worked {
+            return end_at(turn, stop);
+        }
+    }
+    SessionEnd::AllTurns
 }
 
 /// A subscriber's session of `limit` turns. In each, RTCP feedback that came is worked off item by item: a NACK whose media source is `ssrc`
@@ -248,18 +316,42 @@ pub fn subscriber_session<R: Recorder, L: Link, C: Clock, W: Wait + Sync>(
     ensures keeps { Keeps (subscriber_deed subscriber ssrc limit) limit
         seat.old seat.new (L.told link.old) (L.told link.new) (L.faults link.old) (L.faults link.new) result }
 {
-    seat.lemma_fits();
-    let mut bytes = PacketBuf::new();
-    for turn in 0..limit {
-        let Ok((came, _moment)) = listen(link, clock, &mut bytes) else {
-            return SessionEnd::LinkFault { turn };
-        };
-        let worked = subscriber_turn(
-            rt, turns, seat, subscriber, ssrc, MOST_TAKES, came, &bytes, link, scratch,
-        );
-        if let Err(stop) = worked {
-            return end_at(turn, stop);
-        }
-    }
-    SessionEnd::AllTurns
+    outgoing_session(
+        rt, turns, seat, subscriber, ssrc, None, link, clock, limit, scratch,
+    )
+}
+
+/// A subscriber's session of `limit` turns as [`subscriber_session`] makes it, but for what is resent: that goes out on the stream `rtx`
+/// (RFC 4588, section 4), numbered there 0, 1 and so on modulo 65,536, one for each packet that was sent. NACKs still name numbers of the
+/// media's own stream; one whose media source is the SSRC of `rtx` is passed over, as any other.
+pub fn rtx_session<R: Recorder, L: Link, C: Clock, W: Wait + Sync>(
+    rt: &W,
+    turns: &Turns<SharedRoom<R>>,
+    seat: &mut Seat<SharedRoom<R>>,
+    subscriber: u32,
+    ssrc: u32,
+    rtx: &Rtx,
+    link: &mut L,
+    clock: &C,
+    limit: u64,
+    scratch: &mut Scratch,
+) -> SessionEnd
+    requires lock { seat.old.lock ≡ turns.now }
+    requires apart { rtx.now.ssrc ≢ ssrc }
+    requires payload_type { rtx.now.payload_type < 128 }
+    ensures keeps { Keeps (rtx_deed subscriber ssrc rtx.now limit) limit
+        seat.old seat.new (L.told link.old) (L.told link.new) (L.faults link.old) (L.faults link.new) result }
+{
+    outgoing_session(
+        rt,
+        turns,
+        seat,
+        subscriber,
+        ssrc,
+        Some(*rtx),
+        link,
+        clock,
+        limit,
+        scratch,
+    )
 }

@@ -1,13 +1,13 @@
 -- What each status of `together` says, once its script was read or wasn't.
-use Rattle.std.proofs.Common.{◌≡◌, ◌⊎◌, inl, inr, ⊎_elim, ℕ, ◌≤◌, List, [], refl, sym, ap, ◌∙◌, subst, arith, append-nil, Option, Some, None}
+use Rattle.std.proofs.Common.{◌≡◌, ◌⊎◌, inl, inr, ⊎_elim, ℕ, ◌≤◌, List, [], ◌++◌, refl, sym, ap, ◌∙◌, subst, arith, append-nil, Option, Some, None}
 use Rattle.std.specs.Prelude.{IfSome}
-use Rattle.std.specs.Io.KnownBytes.{Appends, IsAtEnd}
+use Rattle.std.specs.Io.KnownBytes.{Appends, Consumes, IsAtEnd}
 use Rattle.std.proofs.KnownBytes.{Appends-trans, Consumes-whole}
 use Rattle.sfu_driver.specs.Exchange.{exchange_by}
 use Rattle.sfu_base.specs.Faults.{Rose}
 use Rattle.sfu_driver.specs.declared.halt.Ending.{Ending}
 use Rattle.sfu_driver.specs.Drive.{WritesPart, outside_end}
-use Rattle.sfu_driver.specs.Statuses.{Completes, Due, full_text, status_of}
+use Rattle.sfu_driver.specs.Statuses.{Completes, Due, IsPrompt, full_text, status_of}
 use Rattle.sfu_driver.proofs.Answering.{no_status as none_of}
 use Rattle.sfu_driver.proofs.Meanings.{statuses_same}
 use Rattle.script_texts.specs.declared.journal.Actors.{Actors}
@@ -52,6 +52,8 @@ plays_none left left' w w' g g' f f' status reads = record {
   history = [];
   statuses = statuses_same read_due read_part (together_due []) read_part left left' w w' g g' f f' status same_due (λ b. refl) reads.statuses;
   played = λ is. absurd (other is reads.only);
+  script = λ is. absurd (other is reads.only);
+  unwritten = reads.unwritten;
   headline = headline [] tt;
   only = of reads.only;
 }
@@ -78,6 +80,23 @@ module _ (left left' w w1 : Option (List ℕ)) (g g' f f1 : ℕ) (actors : Actor
   read_whole : IfSome left (λ b. IsAtEnd left' × ((together_script b).fault ≡ None))
   read_whole = if_some left _ _ (λ b x. (x.0, no_fault (together_script b).fault x.1)) (reads.statuses.done refl)
 
+  -- the same of the bytes that were taken
+  abbrev prompt : IsPrompt read_part left left' w w1
+  prompt = reads.statuses.every.prompt
+
+  abbrev taken : List ℕ
+  taken = prompt.earlier ++ prompt.piece
+
+  taken_end : IsAtEnd left'
+  taken_end = let x = reads.statuses.every.says.done refl in x.0
+
+  taken_whole : (together_script taken).fault ≡ None
+  taken_whole = let x = reads.statuses.every.says.done refl in no_fault (together_script taken).fault x.1
+
+  -- and of what was written behind them
+  abbrev prompt_on : (w2 : Option (List ℕ)) (text : List ℕ) → Appends w w2 text → IsPrompt read_part left left' w w2
+  prompt_on w2 text all = record { earlier = prompt.earlier; piece = prompt.piece; consumed = prompt.consumed; small = prompt.small; goes = prompt.goes; wrote = λ _. (text, all) }
+
   -- memory was wanting behind it
   pub plays_starved : Plays (exchange_by left left' w w1 g g' f f1) 6
   plays_starved = record {
@@ -95,14 +114,33 @@ module _ (left left' w w1 : Option (List ℕ)) (g g' f f1 : ℕ) (actors : Actor
       begun = always left _ (λ b. ([], full_text (together_due [] b), reads.unwritten, refl));
       only = inr (inr (inr (inl refl)));
       complete = λ a c. if_some left _ _ (λ b x. subst (λ (d : Due). Completes d.end 6) (sym (journal_due [] b x.1)) (inr refl)) read_whole;
+      every = record {
+        prompt = prompt;
+        in_reads = reads.statuses.every.in_reads;
+        bounded = reads.statuses.every.bounded;
+        says = record {
+          done = λ e. absurd (let no : 6 ≡ 0 = e in omega arith);
+          judged = λ e. absurd (let no : 6 ≡ 3 = e in omega arith);
+          unwritten = λ e. absurd (let no : 6 ≡ 4 = e in omega arith);
+          ended = λ why e. absurd (no_status 6 why (inr (inr refl)) e);
+          memory = λ e. (prompt.earlier, prompt.piece, refl, prompt.goes, reads.unwritten);
+          begun = ([], full_text (together_due [] taken), reads.unwritten, refl);
+        };
+        complete = λ a c. subst (λ (d : Due). Completes d.end 6) (sym (journal_due [] taken taken_whole)) (inr refl);
+      };
     };
     played = λ is. ⊎_elim (λ (a : 6 ≡ 0). absurd (omega arith)) (λ (a : 6 ≡ 4). absurd (omega arith)) is;
+    script = λ is. ⊎_elim (λ (a : 6 ≡ 0). absurd (omega arith)) (λ (a : 6 ≡ 4). absurd (omega arith)) is;
+    unwritten = λ is. reads.unwritten;
     headline = headline [] tt;
     only = inr (inr (inr (inr refl)));
   }
 
   played_by : (h : List Entry) → IsMadeBy actors h → IfSome left (IsPlayed h)
   played_by h made = Consumes-whole left left' reads.bytes (IsPlayed h) reads.consumed reads.at_end (record { whole = reads.whole; actors = actors; parts = reads.parts; made = made })
+
+  script_by : (h : List Entry) → IsMadeBy actors h → (bytes : List ℕ) × Consumes left left' bytes × IsAtEnd left' × IsPlayed h bytes
+  script_by h made = (reads.bytes, reads.consumed, reads.at_end, record { whole = reads.whole; actors = actors; parts = reads.parts; made = made })
 
   -- the journal was written
   pub plays_whole : (w2 : Option (List ℕ)) (f2 : ℕ) (h : List Entry) → IsMadeBy actors h → Headline (accepted h) → Appends w1 w2 (journal_text h) → Plays (exchange_by left left' w w2 g g' f f2) 0
@@ -122,8 +160,24 @@ module _ (left left' w w1 : Option (List ℕ)) (g g' f f1 : ℕ) (actors : Actor
           begun = if_some left _ _ (λ b x. (journal_text h, [], all, ap full_text (journal_due h b x.1))) read_whole;
           only = inl refl;
           complete = λ a c. if_some left _ _ (λ b x. subst (λ (d : Due). Completes d.end 0) (sym (journal_due h b x.1)) (inl refl)) read_whole;
+          every = record {
+            prompt = prompt_on w2 (journal_text h) all;
+            in_reads = reads.statuses.every.in_reads;
+            bounded = reads.statuses.every.bounded;
+            says = record {
+              done = λ e. subst (λ (d : Due). IsAtEnd left' × (d.end ≡ None) × Appends w w2 d.text) (sym (journal_due h taken taken_whole)) (taken_end, refl, all);
+              judged = λ e. absurd (let no : 0 ≡ 3 = e in omega arith);
+              unwritten = λ e. absurd (let no : 0 ≡ 4 = e in omega arith);
+              ended = λ why e. absurd (no_status 0 why (inl refl) e);
+              memory = λ e. absurd (let no : 0 ≡ 6 = e in omega arith);
+              begun = (journal_text h, [], all, ap full_text (journal_due h taken taken_whole));
+            };
+            complete = λ a c. subst (λ (d : Due). Completes d.end 0) (sym (journal_due h taken taken_whole)) (inl refl);
+          };
         };
         played = λ is. played_by h made;
+        script = λ is. script_by h made;
+        unwritten = λ is. ⊎_elim (λ (a : 0 ≡ 3). absurd (omega arith)) (λ (a : 0 ≡ 6). absurd (omega arith)) is;
         headline = promised;
         only = inl refl;
       }
@@ -148,8 +202,24 @@ module _ (left left' w w1 : Option (List ℕ)) (g g' f f1 : ℕ) (actors : Actor
           begun = if_some left _ _ (λ b x. (part.text, part.more, all, ap full_text (journal_due h b x.1) ∙ (append-nil (journal_text h) ∙ part.split))) read_whole;
           only = inr (inr (inl refl));
           complete = λ a c. absurd (c risen);
+          every = record {
+            prompt = prompt_on w2 part.text all;
+            in_reads = reads.statuses.every.in_reads;
+            bounded = reads.statuses.every.bounded;
+            says = record {
+              done = λ e. absurd (let no : 4 ≡ 0 = e in omega arith);
+              judged = λ e. absurd (let no : 4 ≡ 3 = e in omega arith);
+              unwritten = λ e. inr (taken_end, subst (λ (d : Due). WritesPart w w2 d.text) (sym (journal_due h taken taken_whole)) whole);
+              ended = λ why e. absurd (no_status 4 why (inr (inl refl)) e);
+              memory = λ e. absurd (let no : 4 ≡ 6 = e in omega arith);
+              begun = (part.text, part.more, all, ap full_text (journal_due h taken taken_whole) ∙ (append-nil (journal_text h) ∙ part.split));
+            };
+            complete = λ a c. absurd (c risen);
+          };
         };
         played = λ is. played_by h made;
+        script = λ is. script_by h made;
+        unwritten = λ is. ⊎_elim (λ (a : 4 ≡ 3). absurd (omega arith)) (λ (a : 4 ≡ 6). absurd (omega arith)) is;
         headline = promised;
         only = inr (inr (inl refl));
       }

@@ -1,6 +1,7 @@
 -- The command `together`: the journal of a script's actors. Own rule.
 use Rattle.std.specs.Prelude.{◌≡◌, ◌⊎◌, ℕ, List, [], ◌∷◌, Option, Some, None, IfSome, codes}
 use Rattle.std.specs.List.{flat_map}
+use Rattle.std.specs.Io.KnownBytes.{Appends, Consumes, IsAtEnd}
 use Rattle.sfu_driver.specs.Exchange.{Exchange}
 use Rattle.sfu_driver.specs.Statuses.{Due, Statuses}
 use Rattle.script_texts.specs.declared.journal.Actors.{Actors}
@@ -43,6 +44,10 @@ pub record Plays (x : Exchange) (status : ℕ) : Type 0 where
   pub statuses : Statuses (together_due history) read_part x.left x.left' x.written x.written' x.reads x.reads' x.writes x.writes' status
   -- with 0 and 4 the script's actors made that history
   pub played : (status ≡ 0) ⊎ (status ≡ 4) → IfSome x.left (IsPlayed history)
+  -- whatever the source tells, it had the bytes of such a script
+  pub script : (status ≡ 0) ⊎ (status ≡ 4) → (bytes : List ℕ) × Consumes x.left x.left' bytes × IsAtEnd x.left' × IsPlayed history bytes
+  -- and with 3 and 6 nothing was written
+  pub unwritten : (status ≡ 3) ⊎ (status ≡ 6) → Appends x.written x.written' []
   -- each subscriber in it was sent what it should be
   pub headline : Headline (accepted history)
   pub only : (status ≡ 0) ⊎ (status ≡ 3) ⊎ (status ≡ 4) ⊎ (status ≡ 5) ⊎ (status ≡ 6)

@@ -6,3 +6,4 @@ pub mod Order
 pub mod Turn
 pub mod Giving
 pub mod Left
+pub mod Summary

@@ -1,5 +1,5 @@
 //! A layered AV1 stream over RTP made from a number, with packets lost, repeated and swapped by a random generator: the same number makes the
-//! same stream. It stands in for a publisher behind a bad network. Nothing here takes memory.
+//! same stream. It stands in for a publisher behind a bad network. Only the texts that tell of it take memory.
 #![tactic(auto)]
 
 mod counts;
@@ -10,7 +10,9 @@ mod maker;
 mod packet;
 mod place;
 mod state;
+mod summary;
 
 pub use counts::Counts;
 pub use event::Event;
 pub use maker::Maker;
+pub use summary::{counts_text, made_text};

@@ -31,6 +31,9 @@ const SERVED_TICKET: usize = 1;
 /// is over wakes the one whose turn it is then.
 const GATES: usize = 64;
 
+/// Who waits for a ticket at most so far behind the one that is served may spin; who stands further back sleeps at once.
+const NEAR: u64 = 1;
+
 /// Tickets lie below this number.
 const TICKET_LIMIT: u64 = 1 << 63;
 
@@ -244,7 +247,8 @@ impl<H: Held> Turns<H> {
         unreachable!()
     }
 
-    /// Waits until the ticket is served, and takes the value: spins and yields for a short time, then sleeps at its gate.
+    /// Waits until the ticket is served, and takes the value: the next in the row spins and yields for a short time, then sleeps at its
+    /// gate; who stands further back sleeps at once.
     fn wait<W: Wait>(
         &self,
         rt: &W,
@@ -259,9 +263,10 @@ impl<H: Held> Turns<H> {
         ensures sound { Sound inner.new.me.0 }
     {
         let backoff = Backoff::new();
+        let mut far = false;
         for _ in rt.forever() {
             // Announced first, then looked: who serves the ticket after this look finds it announced, and wakes.
-            let key = if backoff.is_completed() {
+            let key = if far || backoff.is_completed() {
                 Some(self.gates[gate_of(ticket)].prepare_wait())
             } else {
                 None
@@ -270,8 +275,10 @@ impl<H: Held> Turns<H> {
             if serving == ticket {
                 return;
             }
+            far = ticket.wrapping_sub(serving) > NEAR;
             match key {
                 Some(key) => key.wait(rt),
+                None if far => {}
                 None => backoff.snooze(),
             }
         }

@@ -3,43 +3,14 @@ ghost use Rattle.std.specs.Prelude.{◌≡◌, List, ℕ, IfOk};
 ghost use Rattle.std.specs.String.{string_bytes};
 ghost use Rattle.sfu_base.specs.Bytes.{bit};
 ghost use Rattle.sfu_base.specs.declared.call.Call.{Call};
-ghost use Rattle.sfu_commands.specs.Trial.{counts_text, made_text, subscriber_text, summary_of};
+ghost use Rattle.sfu_commands.specs.Trial.{subscriber_text, summary_of};
 ghost use Rattle.sfu_commands.specs.Staged.{IsStaged, WasFed};
 
 use super::stage::Stage;
 use super::viewer::Viewer;
 use sfu_base::NoMemory;
 use std::alloc::{AllocError, Global};
-use stream_maker::Counts;
-
-fn made_text(alloc: Global, counts: Counts) -> Result<String, AllocError>
-    ensures { IfOk result (λ text. string_bytes text ≡ made_text counts) }
-{
-    let Counts {
-        frames,
-        packets,
-        lost,
-        repeated,
-        swapped,
-    } = counts;
-    format!(in alloc;
-        "made {frames} frames {packets} packets\nlost {lost} repeated {repeated} swapped {swapped}\n"
-    )
-}
-
-fn counts_text(
-    alloc: Global,
-    number: u32,
-    frames: u64,
-    packets: u64,
-    complaints: u8,
-) -> Result<String, AllocError>
-    ensures { IfOk result (λ text. string_bytes text ≡ counts_text number frames packets complaints) }
-{
-    format!(in alloc;
-        "subscriber {number} frames {frames} packets {packets} complaints {complaints}\n"
-    )
-}
+use stream_maker::{Counts, counts_text, made_text};
 
 fn bit(set: bool) -> u8
     ensures { result ≡ bit set }

@@ -1,6 +1,7 @@
 // What is done for a configuration: its calls are made, its ports have their sessions, and the status says how that went.
-ghost use Rattle.std.specs.Prelude.{◌≡◌, ◌≤◌, ◌<◌, ◌^◌, IfOk, length, vec_len};
+ghost use Rattle.std.specs.Prelude.{◌≡◌, ◌≤◌, ◌<◌, ◌^◌, IfOk, IsTrue, length, vec_len};
 ghost use Rattle.turn_lock.specs.Known.{Fits};
+ghost use Rattle.port_config.specs.Script.{all_apart};
 ghost use Rattle.sfu_program.specs.Serve.{Acts, Ends};
 ghost use Rattle.sfu_program.specs.ServeOpening.{HasMade, first_text};
 ghost use Rattle.sfu_program.specs.ServePorts.{seen_ports};
@@ -68,6 +69,7 @@ fn serve_ports<P: Ports, K: Sink, C: Clock + Sync, W: Threads + Wait + Sync>(
     requires fits { Fits seat }
     requires calls { length served.now.calls < 2 ^ 32 }
     requires few { vec_len served.now.ports ≤ 64 }
+    requires apart { IsTrue (all_apart served.now.ports.items) }
     requires limited { limit ≤ 1000000000000 }
     requires unbound { P.bound ports.old ≡ 0 }
     requires none_back { P.back_count ports.old ≡ 0 }
@@ -101,6 +103,7 @@ pub fn act<P: Ports, K: Sink, C: Clock + Sync, W: Threads + Wait + Sync>(
 ) -> Status
     requires calls { length served.now.calls < 2 ^ 32 }
     requires few { vec_len served.now.ports ≤ 64 }
+    requires apart { IsTrue (all_apart served.now.ports.items) }
     requires limited { limit ≤ 1000000000000 }
     requires unbound { P.bound ports.old ≡ 0 }
     requires none_back { P.back_count ports.old ≡ 0 }

@@ -7,6 +7,7 @@ ghost use Rattle.sfu_serve.specs.Runs.{job_before};
 ghost use Rattle.sfu_program.specs.ServePorts.{AreFresh, IsFresh, WasUnbound, SomeFault, after_backs, befores, role_of, seen_ports};
 ghost use Rattle.sfu_program.specs.declared.serve.ports.Unbound.TheVariants.{PortFault, Starved};
 
+use rtx_stream::Rtx;
 use sfu_base::{Failed, Ports};
 use sfu_script::{PortLine, PortRole};
 use sfu_serve::{Ended, Job, Role};
@@ -29,6 +30,19 @@ fn role(line: PortRole) -> Role
         PortRole::Publisher { track, ssrc } => Role::Publisher { track, ssrc },
         PortRole::Subscriber { subscriber, ssrc } => Role::Subscriber { subscriber, ssrc },
         PortRole::Control => Role::Control,
+        PortRole::Rtx {
+            subscriber,
+            ssrc,
+            rtx_ssrc,
+            payload_type,
+        } => Role::Rtx {
+            subscriber,
+            ssrc,
+            rtx: Rtx {
+                ssrc: rtx_ssrc,
+                payload_type,
+            },
+        },
     }
 }
 

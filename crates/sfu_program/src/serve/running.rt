@@ -1,10 +1,12 @@
 // The sessions of `serve`, and what is said of them when they have ended.
 ghost use Rattle.std.specs.Prelude.{◌≡◌, ◌⊎◌, ◌+◌, ◌≤◌, ◌<◌, ◌^◌, ℕ, List, [], IfOk, length, map, vec_len, true, false};
 ghost use Rattle.std.specs.Io.KnownBytes.{Appends};
+ghost use Rattle.std.specs.List.{All};
 ghost use Rattle.sfu_base.specs.Faults.{Rose};
 ghost use Rattle.sfu_base.specs.declared.call.Call.{Call};
 ghost use Rattle.turn_lock.specs.Known.{Fits};
 ghost use Rattle.sfu_driver.specs.Drive.{WritesPart};
+ghost use Rattle.sfu_serve.specs.Runs.{CanBe};
 ghost use Rattle.sfu_program.specs.ServeEnds.{AreUnworn, all_made, ends_of, ends_text};
 ghost use Rattle.sfu_program.specs.ServeOpening.{HasMade};
 ghost use Rattle.sfu_program.specs.ServePorts.{SomeFault, after_backs, befores};
@@ -37,6 +39,7 @@ pub fn run_all<L: Link + Send + Drop, C: Clock + Sync, W: Threads + Wait + Sync>
     requires fits { Fits seat }
     requires first { (seat.number ≡ 0) × (seat.count ≡ 1) }
     requires few { vec_len jobs ≤ 64 }
+    requires roles { All (λ j. CanBe j.role) jobs.items }
     requires limited { limit ≤ 1000000000000 }
     ensures { IfOk result (λ ended. (calls : List Call) → HasMade turns calls seat → length calls < 2 ^ 32
         → HaveServed limit calls (befores L.told L.faults jobs.items) (afters L.told L.faults ended.items)) }

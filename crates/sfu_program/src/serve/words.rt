@@ -1,7 +1,7 @@
 // The words of the command `serve`.
 ghost use Rattle.std.specs.Prelude.{◌∷◌, [], ℕ, MatchOption, map};
 ghost use Rattle.std.specs.String.{string_bytes};
-ghost use Rattle.sfu_commands.specs.TrialWords.{IsNumber};
+ghost use Rattle.sfu_commands.specs.StreamWords.{IsNumber};
 ghost use Rattle.sfu_program.specs.ServeWords.{IsServe};
 
 use sfu_script::{Field, read_fields};

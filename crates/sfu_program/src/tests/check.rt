@@ -1,7 +1,7 @@
-// The command `check` over sources and sinks in memory: packets with what a strict receiver says of them, and each fault of the outside.
-use super::run::{ByteSource, words};
+// The command `check` over sources and sinks in memory: packets with what a strict receiver says of them.
+use super::run::words;
 use crate::alone::sfu_alone;
-use sfu_base::{MemSink, MemSource, Source};
+use sfu_base::{MemSink, MemSource};
 use std::alloc::{AllocError, Global};
 use std::test::Fail;
 
@@ -25,23 +25,6 @@ pub fn command(
     let mut sink = MemSink::new(alloc, Vec::new(alloc));
     let status = sfu_alone(alloc, words.as_slice(), &mut source, &mut sink);
     Ok((status, sink.written().to_vec(alloc)?))
-}
-
-/// The same with id 4 of a script that comes byte by byte, where these reads and writes fail; and whether the next read fails.
-pub fn command_by_bytes(
-    alloc: Global,
-    name: &str,
-    script: &str,
-    read_fails: &[u64],
-    write_fails: &[u64],
-) -> Result<(u8, Vec<u8>, bool), AllocError> {
-    let words = words(alloc, &[name, "4"])?;
-    let inner = MemSource::new(script.as_bytes().to_vec(alloc)?, read_fails.to_vec(alloc)?);
-    let mut source = ByteSource { inner };
-    let mut sink = MemSink::new(alloc, write_fails.to_vec(alloc)?);
-    let status = sfu_alone(alloc, words.as_slice(), &mut source, &mut sink);
-    let fails = source.read(&mut [0u8; 1]).is_err();
-    Ok((status, sink.written().to_vec(alloc)?, fails))
 }
 
 #[test]
@@ -129,38 +112,6 @@ fn the_id_is_that_of_the_words(rt: HostRuntime) -> Result<(), Fail> {
         let (got, written) = command(alloc, "check", id, script)?;
         assert_eq!(rt; got, status, "{id}");
         assert_eq!(rt; written.as_slice(), text.as_bytes(), "{id}");
-    }
-    Ok(())
-}
-
-#[test]
-fn each_fault_of_the_outside_ends_the_check(rt: HostRuntime) -> Result<(), Fail> {
-    let alloc = rt.alloc();
-    let whole = format!(in alloc; "{KEY}{NEXT}")?;
-    let refused = format!(in alloc; "{KEY}{KEY}{NEXT}")?;
-    let bad = format!(in alloc; "{KEY}80 \n{NEXT}")?;
-    // Byte by byte. The reads, the status where none fails, the one text, and the status where the sink fails in it: the counts are no
-    // ending's own text. The packets have 63 and 47 bytes with their LF; one more read finds the end of input, and behind the line that
-    // ends the command nothing is read.
-    for (script, reads, status, text, unwritten) in [
-        (whole.as_str(), 111, 0, "ok 2 packets 2 frames\n", 4),
-        (refused.as_str(), 126, 8, "line 2 sequence 65535 65535\n", 8),
-        (bad.as_str(), 67, 5, "line 2\n", 5),
-    ] {
-        // The n-th read fails: nothing was written before.
-        for n in 0..=reads {
-            let (got, written, unread) = command_by_bytes(alloc, "check", script, &[n], &[])?;
-            let (wanted, all) = if n < reads { (3, "") } else { (status, text) };
-            assert_eq!(rt; got, wanted, "read {n} of {script}");
-            assert_eq!(rt; written.as_slice(), all.as_bytes(), "read {n} of {script}");
-            assert_eq!(rt; unread, n == reads, "read {n} of {script}");
-        }
-        // The n-th write fails: there is one.
-        for (n, wanted, all) in [(0, unwritten, ""), (1, status, text)] {
-            let (got, written, _) = command_by_bytes(alloc, "check", script, &[], &[n])?;
-            assert_eq!(rt; got, wanted, "write {n} of {script}");
-            assert_eq!(rt; written.as_slice(), all.as_bytes(), "write {n} of {script}");
-        }
     }
     Ok(())
 }

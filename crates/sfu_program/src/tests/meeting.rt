@@ -127,15 +127,7 @@ fn two_sessions_are_at_work_at_the_same_time(rt: HostRuntime) -> Result<(), Fail
         back_count: 0,
         faults: 0,
     };
-    let (status, written) = served(
-        &rt,
-        rt.alloc(),
-        "1",
-        CONFIGURATION.as_bytes(),
-        &mut ports,
-        &[],
-        &[],
-    )?;
+    let (status, written) = served(&rt, rt.alloc(), "1", CONFIGURATION.as_bytes(), &mut ports)?;
     assert_eq!(rt;
         written.as_slice(),
         b"ok\nok\nsession 1 all\nsession 2 all\n".as_slice()

@@ -1,12 +1,12 @@
-// The command `record` over sources and sinks in memory: packets with the file that is made of them, and each fault of the outside.
-use super::check::{BEGUN, KEY, NEXT, command, command_by_bytes};
+// The command `record` over sources and sinks in memory: packets with the file that is made of them.
+use super::check::{BEGUN, KEY, NEXT, command};
 use std::test::Fail;
 
 // The key frame with an element whose forbidden bit is set.
-const FORBIDDEN: &str = "90e0ffff0000000022222222bede000348c00001c0003a410140000018b000\n";
+pub const FORBIDDEN: &str = "90e0ffff0000000022222222bede000348c00001c0003a410140000018b000\n";
 
 // The file of the key frame and the next, and of none.
-const FILE: &[u8] =
+pub const FILE: &[u8] =
     b"DKIF\0\0\x20\0AV01\0\0\0\0\x90\x5f\x01\0\x01\0\0\0\x01\0\0\0\0\0\0\0\x08\0\0\0\0\0\0\0\0\0\0\0\x12\0\x32\x01\0\x32\x01\0";
 
 const NO_FRAMES: &[u8] = b"DKIF\0\0\x20\0AV01\0\0\0\0\x90\x5f\x01\0\x01\0\0\0\0\0\0\0\0\0\0\0";
@@ -40,49 +40,6 @@ fn packets_are_recorded_or_complained_of(rt: HostRuntime) -> Result<(), Fail> {
         let (got, written) = command(alloc, "record", "4", script.as_str())?;
         assert_eq!(rt; got, status, "{script}");
         assert_eq!(rt; written.as_slice(), text, "{script}");
-    }
-    Ok(())
-}
-
-#[test]
-fn each_fault_of_the_outside_ends_the_recording(rt: HostRuntime) -> Result<(), Fail> {
-    let alloc = rt.alloc();
-    let whole = format!(in alloc; "{KEY}{NEXT}")?;
-    let unsound = format!(in alloc; "{FORBIDDEN}{NEXT}")?;
-    let refused = format!(in alloc; "{KEY}{KEY}{NEXT}")?;
-    let bad = format!(in alloc; "{KEY}80 \n{NEXT}")?;
-    // Byte by byte. The reads, the status where none fails, what is written, and the status where the sink fails in it.
-    let rows: [(&str, u64, u8, &[u8], u8); 4] = [
-        (whole.as_str(), 111, 0, FILE, 4),
-        (unsound.as_str(), 63, 10, b"line 1 obu\n", 10),
-        (
-            refused.as_str(),
-            126,
-            8,
-            b"line 2 sequence 65535 65535\n",
-            8,
-        ),
-        (bad.as_str(), 67, 5, b"line 2\n", 5),
-    ];
-    for (script, reads, status, text, unwritten) in rows {
-        // The n-th read fails: nothing was written before.
-        for n in 0..=reads {
-            let (got, written, unread) = command_by_bytes(alloc, "record", script, &[n], &[])?;
-            let (wanted, all) = if n < reads {
-                (3, b"".as_slice())
-            } else {
-                (status, text)
-            };
-            assert_eq!(rt; got, wanted, "read {n} of {script}");
-            assert_eq!(rt; written.as_slice(), all, "read {n} of {script}");
-            assert_eq!(rt; unread, n == reads, "read {n} of {script}");
-        }
-        // The n-th write fails: there is one.
-        for (n, wanted, all) in [(0, unwritten, b"".as_slice()), (1, status, text)] {
-            let (got, written, _) = command_by_bytes(alloc, "record", script, &[], &[n])?;
-            assert_eq!(rt; got, wanted, "write {n} of {script}");
-            assert_eq!(rt; written.as_slice(), all, "write {n} of {script}");
-        }
     }
     Ok(())
 }

@@ -1,5 +1,6 @@
 // Scripts of records, and the command that writes them.
-use super::run::{ByteSource, words};
+use super::faults::ByteSource;
+use super::run::words;
 use crate::alone::sfu_alone;
 use sfu_base::{MemSink, MemSource};
 use std::alloc::{AllocError, Global};

@@ -1,6 +1,7 @@
-// The top call over sources and sinks in memory: scripts with their replies and statuses, and each fault of the outside.
+// The top call over sources and sinks in memory: scripts with their replies and statuses.
+use super::faults::ByteSource;
 use crate::alone::sfu_alone;
-use sfu_base::{CalmSink, CalmSource, Failed, MemSink, MemSource, Source};
+use sfu_base::{Failed, MemSink, MemSource, Source};
 use std::alloc::{AllocError, Global};
 use std::test::Fail;
 
@@ -9,29 +10,8 @@ const FIRST: &str =
 
 const FIRST_REPLIES: &str = "ok\nok\nempty\nok\n";
 
-// The texts of `FIRST`, one for each line, and the last text where its next line is outside the grammar.
-const TEXTS: [&str; 5] = ["ok\n", "ok\n", "empty\n", "ok\n", "line 5\n"];
-
-const USAGE: &str = "usage: run, together, trial, check, record, serve, convert, simulcast, help\n";
-
-/// Gives a script byte by byte.
-#[derive(Drop)]
-pub struct ByteSource {
-    pub inner: MemSource,
-}
-
-impl Source for ByteSource {
-    ghost left = { λ s. ⟦<MemSource as Source>⟧.left s.inner };
-
-    ghost faults = { λ s. ⟦<MemSource as Source>⟧.faults s.inner };
-
-    fn read(&mut self, buf: &mut [u8]) -> Result<usize, Failed> {
-        if buf.is_empty() {
-            return Ok(0);
-        }
-        self.inner.read(&mut buf[..1])
-    }
-}
+pub const USAGE: &str =
+    "usage: run, together, trial, check, record, serve, convert, simulcast, cascade, help\n";
 
 /// Words of these texts.
 pub fn words(alloc: Global, texts: &[&str]) -> Result<Vec<String>, AllocError> {
@@ -49,40 +29,6 @@ fn run(alloc: Global, script: &str) -> Result<(u8, Vec<u8>), AllocError> {
     let mut sink = MemSink::new(alloc, Vec::new(alloc));
     let status = sfu_alone(alloc, words.as_slice(), &mut source, &mut sink);
     Ok((status, sink.written().to_vec(alloc)?))
-}
-
-// The first of the texts, so many of them.
-fn first_texts(alloc: Global, count: usize) -> Result<String, AllocError> {
-    let mut all = String::new(alloc);
-    for text in TEXTS.iter().take(count) {
-        all.push_str(text)?;
-    }
-    Ok(all)
-}
-
-// How many lines end in the first bytes of a script.
-fn line_ends(script: &str, count: usize) -> usize {
-    script
-        .bytes()
-        .take(count)
-        .filter(|byte| *byte == b'\n')
-        .count()
-}
-
-// The status of a script that comes byte by byte, where these reads and writes fail; what was written; and whether the next read fails.
-fn run_bytes(
-    alloc: Global,
-    script: &str,
-    read_fails: &[u64],
-    write_fails: &[u64],
-) -> Result<(u8, Vec<u8>, bool), AllocError> {
-    let words = words(alloc, &["run"])?;
-    let inner = MemSource::new(script.as_bytes().to_vec(alloc)?, read_fails.to_vec(alloc)?);
-    let mut source = ByteSource { inner };
-    let mut sink = MemSink::new(alloc, write_fails.to_vec(alloc)?);
-    let status = sfu_alone(alloc, words.as_slice(), &mut source, &mut sink);
-    let fails = source.read(&mut [0u8; 1]).is_err();
-    Ok((status, sink.written().to_vec(alloc)?, fails))
 }
 
 #[test]
@@ -248,62 +194,29 @@ fn other_words_get_the_usage_line(rt: HostRuntime) -> Result<(), Fail> {
 }
 
 #[test]
-fn help_writes_the_usage_line(rt: HostRuntime) -> Result<(), Fail> {
+fn hostile_packets_and_lines_are_refused(rt: HostRuntime) -> Result<(), Fail> {
     let alloc = rt.alloc();
-    let words = words(alloc, &["help"])?;
-    for (write_fails, status, text) in [([].as_slice(), 0, USAGE), (&[0], 4, "")] {
-        let mut source = MemSource::new(FIRST.as_bytes().to_vec(alloc)?, [0u64].to_vec(alloc)?);
-        let mut sink = MemSink::new(alloc, write_fails.to_vec(alloc)?);
-        assert_eq!(rt;
-            sfu_alone(alloc, words.as_slice(), &mut source, &mut sink),
-            status
-        );
-        assert_eq!(rt; sink.written(), text.as_bytes());
-        // Nothing was read: the first read is still to come, and fails.
-        assert_eq!(rt; source.read(&mut [0u8; 8]), Err(Failed));
+    for (packet, fault) in [
+        ("8f6000010000000011111111", "csrc"),
+        ("906000010000000011111111bede0001", "extension"),
+        ("a0600001000000001111111100", "padding"),
+        ("a06000010000000011111111", "padding"),
+    ] {
+        let script = format!(in alloc;
+            "publish 1 plain 11111111 100\npacket 1 0 {packet}\nmissing 1\n"
+        )?;
+        let wanted = format!(in alloc; "ok\nrefused unreadable {fault}\nmissing\n")?;
+        let (got, written) = run(alloc, script.as_str())?;
+        assert_eq!(rt; got, 0, "{packet}");
+        assert_eq!(rt; written.as_slice(), wanted.as_bytes(), "{packet}");
     }
-    Ok(())
-}
-
-#[test]
-fn each_fault_of_the_outside_ends_the_run(rt: HostRuntime) -> Result<(), Fail> {
-    let alloc = rt.alloc();
-    let bad = format!(in alloc; "{FIRST}take 01\ntake 1\n")?;
-    // Byte by byte, so that each line is written by itself. The reads, the writes and the status where none fails: the script without a
-    // bad line has 100 bytes, and one more read finds its end; behind the eight bytes of the bad line nothing is read or written.
-    for (script, reads, writes, status) in [(FIRST, 101, 4, 0), (bad.as_str(), 108, 5, 5)] {
-        // The n-th read fails: the texts of the lines that ended before it were written.
-        for n in 0..=reads {
-            let (got, written, unread) = run_bytes(alloc, script, &[n], &[])?;
-            let wanted = first_texts(alloc, line_ends(script, n as usize))?;
-            assert_eq!(rt;
-                got,
-                if n < reads { 3 } else { status },
-                "read {n} of {script}"
-            );
-            assert_eq!(rt;
-                written.as_slice(),
-                wanted.as_bytes(),
-                "read {n} of {script}"
-            );
-            assert_eq!(rt; unread, n == reads, "read {n} of {script}");
-        }
-        // The n-th write fails: the texts before were written. In the last text, the fifth, this leaves the status as it is.
-        for n in 0..=writes {
-            let (got, written, _) = run_bytes(alloc, script, &[], &[n])?;
-            let wanted = first_texts(alloc, n as usize)?;
-            assert_eq!(rt;
-                got,
-                if n < 4 { 4 } else { status },
-                "write {n} of {script}"
-            );
-            assert_eq!(rt;
-                written.as_slice(),
-                wanted.as_bytes(),
-                "write {n} of {script}"
-            );
-        }
+    // A line of 4,201 bytes.
+    let mut line = String::new(alloc);
+    for _ in 0..4201 {
+        line.push('a')?;
     }
+    let (got, written) = run(alloc, line.as_str())?;
+    assert_eq!(rt; (got, written.as_slice()), (5, b"line 1\n".as_slice()));
     Ok(())
 }
 
@@ -354,13 +267,6 @@ fn pieces_of_any_size_make_the_same_lines(rt: HostRuntime) -> Result<(), Fail> {
     );
     let wanted = format!(in alloc; "{FIRST_REPLIES}packet 806000070000000022222222aabb\nline 7\n")?;
     assert_eq!(rt; sink.written(), wanted.as_bytes());
-    // The calm forms never fail.
-    let mut source = CalmSource::new(text.as_bytes().to_vec(alloc)?);
-    let mut sink = CalmSink::new();
-    assert_eq!(rt;
-        sfu_alone(alloc, run_word.as_slice(), &mut source, &mut sink),
-        5
-    );
     // A comment has at most 4,200 bytes too.
     let mut line = [b'#'].to_vec(alloc)?;
     for _ in 1..4200 {

@@ -3,7 +3,7 @@ ghost use Rattle.std.specs.Prelude.{◌≡◌, All, IfOk};
 ghost use Rattle.sfu_base.specs.Links.{IsFresh};
 
 use crate::sfu::sfu;
-use sfu_base::{CalmPorts, MemLink, MemPorts, MemSink, MemSource, Ports, StepClock};
+use sfu_base::{CalmPorts, MemLink, MemPorts, MemSink, MemSource, PacketBuf, Ports, StepClock};
 use std::alloc::{AllocError, Global};
 use std::sync::Wait;
 use std::test::Fail;
@@ -13,23 +13,21 @@ use std::thread::Threads;
 pub const CONFIGURATION: &str =
     "publish 1 plain 11111111 100\njoin 1 1 22222222 7 0 0\nport 127.0.0.1:5000 127.0.0.1:6000 publisher 1 11111111\nport 127.0.0.1:5001 127.0.0.1:6001 subscriber 1 22222222\n";
 
-// A controller's port more.
-const WITH_CONTROL: &str =
-    "publish 1 plain 11111111 100\njoin 1 1 22222222 7 0 0\nport 127.0.0.1:5000 127.0.0.1:6000 publisher 1 11111111\nport 127.0.0.1:5001 127.0.0.1:6001 subscriber 1 22222222\nport 127.0.0.1:5002 127.0.0.1:6002 control\n";
+// The subscriber's resends go out on a stream of their own.
+const WITH_RTX: &str =
+    "publish 1 plain 11111111 100\njoin 1 1 22222222 7 0 0\nport 127.0.0.1:5000 127.0.0.1:6000 publisher 1 11111111\nport 127.0.0.1:5001 127.0.0.1:6001 rtx 1 22222222 33333333 97\n";
 
 const REPLIES: &str = "ok\nok\n";
 
 const ALL: &str = "ok\nok\nsession 1 all\nsession 2 all\n";
 
-// The status and what was written, where these reads and writes fail.
+/// The status and what was written, by a clock of 20 milliseconds a look.
 pub fn served<W: Threads + Wait + Sync, P: Ports>(
     rt: &W,
     alloc: Global,
     turns: &str,
     configuration: &[u8],
     ports: &mut P,
-    reads: &[u64],
-    writes: &[u64],
 ) -> Result<(u8, Vec<u8>), AllocError>
     requires unbound { P.bound ports.old ≡ 0 }
 {
@@ -37,22 +35,35 @@ pub fn served<W: Threads + Wait + Sync, P: Ports>(
         String::from_str(alloc, "serve")?,
         String::from_str(alloc, turns)?,
     ];
-    let mut source = MemSource::new(configuration.to_vec(alloc)?, reads.to_vec(alloc)?);
-    let mut sink = MemSink::new(alloc, writes.to_vec(alloc)?);
-    let clock = StepClock::new(0, 1);
+    let mut source = MemSource::new(configuration.to_vec(alloc)?, Vec::new(alloc));
+    let mut sink = MemSink::new(alloc, Vec::new(alloc));
+    let clock = StepClock::new(0, 20);
     let status = sfu(rt, alloc, &words, &mut source, &mut sink, ports, &clock);
     Ok((status, sink.written().to_vec(alloc)?))
 }
 
-// A link that brings nothing and fails at these receives.
-fn failing(alloc: Global, receives: &[u64]) -> Result<MemLink, AllocError>
+// A link that brings these datagrams and fails at these receives and sends.
+fn link(
+    alloc: Global,
+    datagrams: &[&[u8]],
+    receives: &[u64],
+    sends: &[u64],
+) -> Result<MemLink, AllocError>
     ensures { IfOk result IsFresh }
 {
+    let mut prepared = Vec::new(alloc);
+    for bytes in datagrams {
+        let mut datagram = PacketBuf::new();
+        if bytes.len() <= 2048 {
+            datagram.fill(bytes);
+        }
+        prepared.push(datagram)?;
+    }
     Ok(MemLink::new(
         alloc,
-        Vec::new(alloc),
+        prepared,
         receives.to_vec(alloc)?,
-        Vec::new(alloc),
+        sends.to_vec(alloc)?,
     ))
 }
 
@@ -61,9 +72,9 @@ fn links(alloc: Global, place: u64, turn: u64) -> Result<Vec<MemLink>, AllocErro
     ensures { IfOk result (λ links. All IsFresh links.items) }
 {
     let (first, second) = if place == 0 {
-        (failing(alloc, &[turn])?, failing(alloc, &[])?)
+        (link(alloc, &[], &[turn], &[])?, link(alloc, &[], &[], &[])?)
     } else {
-        (failing(alloc, &[])?, failing(alloc, &[turn])?)
+        (link(alloc, &[], &[], &[])?, link(alloc, &[], &[turn], &[])?)
     };
     let mut links = Vec::new(alloc);
     links.push(first)?;
@@ -74,17 +85,15 @@ fn links(alloc: Global, place: u64, turn: u64) -> Result<Vec<MemLink>, AllocErro
 #[test]
 fn sessions_over_calm_ports_make_all_their_turns(rt: HostRuntime) -> Result<(), Fail> {
     let alloc = rt.alloc();
-    for turns in ["1", "20"] {
+    let rows = [
+        ("1", CONFIGURATION),
+        ("20", CONFIGURATION),
+        ("1", WITH_RTX),
+        ("20", WITH_RTX),
+    ];
+    for (turns, configuration) in rows {
         let mut ports = CalmPorts::new(alloc)?;
-        let (status, written) = served(
-            &rt,
-            alloc,
-            turns,
-            CONFIGURATION.as_bytes(),
-            &mut ports,
-            &[],
-            &[],
-        )?;
+        let (status, written) = served(&rt, alloc, turns, configuration.as_bytes(), &mut ports)?;
         assert_eq!(rt; written.as_slice(), ALL.as_bytes());
         assert_eq!(rt; status, 0);
     }
@@ -102,15 +111,7 @@ fn a_failed_receive_ends_its_session_alone(rt: HostRuntime) -> Result<(), Fail> 
     ];
     for (place, turn, text) in rows {
         let mut ports = MemPorts::new(alloc, links(alloc, place, turn)?, Vec::new(alloc))?;
-        let (status, written) = served(
-            &rt,
-            alloc,
-            "3",
-            CONFIGURATION.as_bytes(),
-            &mut ports,
-            &[],
-            &[],
-        )?;
+        let (status, written) = served(&rt, alloc, "3", CONFIGURATION.as_bytes(), &mut ports)?;
         assert_eq!(rt; written.as_slice(), text.as_bytes());
         assert_eq!(rt; status, 7);
         assert_eq!(rt; ports.returned().len(), 2);
@@ -120,78 +121,110 @@ fn a_failed_receive_ends_its_session_alone(rt: HostRuntime) -> Result<(), Fail> 
     Ok(())
 }
 
+// A publisher's port of a plain track, that of a layered track with a subscriber, and a controller's.
+const OF_PLAIN: &str =
+    "publish 1 plain 11111111 100\nport 127.0.0.1:5000 127.0.0.1:6000 publisher 1 11111111\n";
+
+const OF_LAYERED: &str =
+    "publish 1 layered 11111111 100 4\njoin 1 1 22222222 65535 0 0\nport 127.0.0.1:5000 127.0.0.1:6000 publisher 1 11111111\n";
+
+const OF_CONTROL: &str = "port 127.0.0.1:5002 127.0.0.1:6002 control\n";
+
+// RTP packets with the numbers 1000 and 1002 (RFC 3550, section 5.1).
+const TWO: [&[u8]; 2] = [
+    b"\x80\x60\x03\xe8\0\0\0\0\x11\x11\x11\x11\xaa\xbb",
+    b"\x80\x60\x03\xea\0\0\0\0\x11\x11\x11\x11\xaa\xbb",
+];
+
+// One generic NACK of 1001 (RFC 4585, section 6.2.1), and one picture loss indication (section 6.3.1).
+const NACK: &[u8] = b"\x81\xcd\0\x03\0\0\0\x01\x11\x11\x11\x11\x03\xe9\0\0";
+
+const PLI: &[u8] = b"\x81\xce\0\x02\0\0\0\x01\x11\x11\x11\x11";
+
 #[test]
-fn a_failed_bind_starts_no_session_and_gives_the_ports_back(rt: HostRuntime) -> Result<(), Fail> {
+fn each_receive_and_each_send_of_a_session_fails_in_turn(rt: HostRuntime) -> Result<(), Fail> {
     let alloc = rt.alloc();
-    for place in 0..4 {
-        let mut fails = Vec::new(alloc);
-        fails.push(place)?;
-        let mut ports = MemPorts::new(alloc, Vec::new(alloc), fails)?;
-        let (status, written) = served(
-            &rt,
-            alloc,
+    // The configuration, the turns, what comes, what is sent where nothing fails, the replies, and the turn of the one send.
+    let rows: [(&str, &str, u64, &[&[u8]], &[u8], &str, u64); 3] = [
+        (OF_PLAIN, "2", 2, &TWO, NACK, "ok\n", 1),
+        (OF_LAYERED, "1", 1, &[], PLI, "ok\nok\n", 0),
+        (
+            OF_CONTROL,
             "1",
-            WITH_CONTROL.as_bytes(),
-            &mut ports,
-            &[],
-            &[],
-        )?;
-        if place < 3 {
-            assert_eq!(rt; written.as_slice(), REPLIES.as_bytes());
-            assert_eq!(rt; status, 7);
-            assert_eq!(rt; ports.returned().len() as u64, place);
-        } else {
-            assert_eq!(rt; (status, ports.returned().len()), (0, 3));
+            1,
+            &[b"packet 1 0 80"],
+            b"fault line",
+            "",
+            0,
+        ),
+    ];
+    for (configuration, turns, receives, datagrams, sent, replies, sends_in) in rows {
+        // Each receive fails, then the send, and then nothing.
+        for place in 0..=receives + 1 {
+            let (failing, turn): (&[u64], u64) = if place == receives {
+                (&[0], sends_in)
+            } else {
+                (&[], place)
+            };
+            let link = link(alloc, datagrams, &[place], failing)?;
+            let mut links = Vec::new(alloc);
+            links.push(link)?;
+            let mut ports = MemPorts::new(alloc, links, Vec::new(alloc))?;
+            let (status, written) = served(
+                &rt,
+                alloc,
+                turns,
+                configuration.as_bytes(),
+                &mut ports,
+            )?;
+            let all = place > receives;
+            let end = if all {
+                format!(in alloc; "all")?
+            } else {
+                format!(in alloc; "fault {turn}")?
+            };
+            let text = format!(in alloc; "{replies}session 1 {end}\n")?;
+            assert_eq!(rt; written.as_slice(), text.as_bytes());
+            assert_eq!(rt; status, if all { 0 } else { 7 });
+            let back = ports.returned();
+            assert_eq!(rt; back.len(), 1);
+            assert_eq!(rt; back[0].sent().len(), if all { 1 } else { 0 });
+            for datagram in back[0].sent() {
+                assert_eq!(rt; datagram.bytes(), sent);
+            }
         }
     }
     Ok(())
 }
 
 #[test]
-fn each_failed_write_ends_the_command_with_a_front_of_its_text(
-    rt: HostRuntime,
-) -> Result<(), Fail> {
+fn a_failed_bind_starts_no_session_and_gives_the_ports_back(rt: HostRuntime) -> Result<(), Fail> {
     let alloc = rt.alloc();
-    for place in 0..64 {
-        let mut ports = CalmPorts::new(alloc)?;
-        let (status, written) = served(
-            &rt,
-            alloc,
-            "1",
-            CONFIGURATION.as_bytes(),
-            &mut ports,
-            &[],
-            &[place],
-        )?;
-        if status == 0 {
-            assert!(rt; place > 1, "no write failed");
-            assert_eq!(rt; written.as_slice(), ALL.as_bytes());
-            return Ok(());
+    for place in 0..3 {
+        let mut fails = Vec::new(alloc);
+        fails.push(place)?;
+        let mut ports = MemPorts::new(alloc, Vec::new(alloc), fails)?;
+        let (status, written) = served(&rt, alloc, "1", CONFIGURATION.as_bytes(), &mut ports)?;
+        if place < 2 {
+            assert_eq!(rt; written.as_slice(), REPLIES.as_bytes());
+            assert_eq!(rt; status, 7);
+            assert_eq!(rt; ports.returned().len() as u64, place);
+        } else {
+            assert_eq!(rt; (status, ports.returned().len()), (0, 2));
         }
-        assert_eq!(rt; status, 4);
-        assert!(rt; written.len() < ALL.len());
-        assert!(rt; ALL.as_bytes().starts_with(written.as_slice()));
     }
-    panic!(rt; "each write failed")
+    Ok(())
 }
 
 #[test]
-fn a_failed_read_and_a_line_outside_the_grammar_bind_no_port(rt: HostRuntime) -> Result<(), Fail> {
+fn a_line_outside_the_grammar_binds_no_port(rt: HostRuntime) -> Result<(), Fail> {
     let alloc = rt.alloc();
-    let mut ports = MemPorts::new(alloc, Vec::new(alloc), Vec::new(alloc))?;
-    let (status, written) = served(
-        &rt,
-        alloc,
-        "1",
-        CONFIGURATION.as_bytes(),
-        &mut ports,
-        &[0],
-        &[],
-    )?;
-    assert_eq!(rt; (status, written.len()), (3, 0));
-    assert_eq!(rt; ports.returned().len(), 0);
-    let rows: [(&str, &str); 4] = [
+    let rows: [(&str, &str); 5] = [
         ("take 1\n", "line 1\n"),
+        (
+            "port 127.0.0.1:5000 127.0.0.1:6000 rtx 1 22222222 33333333 64\n",
+            "line 1\n",
+        ),
         (
             "publish 1 plain 11111111 100\nport 127.0.0.1:5000\n",
             "line 2\n",
@@ -201,15 +234,7 @@ fn a_failed_read_and_a_line_outside_the_grammar_bind_no_port(rt: HostRuntime) ->
     ];
     for (configuration, text) in rows {
         let mut ports = MemPorts::new(alloc, Vec::new(alloc), Vec::new(alloc))?;
-        let (status, written) = served(
-            &rt,
-            alloc,
-            "1",
-            configuration.as_bytes(),
-            &mut ports,
-            &[],
-            &[],
-        )?;
+        let (status, written) = served(&rt, alloc, "1", configuration.as_bytes(), &mut ports)?;
         assert_eq!(rt; written.as_slice(), text.as_bytes());
         assert_eq!(rt; status, 5);
         assert_eq!(rt; ports.returned().len(), 0);
@@ -230,15 +255,7 @@ fn a_configuration_may_have_no_calls_and_no_ports(rt: HostRuntime) -> Result<(),
     ];
     for (configuration, text) in rows {
         let mut ports = CalmPorts::new(alloc)?;
-        let (status, written) = served(
-            &rt,
-            alloc,
-            "2",
-            configuration.as_bytes(),
-            &mut ports,
-            &[],
-            &[],
-        )?;
+        let (status, written) = served(&rt, alloc, "2", configuration.as_bytes(), &mut ports)?;
         assert_eq!(rt; written.as_slice(), text.as_bytes());
         assert_eq!(rt; status, 0);
     }

@@ -1,6 +1,7 @@
-// The command `trial`: its summary, its words, and each write of its sink that fails.
+// The command `trial`: its summary and its words.
+use super::run::USAGE;
 use crate::alone::sfu_alone;
-use sfu_base::{Failed, MemSink, MemSource, Sink, Source};
+use sfu_base::{Failed, MemSink, MemSource, Source};
 use std::alloc::{AllocError, Global};
 use std::test::Fail;
 
@@ -10,7 +11,7 @@ const THOUSAND: &str = "made 1000 frames 1520 packets\nlost 0 repeated 0 swapped
     subscriber 3 frames 250 packets 270 complaints 0\n";
 
 // One key unit: three packets of the lower frame, two of the upper one.
-const ONE_UNIT: &str = "made 2 frames 5 packets\nlost 0 repeated 0 swapped 0\n\
+pub const ONE_UNIT: &str = "made 2 frames 5 packets\nlost 0 repeated 0 swapped 0\n\
     subscriber 1 frames 2 packets 5 complaints 0\nsubscriber 2 frames 2 packets 5 complaints 0\n\
     subscriber 3 frames 1 packets 3 complaints 0\n";
 
@@ -22,27 +23,6 @@ const SOME_LOST: &str = "made 401 frames 611 packets\nlost 23 repeated 11 swappe
 const MANY_LOST: &str = "made 203 frames 310 packets\nlost 52 repeated 51 swapped 39\n\
     subscriber 1 frames 12 packets 21 complaints 0\nsubscriber 2 frames 9 packets 17 complaints 0\n\
     subscriber 3 frames 5 packets 9 complaints 0\n";
-
-const USAGE: &str = "usage: run, together, trial, check, record, serve, convert, simulcast, help\n";
-
-// Takes a text byte by byte.
-#[derive(Drop)]
-struct ByteSink {
-    inner: MemSink,
-}
-
-impl Sink for ByteSink {
-    ghost written = { λ s. ⟦<MemSink as Sink>⟧.written s.inner };
-
-    ghost faults = { λ s. ⟦<MemSink as Sink>⟧.faults s.inner };
-
-    fn write(&mut self, bytes: &[u8]) -> Result<usize, Failed> {
-        if bytes.is_empty() {
-            return Ok(0);
-        }
-        self.inner.write(&bytes[..1])
-    }
-}
 
 // The words, at a source whose first read fails.
 fn at_words(alloc: Global, texts: &[&str]) -> Result<(Vec<String>, MemSource), AllocError> {
@@ -113,20 +93,5 @@ fn words_out_of_range_are_no_trial(rt: HostRuntime) -> Result<(), Fail> {
         0
     );
     assert!(rt; sink.written().starts_with(b"made 1 frames 3 packets\n"));
-    Ok(())
-}
-
-#[test]
-fn each_write_of_a_trial_may_fail(rt: HostRuntime) -> Result<(), Fail> {
-    let alloc = rt.alloc();
-    let (words, mut source) = at_words(alloc, &["trial", "2", "7", "0"])?;
-    let text = ONE_UNIT.as_bytes();
-    for n in 0..=text.len() {
-        let inner = MemSink::new(alloc, [n as u64].to_vec(alloc)?);
-        let mut sink = ByteSink { inner };
-        let status = sfu_alone(alloc, words.as_slice(), &mut source, &mut sink);
-        assert_eq!(rt; status, if n < text.len() { 4 } else { 0 }, "write {n}");
-        assert_eq!(rt; sink.inner.written(), &text[..n], "write {n}");
-    }
     Ok(())
 }

@@ -24,9 +24,9 @@ returns-in-Lines-clause-runs g c =
     let left = g.S.Source.left c.args.source.now in
     let piece = take c.in-Ok.first c.read.new.buf in
     let is : form_of piece ≡ Lines = search rules in
-    runs_in Lines left (g.S.Source.left c.run_lines.new.source) (g.K.Sink.written c.args.sink.now) (g.K.Sink.written c.run_lines.new.sink) (g.S.Source.faults c.args.source.now) (g.S.Source.faults c.run_lines.new.source)
+    runs_in Lines piece left (g.S.Source.left c.run_lines.new.source) (g.K.Sink.written c.args.sink.now) (g.K.Sink.written c.run_lines.new.sink) (g.S.Source.faults c.args.source.now) (g.S.Source.faults c.run_lines.new.source)
     (g.K.Sink.faults c.args.sink.now) (g.K.Sink.faults c.run_lines.new.sink) (number_of c.run_lines.result)
-    (form_known Lines piece left (g.S.Source.left c.read.new.self) is c.in-Ok.ensures.bytes.0 (λ none. search (rules, arith)))
+    is (form_known Lines piece left (g.S.Source.left c.read.new.self) is c.in-Ok.ensures.bytes.0 (λ none. search (rules, arith)))
     (c.run_lines.ensures left (g.S.Source.faults c.args.source.now) c.in-Ok.ensures.bytes.0 c.in-Ok.ensures.cause.never_falls)
 
 pub returns-in-Lines-clause-headline : goal.returns-in-Lines-clause-headline
@@ -40,9 +40,9 @@ returns-in-Records-clause-runs g c =
     let left = g.S.Source.left c.args.source.now in
     let piece = take c.in-Ok.first c.read.new.buf in
     let is : form_of piece ≡ Records = search rules in
-    runs_in Records left (g.S.Source.left c.run_records.new.source) (g.K.Sink.written c.args.sink.now) (g.K.Sink.written c.run_records.new.sink) (g.S.Source.faults c.args.source.now) (g.S.Source.faults c.run_records.new.source)
+    runs_in Records piece left (g.S.Source.left c.run_records.new.source) (g.K.Sink.written c.args.sink.now) (g.K.Sink.written c.run_records.new.sink) (g.S.Source.faults c.args.source.now) (g.S.Source.faults c.run_records.new.source)
     (g.K.Sink.faults c.args.sink.now) (g.K.Sink.faults c.run_records.new.sink) (number_of c.run_records.result)
-    (form_known Records piece left (g.S.Source.left c.read.new.self) is c.in-Ok.ensures.bytes.0 (λ none. search (rules, arith)))
+    is (form_known Records piece left (g.S.Source.left c.read.new.self) is c.in-Ok.ensures.bytes.0 (λ none. search (rules, arith)))
     (c.run_records.ensures left (g.S.Source.faults c.args.source.now) c.in-Ok.ensures.bytes.0 c.in-Ok.ensures.cause.never_falls)
 
 pub returns-in-Records-clause-headline : goal.returns-in-Records-clause-headline

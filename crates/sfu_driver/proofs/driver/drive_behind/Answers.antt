@@ -1,28 +1,56 @@
-use Rattle.std.proofs.Common.{subst, sym, Result}
+use Rattle.std.proofs.Common.{subst, sym, take, Result}
 use Rattle.sfu_driver.specs.declared.halt.Interruption.{Interruption}
-use Rattle.sfu_driver.specs.Drive.{Drove}
+use Rattle.sfu_driver.specs.Drive.{DroveBehind, Starves}
 use Rattle.sfu_driver.proofs.Results.{err_of}
 use Rattle.sfu_driver.specs.Point.{byte, ends}
-use Rattle.sfu_driver.specs.Units.{JudgeStands, StandsAt, rule_of}
-use Rattle.sfu_driver.proofs.Driving.{drove_ended, drove_took}
+use Rattle.sfu_driver.specs.Units.{IsAtUnit, JudgeStands, StandsAt, rule_of}
+use Rattle.sfu_driver.proofs.Driving.{drove_ended, drove_took, starves_ended, starves_took}
 use Rattle.sfu_driver.proofs.driver.drive_behind.Goals as goal
 
 pub returns-clause-drove : goal.returns-clause-drove
 returns-clause-drove g c left point from stand =
     let rule = rule_of g.C.Cut.scan g.C.Cut.scan_end g.J.Judge.step g.J.Judge.outside g.J.Judge.closing in
-    drove_ended (StandsAt g.J.Judge.stands) (JudgeStands g.J.Judge.stands) (byte rule) (ends rule) c.args.units.now c.take_all.new.units c.finish.new.units
+    let took = c.in_ok-take_all.ensures.took left from in record {
+      drove = drove_ended IsAtUnit (StandsAt g.J.Judge.stands) (JudgeStands g.J.Judge.stands) (byte rule) (ends rule) c.args.units.now c.take_all.new.units c.finish.new.units
     c.new-ready.result c.take_all.new.ready left (g.S.Source.left c.take_all.new.source)
     (g.K.Sink.written c.args.sink.now) (g.K.Sink.written c.take_all.new.sink) (g.K.Sink.written c.finish.new.sink)
     (g.K.Sink.faults c.args.sink.now) (g.K.Sink.faults c.take_all.new.sink) (g.K.Sink.faults c.finish.new.sink) c.finish.result
-    c.take_all.ensures.never_falls c.new-ready.ensures (c.in_ok-take_all.ensures.took left from) c.in_ok-take_all.ensures.written c.in_ok-take_all.ensures.end c.finish.ensures.ends point stand
+    c.take_all.ensures.never_falls c.new-ready.ensures took.took c.in_ok-take_all.ensures.written c.in_ok-take_all.ensures.end c.finish.ensures.ends point stand;
+      begins = took.begins;
+    }
 
 pub returns-in_err-take_all-clause-drove : goal.returns-in_err-take_all-clause-drove
 returns-in_err-take_all-clause-drove g c left point from stand =
     let rule = rule_of g.C.Cut.scan g.C.Cut.scan_end g.J.Judge.step g.J.Judge.outside g.J.Judge.closing in
     let stop = c.in_err-take_all.field-0.0 in
-    subst (λ (r : Result (Unit {0}) Interruption). Drove (JudgeStands g.J.Judge.stands) (byte rule) (ends rule) point c.take_all.new.units left (g.S.Source.left c.take_all.new.source)
+    let took = c.in_err-take_all.ensures.took left from in
+    subst (λ (r : Result (Unit {0}) Interruption). DroveBehind (take c.args.first c.args.piece.now) (JudgeStands g.J.Judge.stands) (byte rule) (ends rule) point c.take_all.new.units left (g.S.Source.left c.take_all.new.source)
     (g.K.Sink.written c.args.sink.now) (g.K.Sink.written c.take_all.new.sink) (g.K.Sink.faults c.args.sink.now) (g.K.Sink.faults c.take_all.new.sink) r) (sym (err_of c.from_residual.result stop c.from_residual.ensures.1))
-    (drove_took (StandsAt g.J.Judge.stands) (JudgeStands g.J.Judge.stands) (byte rule) (ends rule) c.args.units.now c.take_all.new.units c.take_all.new.units
+    (record {
+      drove = drove_took IsAtUnit (StandsAt g.J.Judge.stands) (JudgeStands g.J.Judge.stands) (byte rule) (ends rule) c.args.units.now c.take_all.new.units c.take_all.new.units
     c.new-ready.result c.take_all.new.ready left (g.S.Source.left c.take_all.new.source)
     (g.K.Sink.written c.args.sink.now) (g.K.Sink.written c.take_all.new.sink) (g.K.Sink.faults c.args.sink.now) (g.K.Sink.faults c.take_all.new.sink) stop
-    c.new-ready.ensures (c.in_err-take_all.ensures.took left from) point stand)
+    c.new-ready.ensures took.took point stand;
+      begins = took.begins;
+    })
+
+pub returns-clause-starves : goal.returns-clause-starves
+returns-clause-starves g c left point from stand =
+    let rule = rule_of g.C.Cut.scan g.C.Cut.scan_end g.J.Judge.step g.J.Judge.outside g.J.Judge.closing in
+    let took = c.in_ok-take_all.ensures.took left from in
+    starves_ended IsAtUnit (StandsAt g.J.Judge.stands) (JudgeStands g.J.Judge.stands) (byte rule) (ends rule) c.args.units.now c.take_all.new.units c.finish.new.units
+    c.new-ready.result c.take_all.new.ready left (g.S.Source.left c.take_all.new.source)
+    (g.K.Sink.written c.args.sink.now) (g.K.Sink.written c.take_all.new.sink) (g.K.Sink.written c.finish.new.sink)
+    (g.K.Sink.faults c.args.sink.now) (g.K.Sink.faults c.take_all.new.sink) (g.K.Sink.faults c.finish.new.sink) c.finish.result
+    c.new-ready.ensures took.took c.in_ok-take_all.ensures.written c.finish.ensures.ends point stand
+
+pub returns-in_err-take_all-clause-starves : goal.returns-in_err-take_all-clause-starves
+returns-in_err-take_all-clause-starves g c left point from stand =
+    let rule = rule_of g.C.Cut.scan g.C.Cut.scan_end g.J.Judge.step g.J.Judge.outside g.J.Judge.closing in
+    let stop = c.in_err-take_all.field-0.0 in
+    let took = c.in_err-take_all.ensures.took left from in
+    subst (λ (r : Result (Unit {0}) Interruption). Starves IsAtUnit (byte rule) point c.take_all.new.units left (g.S.Source.left c.take_all.new.source) (g.K.Sink.written c.args.sink.now) (g.K.Sink.written c.take_all.new.sink) r)
+    (sym (err_of c.from_residual.result stop c.from_residual.ensures.1))
+    (starves_took IsAtUnit (StandsAt g.J.Judge.stands) (byte rule) c.args.units.now c.take_all.new.units c.new-ready.result c.take_all.new.ready left (g.S.Source.left c.take_all.new.source)
+    (g.K.Sink.written c.args.sink.now) (g.K.Sink.written c.take_all.new.sink) (g.K.Sink.faults c.args.sink.now) (g.K.Sink.faults c.take_all.new.sink) stop
+    c.new-ready.ensures took.took point stand)

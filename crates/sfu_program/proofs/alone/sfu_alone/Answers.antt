@@ -5,13 +5,14 @@ use Rattle.sfu_driver.specs.Statuses.{number_of}
 use Rattle.sfu_driver.specs.Exchange.{exchange_by}
 use Rattle.stream_maker.specs.Stream.{Stream}
 use Rattle.sfu_commands.specs.declared.words.Command.{Command}
-use Rattle.sfu_commands.specs.declared.words.Command.TheVariants.{Check, Record, Trial}
+use Rattle.sfu_commands.specs.declared.words.Command.TheVariants.{Cascade, Check, Record, Trial}
 use Rattle.sfu_commands.specs.Check.{Checks, IsCheck}
 use Rattle.sfu_commands.specs.Record.{IsRecord, Records}
+use Rattle.cascade.specs.Command.{ShowsCascade}
 use Rattle.sfu_commands.specs.Trial.{ShowsTrial}
 use Rattle.sfu_commands.specs.Words.{Says}
 use Rattle.sfu_commands.proofs.IdWords.{one_id}
-use Rattle.sfu_commands.proofs.TrialNumbers.{same_trial}
+use Rattle.sfu_commands.proofs.StreamNumbers.{same_stream}
 use Rattle.sfu_program.proofs.alone.sfu_alone.Goals as goal
 
 pub returns-in-Some-Check-clause-check : goal.returns-in-Some-Check-clause-check
@@ -30,13 +31,26 @@ returns-in-Some-Trial-clause-trial g c s is = record {
   unread = refl;
   shows = rw c.number-in-Some-Trial.ensures (subst
       (λ (t : Stream). ShowsTrial t (g.K.Sink.written c.args.sink.now) (g.K.Sink.written c.trial.new.sink) (g.K.Sink.faults c.args.sink.now) (g.K.Sink.faults c.trial.new.sink) (number_of c.trial.result))
-      (same_trial (map string_bytes c.args.words.now) (record { frames = c.in-Some-Trial.frames; start = c.in-Some-Trial.start; loss = c.in-Some-Trial.loss }) s
+      (same_stream (codes "trial") (map string_bytes c.args.words.now) (record { frames = c.in-Some-Trial.frames; start = c.in-Some-Trial.start; loss = c.in-Some-Trial.loss }) s
       (subst (λ (k : Command). Says (map string_bytes c.args.words.now) k) c.in-Some-Trial.field-0-is c.in-Some-Trial.ensures) is)
       c.trial.ensures);
 }
 
 pub returns-in-None-clause-trial : goal.returns-in-None-clause-trial
 returns-in-None-clause-trial g c s is = absurd (c.in-None.ensures (Trial s.frames s.start s.loss, is))
+
+pub returns-in-Some-Cascade-clause-cascade : goal.returns-in-Some-Cascade-clause-cascade
+returns-in-Some-Cascade-clause-cascade g c s is = record {
+  unread = refl;
+  shows = rw c.number-in-Some-Cascade.ensures (subst
+      (λ (t : Stream). ShowsCascade t (g.K.Sink.written c.args.sink.now) (g.K.Sink.written c.cascade.new.sink) (g.K.Sink.faults c.args.sink.now) (g.K.Sink.faults c.cascade.new.sink) (number_of c.cascade.result))
+      (same_stream (codes "cascade") (map string_bytes c.args.words.now) (record { frames = c.in-Some-Cascade.frames; start = c.in-Some-Cascade.start; loss = c.in-Some-Cascade.loss }) s
+      (subst (λ (k : Command). Says (map string_bytes c.args.words.now) k) c.in-Some-Cascade.field-0-is c.in-Some-Cascade.ensures) is)
+      c.cascade.ensures);
+}
+
+pub returns-in-None-clause-cascade : goal.returns-in-None-clause-cascade
+returns-in-None-clause-cascade g c s is = absurd (c.in-None.ensures (Cascade s.frames s.start s.loss, is))
 
 pub returns-in-Some-Record-clause-record : goal.returns-in-Some-Record-clause-record
 returns-in-Some-Record-clause-record g c = λ id is.

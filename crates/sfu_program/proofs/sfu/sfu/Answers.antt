@@ -4,7 +4,7 @@ use Rattle.sfu_driver.specs.Exchange.{exchange_by}
 use Rattle.sfu_program.specs.Serve.{Serves}
 use Rattle.sfu_program.specs.ServePorts.{seen_ports}
 use Rattle.std.proofs.lemmas.Bool.{false≢true}
-use Rattle.sfu_program.proofs.TogetherForms.{is_status, not_check, not_convert, not_help, not_record, not_run, not_simulcast, not_trial, not_two}
+use Rattle.sfu_program.proofs.TogetherForms.{is_status, not_cascade, not_check, not_convert, not_help, not_record, not_run, not_simulcast, not_trial, not_two}
 use Rattle.sfu_program.proofs.ServeForms as serve
 use Rattle.sfu_program.proofs.sfu.sfu.Goals as goal
 
@@ -31,6 +31,9 @@ returns-then-are_together-clause-help g c = λ is. absurd (not_help _ (c.if-are_
 
 pub returns-then-are_together-clause-trial : goal.returns-then-are_together-clause-trial
 returns-then-are_together-clause-trial g c = λ s is. absurd (not_trial _ s (c.if-are_together.ensures.0 refl) is)
+
+pub returns-then-are_together-clause-cascade : goal.returns-then-are_together-clause-cascade
+returns-then-are_together-clause-cascade g c = λ s is. absurd (not_cascade _ s (c.if-are_together.ensures.0 refl) is)
 
 pub returns-then-are_together-clause-together : goal.returns-then-are_together-clause-together
 returns-then-are_together-clause-together g c = λ is. rw c.number.ensures c.play_script.ensures
@@ -70,6 +73,9 @@ returns-in-Some-clause-help g c = λ is. absurd (serve.not_help _ (_, c.in-Some.
 
 pub returns-in-Some-clause-trial : goal.returns-in-Some-clause-trial
 returns-in-Some-clause-trial g c = λ s is. absurd (serve.not_trial _ s (_, c.in-Some.ensures) is)
+
+pub returns-in-Some-clause-cascade : goal.returns-in-Some-clause-cascade
+returns-in-Some-clause-cascade g c = λ s is. absurd (serve.not_cascade _ s (_, c.in-Some.ensures) is)
 
 pub returns-in-Some-clause-other : goal.returns-in-Some-clause-other
 returns-in-Some-clause-other g c = λ none. absurd (none (inr (inr (_, c.in-Some.ensures))))

@@ -3,18 +3,19 @@ use Rattle.std.proofs.lemmas.List.{length-map}
 use Rattle.sfu_base.specs.declared.call.Call.{Call}
 use Rattle.turn_lock.specs.Known.{Fits, Known}
 use Rattle.sfu_serve.specs.declared.playing.Played.{Played}
-use Rattle.sfu_serve.specs.Runs.{HaveRun, job_after, job_before}
+use Rattle.sfu_serve.specs.Runs.{Before, CanBe, HaveRun, job_after, job_before}
 use Rattle.sfu_serve.specs.Playing.{ArePlayed, HaveJoined, PlayedJob, SeatedJob, counting, played_job, seated_from, seated_job}
-use Rattle.sfu_serve.proofs.Casting.{AllIn, above_none, all_of, map_twice, numbered, same_lock, seats_lock, three_ok}
+use Rattle.sfu_serve.proofs.Casting.{AllIn, above_none, all_in, all_of, jobs_ready, map_twice, numbered, same_lock, seats_lock, three_ok}
 use Rattle.sfu_serve.proofs.Running.{have_run}
 use Rattle.sfu_serve.proofs.run.run_sessions.Goals as goal
 
-pub play-requires-clause-locks : goal.play-requires-clause-locks
-play-requires-clause-locks g c = λ lifetimes lives.
+pub play-requires-clause-ready : goal.play-requires-clause-ready
+play-requires-clause-ready g c = λ lifetimes lives.
     let jobs = map (λ j. job_before j.role (g.L.Link.told j.link) (g.L.Link.faults j.link)) c.args.jobs.items in
-    let all = subst (λ (lock : _). AllIn (λ (s : SeatedJob). s.seat.lock ≡ lock) (seated_from c.args.seat.now 1 jobs)) c.requires.lock (seats_lock c.args.seat.now 1 jobs) in
-    all_of (λ s. seated_job s.seat (job_before s.job.role (g.L.Link.told s.job.link) (g.L.Link.faults s.job.link))) (λ (s : SeatedJob). s.seat.lock ≡ c.args.turns.now) c.in_ok-seated.seated.items
-    (subst (AllIn (λ (s : SeatedJob). s.seat.lock ≡ c.args.turns.now)) (sym c.in_ok-seated.ensures.seated) all)
+    let can = all_in (λ j. job_before j.role (g.L.Link.told j.link) (g.L.Link.faults j.link)) (λ (job : Before). CanBe job.role) c.args.jobs.items c.requires.roles in
+    let all = subst (λ (lock : _). AllIn (λ (s : SeatedJob). (s.seat.lock ≡ lock) × CanBe s.job.role) (seated_from c.args.seat.now 1 jobs)) c.requires.lock (jobs_ready c.args.seat.now 1 jobs can) in
+    all_of (λ s. seated_job s.seat (job_before s.job.role (g.L.Link.told s.job.link) (g.L.Link.faults s.job.link))) (λ (s : SeatedJob). (s.seat.lock ≡ c.args.turns.now) × CanBe s.job.role) c.in_ok-seated.seated.items
+    (subst (AllIn (λ (s : SeatedJob). (s.seat.lock ≡ c.args.turns.now) × CanBe s.job.role)) (sym c.in_ok-seated.ensures.seated) all)
 
 pub gather-requires-clause-locks : goal.gather-requires-clause-locks
 gather-requires-clause-locks g c =

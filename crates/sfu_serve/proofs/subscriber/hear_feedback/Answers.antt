@@ -8,7 +8,8 @@ use Rattle.sfu_serve.proofs.subscriber.hear_feedback.Goals as goal
 
 pub returns-then-came-clause-part : goal.returns-then-came-clause-part
 returns-then-came-clause-part g c = λ next.
-    as_part (serves c.args.subscriber c.args.ssrc (feedback_in c.bytes-bytes.result.now) next) (hears_feedback c.args.subscriber c.args.ssrc (datagram c.args.came c.args.bytes.now) next) next c.args.seat.now c.serve_all.new.seat
+    as_part (serves c.args.subscriber c.args.ssrc c.args.way (feedback_in c.bytes-bytes.result.now) c.args.number.now next)
+    (hears_feedback c.args.subscriber c.args.ssrc c.args.way (datagram c.args.came c.args.bytes.now) c.args.number.now next) (next c.serve_all.new.number) c.args.seat.now c.serve_all.new.seat
     (g.L.Link.told c.args.link.now) (g.L.Link.told c.serve_all.new.link) (g.L.Link.faults c.args.link.now) (g.L.Link.faults c.serve_all.new.link) c.serve_all.result
-    (ap (λ (l : List ℕ). serves c.args.subscriber c.args.ssrc (feedback_in l) next) c.bytes-bytes.ensures.bytes ∙ sym (hears_bytes c.args.subscriber c.args.ssrc c.args.came c.args.bytes.now next c.if-came.true))
+    (ap (λ (l : List ℕ). serves c.args.subscriber c.args.ssrc c.args.way (feedback_in l) c.args.number.now next) c.bytes-bytes.ensures.bytes ∙ sym (hears_bytes c.args.subscriber c.args.ssrc c.args.way c.args.came c.args.bytes.now c.args.number.now next c.if-came.true))
     (c.serve_all.ensures.part next)

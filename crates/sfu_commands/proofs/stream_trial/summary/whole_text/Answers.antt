@@ -1,6 +1,7 @@
 use Rattle.std.proofs.Common.{ap, ◌∙◌, ◌++◌, ℕ, List}
 use Rattle.std.specs.String.{string_bytes}
-use Rattle.sfu_commands.specs.Trial.{received, subscriber_text, summary_of, made_text}
+use Rattle.stream_maker.specs.Summary.{made_text}
+use Rattle.sfu_commands.specs.Trial.{received, subscriber_text, summary_of}
 use Rattle.sfu_commands.proofs.Summing.{lines_are}
 use Rattle.sfu_commands.proofs.stream_trial.summary.whole_text.Goals as goal
 

@@ -2,8 +2,14 @@ use Rattle.std.proofs.Common.{List, length, map, ap, subst, ◌∙◌, arith}
 use Rattle.sfu_script.specs.declared.ports.PortLine.{PortLine}
 use Rattle.sfu_program.specs.ServePorts.{AreFresh, after_backs, befores, seen_ports}
 use Rattle.sfu_program.proofs.ServeActing.{all_unworn, ended_count, ends_served, rose_then}
+use Rattle.sfu_program.proofs.ServeRoles.{can_all}
 use Rattle.sfu_program.proofs.serve.acting.serve_ports.Goals as goal
 use Rattle.sfu_driver.specs.Statuses.{number_of}
+
+pub run_all-requires-clause-roles : goal.run_all-requires-clause-roles
+run_all-requires-clause-roles g c =
+    can_all g.P.Port.Link.told g.P.Port.Link.faults c.args.served.now.ports.items c.in-Ok.jobs.items
+    (subst (λ (ls : List PortLine). AreFresh ls (befores g.P.Port.Link.told g.P.Port.Link.faults c.in-Ok.jobs.items)) c.as_slice.ensures.value c.in-Ok.ensures.fresh) c.requires.apart
 
 pub end_all-requires-clause-room : goal.end_all-requires-clause-room
 end_all-requires-clause-room g c κs within =

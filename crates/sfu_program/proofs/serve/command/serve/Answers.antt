@@ -1,10 +1,12 @@
-use Rattle.std.proofs.Common.{inr, List, length, ap, subst, arith}
+use Rattle.std.proofs.Common.{inr, List, length, ap, sym, subst, arith}
+use Rattle.std.specs.Prelude.{IsTrue}
 use Rattle.sfu_base.specs.declared.call.Call.{Call}
 use Rattle.sfu_script.specs.declared.ports.PortLine.{PortLine}
 use Rattle.sfu_program.specs.Serve.{Acts}
 use Rattle.sfu_program.specs.ServePorts.{seen_ports}
-use Rattle.port_config.specs.Script.{configuration_of}
+use Rattle.port_config.specs.Script.{all_apart, configuration_of}
 use Rattle.sfu_program.proofs.ServeActing.{acts_before, acts_complete, acts_only}
+use Rattle.port_config.proofs.Apart.{apart_ports}
 use Rattle.port_config.proofs.Counts.{few_calls, few_ports}
 use Rattle.sfu_program.proofs.serve.command.serve.Goals as goal
 use Rattle.sfu_driver.specs.Statuses.{number_of}
@@ -23,6 +25,11 @@ act-requires-clause-few g c κs within =
     let same = ap length read.setup.ports in
     let count = c.in-Ok.served.ports.ok.0 in
     omega arith
+
+pub act-requires-clause-apart : goal.act-requires-clause-apart
+act-requires-clause-apart g c κs within =
+    let read = c.in-Ok.ensures.ok in
+    subst (λ (lines : List PortLine). IsTrue (all_apart lines)) (sym read.setup.ports) (apart_ports read.bytes)
 
 pub returns-in-Ok : goal.returns-in-Ok
 returns-in-Ok g c =

@@ -1,7 +1,7 @@
 use Rattle.std.proofs.Common.{[], ◌∷◌, sym, ap, ◌∙◌}
 use Rattle.sfu_script.specs.Fields.{fields_of}
 use Rattle.sfu_script.specs.declared.fields.Field.TheVariants.{Number64}
-use Rattle.sfu_commands.proofs.TrialNumbers.{number_is, number_is_none}
+use Rattle.sfu_commands.proofs.StreamNumbers.{number_is, number_is_none}
 use Rattle.sfu_program.proofs.serve.words.number.Goals as goal
 
 pub returns-in-Ok : goal.returns-in-Ok

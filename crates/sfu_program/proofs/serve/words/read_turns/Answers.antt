@@ -1,7 +1,7 @@
 use Rattle.std.proofs.Common.{◌≡◌, ◌⊎◌, inl, inr, ◌<◌, ◌∷◌, [], ℕ, List, arith}
 use Rattle.std.specs.Prelude.{decimal}
-use Rattle.sfu_commands.specs.TrialWords.{IsNumber}
-use Rattle.sfu_commands.proofs.TrialNumbers.{same_number}
+use Rattle.sfu_commands.specs.StreamWords.{IsNumber}
+use Rattle.sfu_commands.proofs.StreamNumbers.{same_number}
 use Rattle.sfu_program.specs.ServeWords.{IsServe}
 use Rattle.sfu_program.proofs.serve.words.read_turns.Goals as goal
 use Rattle.sfu_program.proofs.serve.words.read_turns.Goals.{then-turns-lt1-via-then-turns-lt1, then-turns-lt1-via-else-turns-lt1+then-turns-gt-MOST_TURNS}

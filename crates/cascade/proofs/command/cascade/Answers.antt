@@ -1,0 +1,40 @@
+use Rattle.std.proofs.Common.{◌≡◌, inl, inr, ℕ, List, refl, subst, ◌∙◌, arith}
+use Rattle.std.proofs.KnownBytes.{Appends-nil}
+use Rattle.std.specs.Io.KnownBytes.{Appends}
+use Rattle.sfu_driver.specs.Drive.{WritesPart}
+use Rattle.cascade.proofs.EveryCascade.{cascade_holds}
+use Rattle.cascade.proofs.EveryFeed.{cascades_feed}
+use Rattle.cascade.proofs.command.cascade.Goals as goal
+
+pub returns-in_default : goal.returns-in_default
+returns-in_default g c = record {
+  done = λ e. absurd (let no : 6 ≡ 0 = e in omega arith);
+  sink = λ e. absurd (let no : 6 ≡ 4 = e in omega arith);
+  unwritten = λ e. absurd (let no : 6 ≡ 4 = e in omega arith);
+  memory = λ e. Appends-nil (g.K.Sink.written c.args.sink.now);
+  only = inr (inr refl);
+  holds = cascade_holds (record { frames = c.args.frames; start = c.args.start; loss = c.args.loss });
+  feeds = cascades_feed (record { frames = c.args.frames; start = c.args.start; loss = c.args.loss }) c.requires.few_frames;
+}
+
+pub returns-in-Ok-write_all : goal.returns-in-Ok-write_all
+returns-in-Ok-write_all g c = record {
+  done = λ e. subst (λ (t : List ℕ). Appends (g.K.Sink.written c.args.sink.now) (g.K.Sink.written c.write_all.new.sink) t) (c.as_bytes.ensures.value ∙ c.in-Ok.ensures) c.in-Ok-write_all.ensures.ok;
+  sink = λ e. absurd (let no : 0 ≡ 4 = e in omega arith);
+  unwritten = λ e. absurd (let no : 0 ≡ 4 = e in omega arith);
+  memory = λ e. absurd (let no : 0 ≡ 6 = e in omega arith);
+  only = inl refl;
+  holds = cascade_holds (record { frames = c.args.frames; start = c.args.start; loss = c.args.loss });
+  feeds = cascades_feed (record { frames = c.args.frames; start = c.args.start; loss = c.args.loss }) c.requires.few_frames;
+}
+
+pub returns : goal.returns
+returns g c = record {
+  done = λ e. absurd (let no : 4 ≡ 0 = e in omega arith);
+  sink = λ e. c.in-Err.ensures.rose;
+  unwritten = λ e. subst (λ (t : List ℕ). WritesPart (g.K.Sink.written c.args.sink.now) (g.K.Sink.written c.write_all.new.sink) t) (c.as_bytes.ensures.value ∙ c.in-Ok.ensures) c.in-Err.ensures.part;
+  memory = λ e. absurd (let no : 4 ≡ 6 = e in omega arith);
+  only = inr (inl refl);
+  holds = cascade_holds (record { frames = c.args.frames; start = c.args.start; loss = c.args.loss });
+  feeds = cascades_feed (record { frames = c.args.frames; start = c.args.start; loss = c.args.loss }) c.requires.few_frames;
+}

@@ -1,0 +1,8 @@
+use Rattle.std.proofs.Common.{List}
+use Rattle.sfu_base.specs.declared.call.Call.{Call}
+use Rattle.cascade.specs.Standing.{StandsAfter}
+use Rattle.cascade.proofs.Standing.{HasTaken}
+use Rattle.cascade.proofs.endpoint.Endpoint.take_all.Given as goal
+
+abbrev pub invariant-takes : goal.invariant-takes
+invariant-takes l = (past : List Call) → StandsAfter l.initial.room past → HasTaken l._count l.room l.initial.self l.self l.subscriber past

@@ -1,0 +1,26 @@
+// The command `cascade`.
+ghost use Rattle.std.specs.Prelude.{◌≤◌};
+ghost use Rattle.cascade.specs.Command.{ShowsCascade};
+ghost use Rattle.sfu_driver.specs.Statuses.{number_of};
+
+use crate::playing::play;
+use sfu_base::Sink;
+use sfu_driver::{Status, write_all};
+use std::alloc::Global;
+
+/// The command `cascade`: sends a stream of so many frames, made from a number, of which so many packets of a hundred are lost, through two rooms
+/// to the three subscribers of the second, writes what a strict receiver finds in what each of them takes, and answers the status.
+pub fn cascade<K: Sink>(alloc: Global, frames: u32, start: u64, loss: u8, sink: &mut K) -> Status
+    requires some_frames { 1 ≤ frames }
+    requires few_frames { frames ≤ 1000000 }
+    requires loss { loss ≤ 50 }
+    ensures { ShowsCascade (record { frames = frames; start = start; loss = loss }) (K.written sink.old) (K.written sink.new) (K.faults sink.old) (K.faults sink.new) (number_of result) }
+{
+    let Ok(text) = play(alloc, frames, start, loss) else {
+        return Status::NoMemory;
+    };
+    match write_all(sink, text.as_bytes()) {
+        Ok(()) => Status::Done,
+        Err(_) => Status::SinkFault,
+    }
+}

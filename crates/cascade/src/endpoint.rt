@@ -1,0 +1,79 @@
+// One subscriber of the second room, and the strict receiver of what it takes.
+ghost use Rattle.std.specs.Prelude.{◌++◌, ◌∷◌, [], List, ℕ, IfOk};
+ghost use Rattle.sfu_base.specs.declared.call.Call.{Call};
+ghost use Rattle.room_core.specs.Given.{given_to};
+ghost use Rattle.cascade.specs.Calls.{all_taken};
+ghost use Rattle.cascade.specs.Standing.{StandsAfter, TakesOne, WasFed};
+
+use room_core::{KeepNone, Room};
+use sfu_base::{NoMemory, Reply, Scratch};
+use std::alloc::Global;
+use strict_receiver::Receiver;
+
+/// The seat that makes all calls.
+pub const SEAT: u32 = 0;
+
+/// The id of the header extension element that has a packet's descriptor.
+pub const EXTENSION: u8 = 4;
+
+// At most so many packets wait for a subscriber.
+const MOST_QUEUED: u32 = 512;
+
+/// A subscriber of the second room, as far as it is seen here: a strict receiver of what it takes.
+#[derive(Drop)]
+pub struct Endpoint {
+    /// What has come to it.
+    pub receiver: Receiver,
+    /// Whether it has a complaint.
+    pub complains: bool,
+}
+
+impl Endpoint {
+    /// A receiver to which nothing came. `NoMemory`: there wasn't enough for what it keeps.
+    pub fn new(alloc: Global) -> Result<Endpoint, NoMemory>
+        ensures { IfOk result (λ endpoint. WasFed endpoint []) }
+    {
+        Ok(Endpoint {
+            receiver: Receiver::new(alloc, EXTENSION)?,
+            complains: false,
+        })
+    }
+
+    // A packet comes to the receiver.
+    fn feed(&mut self, packet: &[u8])
+        ensures { (taken : List (List ℕ)) → WasFed self.old taken → WasFed self.new (taken ++ packet.now ∷ []) }
+    {
+        self.complains = self.receiver.feed(packet).is_err();
+    }
+
+    // Takes a packet, if one waits.
+    fn take_one(
+        &mut self,
+        subscriber: u32,
+        room: &mut Room<KeepNone>,
+        scratch: &mut Scratch,
+    ) -> bool
+        ensures { (past : List Call) → StandsAfter room.old past → TakesOne result self.old self.new room.new subscriber past }
+    {
+        match room.take(SEAT, subscriber, scratch) {
+            Reply::Packet => {
+                self.feed(scratch.packet.bytes());
+                true
+            }
+            _ => false,
+        }
+    }
+
+    /// Takes until nothing waits for the subscriber with this number, and feeds each packet to the receiver.
+    pub fn take_all(&mut self, subscriber: u32, room: &mut Room<KeepNone>, scratch: &mut Scratch)
+        ensures room { (past : List Call) → StandsAfter room.old past → StandsAfter room.new (all_taken subscriber past) }
+        ensures fed { (past : List Call) → StandsAfter room.old past → WasFed self.old (given_to subscriber past)
+            → WasFed self.new (given_to subscriber (all_taken subscriber past)) }
+    {
+        'takes: for _count in 0..MOST_QUEUED + 1 {
+            if !self.take_one(subscriber, room, scratch) {
+                return;
+            }
+        }
+    }
+}

@@ -1,0 +1,156 @@
+// Two rooms of which the second is fed from the first, and the receivers of the second one's subscribers.
+ghost use Rattle.std.specs.Prelude.{◌≡◌, IfOk, OnOk, false};
+ghost use Rattle.sfu_base.specs.Answer.{is_starved};
+ghost use Rattle.cascade.specs.Calls.{Both, after_packet, after_tick, all_fed, opened, ticked_first, ticked_second, viewed, wish_for};
+ghost use Rattle.cascade.specs.Standing.{AreAfter, StandsAfter};
+
+use crate::endpoint::{EXTENSION, Endpoint, SEAT};
+use crate::feeding::feed;
+use room_core::{KeepNone, Room};
+use sfu_base::{Kind, NoMemory, PacketBuf, Refusal, Reply, Scratch, SeqList, Wish};
+use std::alloc::Global;
+
+const PUBLISHER: u32 = 0x1111_1111;
+
+// How long a gap is waited for, in milliseconds.
+const HOLD: u32 = 50;
+
+/// Two rooms, of which the second is fed from the first, and a strict receiver for each of the second one's three subscribers.
+#[derive(Drop)]
+pub struct TwoRooms {
+    /// The room of the publisher. Its subscribers 1 and 2 are those that feed the second room.
+    pub first: Room<KeepNone>,
+    /// The room whose tracks 1 (layered) and 2 (plain) are fed.
+    pub second: Room<KeepNone>,
+    /// Where a take leaves its packet.
+    pub scratch: Scratch,
+    /// Subscriber 1 of the second room: track 1, with a wish for all layers.
+    pub one: Endpoint,
+    /// Subscriber 2: track 1, with a wish for the lowest layer.
+    pub two: Endpoint,
+    /// Subscriber 3: track 2.
+    pub three: Endpoint,
+}
+
+// Whether a call found its memory.
+fn found(reply: Reply) -> Result<(), NoMemory>
+    ensures { OnOk result (is_starved reply ≡ false) }
+{
+    match reply {
+        Reply::Refused(Refusal::NoMemory) => Err(NoMemory),
+        _ => Ok(()),
+    }
+}
+
+fn wish(spatial: u8, temporal: u8) -> Wish
+    ensures { result ≡ wish_for spatial temporal }
+{
+    Wish { spatial, temporal }
+}
+
+// The first room, in which the track and its two subscribers have begun.
+fn open_first(alloc: Global) -> Result<Room<KeepNone>, NoMemory>
+    ensures { IfOk result (λ room. StandsAfter room opened.first) }
+{
+    let mut room = Room::new(alloc, KeepNone::new());
+    let kind = Kind::Layered { id: EXTENSION };
+    found(room.publish(SEAT, 1, kind, PUBLISHER, HOLD))?;
+    found(room.join(SEAT, 1, 1, 0x2222_2222, 0, wish(1, 1)))?;
+    found(room.join(SEAT, 2, 1, 0x2222_2223, 0, wish(1, 1)))?;
+    Ok(room)
+}
+
+// The second room, in which the tracks and their three subscribers have begun.
+fn open_second(alloc: Global) -> Result<Room<KeepNone>, NoMemory>
+    ensures { IfOk result (λ room. StandsAfter room opened.second) }
+{
+    let mut room = Room::new(alloc, KeepNone::new());
+    let kind = Kind::Layered { id: EXTENSION };
+    found(room.publish(SEAT, 1, kind, 0x2222_2222, HOLD))?;
+    found(room.publish(SEAT, 2, Kind::Plain, 0x2222_2223, HOLD))?;
+    found(room.join(SEAT, 1, 1, 0x3333_3333, 0, wish(1, 1)))?;
+    found(room.join(SEAT, 2, 1, 0x3333_3334, 0, wish(0, 0)))?;
+    found(room.join(SEAT, 3, 2, 0x3333_3335, 0, wish(0, 0)))?;
+    Ok(room)
+}
+
+impl TwoRooms {
+    /// Both rooms with their tracks and subscribers, before the stream. `NoMemory`: there wasn't enough for them or for a receiver.
+    pub fn new(alloc: Global) -> Result<TwoRooms, NoMemory>
+        ensures { IfOk result (λ rooms. AreAfter rooms opened) }
+    {
+        let first = open_first(alloc)?;
+        let second = open_second(alloc)?;
+        let one = Endpoint::new(alloc)?;
+        let two = Endpoint::new(alloc)?;
+        let three = Endpoint::new(alloc)?;
+        Ok(TwoRooms {
+            first,
+            second,
+            scratch: Scratch {
+                packet: PacketBuf::new(),
+                names: SeqList::new(),
+            },
+            one,
+            two,
+            three,
+        })
+    }
+
+    /// Brings a packet to track 1 of the first room at this moment (milliseconds), which may refuse it.
+    pub fn packet(&mut self, moment: u64, bytes: &PacketBuf)
+        ensures { (both : Both) → AreAfter self.old both → AreAfter self.new (after_packet moment bytes.now both) }
+    {
+        self.first.packet(SEAT, 1, moment, bytes);
+    }
+
+    // What a subscriber of the first room takes is fed to a track of the second.
+    fn bring(&mut self, subscriber: u32, track: u32, moment: u64)
+        ensures { (both : Both) → AreAfter self.old both → AreAfter self.new (all_fed subscriber track moment both) }
+    {
+        feed(
+            &mut self.first,
+            subscriber,
+            &mut self.second,
+            track,
+            moment,
+            &mut self.scratch,
+        );
+    }
+
+    // It is this moment in the first room.
+    fn tick_first(&mut self, moment: u64)
+        ensures { (both : Both) → AreAfter self.old both → AreAfter self.new (ticked_first moment both) }
+    {
+        self.first.tick(SEAT, 1, moment);
+    }
+
+    // It is this moment on both tracks of the second room.
+    fn tick_second(&mut self, moment: u64)
+        ensures { (both : Both) → AreAfter self.old both → AreAfter self.new (ticked_second moment both) }
+    {
+        self.second.tick(SEAT, 1, moment);
+        self.second.tick(SEAT, 2, moment);
+    }
+
+    // Each subscriber of the second room takes until nothing waits for it.
+    fn view(&mut self)
+        ensures { (both : Both) → AreAfter self.old both → AreAfter self.new (viewed both) }
+    {
+        self.one.take_all(1, &mut self.second, &mut self.scratch);
+        self.two.take_all(2, &mut self.second, &mut self.scratch);
+        self.three.take_all(3, &mut self.second, &mut self.scratch);
+    }
+
+    /// Ticks the first room at this moment (milliseconds), feeds subscriber 1 of it to track 1 of the second and subscriber 2 to track 2, ticks
+    /// both of these tracks, and then has each subscriber of the second room take until nothing waits for it.
+    pub fn tick(&mut self, moment: u64)
+        ensures { (both : Both) → AreAfter self.old both → AreAfter self.new (after_tick moment both) }
+    {
+        self.tick_first(moment);
+        self.bring(1, 1, moment);
+        self.bring(2, 2, moment);
+        self.tick_second(moment);
+        self.view();
+    }
+}

@@ -1,0 +1,59 @@
+// The words of a command that makes a stream.
+ghost use Rattle.std.specs.Prelude.{◌≡◌, ◌^◌, ◌<◌, ◌∷◌, [], ℕ, MatchOption, decimal};
+ghost use Rattle.stream_maker.specs.Stream.{Stream};
+ghost use Rattle.sfu_commands.specs.StreamWords.{IsNumber, SaysStream};
+ghost use Rattle.sfu_commands.specs.StreamNumbers.{stream_by};
+
+use sfu_script::{Field, read_fields};
+
+const MOST_FRAMES: u64 = 1_000_000;
+
+const MOST_LOSS: u64 = 50;
+
+/// The numbers that make a stream: so many frames, the number that it is made from, and the packets of a hundred that are lost.
+#[derive(Clone, Copy, Debug, PartialEq, Eq)]
+pub struct StreamNumbers {
+    /// How many frames.
+    pub frames: u32,
+    /// The number that the stream is made from.
+    pub start: u64,
+    /// How many packets of a hundred are lost.
+    pub loss: u8,
+}
+
+// The number that a word is, in decimal digits without a leading zero.
+fn number(word: &str) -> Option<u64>
+    ensures { MatchOption result ((n : ℕ) → ¬ (IsNumber n word.now)) (λ n. IsNumber n word.now) }
+{
+    match read_fields(&[Field::Number64], word.as_bytes()) {
+        Ok(numbers) => Some(numbers[0]),
+        Err(_) => None,
+    }
+}
+
+/// The stream of four words that are the command with this name; `None` exactly when they aren't.
+pub fn read_stream(
+    command: &str,
+    name: &str,
+    frames: &str,
+    start: &str,
+    loss: &str,
+) -> Option<StreamNumbers>
+    ensures { MatchOption result ((s : Stream) → ¬ (SaysStream command.now (name.now ∷ frames.now ∷ start.now ∷ loss.now ∷ []) s))
+        (λ numbers. SaysStream command.now (name.now ∷ frames.now ∷ start.now ∷ loss.now ∷ []) (stream_by numbers)) }
+{
+    if name != command {
+        return None;
+    }
+    let frames = number(frames)?;
+    let start = number(start)?;
+    let loss = number(loss)?;
+    if frames < 1 || frames > MOST_FRAMES || loss > MOST_LOSS {
+        return None;
+    }
+    Some(StreamNumbers {
+        frames: frames as u32,
+        start,
+        loss: loss as u8,
+    })
+}
