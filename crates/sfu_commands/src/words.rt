@@ -15,6 +15,8 @@ pub enum Command {
     Help,
     /// Writes a script of lines as one of records.
     Convert,
+    /// Serves the lines of a script that also speak of bundles; `sfu_program` does, since this crate knows no bundles.
+    Simulcast,
     /// Judges packets as a strict receiver with this id of the descriptors' header extension does.
     Check(u8),
     /// Records packets as a recorder with this id of the descriptors' header extension does.
@@ -33,6 +35,7 @@ fn read_word(word: &str) -> Option<Command>
     match word {
         "run" => Some(Command::Run),
         "convert" => Some(Command::Convert),
+        "simulcast" => Some(Command::Simulcast),
         "help" => Some(Command::Help),
         _ => None,
     }

@@ -6,3 +6,5 @@ pub mod ServeRun
 pub mod ServeActing
 pub mod ServeForms
 pub mod ServeRoles
+mod SimulcastServing
+mod SimulcastReplies

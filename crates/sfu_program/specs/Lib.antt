@@ -5,3 +5,7 @@ pub mod ServePorts
 pub mod ServeEnds
 pub mod Serve
 pub mod ServeEnding
+pub mod SimulcastScript
+pub mod SimulcastTexts
+pub mod Simulcast
+pub mod SimulcastServing

@@ -3,6 +3,7 @@
 #![tactic(auto)]
 
 mod alone;
+mod bundling;
 mod serve;
 mod sfu;
 #[cfg(test)]

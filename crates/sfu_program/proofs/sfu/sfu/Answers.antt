@@ -4,7 +4,7 @@ use Rattle.sfu_driver.specs.Exchange.{exchange_by}
 use Rattle.sfu_program.specs.Serve.{Serves}
 use Rattle.sfu_program.specs.ServePorts.{seen_ports}
 use Rattle.std.proofs.lemmas.Bool.{false≢true}
-use Rattle.sfu_program.proofs.TogetherForms.{is_status, not_cascade, not_check, not_convert, not_help, not_record, not_run, not_trial, not_two}
+use Rattle.sfu_program.proofs.TogetherForms.{is_status, not_cascade, not_check, not_convert, not_help, not_record, not_run, not_simulcast, not_trial, not_two}
 use Rattle.sfu_program.proofs.ServeForms as serve
 use Rattle.sfu_program.proofs.sfu.sfu.Goals as goal
 
@@ -22,6 +22,9 @@ returns-then-are_together-clause-record g c = λ id is. absurd (not_record _ id 
 
 pub returns-then-are_together-clause-convert : goal.returns-then-are_together-clause-convert
 returns-then-are_together-clause-convert g c = λ is. absurd (not_convert _ (c.if-are_together.ensures.0 refl) is)
+
+pub returns-then-are_together-clause-simulcast : goal.returns-then-are_together-clause-simulcast
+returns-then-are_together-clause-simulcast g c = λ is. absurd (not_simulcast _ (c.if-are_together.ensures.0 refl) is)
 
 pub returns-then-are_together-clause-help : goal.returns-then-are_together-clause-help
 returns-then-are_together-clause-help g c = λ is. absurd (not_help _ (c.if-are_together.ensures.0 refl) is)
@@ -61,6 +64,9 @@ returns-in-Some-clause-record g c = λ id is. absurd (serve.not_record _ id (_, 
 
 pub returns-in-Some-clause-convert : goal.returns-in-Some-clause-convert
 returns-in-Some-clause-convert g c = λ is. absurd (serve.not_convert _ (_, c.in-Some.ensures) is)
+
+pub returns-in-Some-clause-simulcast : goal.returns-in-Some-clause-simulcast
+returns-in-Some-clause-simulcast g c = λ is. absurd (serve.not_simulcast _ (_, c.in-Some.ensures) is)
 
 pub returns-in-Some-clause-help : goal.returns-in-Some-clause-help
 returns-in-Some-clause-help g c = λ is. absurd (serve.not_help _ (_, c.in-Some.ensures) is)
