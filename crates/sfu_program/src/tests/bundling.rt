@@ -1,8 +1,8 @@
-// The command `simulcast` over sources and sinks in memory: scripts with their replies and statuses, and each fault of the outside. The packets are
+// The command `simulcast` over sources and sinks in memory: scripts with their replies and statuses. The packets are
 // laid as RFC 3550 and RFC 8285 lay them, the descriptors as Appendix A of RTP Payload Format For AV1 does; what is wanted is worked out by hand.
-use super::run::{ByteSource, words};
+use super::run::words;
 use crate::alone::sfu_alone;
-use sfu_base::{MemSink, MemSource, Source};
+use sfu_base::{MemSink, MemSource};
 use std::alloc::{AllocError, Global};
 use std::test::Fail;
 
@@ -158,89 +158,6 @@ fn lines_outside_the_grammar_end_the_script(rt: HostRuntime) -> Result<(), Fail>
         let (got, written) = run(alloc, script)?;
         assert_eq!(rt; got, status, "{script:?}");
         assert_eq!(rt; written.as_slice(), text.as_bytes(), "{script:?}");
-    }
-    Ok(())
-}
-
-// The status of a script that comes byte by byte, where these reads and writes fail; what was written; and whether the next read fails.
-fn run_bytes(
-    alloc: Global,
-    script: &str,
-    read_fails: &[u64],
-    write_fails: &[u64],
-) -> Result<(u8, Vec<u8>, bool), AllocError> {
-    let words = words(alloc, &["simulcast"])?;
-    let inner = MemSource::new(script.as_bytes().to_vec(alloc)?, read_fails.to_vec(alloc)?);
-    let mut source = ByteSource { inner };
-    let mut sink = MemSink::new(alloc, write_fails.to_vec(alloc)?);
-    let status = sfu_alone(alloc, words.as_slice(), &mut source, &mut sink);
-    let fails = source.read(&mut [0u8; 1]).is_err();
-    Ok((status, sink.written().to_vec(alloc)?, fails))
-}
-
-// Four lines of 7, 7, 10 and 9 bytes with their replies, and one of 8 bytes outside the grammar.
-const SHORT: &str = "pump 1\ndraw 1\nchoose 1 1\nleave 7\n";
-
-const TEXTS: [&str; 5] = [
-    "refused nobundle\n",
-    "refused nobundle\n",
-    "refused nobundle\n",
-    "refused nosubscriber\n",
-    "line 5\n",
-];
-
-// The first of the texts, so many of them.
-fn first_texts(alloc: Global, count: usize) -> Result<String, AllocError> {
-    let mut all = String::new(alloc);
-    for text in TEXTS.iter().take(count) {
-        all.push_str(text)?;
-    }
-    Ok(all)
-}
-
-#[test]
-fn each_fault_of_the_outside_ends_the_script(rt: HostRuntime) -> Result<(), Fail> {
-    let alloc = rt.alloc();
-    let bad = format!(in alloc; "{SHORT}take 01\ndraw 1\n")?;
-    // Byte by byte, so that each line is written by itself: 33 bytes and a read that finds the end; or the eight bytes of the bad line, behind
-    // which nothing is read or written.
-    for (script, reads, writes, status) in [(SHORT, 34u64, 4u64, 0), (bad.as_str(), 41, 5, 5)] {
-        // The n-th read fails: the texts of the lines that ended before it were written.
-        for n in 0..=reads {
-            let (got, written, unread) = run_bytes(alloc, script, &[n], &[])?;
-            let ended = script
-                .bytes()
-                .take(n as usize)
-                .filter(|byte| *byte == b'\n')
-                .count();
-            let wanted = first_texts(alloc, ended)?;
-            assert_eq!(rt;
-                got,
-                if n < reads { 3 } else { status },
-                "read {n} of {script}"
-            );
-            assert_eq!(rt;
-                written.as_slice(),
-                wanted.as_bytes(),
-                "read {n} of {script}"
-            );
-            assert_eq!(rt; unread, n == reads, "read {n} of {script}");
-        }
-        // The n-th write fails: the texts before were written. In the last text, the fifth, this leaves the status as it is.
-        for n in 0..=writes {
-            let (got, written, _) = run_bytes(alloc, script, &[], &[n])?;
-            let wanted = first_texts(alloc, n as usize)?;
-            assert_eq!(rt;
-                got,
-                if n < 4 { 4 } else { status },
-                "write {n} of {script}"
-            );
-            assert_eq!(rt;
-                written.as_slice(),
-                wanted.as_bytes(),
-                "write {n} of {script}"
-            );
-        }
     }
     Ok(())
 }

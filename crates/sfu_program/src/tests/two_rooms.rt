@@ -14,7 +14,8 @@ const ONE_UNIT: &str = "made 2 frames 5 packets\nlost 0 repeated 0 swapped 0\n\
     subscriber 1 frames 2 packets 5 complaints 0\nsubscriber 2 frames 1 packets 3 complaints 0\n\
     subscriber 3 frames 2 packets 5 complaints 0\n";
 
-const USAGE: &str = "usage: run, together, trial, check, record, serve, convert, simulcast, cascade, help\n";
+const USAGE: &str =
+    "usage: run, together, trial, check, record, serve, convert, simulcast, cascade, help\n";
 
 // Takes a text byte by byte.
 #[derive(Drop)]
