@@ -4,6 +4,7 @@ use super::record::{FILE, FORBIDDEN};
 use super::run::{USAGE, words};
 use super::serve::CONFIGURATION;
 use super::trial::ONE_UNIT;
+use super::two_rooms::TWO_FRAMES;
 use crate::sfu::sfu;
 use sfu_base::{CalmPorts, Failed, MemSink, MemSource, Sink, Source, StepClock};
 use std::alloc::{AllocError, Global};
@@ -85,6 +86,29 @@ impl<'a> Row<'a> {
         }
         Ok(text)
     }
+
+    // The places of the first and of the last byte of each text, and the place behind them all.
+    fn edges(&self, alloc: Global) -> Result<Vec<usize>, AllocError> {
+        let mut places = Vec::new(alloc);
+        let mut text = Vec::new(alloc);
+        for (_, due) in self.pieces {
+            add_edges(&mut places, &mut text, due.as_bytes())?;
+        }
+        add_edges(&mut places, &mut text, self.last)?;
+        places.push(text.len())?;
+        Ok(places)
+    }
+}
+
+// Puts a text behind others, and the places of its first and its last byte behind others.
+fn add_edges(places: &mut Vec<usize>, text: &mut Vec<u8>, more: &[u8]) -> Result<(), AllocError> {
+    let first = text.len();
+    text.extend_from_slice(more)?;
+    if text.len() > first {
+        places.push(first)?;
+        places.push(text.len() - 1)?;
+    }
+    Ok(())
 }
 
 // The status where these reads and writes of a byte fail, what was written, and whether the next read fails.
@@ -337,7 +361,8 @@ const OF_THREADS: [Row; 4] = [
     },
 ];
 
-// Each read of a row fails in turn, then each write, and none. Which went wrong first, counted from 0.
+// Each read of a byte fails in turn, then the write of the first and of the last byte of each text, and none. Which went wrong first, counted
+// from 0.
 fn try_row<W: Threads + Wait + Sync>(
     rt: &W,
     alloc: Global,
@@ -358,12 +383,12 @@ fn try_row<W: Threads + Wait + Sync>(
             return Ok(Some(("read", n)));
         }
     }
-    for n in 0..=whole.len() {
+    for n in row.edges(alloc)? {
         let place = n as u64;
         let (status, written, _) = outcome(rt, alloc, row.words, input.as_slice(), &[], &[place])?;
         let kept = n == whole.len() || row.status != 0 && n >= before.len();
         let wanted = if kept { row.status } else { 4 };
-        if status != wanted || written.as_slice() != &whole[..n] {
+        if status != wanted || written.len() != n || !whole.starts_with(written.as_slice()) {
             return Ok(Some(("write", place)));
         }
     }
@@ -374,6 +399,7 @@ fn try_row<W: Threads + Wait + Sync>(
 fn each_read_and_each_write_fails_in_turn(rt: HostRuntime) -> Result<(), Fail> {
     let of_nothing = [
         unread(&["trial", "2", "7", "0"], ONE_UNIT, 0),
+        unread(&["cascade", "2", "7", "0"], TWO_FRAMES, 0),
         unread(&["help"], USAGE, 0),
         unread(&["run", "run"], USAGE, 2),
     ];
