@@ -8,3 +8,4 @@ pub mod ServeForms
 pub mod ServeRoles
 mod SimulcastServing
 mod SimulcastReplies
+pub mod Completing

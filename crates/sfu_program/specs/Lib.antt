@@ -9,3 +9,4 @@ pub mod SimulcastScript
 pub mod SimulcastTexts
 pub mod Simulcast
 pub mod SimulcastServing
+pub mod Complete

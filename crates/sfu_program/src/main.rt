@@ -4,6 +4,7 @@
 
 mod alone;
 mod bundling;
+mod calm;
 mod serve;
 mod sfu;
 #[cfg(test)]

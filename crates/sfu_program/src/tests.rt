@@ -1,5 +1,6 @@
 // What the program does, by the words that it is given.
 mod bundling;
+mod calm;
 mod check;
 mod faults;
 mod meeting;
