@@ -5,7 +5,7 @@ use Rattle.sfu_driver.specs.Statuses.{number_of}
 use Rattle.sfu_driver.specs.Exchange.{exchange_by}
 use Rattle.stream_maker.specs.Stream.{Stream}
 use Rattle.sfu_commands.specs.declared.words.Command.{Command}
-use Rattle.sfu_commands.specs.declared.words.Command.TheVariants.{Cascade, Check, Record, Trial}
+use Rattle.sfu_commands.specs.declared.words.Command.TheVariants.{Cascade, Check, Convert, Help, Record, Run, Simulcast, Trial}
 use Rattle.sfu_commands.specs.Check.{Checks, IsCheck}
 use Rattle.sfu_commands.specs.Record.{IsRecord, Records}
 use Rattle.cascade.specs.Command.{ShowsCascade}
@@ -15,6 +15,21 @@ use Rattle.sfu_commands.proofs.IdWords.{one_id}
 use Rattle.sfu_commands.proofs.StreamNumbers.{same_stream}
 use Rattle.sfu_program.proofs.Completing.{summary_inside, unit_inside, usage_inside}
 use Rattle.sfu_program.proofs.alone.sfu_alone.Goals as goal
+
+pub returns-in-None-clause-run : goal.returns-in-None-clause-run
+returns-in-None-clause-run g c = λ is. absurd (c.in-None.ensures (Run, is))
+
+pub returns-in-None-clause-headline : goal.returns-in-None-clause-headline
+returns-in-None-clause-headline g c = λ is. absurd (c.in-None.ensures (Run, is))
+
+pub returns-in-None-clause-convert : goal.returns-in-None-clause-convert
+returns-in-None-clause-convert g c = λ is. absurd (c.in-None.ensures (Convert, is))
+
+pub returns-in-None-clause-simulcast : goal.returns-in-None-clause-simulcast
+returns-in-None-clause-simulcast g c = λ is. absurd (c.in-None.ensures (Simulcast, is))
+
+pub returns-in-None-clause-help : goal.returns-in-None-clause-help
+returns-in-None-clause-help g c = λ is. absurd (c.in-None.ensures (Help, is))
 
 pub returns-in-Some-Check-clause-check : goal.returns-in-Some-Check-clause-check
 returns-in-Some-Check-clause-check g c = λ id is.
