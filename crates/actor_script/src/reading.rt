@@ -16,9 +16,11 @@ pub fn read_actors<S: Source, K: Sink>(
     source: &mut S,
     sink: &mut K,
 ) -> Result<Actors, Status>
-    ensures ok { IfOk result (λ actors. ReadsActors (S.left source.old) (S.left source.new) (K.written sink.old) (K.written sink.new) (S.faults source.old) (S.faults source.new)
+    ensures ok { IfOk result (λ actors. ReadsActors (S.left source.old) (S.left source.new) (K.written sink.old) (K.written sink.new)
+        (S.faults source.old) (S.faults source.new)
         (K.faults sink.old) (K.faults sink.new) actors) }
-    ensures err { IfErr result (λ status. ReadsNone (S.left source.old) (S.left source.new) (K.written sink.old) (K.written sink.new) (S.faults source.old) (S.faults source.new)
+    ensures err { IfErr result (λ status. ReadsNone (S.left source.old) (S.left source.new) (K.written sink.old) (K.written sink.new)
+        (S.faults source.old) (S.faults source.new)
         (K.faults sink.old) (K.faults sink.new) (number_of status)) }
     ensures never_falls { K.faults sink.old ≤ K.faults sink.new }
 {

@@ -25,7 +25,8 @@ pub fn told(
     reply: &Reply,
     scratch: &Scratch,
 ) -> Result<Entry, NoMemory>
-    ensures entry { IfOk result (λ entry. entry ≡ record { actor = actor; call = call.now; reply = answer_text (answer_of reply.now scratch.now.packet scratch.now.names) }) }
+    ensures entry { IfOk result (λ entry. entry
+        ≡ record { actor = actor; call = call.now; reply = answer_text (answer_of reply.now scratch.now.packet scratch.now.names) }) }
     ensures fed { IfOk result (λ entry. is_starved reply.now ≡ false) }
 {
     if wants_memory(reply) {

@@ -14,7 +14,8 @@ pub fn cascade<K: Sink>(alloc: Global, frames: u32, start: u64, loss: u8, sink: 
     requires some_frames { 1 ≤ frames }
     requires few_frames { frames ≤ 1000000 }
     requires loss { loss ≤ 50 }
-    ensures { ShowsCascade (record { frames = frames; start = start; loss = loss }) (K.written sink.old) (K.written sink.new) (K.faults sink.old) (K.faults sink.new) (number_of result) }
+    ensures { ShowsCascade (record { frames = frames; start = start; loss = loss }) (K.written sink.old) (K.written sink.new) (K.faults sink.old)
+        (K.faults sink.new) (number_of result) }
 {
     let Ok(text) = play(alloc, frames, start, loss) else {
         return Status::NoMemory;

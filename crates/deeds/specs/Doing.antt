@@ -18,7 +18,8 @@ AllFitBuffers (got ∷ others) = FitsBuffer got × AllFitBuffers others
 -- and meanwhile a seat, what a link tells and its count of faults went from old to new. What a call is answered is told by `reply`, of
 -- the history before it, and by `starved`, where its entry found no memory; which bytes are a datagram that is to be sent, by `IsOne`; what
 -- is so of the history that the seat has seen once it made a call, by `Holds`.
-pub record IsDone {C A D : Type 0} (reply : List (Entry C) → C → A) (starved : A) (IsOne : D → List ℕ → Type 0) (Holds : List (Entry C) → Type 0) (whole rest : Deed C A D) (old new : Known C) (told told' : Option Traffic) (before after turns : ℕ) : Type 0 where
+pub record IsDone {C A D : Type 0} (reply : List (Entry C) → C → A) (starved : A) (IsOne : D → List ℕ → Type 0) (Holds : List (Entry C)
+    → Type 0) (whole rest : Deed C A D) (old new : Known C) (told told' : Option Traffic) (before after turns : ℕ) : Type 0 where
   pub steps : List (Step C A)
   pub leads : Leads IsOne whole steps rest
   -- the seat's calls became more by those of the steps, with these answers

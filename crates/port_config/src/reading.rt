@@ -16,7 +16,8 @@ pub fn read_served<S: Source, K: Sink>(
     sink: &mut K,
 ) -> Result<Served, Status>
     ensures ok { IfOk result (λ served. ReadsSetup (S.left source.old) (S.left source.new) (K.written sink.old) (K.written sink.new) served) }
-    ensures err { IfErr result (λ status. ReadsNoSetup (S.left source.old) (S.left source.new) (K.written sink.old) (K.written sink.new) (S.faults source.old) (S.faults source.new)
+    ensures err { IfErr result (λ status. ReadsNoSetup (S.left source.old) (S.left source.new) (K.written sink.old) (K.written sink.new)
+        (S.faults source.old) (S.faults source.new)
         (K.faults sink.old) (K.faults sink.new) (number_of status)) }
     ensures never_falls { K.faults sink.old ≤ K.faults sink.new }
 {

@@ -15,7 +15,8 @@ ghost use Rattle.sfu_commands.specs.declared.form.Form.TheVariants.{Lines, Recor
 pub fn converted_scripts_run_alike()
     ensures calls { (bytes : List ℕ) → (convert_due bytes).end ≡ None → script_of (convert_due bytes).text ≡ script_of bytes }
     ensures replies { (bytes : List ℕ) → (convert_due bytes).end ≡ None → run_due (convert_due bytes).text ≡ run_due bytes }
-    ensures records { (bytes : List ℕ) → form_of bytes ≡ Records → (script_in Lines bytes ≡ stops_at 1) × (convert_due bytes ≡ record { text = header; end = silent_end (Some 1) }) }
+    ensures records { (bytes : List ℕ) → form_of bytes ≡ Records → (script_in Lines bytes ≡ stops_at 1)
+        × (convert_due bytes ≡ record { text = header; end = silent_end (Some 1) }) }
 {}
 
 /// The packets of a trial's stream say to the project's own readers what the stream's definition lays into them: RTP finds no fault in them (RFC

@@ -45,7 +45,8 @@ fn count_to(kept: &[u8], total: usize) -> usize
 // Whether the first four bytes are the header's.
 fn has_header(kept: &[u8], came: &[u8]) -> bool
     requires { 4 ≤ length kept.now + length came.now }
-    ensures { result ≡ is_header (slice_index (kept.now ++ came.now) 0) (slice_index (kept.now ++ came.now) 1) (slice_index (kept.now ++ came.now) 2) (slice_index (kept.now ++ came.now) 3) }
+    ensures { result ≡ is_header (slice_index (kept.now ++ came.now) 0) (slice_index (kept.now ++ came.now) 1) (slice_index (kept.now ++ came.now) 2)
+        (slice_index (kept.now ++ came.now) 3) }
 {
     joined(kept, came, 0) == 0
         && joined(kept, came, 1) == 83

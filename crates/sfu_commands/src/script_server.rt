@@ -63,7 +63,8 @@ fn serve_any(
     ready: &mut Blob,
 ) -> Result<(), Halt>
     ensures judges { (history : List Entry) → Stands untold room.old history
-        → Judges (λ (room : Room KeepNone) (later : List Entry). Stands untold room later) (writes (reply_line history call.now) (history ++ entry_of call.now ∷ [])) room.new ready.old ready.new result }
+        → Judges (λ (room : Room KeepNone) (later : List Entry). Stands untold room later)
+        (writes (reply_line history call.now) (history ++ entry_of call.now ∷ [])) room.new ready.old ready.new result }
     ensures grows { length ready.old ≤ length ready.new }
 {
     let reply = room.serve(0, call, scratch);
@@ -91,7 +92,8 @@ impl CallServer {
     #[inline(never)]
     fn serve(&mut self, form: Form, number: u32, unit: &[u8], ready: &mut Blob) -> Result<(), Halt>
         ensures judges { (history : List Entry) → Stands untold self.old.room history
-            → Judges (λ (server : CallServer) (later : List Entry). Stands untold server.room later) (reply_to form (call_in form unit.now) number history) self.new ready.old ready.new result }
+            → Judges (λ (server : CallServer) (later : List Entry). Stands untold server.room later)
+            (reply_to form (call_in form unit.now) number history) self.new ready.old ready.new result }
         ensures grows { length ready.old ≤ length ready.new }
     {
         let Some(call) = self.reader.read(form, unit) else {

@@ -66,7 +66,8 @@ Halts (Halted Starved) halt ready last written written' faults faults' = (halt �
 -- ---- bytes that are taken
 
 -- Bytes were taken: some of the text was written behind what was ready, the rest of it is ready, and the object stands for the state that is left.
-pub record Fed {U S : Type 0} (stands : U → S → Type 0) (byte : S → ℕ → Outcome S) (state : S) (bytes : List ℕ) (new : U) (ready ready' : List ℕ) (written written' : Option (List ℕ)) : Type 0 where
+pub record Fed {U S : Type 0} (stands : U → S → Type 0) (byte : S → ℕ → Outcome S) (state : S) (bytes : List ℕ) (new : U) (ready ready' : List ℕ)
+    (written written' : Option (List ℕ)) : Type 0 where
   pub later : S
   pub goes : (takes byte state bytes).result ≡ Ok later
   pub at : stands new later
@@ -83,7 +84,8 @@ pub record WritesFor {S : Type 0} (byte : S → ℕ → Outcome S) (state : S) (
   pub wrote : Appends written written' (ready ++ (takes byte state front).text)
 
 -- The same, and the state behind that front is the one in which memory was wanting, or the front is all of the bytes.
-pub record HaltsFor {S : Type 0} (wants : S → Type 0) (byte : S → ℕ → Outcome S) (state : S) (bytes ready : List ℕ) (written written' : Option (List ℕ)) : Type 0 where
+pub record HaltsFor {S : Type 0} (wants : S → Type 0) (byte : S → ℕ → Outcome S) (state : S) (bytes ready : List ℕ)
+    (written written' : Option (List ℕ)) : Type 0 where
   pub writes : WritesFor byte state bytes ready written written'
   pub later : S
   pub goes : (takes byte state writes.front).result ≡ Ok later
@@ -96,15 +98,19 @@ Stopped wants SourceFault byte state bytes ready written written' faults faults'
 Stopped wants SinkFault byte state bytes ready written written' faults faults' =
     Rose faults faults' × WritesPart written written' (ready ++ (takes byte state bytes).text)
 Stopped wants (Halted (Ended why)) byte state bytes ready written written' faults faults' =
-    (last : List ℕ) × ((takes byte state bytes).result ≡ Err (end_by why last)) × WritesEnd written written' faults faults' (ready ++ (takes byte state bytes).text) last
+    (last : List ℕ) × ((takes byte state bytes).result ≡ Err (end_by why last))
+    × WritesEnd written written' faults faults' (ready ++ (takes byte state bytes).text) last
 Stopped wants (Halted Starved) byte state bytes ready written written' faults faults' = HaltsFor wants byte state bytes ready written written'
 
-abbrev pub FeedsBy : {U S : Type 0} → (U → S → Type 0) → (U → S → Type 0) → (S → ℕ → Outcome S) → S → List ℕ → U → List ℕ → List ℕ → Option (List ℕ) → Option (List ℕ) → ℕ → ℕ → Result (Unit {0}) Interruption → Type 0
+abbrev pub FeedsBy : {U S : Type 0} → (U → S → Type 0) → (U → S → Type 0) → (S → ℕ → Outcome S) → S → List ℕ → U → List ℕ → List ℕ → Option (List ℕ)
+    → Option (List ℕ) → ℕ → ℕ → Result (Unit {0}) Interruption → Type 0
 FeedsBy wants stands byte state bytes new ready ready' written written' faults faults' (Ok _) = Fed stands byte state bytes new ready ready' written written'
-FeedsBy wants stands byte state bytes new ready ready' written written' faults faults' (Err stop) = Stopped (wants new) stop byte state bytes ready written written' faults faults'
+FeedsBy wants stands byte state bytes new ready ready' written written' faults faults' (Err stop) = Stopped
+    (wants new) stop byte state bytes ready written written' faults faults'
 
 -- The bytes did this, whatever state the object stood for.
-abbrev pub Feeds : {U S : Type 0} → (U → S → Type 0) → (U → S → Type 0) → (S → ℕ → Outcome S) → U → List ℕ → U → List ℕ → List ℕ → Option (List ℕ) → Option (List ℕ) → ℕ → ℕ → Result (Unit {0}) Interruption → Type 0
+abbrev pub Feeds : {U S : Type 0} → (U → S → Type 0) → (U → S → Type 0) → (S → ℕ → Outcome S) → U → List ℕ → U → List ℕ → List ℕ → Option (List ℕ)
+    → Option (List ℕ) → ℕ → ℕ → Result (Unit {0}) Interruption → Type 0
 Feeds {U} {S} wants stands byte old bytes new ready ready' written written' faults faults' result =
     (state : S) → stands old state → FeedsBy wants stands byte state bytes new ready ready' written written' faults faults' result
 
@@ -114,7 +120,8 @@ WritesFirst byte state bytes written written' =
     IsOk ((takes byte state bytes).result) × (more : List ℕ) × Appends written written' ((takes byte state bytes).text ++ more)
 
 -- Bytes were taken from the source, of which those before the last piece did the first, and all did the second.
-pub record Took {U S : Type 0} (wants stands : U → S → Type 0) (byte : S → ℕ → Outcome S) (old new : U) (ready ready' : List ℕ) (left left' written written' : Option (List ℕ)) (faults faults' : ℕ) (result : Result (Unit {0}) Interruption) : Type 0 where
+pub record Took {U S : Type 0} (wants stands : U → S → Type 0) (byte : S → ℕ → Outcome S) (old new : U) (ready ready' : List ℕ)
+    (left left' written written' : Option (List ℕ)) (faults faults' : ℕ) (result : Result (Unit {0}) Interruption) : Type 0 where
   pub earlier : List ℕ
   pub piece : List ℕ
   pub consumed : Consumes left left' (earlier ++ piece)
@@ -125,7 +132,8 @@ pub record Took {U S : Type 0} (wants stands : U → S → Type 0) (byte : S →
   pub feeds : Feeds wants stands byte old (earlier ++ piece) new ready ready' written written' faults faults' result
 
 -- The same behind a first read.
-pub record TookBehind {U S : Type 0} (first : List ℕ) (wants stands : U → S → Type 0) (byte : S → ℕ → Outcome S) (old new : U) (ready ready' : List ℕ) (left left' written written' : Option (List ℕ)) (faults faults' : ℕ) (result : Result (Unit {0}) Interruption) : Type 0 where
+pub record TookBehind {U S : Type 0} (first : List ℕ) (wants stands : U → S → Type 0) (byte : S → ℕ → Outcome S) (old new : U) (ready ready' : List ℕ)
+    (left left' written written' : Option (List ℕ)) (faults faults' : ℕ) (result : Result (Unit {0}) Interruption) : Type 0 where
   pub took : Took wants stands byte old new ready ready' left left' written written' faults faults' result
   pub begins : BeginsWith first (took.earlier ++ took.piece)
 
@@ -139,7 +147,8 @@ CauseOf reads reads' writes writes' other = Unit {0}
 
 -- What was written at the end of the input, by why the command stopped there.
 abbrev pub EndsBy : {U T : Type 0} → (U → T → Type 0) → Outcome T → U → Option (List ℕ) → Option (List ℕ) → ℕ → ℕ → Result (Unit {0}) Interruption → Type 0
-EndsBy {U} {T} stands due new written written' faults faults' (Ok _) = (later : T) × (due.result ≡ Ok later) × stands new later × Appends written written' due.text
+EndsBy {U} {T} stands due new written written' faults faults' (Ok _) = (later : T) × (due.result ≡ Ok later) × stands new later
+    × Appends written written' due.text
 EndsBy {U} {T} stands due new written written' faults faults' (Err SourceFault) = ⊥
 EndsBy {U} {T} stands due new written written' faults faults' (Err SinkFault) = WritesPart written written' due.text
 EndsBy {U} {T} stands due new written written' faults faults' (Err (Halted (Ended why))) =
@@ -150,7 +159,8 @@ EndsBy {U} {T} stands due new written written' faults faults' (Err (Halted Starv
 
 -- What is known of a command that took these bytes, by why it stopped: all that is due for them was written, and at the end of the input
 -- also what is due then. Where it ended by what its input says, that stands in these bytes, or in their end.
-abbrev pub DroveBy : {U S T : Type 0} → (U → T → Type 0) → (S → ℕ → Outcome S) → (S → Outcome T) → S → List ℕ → U → Option (List ℕ) → Option (List ℕ) → Option (List ℕ) → ℕ → ℕ → Result (Unit {0}) Interruption → Type 0
+abbrev pub DroveBy : {U S T : Type 0} → (U → T → Type 0) → (S → ℕ → Outcome S) → (S → Outcome T) → S → List ℕ → U → Option (List ℕ) → Option (List ℕ)
+    → Option (List ℕ) → ℕ → ℕ → Result (Unit {0}) Interruption → Type 0
 DroveBy {U} {S} {T} stands byte ends state taken new left' written written' faults faults' (Ok _) =
     IsAtEnd left' × EndsBy stands (then_due (takes byte state taken) ends) new written written' faults faults' (Ok tt)
 DroveBy {U} {S} {T} stands byte ends state taken new left' written written' faults faults' (Err SourceFault) =
@@ -160,10 +170,12 @@ DroveBy {U} {S} {T} stands byte ends state taken new left' written written' faul
 DroveBy {U} {S} {T} stands byte ends state taken new left' written written' faults faults' (Err (Halted (Ended why))) =
     (((last : List ℕ) × ((takes byte state taken).result ≡ Err (end_by why last))) ⊎ IsAtEnd left')
     × EndsBy stands (then_due (takes byte state taken) ends) new written written' faults faults' (Err (Halted (Ended why)))
-DroveBy {U} {S} {T} stands byte ends state taken new left' written written' faults faults' (Err (Halted Starved)) = WritesFor byte state taken [] written written'
+DroveBy {U} {S} {T} stands byte ends state taken new left' written written' faults faults'
+    (Err (Halted Starved)) = WritesFor byte state taken [] written written'
 
 -- Bytes were taken from the source, of which those before the last piece did the first, and all did the second.
-pub record Drove {U S T : Type 0} (stands : U → T → Type 0) (byte : S → ℕ → Outcome S) (ends : S → Outcome T) (state : S) (new : U) (left left' written written' : Option (List ℕ)) (faults faults' : ℕ) (result : Result (Unit {0}) Interruption) : Type 0 where
+pub record Drove {U S T : Type 0} (stands : U → T → Type 0) (byte : S → ℕ → Outcome S) (ends : S → Outcome T) (state : S) (new : U)
+    (left left' written written' : Option (List ℕ)) (faults faults' : ℕ) (result : Result (Unit {0}) Interruption) : Type 0 where
   pub earlier : List ℕ
   pub piece : List ℕ
   pub consumed : Consumes left left' (earlier ++ piece)
@@ -174,12 +186,14 @@ pub record Drove {U S T : Type 0} (stands : U → T → Type 0) (byte : S → �
   pub by_result : DroveBy stands byte ends state (earlier ++ piece) new left' written written' faults faults' result
 
 -- The same behind a first read.
-pub record DroveBehind {U S T : Type 0} (first : List ℕ) (stands : U → T → Type 0) (byte : S → ℕ → Outcome S) (ends : S → Outcome T) (state : S) (new : U) (left left' written written' : Option (List ℕ)) (faults faults' : ℕ) (result : Result (Unit {0}) Interruption) : Type 0 where
+pub record DroveBehind {U S T : Type 0} (first : List ℕ) (stands : U → T → Type 0) (byte : S → ℕ → Outcome S) (ends : S → Outcome T) (state : S)
+    (new : U) (left left' written written' : Option (List ℕ)) (faults faults' : ℕ) (result : Result (Unit {0}) Interruption) : Type 0 where
   pub drove : Drove stands byte ends state new left left' written written' faults faults' result
   pub begins : BeginsWith first (drove.earlier ++ drove.piece)
 
 -- Where memory was wanting, all that is due for the bytes before that was written.
-abbrev pub Starves : {U S : Type 0} → (U → S → Type 0) → (S → ℕ → Outcome S) → S → U → Option (List ℕ) → Option (List ℕ) → Option (List ℕ) → Option (List ℕ) → Result (Unit {0}) Interruption → Type 0
+abbrev pub Starves : {U S : Type 0} → (U → S → Type 0) → (S → ℕ → Outcome S) → S → U → Option (List ℕ) → Option (List ℕ) → Option (List ℕ)
+    → Option (List ℕ) → Result (Unit {0}) Interruption → Type 0
 Starves wants byte state new left left' written written' (Err (Halted Starved)) =
     (taken : List ℕ) × Consumes left left' taken × HaltsFor (wants new) byte state taken [] written written'
 Starves wants byte state new left left' written written' other = Unit {0}

@@ -44,7 +44,8 @@ ended rule state number seen = then_due (judged rule state number seen) (λ late
 -- what is due for a byte
 abbrev pub byte : {S : Type 0} → Rule S → Point S → ℕ → Outcome (Point S)
 byte rule point b =
-    then_due (judged rule point.state point.number (rule.scan point.number point.kept b)) (λ later. goes_on (moved point b (rule.scan point.number point.kept b) later))
+    then_due (judged rule point.state point.number (rule.scan point.number point.kept b))
+    (λ later. goes_on (moved point b (rule.scan point.number point.kept b) later))
 
 -- what is due at the end of the input
 abbrev pub closed : {S : Type 0} → Rule S → S → Outcome S

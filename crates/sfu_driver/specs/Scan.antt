@@ -33,7 +33,8 @@ between start end bytes = take (end - start) (drop start bytes)
 abbrev pub Finds : (List ℕ → ℕ → Scan) → List ℕ → List ℕ → Found → Type 0
 Finds scan kept piece found.More = AllMore scan kept piece × (length kept + length piece ≤ 4200)
 Finds scan kept piece (found.Whole count start end) =
-    EndsAt scan kept piece count (Whole (between start end (kept ++ take count piece))) × (length kept + count ≤ 4201) × (start ≤ end) × (end ≤ length kept + count)
+    EndsAt scan kept piece count (Whole (between start end (kept ++ take count piece))) × (length kept + count ≤ 4201) × (start ≤ end)
+    × (end ≤ length kept + count)
 Finds scan kept piece (found.Outside count) = EndsAt scan kept piece count NoUnit
 
 -- What the bytes of a unit make of it at the end of the input.

@@ -96,7 +96,8 @@ pub record SaysOf (whole part : List ℕ → Due) (taken : List ℕ) (left' writ
   pub ended : (why : Ending) → status ≡ status_of why → Decides part why left' taken × (last : List ℕ) × ((whole taken).end ≡ Some (end_by why last))
       × WritesEnd written written' writes writes' (whole taken).text last
   -- 6: what is due for a front of them was written, which doesn't end the command
-  pub memory : status ≡ 6 → (front : List ℕ) × (more : List ℕ) × (taken ≡ front ++ more) × ((part front).end ≡ None) × Appends written written' (part front).text
+  pub memory : status ≡ 6 → (front : List ℕ) × (more : List ℕ) × (taken ≡ front ++ more) × ((part front).end ≡ None)
+      × Appends written written' (part front).text
   -- whatever the status, a front of what is due was written
   pub begun : WritesFront written written' (full_text (whole taken))
 
@@ -116,7 +117,8 @@ pub record Statuses (whole part : List ℕ → Due) (left left' written written'
   pub done : status ≡ 0 → IfSome left (λ bytes. IsAtEnd left' × ((whole bytes).end ≡ None) × Appends written written' (whole bytes).text)
   -- 3: the source failed; the bytes that were taken don't end the command, and what is due for them was written
   pub source : status ≡ 3 → Rose reads reads'
-  pub judged : status ≡ 3 → IfSome left (λ bytes. (taken : List ℕ) × Consumes left left' taken × ((part taken).end ≡ None) × Appends written written' (part taken).text)
+  pub judged : status ≡ 3 → IfSome left (λ bytes. (taken : List ℕ) × Consumes left left' taken × ((part taken).end ≡ None)
+      × Appends written written' (part taken).text)
   -- 4: the sink failed; what was written is a part of what is due before the last text of an ending, and not all of it
   pub sink : status ≡ 4 → Rose writes writes'
   pub unwritten : status ≡ 4 → IfSome left (λ bytes. WritesPart written written' (whole bytes).text)
@@ -126,18 +128,21 @@ pub record Statuses (whole part : List ℕ → Due) (left left' written written'
   -- and that stands in the bytes that were taken, whatever follows them, or in the input's end
   pub decided : (why : Ending) → status ≡ status_of why → IfSome left (λ bytes. (taken : List ℕ) × Consumes left left' taken × Decides part why left' taken)
   -- 6: memory was wanting; what is due for a front of the bytes that were taken was written, and they don't end the command
-  pub memory : status ≡ 6 → IfSome left (λ bytes. (front : List ℕ) × (more : List ℕ) × Consumes left left' (front ++ more) × ((part front).end ≡ None) × Appends written written' (part front).text)
+  pub memory : status ≡ 6 → IfSome left (λ bytes. (front : List ℕ) × (more : List ℕ) × Consumes left left' (front ++ more) × ((part front).end ≡ None)
+      × Appends written written' (part front).text)
   -- whatever the status, no more was read than was judged, and a front of what is due was written
   pub prompt : IfSome left (λ bytes. IsPrompt part left left' written written')
   pub begun : IfSome left (λ bytes. WritesFront written written' (full_text (whole bytes)))
   -- no other status comes but those of inputs that end the command
-  pub only : (status ≡ 0) ⊎ (status ≡ 3) ⊎ (status ≡ 4) ⊎ (status ≡ 6) ⊎ ((bytes : List ℕ) × (end : End) × ((whole bytes).end ≡ Some end) × (status ≡ status_of end.why))
+  pub only : (status ≡ 0) ⊎ (status ≡ 3) ⊎ (status ≡ 4) ⊎ (status ≡ 6)
+      ⊎ ((bytes : List ℕ) × (end : End) × ((whole bytes).end ≡ Some end) × (status ≡ status_of end.why))
   pub complete : ¬ (Rose reads reads') → ¬ (Rose writes writes') → IfSome left (λ bytes. Completes (whole bytes).end status)
   -- of every source, also of one that tells nothing
   pub every : OfEvery whole part left left' written written' reads reads' writes writes' status
 
 -- The same behind a first read, with which the bytes begin that were taken.
-pub record StatusesBehind (first : List ℕ) (whole part : List ℕ → Due) (left left' written written' : Option (List ℕ)) (reads reads' writes writes' status : ℕ) : Type 0 where
+pub record StatusesBehind (first : List ℕ) (whole part : List ℕ → Due) (left left' written written' : Option (List ℕ))
+    (reads reads' writes writes' status : ℕ) : Type 0 where
   pub statuses : Statuses whole part left left' written written' reads reads' writes writes' status
   pub every : OfEvery whole part left left' written written' reads reads' writes writes' status
   pub begins : BeginsWith first (every.prompt.earlier ++ every.prompt.piece)

@@ -20,7 +20,8 @@ pub fn answer<C: Cut, J: Judge, S: Source, K: Sink>(
     ensures { (point : Point J.State) → StandsAt J.stands units.old point
         → Statuses (λ bytes. due_of (due (rule_of C.scan C.scan_end J.step J.outside J.closing) point bytes))
         (λ taken. due_of (takes (byte (rule_of C.scan C.scan_end J.step J.outside J.closing)) point taken))
-        (S.left source.old) (S.left source.new) (K.written sink.old) (K.written sink.new) (S.faults source.old) (S.faults source.new) (K.faults sink.old) (K.faults sink.new) (number_of result) }
+        (S.left source.old) (S.left source.new) (K.written sink.old) (K.written sink.new) (S.faults source.old) (S.faults source.new)
+        (K.faults sink.old) (K.faults sink.new) (number_of result) }
 {
     Status::of(drive(alloc, units, source, sink))
 }
@@ -36,11 +37,13 @@ pub fn answer_behind<C: Cut, J: Judge, S: Source, K: Sink>(
 ) -> Status
     requires within { first ≤ MOST_PIECE }
     requires end { first ≡ 0 → IsAtEnd (S.left source.old) }
-    ensures { (left : Option (List ℕ)) (reads : ℕ) (point : Point J.State) → Consumes left (S.left source.old) (take first piece.old) → reads ≤ S.faults source.old
+    ensures { (left : Option (List ℕ)) (reads : ℕ) (point : Point J.State) → Consumes left (S.left source.old) (take first piece.old)
+        → reads ≤ S.faults source.old
         → StandsAt J.stands units.old point
         → StatusesBehind (take first piece.old) (λ bytes. due_of (due (rule_of C.scan C.scan_end J.step J.outside J.closing) point bytes))
         (λ taken. due_of (takes (byte (rule_of C.scan C.scan_end J.step J.outside J.closing)) point taken))
-        left (S.left source.new) (K.written sink.old) (K.written sink.new) reads (S.faults source.new) (K.faults sink.old) (K.faults sink.new) (number_of result) }
+        left (S.left source.new) (K.written sink.old) (K.written sink.new) reads (S.faults source.new) (K.faults sink.old) (K.faults sink.new)
+        (number_of result) }
 {
     Status::of(drive_behind(alloc, units, piece, first, source, sink))
 }

@@ -38,7 +38,8 @@ fn flush<K: Sink>(ready: &mut Blob, sink: &mut K) -> Result<(), Interruption>
 // Writes what was ready before the command ended, and then its last text. The sink's failing in the last text changes nothing.
 fn halt<K: Sink>(ready: &Blob, mark: usize, why: Halt, sink: &mut K) -> Interruption
     requires { mark ≤ length ready.now }
-    ensures halts { Halts result why (take mark ready.now) (drop mark ready.now) (K.written sink.old) (K.written sink.new) (K.faults sink.old) (K.faults sink.new) }
+    ensures halts { Halts result why (take mark ready.now) (drop mark ready.now) (K.written sink.old) (K.written sink.new) (K.faults sink.old)
+        (K.faults sink.new) }
     ensures never_falls { K.faults sink.old ≤ K.faults sink.new }
 {
     if write_all(sink, &ready.bytes()[..mark]).is_err() {
@@ -59,9 +60,11 @@ fn take_unit<C: Cut, J: Judge, K: Sink>(
     piece: &[u8],
 ) -> Result<usize, Interruption>
     requires { 0 < length piece.now }
-    ensures feeds { IfOk result (λ count. Feeds IsAtUnit (StandsAt J.stands) (byte (rule_of C.scan C.scan_end J.step J.outside J.closing)) units.old (take count piece.now) units.new ready.old ready.new
+    ensures feeds { IfOk result (λ count. Feeds IsAtUnit (StandsAt J.stands) (byte (rule_of C.scan C.scan_end J.step J.outside J.closing)) units.old
+        (take count piece.now) units.new ready.old ready.new
         (K.written sink.old) (K.written sink.new) (K.faults sink.old) (K.faults sink.new) (Ok tt)) }
-    ensures stops { (stop : Interruption) → result ≡ Err stop → Feeds IsAtUnit (StandsAt J.stands) (byte (rule_of C.scan C.scan_end J.step J.outside J.closing)) units.old piece.now units.new ready.old ready.new
+    ensures stops { (stop : Interruption) → result ≡ Err stop
+        → Feeds IsAtUnit (StandsAt J.stands) (byte (rule_of C.scan C.scan_end J.step J.outside J.closing)) units.old piece.now units.new ready.old ready.new
         (K.written sink.old) (K.written sink.new) (K.faults sink.old) (K.faults sink.new) (Err stop) }
     ensures used { IfOk result (λ count. 0 < count) }
     ensures within { IfOk result (λ count. count ≤ length piece.now) }
@@ -88,7 +91,8 @@ fn feed<C: Cut, J: Judge, K: Sink>(
     sink: &mut K,
     piece: &[u8],
 ) -> Result<(), Interruption>
-    ensures feeds { Feeds IsAtUnit (StandsAt J.stands) (byte (rule_of C.scan C.scan_end J.step J.outside J.closing)) units.old piece.now units.new ready.old ready.new
+    ensures feeds { Feeds IsAtUnit (StandsAt J.stands)
+        (byte (rule_of C.scan C.scan_end J.step J.outside J.closing)) units.old piece.now units.new ready.old ready.new
         (K.written sink.old) (K.written sink.new) (K.faults sink.old) (K.faults sink.new) result }
     ensures progress { OnOk result (progress units.old + length piece.now ≤ progress units.new) }
     ensures written { OnOk result (ready.new ≡ []) }
@@ -117,7 +121,8 @@ fn take_all<C: Cut, J: Judge, S: Source, K: Sink>(
     requires within { first ≤ MOST_PIECE }
     requires end { first ≡ 0 → IsAtEnd (S.left source.old) }
     ensures took { (left : Option (List ℕ)) → Consumes left (S.left source.old) (take first piece.old)
-        → TookBehind (take first piece.old) IsAtUnit (StandsAt J.stands) (byte (rule_of C.scan C.scan_end J.step J.outside J.closing)) units.old units.new ready.old ready.new left (S.left source.new)
+        → TookBehind (take first piece.old) IsAtUnit (StandsAt J.stands)
+        (byte (rule_of C.scan C.scan_end J.step J.outside J.closing)) units.old units.new ready.old ready.new left (S.left source.new)
         (K.written sink.old) (K.written sink.new) (K.faults sink.old) (K.faults sink.new) result }
     ensures end { OnOk result (IsAtEnd (S.left source.new)) }
     ensures written { OnOk result (ready.new ≡ []) }
@@ -143,7 +148,8 @@ fn finish<C: Cut, J: Judge, K: Sink>(
 ) -> Result<(), Interruption>
     requires { ready.old ≡ [] }
     ensures ends { (point : Point J.State) → StandsAt J.stands units.old point
-        → EndsBy (JudgeStands J.stands) (ends (rule_of C.scan C.scan_end J.step J.outside J.closing) point) units.new (K.written sink.old) (K.written sink.new) (K.faults sink.old) (K.faults sink.new) result }
+        → EndsBy (JudgeStands J.stands) (ends (rule_of C.scan C.scan_end J.step J.outside J.closing) point) units.new (K.written sink.old)
+        (K.written sink.new) (K.faults sink.old) (K.faults sink.new) result }
     ensures cause { CauseOf 0 0 (K.faults sink.old) (K.faults sink.new) result }
     ensures never_falls { K.faults sink.old ≤ K.faults sink.new }
 {
@@ -164,11 +170,15 @@ pub fn drive_behind<C: Cut, J: Judge, S: Source, K: Sink>(
 ) -> Result<(), Interruption>
     requires within { first ≤ MOST_PIECE }
     requires end { first ≡ 0 → IsAtEnd (S.left source.old) }
-    ensures drove { (left : Option (List ℕ)) (point : Point J.State) → Consumes left (S.left source.old) (take first piece.old) → StandsAt J.stands units.old point
-        → DroveBehind (take first piece.old) (JudgeStands J.stands) (byte (rule_of C.scan C.scan_end J.step J.outside J.closing)) (ends (rule_of C.scan C.scan_end J.step J.outside J.closing)) point units.new
+    ensures drove { (left : Option (List ℕ)) (point : Point J.State) → Consumes left (S.left source.old) (take first piece.old)
+        → StandsAt J.stands units.old point
+        → DroveBehind (take first piece.old) (JudgeStands J.stands) (byte (rule_of C.scan C.scan_end J.step J.outside J.closing))
+        (ends (rule_of C.scan C.scan_end J.step J.outside J.closing)) point units.new
         left (S.left source.new) (K.written sink.old) (K.written sink.new) (K.faults sink.old) (K.faults sink.new) result }
-    ensures starves { (left : Option (List ℕ)) (point : Point J.State) → Consumes left (S.left source.old) (take first piece.old) → StandsAt J.stands units.old point
-        → Starves IsAtUnit (byte (rule_of C.scan C.scan_end J.step J.outside J.closing)) point units.new left (S.left source.new) (K.written sink.old) (K.written sink.new) result }
+    ensures starves { (left : Option (List ℕ)) (point : Point J.State) → Consumes left (S.left source.old) (take first piece.old)
+        → StandsAt J.stands units.old point
+        → Starves IsAtUnit (byte (rule_of C.scan C.scan_end J.step J.outside J.closing)) point units.new left (S.left source.new) (K.written sink.old)
+        (K.written sink.new) result }
     ensures cause { CauseOf (S.faults source.old) (S.faults source.new) (K.faults sink.old) (K.faults sink.new) result }
     ensures never_falls { K.faults sink.old ≤ K.faults sink.new }
 {
@@ -185,10 +195,12 @@ pub fn drive<C: Cut, J: Judge, S: Source, K: Sink>(
     sink: &mut K,
 ) -> Result<(), Interruption>
     ensures drove { (point : Point J.State) → StandsAt J.stands units.old point
-        → Drove (JudgeStands J.stands) (byte (rule_of C.scan C.scan_end J.step J.outside J.closing)) (ends (rule_of C.scan C.scan_end J.step J.outside J.closing)) point units.new
+        → Drove (JudgeStands J.stands) (byte (rule_of C.scan C.scan_end J.step J.outside J.closing))
+        (ends (rule_of C.scan C.scan_end J.step J.outside J.closing)) point units.new
         (S.left source.old) (S.left source.new) (K.written sink.old) (K.written sink.new) (K.faults sink.old) (K.faults sink.new) result }
     ensures starves { (point : Point J.State) → StandsAt J.stands units.old point
-        → Starves IsAtUnit (byte (rule_of C.scan C.scan_end J.step J.outside J.closing)) point units.new (S.left source.old) (S.left source.new) (K.written sink.old) (K.written sink.new) result }
+        → Starves IsAtUnit (byte (rule_of C.scan C.scan_end J.step J.outside J.closing)) point units.new (S.left source.old) (S.left source.new)
+        (K.written sink.old) (K.written sink.new) result }
     ensures cause { CauseOf (S.faults source.old) (S.faults source.new) (K.faults sink.old) (K.faults sink.new) result }
     ensures never_falls { K.faults sink.old ≤ K.faults sink.new }
 {

@@ -25,7 +25,8 @@ pub trait Judge {
 
     /// Judges the unit with this number. Where the command ends here, its last text alone was made ready; after want of memory none was.
     fn judge(&mut self, number: u32, unit: &[u8], ready: &mut Blob) -> Result<(), Halt>
-        ensures judges { (state : Self.State) → Self.stands self.old state → Judges Self.stands (Self.step state number unit.now) self.new ready.old ready.new result }
+        ensures judges { (state : Self.State) → Self.stands self.old state
+            → Judges Self.stands (Self.step state number unit.now) self.new ready.old ready.new result }
         ensures grows { length ready.old ≤ length ready.new };
 
     /// Gets the last text ready where a unit is outside the grammar of units.
@@ -35,6 +36,7 @@ pub trait Judge {
 
     /// Gets the text ready that is due at the end of the input.
     fn close(&mut self, ready: &mut Blob) -> Result<(), NoMemory>
-        ensures ok { OnOk result ((state : Self.State) → Self.stands self.old state → Self.stands self.new state × (ready.new ≡ ready.old ++ Self.closing state)) }
+        ensures ok { OnOk result ((state : Self.State) → Self.stands self.old state → Self.stands self.new state
+            × (ready.new ≡ ready.old ++ Self.closing state)) }
         ensures err { OnErr result (ready.new ≡ ready.old) };
 }

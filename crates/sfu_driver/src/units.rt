@@ -45,7 +45,8 @@ impl<C: Cut, J: Judge> Units<C, J> {
 
     // Says that the unit is outside the grammar.
     fn refuse(&self, ready: &mut Blob) -> Halt
-        ensures judges { (state : J.State) → Judges J.stands (is_outside {S = J.State} (J.outside self.now.number)) self.now.judge ready.old ready.new (Err result) }
+        ensures judges { (state : J.State) → Judges J.stands (is_outside {S = J.State} (J.outside self.now.number)) self.now.judge ready.old ready.new
+            (Err result) }
         ensures grows { length ready.old ≤ length ready.new }
     {
         match self.judge.refuse(self.number, ready) {
@@ -151,7 +152,8 @@ impl<C: Cut, J: Judge> Units<C, J> {
     // Judges the bytes that are left at the end of the input.
     fn finish_unit(&mut self, ready: &mut Blob) -> Result<(), Halt>
         ensures judges { (point : Point J.State) → StandsAt J.stands self.old point
-            → Judges J.stands (judged (rule_of C.scan C.scan_end J.step J.outside J.closing) point.state point.number (C.scan_end point.number point.kept)) self.new.judge ready.old ready.new result }
+            → Judges J.stands (judged (rule_of C.scan C.scan_end J.step J.outside J.closing) point.state point.number
+            (C.scan_end point.number point.kept)) self.new.judge ready.old ready.new result }
         ensures grows { length ready.old ≤ length ready.new }
     {
         match self.cut.find_last(self.number, self.kept.bytes()) {

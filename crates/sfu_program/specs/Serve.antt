@@ -37,7 +37,8 @@ pub record HaveServed (limit : ℕ) (calls : List Call) (jobs : List Before) (en
   pub headline : Headline (accepted (entries_of history))
 
 -- All ports of these lines were bound, in their order, had their sessions, and came back in this order.
-pub record HasServed {L : Type 0} (told : L → Option Traffic) (faults : L → ℕ) (limit : ℕ) (calls : List Call) (lines : List PortLine) (old new : PortsSeen L) (ended : List (Ended L)) : Type 0 where
+pub record HasServed {L : Type 0} (told : L → Option Traffic) (faults : L → ℕ) (limit : ℕ) (calls : List Call) (lines : List PortLine)
+    (old new : PortsSeen L) (ended : List (Ended L)) : Type 0 where
   pub jobs : List Before
   pub fresh : AreFresh lines jobs
   pub served : HaveServed limit calls jobs (afters told faults ended)
@@ -46,18 +47,22 @@ pub record HasServed {L : Type 0} (told : L → Option Traffic) (faults : L → 
   pub returned : new.returned ≡ after_backs (map (λ session. session.link) ended) old.returned
 
 -- What came of the ports of these lines, behind these calls.
-pub record Ends {L : Type 0} (told : L → Option Traffic) (faults : L → ℕ) (limit : ℕ) (calls : List Call) (lines : List PortLine) (written written' : Option (List ℕ)) (writes writes' : ℕ) (old new : PortsSeen L) (status : ℕ) : Type 0 where
+pub record Ends {L : Type 0} (told : L → Option Traffic) (faults : L → ℕ) (limit : ℕ) (calls : List Call) (lines : List PortLine)
+    (written written' : Option (List ℕ)) (writes writes' : ℕ) (old new : PortsSeen L) (status : ℕ) : Type 0 where
   -- 0: each session made all its turns, and a line for each was written
-  pub done : status ≡ 0 → (ended : List (Ended L)) × HasServed told faults limit calls lines old new ended × (all_made (ends_of ended) ≡ true) × Appends written written' (ends_text 1 (ends_of ended))
+  pub done : status ≡ 0 → (ended : List (Ended L)) × HasServed told faults limit calls lines old new ended × (all_made (ends_of ended) ≡ true)
+      × Appends written written' (ends_text 1 (ends_of ended))
   -- 4: the sink failed in these lines
   pub sink : status ≡ 4 → Rose writes writes'
-  pub unwritten : status ≡ 4 → (ended : List (Ended L)) × HasServed told faults limit calls lines old new ended × WritesPart written written' (ends_text 1 (ends_of ended))
+  pub unwritten : status ≡ 4 → (ended : List (Ended L)) × HasServed told faults limit calls lines old new ended
+      × WritesPart written written' (ends_text 1 (ends_of ended))
   -- 6: memory was wanting, and nothing was written
   pub memory : status ≡ 6 → Appends written written' []
   -- 7: a port wasn't bound, so no session started; or the link of a session failed, and the lines were written
   pub ports : status ≡ 7 → Rose old.faults new.faults
   pub failed : status ≡ 7 → (WasUnbound told faults lines old new × Appends written written' [])
-      ⊎ ((ended : List (Ended L)) × HasServed told faults limit calls lines old new ended × (all_made (ends_of ended) ≡ false) × Appends written written' (ends_text 1 (ends_of ended)))
+      ⊎ ((ended : List (Ended L)) × HasServed told faults limit calls lines old new ended × (all_made (ends_of ended) ≡ false)
+      × Appends written written' (ends_text 1 (ends_of ended)))
   pub only : (status ≡ 0) ⊎ (status ≡ 4) ⊎ (status ≡ 6) ⊎ (status ≡ 7)
 
 -- all that is due: the replies to the first calls, and then a line for each session
@@ -65,9 +70,11 @@ abbrev pub serve_text : {L : Type 0} → List Call → List (Ended L) → List �
 serve_text calls ended = first_text calls ++ ends_text 1 (ends_of ended)
 
 -- What was done for these calls and lines.
-pub record Acts {L : Type 0} (told : L → Option Traffic) (faults : L → ℕ) (limit : ℕ) (calls : List Call) (lines : List PortLine) (written written' : Option (List ℕ)) (writes writes' : ℕ) (old new : PortsSeen L) (status : ℕ) : Type 0 where
+pub record Acts {L : Type 0} (told : L → Option Traffic) (faults : L → ℕ) (limit : ℕ) (calls : List Call) (lines : List PortLine)
+    (written written' : Option (List ℕ)) (writes writes' : ℕ) (old new : PortsSeen L) (status : ℕ) : Type 0 where
   -- 0: each session made all its turns, and all that is due was written
-  pub done : status ≡ 0 → (ended : List (Ended L)) × HasServed told faults limit calls lines old new ended × (all_made (ends_of ended) ≡ true) × Appends written written' (serve_text calls ended)
+  pub done : status ≡ 0 → (ended : List (Ended L)) × HasServed told faults limit calls lines old new ended × (all_made (ends_of ended) ≡ true)
+      × Appends written written' (serve_text calls ended)
   -- 4: the sink failed; what was written is a part of what is due, and not all of it. Before the replies were written no port was bound
   pub sink : status ≡ 4 → Rose writes writes'
   pub unwritten : status ≡ 4 → (WritesPart written written' (first_text calls) × (new ≡ old))
@@ -77,11 +84,13 @@ pub record Acts {L : Type 0} (told : L → Option Traffic) (faults : L → ℕ) 
   -- 7: a port wasn't bound, so no session started and the replies alone were written; or the link of a session failed, and all was written
   pub ports : status ≡ 7 → Rose old.faults new.faults
   pub failed : status ≡ 7 → (WasUnbound told faults lines old new × Appends written written' (first_text calls))
-      ⊎ ((ended : List (Ended L)) × HasServed told faults limit calls lines old new ended × (all_made (ends_of ended) ≡ false) × Appends written written' (serve_text calls ended))
+      ⊎ ((ended : List (Ended L)) × HasServed told faults limit calls lines old new ended × (all_made (ends_of ended) ≡ false)
+      × Appends written written' (serve_text calls ended))
   pub only : (status ≡ 0) ⊎ (status ≡ 4) ⊎ (status ≡ 6) ⊎ (status ≡ 7)
 
 -- The source was read to its end, its bytes are a configuration, and this was done for its calls and its ports.
-pub record ActsOn {L : Type 0} (told : L → Option Traffic) (faults : L → ℕ) (limit : ℕ) (left left' written written' : Option (List ℕ)) (writes writes' : ℕ) (old new : PortsSeen L) (status : ℕ) : Type 0 where
+pub record ActsOn {L : Type 0} (told : L → Option Traffic) (faults : L → ℕ) (limit : ℕ) (left left' written written' : Option (List ℕ))
+    (writes writes' : ℕ) (old new : PortsSeen L) (status : ℕ) : Type 0 where
   pub bytes : List ℕ
   pub consumed : Consumes left left' bytes
   pub at_end : IsAtEnd left'
@@ -91,7 +100,8 @@ pub record ActsOn {L : Type 0} (told : L → Option Traffic) (faults : L → ℕ
 -- What `serve` does. Where the source fails (3), a line is outside the grammar (5) or memory is wanting for what the lines say (6), no call
 -- is made and no port bound.
 pub record Serves {L : Type 0} (told : L → Option Traffic) (faults : L → ℕ) (limit : ℕ) (x : Exchange) (old new : PortsSeen L) (status : ℕ) : Type 0 where
-  pub came : (ReadsNoSetup x.left x.left' x.written x.written' x.reads x.reads' x.writes x.writes' status × (new ≡ old)) ⊎ ActsOn told faults limit x.left x.left' x.written x.written' x.writes x.writes' old new status
+  pub came : (ReadsNoSetup x.left x.left' x.written x.written' x.reads x.reads' x.writes x.writes' status × (new ≡ old))
+      ⊎ ActsOn told faults limit x.left x.left' x.written x.written' x.writes x.writes' old new status
   -- no other status comes
   pub only : (status ≡ 0) ⊎ (status ≡ 3) ⊎ (status ≡ 4) ⊎ (status ≡ 5) ⊎ (status ≡ 6) ⊎ (status ≡ 7)
   -- where nothing outside fails, all sessions make all their turns, unless a line is outside the grammar

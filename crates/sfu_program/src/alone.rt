@@ -49,7 +49,8 @@ pub fn sfu_alone<S: Source, K: Sink>(
         → Converts (exchange_of S.left S.faults K.written K.faults source.old source.new sink.old sink.new) result }
     ensures simulcast { IsSimulcast (map string_bytes words.now)
         → Simulcasts (exchange_of S.left S.faults K.written K.faults source.old source.new sink.old sink.new) result }
-    ensures help { IsHelp (map string_bytes words.now) → Helps source.old source.new (K.written sink.old) (K.written sink.new) (K.faults sink.old) (K.faults sink.new) result }
+    ensures help { IsHelp (map string_bytes words.now)
+        → Helps source.old source.new (K.written sink.old) (K.written sink.new) (K.faults sink.old) (K.faults sink.new) result }
     ensures trial { (s : Stream) → IsTrial (map string_bytes words.now) s
         → Tries source.old source.new s (K.written sink.old) (K.written sink.new) (K.faults sink.old) (K.faults sink.new) result }
     ensures cascade { (s : Stream) → IsCascade (map string_bytes words.now) s

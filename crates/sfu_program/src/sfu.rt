@@ -79,7 +79,8 @@ pub fn sfu<W: Threads + Wait + Sync, S: Source, K: Sink, P: Ports, C: Clock + Sy
         → Converts (exchange_of S.left S.faults K.written K.faults source.old source.new sink.old sink.new) result }
     ensures simulcast { IsSimulcast (map string_bytes words.now)
         → Simulcasts (exchange_of S.left S.faults K.written K.faults source.old source.new sink.old sink.new) result }
-    ensures help { IsHelp (map string_bytes words.now) → Helps source.old source.new (K.written sink.old) (K.written sink.new) (K.faults sink.old) (K.faults sink.new) result }
+    ensures help { IsHelp (map string_bytes words.now)
+        → Helps source.old source.new (K.written sink.old) (K.written sink.new) (K.faults sink.old) (K.faults sink.new) result }
     ensures trial { (s : Stream) → IsTrial (map string_bytes words.now) s
         → Tries source.old source.new s (K.written sink.old) (K.written sink.new) (K.faults sink.old) (K.faults sink.new) result }
     ensures cascade { (s : Stream) → IsCascade (map string_bytes words.now) s
@@ -95,7 +96,8 @@ pub fn sfu<W: Threads + Wait + Sync, S: Source, K: Sink, P: Ports, C: Clock + Sy
         → Refuses source.old source.new (K.written sink.old) (K.written sink.new) (K.faults sink.old) (K.faults sink.new) result }
     ensures form { (result ≡ 2) ↔ ¬ (IsCommand (map string_bytes words.now)) }
     ensures only { IsEnd result }
-    ensures complete { NoneRose (exchange_of S.left S.faults K.written K.faults source.old source.new sink.old sink.new) (P.faults ports.old) (P.faults ports.new)
+    ensures complete { NoneRose (exchange_of S.left S.faults K.written K.faults source.old source.new sink.old sink.new) (P.faults ports.old)
+        (P.faults ports.new)
         → Completes (map string_bytes words.now) (exchange_of S.left S.faults K.written K.faults source.old source.new sink.old sink.new) result }
     ensures inside { NoneRose (exchange_of S.left S.faults K.written K.faults source.old source.new sink.old sink.new) (P.faults ports.old) (P.faults ports.new)
         → IsInside result }

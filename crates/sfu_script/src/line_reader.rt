@@ -69,7 +69,8 @@ impl LineReader {
     }
 
     fn read_take(&mut self, rest: &[u8]) -> Result<(), NoLine>
-        ensures { MatchResult result (λ _. subscriber_call_of SubscriberCommand.Take rest.now ≡ Some self.new.take) (λ _. subscriber_call_of SubscriberCommand.Take rest.now ≡ None) }
+        ensures { MatchResult result (λ _. subscriber_call_of SubscriberCommand.Take rest.now ≡ Some self.new.take)
+            (λ _. subscriber_call_of SubscriberCommand.Take rest.now ≡ None) }
     {
         let number = number32(rest)?;
         match &mut self.take {
@@ -82,7 +83,8 @@ impl LineReader {
     }
 
     fn read_tick(&mut self, rest: &[u8]) -> Result<(), NoLine>
-        ensures { MatchResult result (λ _. track_call_of TrackCommand.Tick rest.now ≡ Some self.new.tick) (λ _. track_call_of TrackCommand.Tick rest.now ≡ None) }
+        ensures { MatchResult result (λ _. track_call_of TrackCommand.Tick rest.now ≡ Some self.new.tick) (λ _. track_call_of TrackCommand.Tick rest.now
+            ≡ None) }
     {
         let [number, time] = read_fields(&[Number32, Number64], rest)?;
         match &mut self.tick {

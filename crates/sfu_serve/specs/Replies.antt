@@ -18,7 +18,8 @@ abbrev pub with_entry : List Entry → ℕ → Call → Reply → List Entry
 with_entry history seat call reply = history ++ record { seat = seat; call = call; starved = is_starved reply } ∷ []
 
 -- The reply to a call of a seat after this history, with what it leaves in the scratch.
-pub record IsReplied {R : Type 0} (may_refuse : R → Bool) (history : List Entry) (seat : ℕ) (call : Call) (reply : Reply) (bytes numbers : List ℕ) : Type 0 where
+pub record IsReplied {R : Type 0} (may_refuse : R → Bool) (history : List Entry) (seat : ℕ) (call : Call) (reply : Reply)
+    (bytes numbers : List ℕ) : Type 0 where
   -- it is the history's, unless it is want of memory
   pub answered : is_starved reply ≡ false → answer_of reply bytes numbers ≡ reply_of history call
   -- want of memory comes only to a call that takes memory, and that the history accepts, or where the recorder may refuse

@@ -29,7 +29,8 @@ CanBe role = Unit {0}
 
 -- A session of the seat with this number, which began with no entries, read in any later history: `found` is the greatest number of a
 -- ticket that was found there.
-pub record IsSession (whole : Doing) (limit number found : ℕ) (history : List (Entry Call)) (told told' : Option Traffic) (before after : ℕ) (end : SessionEnd) : Type 0 where
+pub record IsSession (whole : Doing) (limit number found : ℕ) (history : List (Entry Call)) (told told' : Option Traffic) (before after : ℕ)
+    (end : SessionEnd) : Type 0 where
   pub steps : List (Step Call Answer)
   pub rest : Doing
   pub leads : Leads IsOne whole steps rest
@@ -65,7 +66,8 @@ job_after end told faults = record { end = end; told = told; faults = faults }
 abbrev pub AreSessions : ℕ → ℕ → List (Entry Call) → ℕ → List Before → List After → Type 0
 AreSessions limit found history number [] [] = Unit {0}
 AreSessions limit found history number (job ∷ jobs) (ended ∷ others) =
-    IsSession (deed_of job.role limit) limit number found history job.told ended.told job.faults ended.faults ended.end × AreSessions limit found history (number + 1) jobs others
+    IsSession (deed_of job.role limit) limit number found history job.told ended.told job.faults ended.faults ended.end
+    × AreSessions limit found history (number + 1) jobs others
 AreSessions limit found history number _ _ = ⊥
 
 -- The first seat has seen more of the history: entries of the jobs' seats alone, in which each job's session stands.

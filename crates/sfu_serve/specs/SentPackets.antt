@@ -14,13 +14,16 @@ use Rattle.sfu_serve.specs.Packets.{AreSent, datagrams_given, packets_given, uns
 -- The packets that the takes and resends of the seat gave in the history are those that the session sent, in order, and the one that it was
 -- to send next, where its last send failed.
 abbrev pub SubscribersSendWhatTheyWereGiven : Type 0
-SubscribersSendWhatTheyWereGiven = (subscriber ssrc limit number found : ℕ) (history : List (Entry Call)) (told told' : Option Traffic) (before after : ℕ) (end : SessionEnd)
-    → (s : IsSession (subscriber_deed subscriber ssrc limit) limit number found history told told' before after end) → packets_given (words_of number history) ≡ sent_of s.steps ++ unsent s.rest
+SubscribersSendWhatTheyWereGiven = (subscriber ssrc limit number found : ℕ) (history : List (Entry Call)) (told told' : Option Traffic)
+    (before after : ℕ) (end : SessionEnd)
+    → (s : IsSession (subscriber_deed subscriber ssrc limit) limit number found history told told' before after end)
+    → packets_given (words_of number history) ≡ sent_of s.steps ++ unsent s.rest
 
 -- Where resent packets go out on a stream of their own: each packet that a take gave was sent as it is, and the packet of the i-th resend
 -- that gave one, counted from 0, as it is resent there with the number i modulo 65,536; in order, but for the one that it was to send
 -- next, where its last send failed.
 abbrev pub RtxSessionsSendWhatTheyWereGiven : Type 0
-RtxSessionsSendWhatTheyWereGiven = (subscriber ssrc : ℕ) (rtx : Rtx) (limit number found : ℕ) (history : List (Entry Call)) (told told' : Option Traffic) (before after : ℕ) (end : SessionEnd)
+RtxSessionsSendWhatTheyWereGiven = (subscriber ssrc : ℕ) (rtx : Rtx) (limit number found : ℕ) (history : List (Entry Call))
+    (told told' : Option Traffic) (before after : ℕ) (end : SessionEnd)
     → (s : IsSession (rtx_deed subscriber ssrc rtx limit) limit number found history told told' before after end)
     → AreSent (sent_of s.steps) (datagrams_given (Some rtx) 0 (words_of number history)) (unsent_datagram s.rest)

@@ -86,7 +86,8 @@ pub record IsDone (root : Known Call) (i : ℕ) (calls : List Call) (done : Done
 
 -- the same of each actor of the script
 abbrev pub AreDone : Known Call → List (List Call) → List Done → Type 0
-AreDone root lists dones = (i : ℕ) (done : Done) → get_elem? dones i ≡ some done → (calls : List Call) × (get_elem? lists i ≡ some calls) × IsDone root i calls done
+AreDone root lists dones = (i : ℕ) (done : Done) → get_elem? dones i ≡ some done → (calls : List Call) × (get_elem? lists i ≡ some calls)
+    × IsDone root i calls done
 
 abbrev pub joined_as : Done → Joined Call
 joined_as done = record { number = done.seat.number; own = done.seat.own }

@@ -25,7 +25,8 @@ impl Held for PlayedRoom {
 
     ghost stands = { λ played history. Stands ⟦<KeepNone as Recorder>⟧.noted played.room (entries_of history) };
 
-    ghost gives = { λ history seat call reply scratch. is_starved reply ≡ false → answer_of reply scratch.packet scratch.names ≡ reply_of (entries_of history) call };
+    ghost gives = { λ history seat call reply scratch. is_starved reply ≡ false
+        → answer_of reply scratch.packet scratch.names ≡ reply_of (entries_of history) call };
 
     ghost starves = { is_starved };
 

@@ -64,7 +64,8 @@ bundle_made m h = made_unless m h (bundle_refusal h m.number m.id m.legs)
 
 abbrev pub choice_of : ℕ → Simulcast → ℕ → Made → Option ℕ → Answered (Unit {0})
 choice_of leg h i m None = refused_for (fault.NoLeg (length m.legs)) h
-choice_of leg h i m (Some n) = done_with tt (record { history = and_asked (is_active_in leg m) false n h.history; made = slice_set h.made i (and_chosen leg m) })
+choice_of leg h i m (Some n) = done_with tt
+    (record { history = and_asked (is_active_in leg m) false n h.history; made = slice_set h.made i (and_chosen leg m) })
 
 abbrev pub leg_chosen : (number leg : ℕ) → Simulcast → Answered (Unit {0})
 leg_chosen number leg h = with_number number h (λ i m. choice_of leg h i m (leg_at leg m.legs))

@@ -159,7 +159,8 @@ Draws noted old new number bytes result = (h : Simulcast) → StandsFor noted ol
 
 abbrev pub RedrawnTo : Made → ℕ → List ℕ → Result (Unit {0}) BundleFault → Type 0
 RedrawnTo m n bytes (Ok x) = GaveLately (ring_history m) (record { number = n; bytes = bytes }) × (again_of n m ≡ Some bytes)
-RedrawnTo m n bytes (Err why) = (why ≡ fault.Room (NotKept (oldest_in (kept_of m) (next_of m)) (next_of m))) × GaveNoneLately (ring_history m) n × (again_of n m ≡ None)
+RedrawnTo m n bytes (Err why) = (why ≡ fault.Room (NotKept (oldest_in (kept_of m) (next_of m)) (next_of m))) × GaveNoneLately (ring_history m) n
+    × (again_of n m ≡ None)
 
 abbrev pub RedrawsAt : Simulcast → Option ℕ → ℕ → List ℕ → Result (Unit {0}) BundleFault → Type 0
 RedrawsAt h None n bytes result = result ≡ Err NoBundle

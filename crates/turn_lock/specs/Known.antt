@@ -46,7 +46,8 @@ module _ {C : Type 0} where
   -- A turn with the entry e. What the seat has seen then is a history that goes on from what it had seen, and e, which has this place.
   -- The reply is one that is given after that history.
   abbrev pub MakesTurn : Known C → Known C → Entry C → ℕ → (List (Entry C) → Type 0) → Type 0
-  MakesTurn k l e place gives = KeepsSeat k l × ((h : List (Entry C)) × IsPrefix k.seen h × (l.seen ≡ h ++ e ∷ []) × gives h) × (l.own ≡ k.own ++ e ∷ []) × (place + 1 ≡ l.first + length l.seen) × (place ≤ l.found)
+  MakesTurn k l e place gives = KeepsSeat k l × ((h : List (Entry C)) × IsPrefix k.seen h × (l.seen ≡ h ++ e ∷ []) × gives h)
+      × (l.own ≡ k.own ++ e ∷ []) × (place + 1 ≡ l.first + length l.seen) × (place ≤ l.found)
 
   -- all tickets were found drawn, and nothing else changed
   abbrev pub FindsWorn : Known C → Known C → Type 0
@@ -66,7 +67,17 @@ module _ {C : Type 0} where
 
   -- the first seat k, once the seat l was joined into it
   abbrev pub together : Known C → Known C → Known C
-  together k l = record { lock = k.lock; first = k.first; number = k.number; seen = longer k.seen l.seen; own = k.own; found = max k.found l.found; count = k.count; joined = k.joined ++ record { number = l.number; own = l.own } ∷ [] }
+  together k l =
+      record {
+        lock = k.lock;
+        first = k.first;
+        number = k.number;
+        seen = longer k.seen l.seen;
+        own = k.own;
+        found = max k.found l.found;
+        count = k.count;
+        joined = k.joined ++ record { number = l.number; own = l.own } ∷ [];
+      }
 
   -- each other seat that was made was joined
   abbrev pub AllJoinedIn : Known C → Type 0

@@ -70,16 +70,19 @@ module _ {S C : Type 0} where
     -- what the first seat kept of each joined seat is all that this seat has in the history, since a joined seat makes no turn
     pub joined : (v : View C) → get_elem? s.views 0 ≡ some v → AllJoined log v.joined
     pub joined_seen : (v : View C) → get_elem? s.views 0 ≡ some v → AllJoined v.seen v.joined
-    pub gone : (v : View C) (i : ℕ) (x : Joined C) → get_elem? s.views 0 ≡ some v → get_elem? v.joined i ≡ some x → (w : View C) × (get_elem? s.views x.number ≡ some w) × (w.stage ≡ Spent)
+    pub gone : (v : View C) (i : ℕ) (x : Joined C) → get_elem? s.views 0 ≡ some v → get_elem? v.joined i ≡ some x → (w : View C)
+        × (get_elem? s.views x.number ≡ some w) × (w.stage ≡ Spent)
 
   -- the number found at a draw is known, and where it is the one that was expected the seat has it as its ticket
   abbrev pub drew : Step (Opt S) → Sat S C → ℕ → Sat S C → Type 0
-  drew st m found m' = (max m.0.found found ≤ 2 ^ 63) × (found ≡ st.first → m' ≡ (drawing m.0 found (Waiting found), m.1)) × (found ≢ st.first → m' ≡ (drawing m.0 found m.0.stage, m.1))
+  drew st m found m' = (max m.0.found found ≤ 2 ^ 63) × (found ≡ st.first → m' ≡ (drawing m.0 found (Waiting found), m.1))
+      × (found ≢ st.first → m' ≡ (drawing m.0 found m.0.stage, m.1))
 
   -- where the ticket is served, the seat sees the whole history and has the value that stands for it
   abbrev pub looked : (S → List (Entry C) → Type 0) → Step (Opt S) → Sat S C → ℕ → Sat S C → Type 0
   looked stands st m found m' =
-      (m.0.stage ≡ Waiting found → (h : List (Entry C)) × (x : S) × IsPrefix m.0.seen h × stands x h × (m.0.base + length h ≡ found) × (m' ≡ (seeing m.0 h (Holding found), (0, Some x) ∷ [])) × Sound (seeing m.0 h (Holding found)))
+      (m.0.stage ≡ Waiting found → (h : List (Entry C)) × (x : S) × IsPrefix m.0.seen h × stands x h × (m.0.base + length h ≡ found)
+      × (m' ≡ (seeing m.0 h (Holding found), (0, Some x) ∷ [])) × Sound (seeing m.0 h (Holding found)))
       × (¬ (m.0.stage ≡ Waiting found) → m' ≡ m)
 
   abbrev pub served : List (Entry C) → Step (Opt S) → Sat S C → ℕ → Sat S C → Type 0

@@ -35,21 +35,55 @@ module _ {C : Type 0} where
     pub counts : v.number ≡ 0 → 0 < v.count
 
   abbrev pub seeing : View C → List (Entry C) → Stage → View C
-  seeing v h stage = record { base = v.base; number = v.number; seen = h; own = v.own; found = v.found; count = v.count; joined = v.joined; beside = v.beside; stage = stage }
+  seeing v h stage =
+      record { base = v.base; number = v.number; seen = h; own = v.own; found = v.found; count = v.count; joined = v.joined; beside = v.beside; stage = stage }
 
   abbrev pub finding : View C → ℕ → Stage → View C
-  finding v f stage = record { base = v.base; number = v.number; seen = v.seen; own = v.own; found = f; count = v.count; joined = v.joined; beside = v.beside; stage = stage }
+  finding v f stage =
+      record { base = v.base; number = v.number; seen = v.seen; own = v.own; found = f; count = v.count; joined = v.joined; beside = v.beside; stage = stage }
 
   -- a draw found the number t
   abbrev pub drawing : View C → ℕ → Stage → View C
-  drawing v t stage = record { base = v.base; number = v.number; seen = v.seen; own = v.own; found = max v.found t; count = v.count; joined = v.joined; beside = v.beside; stage = stage }
+  drawing v t stage =
+      record {
+        base = v.base;
+        number = v.number;
+        seen = v.seen;
+        own = v.own;
+        found = max v.found t;
+        count = v.count;
+        joined = v.joined;
+        beside = v.beside;
+        stage = stage;
+      }
 
   -- the entries es of its own are in the history
   abbrev pub serving : View C → List (Entry C) → View C
-  serving v es = record { base = v.base; number = v.number; seen = v.seen ++ es; own = v.own ++ es; found = v.found; count = v.count; joined = v.joined; beside = v.beside; stage = Idle }
+  serving v es = record {
+    base = v.base;
+    number = v.number;
+    seen = v.seen ++ es;
+    own = v.own ++ es;
+    found = v.found;
+    count = v.count;
+    joined = v.joined;
+    beside = v.beside;
+    stage = Idle;
+  }
 
   abbrev pub counting : View C → View C
-  counting v = record { base = v.base; number = v.number; seen = v.seen; own = v.own; found = v.found; count = v.count + 1; joined = v.joined; beside = v.beside; stage = v.stage }
+  counting v =
+      record {
+        base = v.base;
+        number = v.number;
+        seen = v.seen;
+        own = v.own;
+        found = v.found;
+        count = v.count + 1;
+        joined = v.joined;
+        beside = v.beside;
+        stage = v.stage;
+      }
 
   abbrev pub next_seat : View C → View C
   next_seat v = record { base = v.base; number = v.count; seen = v.seen; own = []; found = 0; count = 0; joined = []; beside = []; stage = Idle }
@@ -64,4 +98,15 @@ module _ {C : Type 0} where
   shorter xs ys = cond (ltb (length xs) (length ys)) xs ys
 
   abbrev pub joining : View C → View C → View C
-  joining v w = record { base = v.base; number = v.number; seen = longer v.seen w.seen; own = v.own; found = max v.found w.found; count = v.count; joined = v.joined ++ record { number = w.number; own = w.own } ∷ []; beside = shorter v.seen w.seen; stage = v.stage }
+  joining v w =
+      record {
+        base = v.base;
+        number = v.number;
+        seen = longer v.seen w.seen;
+        own = v.own;
+        found = max v.found w.found;
+        count = v.count;
+        joined = v.joined ++ record { number = w.number; own = w.own } ∷ [];
+        beside = shorter v.seen w.seen;
+        stage = v.stage;
+      }

@@ -25,7 +25,8 @@ pub trait Held: Drop {
 
     /// Serves a call of the seat with this number.
     fn serve(&mut self, seat: u32, call: &Self::Call, scratch: &mut Self::Scratch) -> Self::Reply
-        ensures { (h : List (Entry Self.Call)) → stands self.old h → stands self.new (h ++ entry seat call.now (starves result) ∷ []) × gives h seat call.now result scratch.new };
+        ensures { (h : List (Entry Self.Call)) → stands self.old h → stands self.new (h ++ entry seat call.now (starves result) ∷ [])
+            × gives h seat call.now result scratch.new };
 }
 
 /// The entries that a serve step adds to the history. The caller of the step picks them.

@@ -183,7 +183,8 @@ impl<H: Held> Turns<H> {
         scratch: &mut H::Scratch,
     ) -> Result<Turn<H::Reply>, Worn>
         requires { seat.old.lock ≡ self.now }
-        ensures ok { IfOk result (λ t. MakesTurn seat.old seat.new (entry seat.old.number call.now (H.starves t.reply)) t.place (λ h. H.gives h seat.old.number call.now t.reply scratch.new)) }
+        ensures ok { IfOk result (λ t. MakesTurn seat.old seat.new (entry seat.old.number call.now (H.starves t.reply)) t.place
+            (λ h. H.gives h seat.old.number call.now t.reply scratch.new)) }
         ensures worn { IfErr result (λ _. FindsWorn seat.old seat.new × (scratch.new ≡ scratch.old)) }
         ensures fits { Fits seat.new }
     {
@@ -293,7 +294,8 @@ impl<H: Held> Turns<H> {
         reply: &H::Reply,
     ) -> u64
         requires lock { inner.old.table_id ≡ self.now }
-        requires ready { (t : ℕ) × (y : H) × (inner.old.me.0.stage ≡ Holding t) × (inner.old.me.1 ≡ (0, Some y) ∷ []) × H.stands y (inner.old.me.0.seen ++ entry inner.old.me.0.number call.now (H.starves reply.now) ∷ []) }
+        requires ready { (t : ℕ) × (y : H) × (inner.old.me.0.stage ≡ Holding t) × (inner.old.me.1 ≡ (0, Some y) ∷ [])
+            × H.stands y (inner.old.me.0.seen ++ entry inner.old.me.0.number call.now (H.starves reply.now) ∷ []) }
         requires adds { J.adds ≡ entry inner.old.me.0.number call.now (H.starves reply.now) ∷ [] }
         ensures same { IsSame inner.old inner.new }
         ensures place { result ≡ inner.old.me.0.base + length inner.old.me.0.seen }

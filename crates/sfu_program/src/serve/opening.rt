@@ -32,8 +32,10 @@ fn make_call<W: Wait + Sync>(
 ) -> Result<(), Unmade>
     requires lock { seat.old.lock ≡ turns.now }
     requires fits { Fits seat.old }
-    ensures made { OnOk result ((calls : List Call) → HasMade turns.now calls seat.old → HasMade turns.now (calls ++ call.now ∷ []) seat.new × (ready.new ≡ ready.old ++ next_line calls call.now)) }
-    ensures worn { IfErr result (λ why. why ≡ Worn → (calls : List Call) → HasMade turns.now calls seat.old → HasMade turns.now calls seat.new × (seat.new.found ≡ 2 ^ 63)) }
+    ensures made { OnOk result ((calls : List Call) → HasMade turns.now calls seat.old → HasMade turns.now (calls ++ call.now ∷ []) seat.new
+        × (ready.new ≡ ready.old ++ next_line calls call.now)) }
+    ensures worn { IfErr result (λ why. why ≡ Worn → (calls : List Call) → HasMade turns.now calls seat.old → HasMade turns.now calls seat.new
+        × (seat.new.found ≡ 2 ^ 63)) }
     ensures fits { Fits seat.new }
 {
     let Ok(turn) = turns.turn(rt, seat, call, scratch) else {
