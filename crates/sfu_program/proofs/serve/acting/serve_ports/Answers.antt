@@ -7,7 +7,7 @@ use Rattle.sfu_program.proofs.serve.acting.serve_ports.Goals as goal
 use Rattle.sfu_driver.specs.Statuses.{number_of}
 
 pub run_all-requires-clause-roles : goal.run_all-requires-clause-roles
-run_all-requires-clause-roles g c =
+run_all-requires-clause-roles g c κs within =
     can_all g.P.Port.Link.told g.P.Port.Link.faults c.args.served.now.ports.items c.in-Ok.jobs.items
     (subst (λ (ls : List PortLine). AreFresh ls (befores g.P.Port.Link.told g.P.Port.Link.faults c.in-Ok.jobs.items)) c.as_slice.ensures.value c.in-Ok.ensures.fresh) c.requires.apart
 
