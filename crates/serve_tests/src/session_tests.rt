@@ -3,7 +3,7 @@ ghost use Rattle.std.specs.Prelude.{◌≡◌, ◌≤◌, length, IfOk};
 ghost use Rattle.turn_lock.specs.Known.{Fits};
 
 use crate::shared_room_tests::{Shared, empty_room, empty_scratch, join, packet, publish};
-use sfu_base::{Call, Kind, MemLink, PacketBuf, StepClock};
+use sfu_base::{Call, Kind, MemLink, PacketBuf, StepClock, Wish};
 use sfu_serve::{SessionEnd, control_session, publisher_session, subscriber_session};
 use std::alloc::{AllocError, Global};
 use std::sync::Wait;
