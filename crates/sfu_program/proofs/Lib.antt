@@ -6,3 +6,4 @@ pub mod ServeRun
 pub mod ServeActing
 pub mod ServeForms
 pub mod ServeRoles
+pub mod Completing

@@ -5,3 +5,4 @@ pub mod ServePorts
 pub mod ServeEnds
 pub mod Serve
 pub mod ServeEnding
+pub mod Complete

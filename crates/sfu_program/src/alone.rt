@@ -12,6 +12,8 @@ ghost use Rattle.cascade.specs.Command.{PlaysCascade};
 ghost use Rattle.sfu_commands.specs.StreamWords.{IsCascade, IsTrial};
 ghost use Rattle.sfu_commands.specs.Trial.{Tries};
 ghost use Rattle.sfu_commands.specs.Words.{IsForm};
+ghost use Rattle.sfu_base.specs.Faults.{Rose};
+ghost use Rattle.sfu_program.specs.Complete.{IsInside};
 ghost use Rattle.sfu_program.specs.Forms.{IsStatus};
 ghost use Rattle.sfu_driver.specs.Exchange.{exchange_of};
 
@@ -52,6 +54,7 @@ pub fn sfu_alone<S: Source, K: Sink>(
         → Refuses source.old source.new (K.written sink.old) (K.written sink.new) (K.faults sink.old) (K.faults sink.new) result }
     ensures form { (result ≡ 2) ↔ ¬ (IsForm (map string_bytes words.now)) }
     ensures only { IsStatus result }
+    ensures inside { ¬ (Rose (S.faults source.old) (S.faults source.new)) → ¬ (Rose (K.faults sink.old) (K.faults sink.new)) → IsInside result }
 {
     match read_words(words) {
         Some(Command::Run) => run(alloc, source, sink).number(),

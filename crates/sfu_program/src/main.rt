@@ -3,6 +3,7 @@
 #![tactic(auto)]
 
 mod alone;
+mod calm;
 mod serve;
 mod sfu;
 #[cfg(test)]

@@ -1,4 +1,4 @@
-use Rattle.std.proofs.Common.{ℕ, map, refl, subst}
+use Rattle.std.proofs.Common.{ℕ, inl, inr, map, refl, subst}
 use Rattle.std.specs.Prelude.{codes}
 use Rattle.std.specs.String.{string_bytes}
 use Rattle.sfu_driver.specs.Statuses.{number_of}
@@ -13,6 +13,7 @@ use Rattle.sfu_commands.specs.Trial.{ShowsTrial}
 use Rattle.sfu_commands.specs.Words.{Says}
 use Rattle.sfu_commands.proofs.IdWords.{one_id}
 use Rattle.sfu_commands.proofs.StreamNumbers.{same_stream}
+use Rattle.sfu_program.proofs.Completing.{summary_inside, unit_inside, usage_inside}
 use Rattle.sfu_program.proofs.alone.sfu_alone.Goals as goal
 
 pub returns-in-Some-Check-clause-check : goal.returns-in-Some-Check-clause-check
@@ -62,3 +63,27 @@ returns-in-Some-Record-clause-record g c = λ id is.
 
 pub returns-in-None-clause-record : goal.returns-in-None-clause-record
 returns-in-None-clause-record g c = λ id is. absurd (c.in-None.ensures (Record id, is))
+
+pub returns-in-Some-Run-clause-inside : goal.returns-in-Some-Run-clause-inside
+returns-in-Some-Run-clause-inside g c = λ calm quiet. rw c.number.ensures (unit_inside _ _ _ _ _ _ _ _ _ _ _ c.run.ensures.runs calm quiet)
+
+pub returns-in-Some-Convert-clause-inside : goal.returns-in-Some-Convert-clause-inside
+returns-in-Some-Convert-clause-inside g c = λ calm quiet. rw c.number-in-Some-Convert.ensures (unit_inside _ _ _ _ _ _ _ _ _ _ _ c.convert.ensures.converts calm quiet)
+
+pub returns-in-Some-Help-clause-inside : goal.returns-in-Some-Help-clause-inside
+returns-in-Some-Help-clause-inside g c = λ calm quiet. rw c.number-in-Some-Help.ensures (usage_inside _ _ _ _ _ c.help.ensures quiet)
+
+pub returns-in-Some-Check-clause-inside : goal.returns-in-Some-Check-clause-inside
+returns-in-Some-Check-clause-inside g c = λ calm quiet. rw c.number-in-Some-Check.ensures (unit_inside _ _ _ _ _ _ _ _ _ _ _ c.check.ensures.checks calm quiet)
+
+pub returns-in-Some-Record-clause-inside : goal.returns-in-Some-Record-clause-inside
+returns-in-Some-Record-clause-inside g c = λ calm quiet. rw c.number-in-Some-Record.ensures (unit_inside _ _ _ _ _ _ _ _ _ _ _ c.record.ensures.records calm quiet)
+
+pub returns-in-Some-Trial-clause-inside : goal.returns-in-Some-Trial-clause-inside
+returns-in-Some-Trial-clause-inside g c = λ calm quiet. rw c.number-in-Some-Trial.ensures (summary_inside _ _ _ (c.trial.ensures.only) (c.trial.ensures.sink) quiet)
+
+pub returns-in-Some-Cascade-clause-inside : goal.returns-in-Some-Cascade-clause-inside
+returns-in-Some-Cascade-clause-inside g c = λ calm quiet. rw c.number-in-Some-Cascade.ensures (summary_inside _ _ _ (c.cascade.ensures.only) (c.cascade.ensures.sink) quiet)
+
+pub returns-in-None-clause-inside : goal.returns-in-None-clause-inside
+returns-in-None-clause-inside g c = λ calm quiet. rw c.number-in-None.ensures (inr (inl c.refuse.ensures.status))

@@ -1,10 +1,13 @@
-use Rattle.std.proofs.Common.{ℕ, inl, inr, refl, subst, sym, ◌∙◌}
+use Rattle.std.proofs.Common.{ℕ, inl, inr, map, refl, subst, sym, ◌∙◌}
+use Rattle.std.specs.String.{string_bytes}
 use Rattle.sfu_driver.specs.Statuses.{number_of}
 use Rattle.sfu_driver.specs.Exchange.{exchange_by}
 use Rattle.sfu_program.specs.Serve.{Serves}
 use Rattle.sfu_program.specs.ServePorts.{seen_ports}
 use Rattle.std.proofs.lemmas.Bool.{false≢true}
 use Rattle.sfu_program.proofs.TogetherForms.{is_status, not_cascade, not_check, not_convert, not_help, not_record, not_run, not_trial, not_two}
+use Rattle.sfu_program.specs.Forms.{IsServing}
+use Rattle.sfu_program.proofs.Completing.{serve_finishes, serve_inside, summary_shows, unit_finishes, unit_inside, usage_shows}
 use Rattle.sfu_program.proofs.ServeForms as serve
 use Rattle.sfu_program.proofs.sfu.sfu.Goals as goal
 
@@ -94,3 +97,58 @@ returns-clause-together g c = λ t. absurd (false≢true (c.if-are_together.ensu
 
 pub returns-clause-other : goal.returns-clause-other
 returns-clause-other g c = λ none. c.sfu_alone.ensures.other (λ is. none (inl is))
+
+pub returns-then-are_together-clause-complete : goal.returns-then-are_together-clause-complete
+returns-then-are_together-clause-complete g c = λ none.
+    let is = c.if-are_together.ensures.0 refl in
+    let plays = c.play_script.ensures in
+    record {
+      run = λ r. absurd (not_run _ is r);
+      convert = λ r. absurd (not_convert _ is r);
+      check = λ id r. absurd (not_check _ id is r);
+      recorded = λ id r. absurd (not_record _ id is r);
+      together = λ _. rw c.number.ensures (plays.history, unit_finishes _ _ _ _ _ _ _ _ _ _ _ plays.statuses none.reads none.writes, λ zero. plays.played (inl zero));
+      serve = λ turns r. absurd (serve.not_together _ (turns, r) is);
+      trial = λ s r. absurd (not_trial _ s is r);
+      cascade = λ s r. absurd (not_cascade _ s is r);
+      help = λ r. absurd (not_help _ is r);
+    }
+
+pub returns-then-are_together-clause-inside : goal.returns-then-are_together-clause-inside
+returns-then-are_together-clause-inside g c = λ none. rw c.number.ensures (unit_inside _ _ _ _ _ _ _ _ _ _ _ c.play_script.ensures.statuses none.reads none.writes)
+
+pub returns-in-Some-clause-complete : goal.returns-in-Some-clause-complete
+returns-in-Some-clause-complete g c = λ none.
+    let is : IsServing (map string_bytes c.args.words.now) = (_, c.in-Some.ensures) in
+    record {
+      run = λ r. absurd (serve.not_run _ is r);
+      convert = λ r. absurd (serve.not_convert _ is r);
+      check = λ id r. absurd (serve.not_check _ id is r);
+      recorded = λ id r. absurd (serve.not_record _ id is r);
+      together = λ r. absurd (serve.not_together _ is r);
+      serve = λ turns r. rw c.number-in-Some.ensures (serve_finishes _ _ _ _ _ _ _ none c.serve.ensures);
+      trial = λ s r. absurd (serve.not_trial _ s is r);
+      cascade = λ s r. absurd (serve.not_cascade _ s is r);
+      help = λ r. absurd (serve.not_help _ is r);
+    }
+
+pub returns-in-Some-clause-inside : goal.returns-in-Some-clause-inside
+returns-in-Some-clause-inside g c = λ none. rw c.number-in-Some.ensures (serve_inside _ _ _ _ _ _ _ none c.serve.ensures)
+
+pub returns-clause-complete : goal.returns-clause-complete
+returns-clause-complete g c = λ none.
+    let alone = c.sfu_alone.ensures in
+    record {
+      run = λ r. unit_finishes _ _ _ _ _ _ _ _ _ _ _ (alone.run r) none.reads none.writes;
+      convert = λ r. unit_finishes _ _ _ _ _ _ _ _ _ _ _ (alone.convert r) none.reads none.writes;
+      check = λ id r. unit_finishes _ _ _ _ _ _ _ _ _ _ _ (alone.check id r) none.reads none.writes;
+      recorded = λ id r. unit_finishes _ _ _ _ _ _ _ _ _ _ _ (alone.record id r) none.reads none.writes;
+      together = λ r. absurd (false≢true (c.if-are_together.ensures.1 r));
+      serve = λ turns r. absurd (c.in_default.ensures turns r);
+      trial = λ s r. let shows = (alone.trial s r).shows in summary_shows _ _ _ _ _ _ shows.only shows.sink shows.done none.writes;
+      cascade = λ s r. let shows = (alone.cascade s r).shows in summary_shows _ _ _ _ _ _ shows.only shows.sink shows.done none.writes;
+      help = λ r. usage_shows _ _ _ _ _ (alone.help r).shows none.writes;
+    }
+
+pub returns-clause-inside : goal.returns-clause-inside
+returns-clause-inside g c = λ none. c.sfu_alone.ensures.inside none.reads none.writes

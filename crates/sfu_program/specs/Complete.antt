@@ -1,0 +1,93 @@
+-- Completeness: what each command answers where nothing outside fails. A later command adds a field to `Completes`.
+use Rattle.std.specs.Prelude.{◌≡◌, ◌⊎◌, ℕ, List, [], ◌++◌, map, Option, Some, None, IfSome}
+use Rattle.std.specs.Io.KnownBytes.{Appends, IsAtEnd}
+use Rattle.sfu_base.specs.Faults.{Rose}
+use Rattle.room_core.specs.History.{Entry}
+use Rattle.script_texts.specs.WholeLines.{fault_line}
+use Rattle.port_config.specs.Script.{Configured, configuration_of}
+use Rattle.sfu_script.specs.declared.ports.PortLine.{PortLine}
+use Rattle.sfu_serve.specs.declared.ends.SessionEnd.{SessionEnd}
+use Rattle.sfu_serve.specs.declared.ends.SessionEnd.TheVariants.{AllTurns}
+use Rattle.sfu_driver.specs.Drive.{outside_end}
+use Rattle.sfu_driver.specs.Exchange.{Exchange}
+use Rattle.sfu_driver.specs.Outcome.{End}
+use Rattle.sfu_driver.specs.Statuses.{Due, full_text, status_of}
+use Rattle.stream_maker.specs.Stream.{Stream}
+use Rattle.sfu_commands.specs.Check.{IsCheck, check_due}
+use Rattle.sfu_commands.specs.Convert.{IsConvert, convert_due}
+use Rattle.sfu_commands.specs.Help.{IsHelp, usage_text}
+use Rattle.sfu_commands.specs.Record.{IsRecord, record_due}
+use Rattle.sfu_commands.specs.Run.{IsRun, run_due}
+use Rattle.sfu_commands.specs.StreamWords.{IsCascade, IsTrial}
+use Rattle.sfu_commands.specs.Trial.{trial_text}
+use Rattle.cascade.specs.Summary.{cascade_text}
+use Rattle.sfu_together.specs.Together.{IsPlayed, IsTogether, together_due}
+use Rattle.sfu_program.specs.ServeEnds.{ends_text}
+use Rattle.sfu_program.specs.ServeOpening.{first_text}
+use Rattle.sfu_program.specs.ServeWords.{IsServe}
+
+-- ---- nothing outside fails
+
+-- no count of faults rose: neither that of the source, nor that of the sink, nor that of the ports
+pub record NoneRose (x : Exchange) (before after : ℕ) : Type 0 where
+  pub reads : ¬ (Rose x.reads x.reads')
+  pub writes : ¬ (Rose x.writes x.writes')
+  pub ports : ¬ (Rose before after)
+
+-- the statuses that say nothing of the outside: all done, no command, an ending by the input, and want of memory
+abbrev pub IsInside : ℕ → Type 0
+IsInside status = (status ≡ 0) ⊎ (status ≡ 2) ⊎ (status ≡ 5) ⊎ (status ≡ 6) ⊎ (status ≡ 8) ⊎ (status ≡ 10)
+
+-- ---- what is due for all of the input
+
+-- 0 with the source read to its end, where the input doesn't end the command; else the status of its ending
+abbrev pub EndsAs : Option End → Exchange → ℕ → Type 0
+EndsAs None x status = (status ≡ 0) × IsAtEnd x.left'
+EndsAs (Some end) x status = status ≡ status_of end.why
+
+-- all that is due for the source's bytes was written, and the status is theirs; or memory was wanting
+abbrev pub Finishes : (List ℕ → Due) → Exchange → ℕ → Type 0
+Finishes whole x status = (status ≡ 6) ⊎ IfSome x.left (λ bytes. EndsAs (whole bytes).end x status × Appends x.written x.written' (full_text (whole bytes)))
+
+-- the same of a command that reads nothing
+abbrev pub Shows : List ℕ → Exchange → ℕ → Type 0
+Shows text x status = (status ≡ 0) × Appends x.written x.written' text
+
+-- ---- `serve`: what is due where each session makes all its turns
+
+-- each port's session made all its turns
+abbrev pub all_turns : List PortLine → List SessionEnd
+all_turns lines = map (λ _. AllTurns) lines
+
+-- this text, unless a line is outside the grammar
+abbrev pub unless_fault : Option ℕ → List ℕ → List ℕ
+unless_fault None text = text
+unless_fault (Some line) text = []
+
+-- the replies to the configuration's calls and a line for each port, or which line is outside the grammar
+abbrev pub due_of_setup : Configured → Due
+due_of_setup configured = record {
+  text = unless_fault configured.fault (first_text configured.setup.calls ++ ends_text 1 (all_turns configured.setup.ports));
+  end = outside_end fault_line configured.fault;
+}
+
+abbrev pub serve_due : List ℕ → Due
+serve_due bytes = due_of_setup (configuration_of bytes)
+
+-- ---- the commands
+
+-- What the command that the words say does where nothing outside fails.
+pub record Completes (words : List (List ℕ)) (x : Exchange) (status : ℕ) : Type 0 where
+  pub run : IsRun words → Finishes run_due x status
+  pub convert : IsConvert words → Finishes convert_due x status
+  -- 8 exactly where the receiver complains
+  pub check : (id : ℕ) → IsCheck words id → Finishes (check_due id) x status
+  -- 8 and 10 exactly where the recorder complains of a packet and of an element
+  pub recorded : (id : ℕ) → IsRecord words id → Finishes (record_due id) x status
+  -- the journal is that of a history that the script's actors made
+  pub together : IsTogether words → (history : List Entry) × Finishes (together_due history) x status × (status ≡ 0 → IfSome x.left (IsPlayed history))
+  pub serve : (turns : ℕ) → IsServe words turns → Finishes serve_due x status
+  pub trial : (s : Stream) → IsTrial words s → (status ≡ 6) ⊎ Shows (trial_text s) x status
+  pub cascade : (s : Stream) → IsCascade words s → (status ≡ 6) ⊎ Shows (cascade_text s) x status
+  -- it takes no memory
+  pub help : IsHelp words → Shows usage_text x status
