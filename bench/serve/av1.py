@@ -166,9 +166,10 @@ def receive(port, name):
     print(f'{packets_in} packets, {gaps} gaps, {len(written)} temporal units')
 
 
-if len(sys.argv) >= 6 and sys.argv[1] == 'send':
-    send(*sys.argv[2:7])
-elif len(sys.argv) == 4 and sys.argv[1] == 'receive':
-    receive(*sys.argv[2:])
-else:
-    sys.exit(__doc__)
+if __name__ == '__main__':
+    if len(sys.argv) >= 6 and sys.argv[1] == 'send':
+        send(*sys.argv[2:7])
+    elif len(sys.argv) == 4 and sys.argv[1] == 'receive':
+        receive(*sys.argv[2:])
+    else:
+        sys.exit(__doc__)

@@ -116,23 +116,6 @@ func (e *end) flush() {
 	}
 }
 
-// Answers a player's NACKs with what it took, and takes its PLI as a plea.
-func (e *end) feedback(bytes []byte) {
-	packets, _ := rtcp.Unmarshal(bytes)
-	for _, packet := range packets {
-		nack, is := packet.(*rtcp.TransportLayerNack)
-		if !is {
-			C.zoftemar_plead(&handle, 0, e.number)
-			continue
-		}
-		for _, pair := range nack.Nacks {
-			for _, n := range pair.PacketList() {
-				e.gives(C.zoftemar_resend(&handle, 0, e.number, C.uint16_t(n), (*C.uint8_t)(&out[0]), C.size_t(len(out))))
-			}
-		}
-	}
-}
-
 // Every 20 ms gaps that were waited for are given up, and publishers are asked for what is missing, and for key frames.
 func mind() {
 	for range time.Tick(20 * time.Millisecond) {

@@ -1,6 +1,6 @@
 //go:build library
 
-// The lines of the control port, as calls of the library, and its answers.
+// What players say, as calls of the library: feedback, and the lines of the control port with its answers.
 package main
 
 // #include "zoftemar.h"
@@ -10,7 +10,26 @@ import (
 	"fmt"
 	"log"
 	"strings"
+
+	"github.com/pion/rtcp"
 )
+
+// Answers a player's NACKs with what it took, and takes its PLI as a plea.
+func (e *end) feedback(bytes []byte) {
+	packets, _ := rtcp.Unmarshal(bytes)
+	for _, packet := range packets {
+		nack, is := packet.(*rtcp.TransportLayerNack)
+		if !is {
+			C.zoftemar_plead(&handle, 0, e.number)
+			continue
+		}
+		for _, pair := range nack.Nacks {
+			for _, n := range pair.PacketList() {
+				e.gives(C.zoftemar_resend(&handle, 0, e.number, C.uint16_t(n), (*C.uint8_t)(&out[0]), C.size_t(len(out))))
+			}
+		}
+	}
+}
 
 // Does what a line says, and tells the answer.
 func call(format string, words ...interface{}) (answer string) {

@@ -8,7 +8,7 @@ use Rattle.sfu_script.proofs.Filled.{number_again, number_found}
 use Rattle.sfu_script.proofs.Options.{bind_some, some_same}
 use Rattle.stream_maker.specs.Stream.{Stream}
 use Rattle.sfu_commands.specs.declared.words.Command.{Command}
-use Rattle.sfu_commands.specs.declared.words.Command.TheVariants.{Run, Convert, Help, Check, Record, Trial, Cascade}
+use Rattle.sfu_commands.specs.declared.words.Command.TheVariants.{Run, Convert, Simulcast, Help, Check, Record, Trial, Cascade}
 use Rattle.sfu_commands.specs.StreamWords.{IsCascade, IsNumber, IsTrial, SaysStream}
 use Rattle.sfu_commands.specs.Words.{Reads, Says}
 
@@ -84,6 +84,7 @@ pub no_other : (name frames start loss : List ℕ) (c : Command) → ((s : Strea
     → ((s : Stream) → ¬ (IsCascade (name ∷ frames ∷ start ∷ loss ∷ []) s)) → ¬ (Says (name ∷ frames ∷ start ∷ loss ∷ []) c)
 no_other name frames start loss Run none no_cascade says = cc
 no_other name frames start loss Convert none no_cascade says = cc
+no_other name frames start loss Simulcast none no_cascade says = cc
 no_other name frames start loss Help none no_cascade says = cc
 no_other name frames start loss (Check id) none no_cascade says = let e = says.2 in cc
 no_other name frames start loss (Record id) none no_cascade says = let e = says.2 in cc

@@ -9,7 +9,7 @@ IsHelp words = words ≡ codes "help" ∷ []
 
 -- the usage line with its line end
 abbrev pub usage_text : List ℕ
-usage_text = codes "usage: run, together, trial, check, record, serve, convert, cascade, help\n"
+usage_text = codes "usage: run, together, trial, check, record, serve, convert, simulcast, cascade, help\n"
 
 -- The usage line was written, or the sink failed before all of it was.
 pub record ShowsUsage (written written' : Option (List ℕ)) (writes writes' status : ℕ) : Type 0 where

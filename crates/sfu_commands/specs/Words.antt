@@ -1,7 +1,7 @@
 -- The words after the program's name, and which command they are. Own rule.
-use Rattle.std.specs.Prelude.{◌≡◌, ◌⊎◌, ℕ, List, [], ◌∷◌, Option, Some, None}
+use Rattle.std.specs.Prelude.{◌≡◌, ◌⊎◌, ℕ, List, [], ◌∷◌, Option, Some, None, codes}
 use Rattle.sfu_commands.specs.declared.words.Command.{Command}
-use Rattle.sfu_commands.specs.declared.words.Command.TheVariants.{Run, Convert, Help, Check, Record, Trial, Cascade}
+use Rattle.sfu_commands.specs.declared.words.Command.TheVariants.{Run, Convert, Simulcast, Help, Check, Record, Trial, Cascade}
 use Rattle.sfu_commands.specs.Run.{IsRun}
 use Rattle.sfu_commands.specs.Convert.{IsConvert}
 use Rattle.sfu_commands.specs.Check.{IsCheck}
@@ -9,10 +9,15 @@ use Rattle.sfu_commands.specs.Record.{IsRecord}
 use Rattle.sfu_commands.specs.Help.{IsHelp}
 use Rattle.sfu_commands.specs.StreamWords.{IsCascade, IsTrial}
 
+-- the command `simulcast`, which `sfu_program` does
+abbrev pub IsSimulcast : List (List ℕ) → Type 0
+IsSimulcast words = words ≡ codes "simulcast" ∷ []
+
 -- the words are this command
 abbrev pub Says : List (List ℕ) → Command → Type 0
 Says words Run = IsRun words
 Says words Convert = IsConvert words
+Says words Simulcast = IsSimulcast words
 Says words Help = IsHelp words
 Says words (Check id) = IsCheck words id
 Says words (Record id) = IsRecord words id

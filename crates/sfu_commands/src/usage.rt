@@ -7,7 +7,7 @@ ghost use Rattle.sfu_driver.specs.Statuses.{number_of};
 use sfu_base::Sink;
 use sfu_driver::{Status, write_all};
 
-const USAGE: &[u8] = b"usage: run, together, trial, check, record, serve, convert, cascade, help\n";
+const USAGE: &[u8] = b"usage: run, together, trial, check, record, serve, convert, simulcast, cascade, help\n";
 
 /// The command `help`: writes the usage line, and answers the status.
 pub fn help<K: Sink>(sink: &mut K) -> Status

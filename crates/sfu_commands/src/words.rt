@@ -15,6 +15,8 @@ pub enum Command {
     Help,
     /// Writes a script of lines as one of records.
     Convert,
+    /// Serves the lines of a script that also speak of bundles; `sfu_program` does, since this crate knows no bundles.
+    Simulcast,
     /// Judges packets as a strict receiver with this id of the descriptors' header extension does.
     Check(u8),
     /// Records packets as a recorder with this id of the descriptors' header extension does.
@@ -33,6 +35,7 @@ fn read_word(word: &str) -> Option<Command>
     match word {
         "run" => Some(Command::Run),
         "convert" => Some(Command::Convert),
+        "simulcast" => Some(Command::Simulcast),
         "help" => Some(Command::Help),
         _ => None,
     }
@@ -59,12 +62,14 @@ fn read_four(name: &str, frames: &str, start: &str, loss: &str) -> Option<Comman
             loss: made.loss,
         });
     }
-    let made = read_stream("cascade", name, frames, start, loss)?;
-    Some(Command::Cascade {
-        frames: made.frames,
-        start: made.start,
-        loss: made.loss,
-    })
+    match read_stream("cascade", name, frames, start, loss) {
+        Some(made) => Some(Command::Cascade {
+            frames: made.frames,
+            start: made.start,
+            loss: made.loss,
+        }),
+        None => None,
+    }
 }
 
 /// The command that the words are; `None` exactly when they are none.

@@ -13,7 +13,7 @@ use Rattle.sfu_driver.specs.declared.halt.Interruption.{Interruption}
 use Rattle.sfu_driver.specs.declared.halt.Interruption.TheVariants.{SourceFault, SinkFault, Halted}
 use Rattle.sfu_driver.specs.Outcome.{End, Outcome, takes}
 use Rattle.sfu_driver.specs.Drive.{Fed, Feeds, FeedsBy, Halts, Judges, Nexts, Stopped, Took, WritesEnd, WritesPart, end_by}
-use Rattle.sfu_driver.proofs.Takes.{takes_err, takes_front, takes_ok}
+use Rattle.sfu_driver.proofs.Takes.{takes_front, takes_ok}
 use Rattle.sfu_driver.specs.Reads.{BeginsWith, most_bytes}
 use Rattle.sfu_driver.proofs.Fronts.{end_after, part_after, part_longer, rose_since}
 use Rattle.sfu_driver.proofs.Reading.{reads_none, reads_on}

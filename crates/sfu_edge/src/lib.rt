@@ -2,6 +2,7 @@
 //! traits of the outside, count their faults, and tell nothing of content: what a file, a terminal or a socket holds is the system's.
 #![tactic(auto)]
 
+mod room;
 mod standard;
 mod system_clock;
 mod trouble;

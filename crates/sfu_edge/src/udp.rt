@@ -4,6 +4,7 @@ ghost use Rattle.sfu_base.specs.Faults.{CountsFaults, HasCause};
 ghost use Rattle.sfu_base.specs.Links.{FillsOnlyWhere, after_receive, after_send};
 ghost use Rattle.sfu_base.specs.Ports.{after_bind, tells_nothing_yet};
 
+use crate::room::widen;
 use crate::trouble::{Trouble, trouble_of};
 use sfu_base::{Address, Failed, Link, PacketBuf, Ports};
 use std::net::{Ipv4Addr, Net, SocketAddr, SocketAddrV4, UdpSocket};
@@ -54,6 +55,7 @@ impl<'a, R: Net + time::Clock> UdpLink<'a, R> {
     {
         let socket = UdpSocket::bind(system, socket_address(local))?;
         socket.set_nonblocking(true)?;
+        widen(&socket);
         let peer = socket_address(peer);
         let is_connected = connects(&socket, peer)?;
         Ok(UdpLink {

@@ -7,3 +7,5 @@ pub mod ServeActing
 pub mod ServeForms
 pub mod ServeRoles
 pub mod Completing
+mod SimulcastServing
+mod SimulcastReplies

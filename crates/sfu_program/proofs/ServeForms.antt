@@ -1,7 +1,7 @@
 -- The words of `serve` are no other command.
 use Rattle.std.proofs.Common.{◌≡◌, ◌⊎◌, inl, inr, ℕ, List, [], ◌∷◌, length, ap, sym, ◌∙◌, ◌<◌, arith}
 use Rattle.sfu_commands.specs.declared.words.Command.{Command}
-use Rattle.sfu_commands.specs.declared.words.Command.TheVariants.{Run, Convert, Help, Check, Record, Trial, Cascade}
+use Rattle.sfu_commands.specs.declared.words.Command.TheVariants.{Run, Convert, Simulcast, Help, Check, Record, Trial, Cascade}
 use Rattle.sfu_commands.specs.Run.{IsRun}
 use Rattle.sfu_commands.specs.Check.{IsCheck}
 use Rattle.sfu_commands.specs.Record.{IsRecord}
@@ -11,7 +11,7 @@ use Rattle.sfu_commands.specs.StreamWords.{IsCascade, IsTrial}
 use Rattle.std.specs.Prelude.{decimal}
 use Rattle.std.proofs.lemmas.Fmt.{decimal_injective}
 use Rattle.stream_maker.specs.Stream.{Stream}
-use Rattle.sfu_commands.specs.Words.{IsForm, Says}
+use Rattle.sfu_commands.specs.Words.{IsForm, IsSimulcast, Says}
 use Rattle.sfu_together.specs.Together.{IsTogether}
 use Rattle.sfu_program.specs.ServeWords.{IsServe}
 use Rattle.sfu_program.specs.Forms.{IsCommand, IsEnd, IsServing}
@@ -33,6 +33,9 @@ not_help words s r = clash 1 2 (ap length (sym r ∙ s.1.words_are)) (omega arit
 pub not_convert : (words : List (List ℕ)) → IsServing words → IsConvert words → ⊥
 not_convert words s r = clash 1 2 (ap length (sym r ∙ s.1.words_are)) (omega arith)
 
+pub not_simulcast : (words : List (List ℕ)) → IsServing words → IsSimulcast words → ⊥
+not_simulcast words s r = clash 1 2 (ap length (sym r ∙ s.1.words_are)) (omega arith)
+
 pub not_together : (words : List (List ℕ)) → IsServing words → IsTogether words → ⊥
 not_together words s r = clash 1 2 (ap length (sym r ∙ s.1.words_are)) (omega arith)
 
@@ -51,6 +54,7 @@ not_cascade words t s r = clash 2 4 (ap length (sym s.1.words_are ∙ r.words_ar
 not_said : (words : List (List ℕ)) (command : Command) → IsServing words → Says words command → ⊥
 not_said words Run s is = not_run words s is
 not_said words Convert s is = not_convert words s is
+not_said words Simulcast s is = not_simulcast words s is
 not_said words Help s is = not_help words s is
 not_said words (Check id) s is = not_check words id s is
 not_said words (Record id) s is = not_record words id s is

@@ -1,7 +1,7 @@
 -- The words `together` are no other command.
 use Rattle.std.proofs.Common.{◌≡◌, ◌⊎◌, inl, inr, ℕ, List, [], ◌∷◌, length, ap, sym, ◌∙◌, ◌<◌, arith}
 use Rattle.sfu_commands.specs.declared.words.Command.{Command}
-use Rattle.sfu_commands.specs.declared.words.Command.TheVariants.{Run, Convert, Help, Check, Record, Trial, Cascade}
+use Rattle.sfu_commands.specs.declared.words.Command.TheVariants.{Run, Convert, Simulcast, Help, Check, Record, Trial, Cascade}
 use Rattle.sfu_commands.specs.Run.{IsRun}
 use Rattle.sfu_commands.specs.Check.{IsCheck}
 use Rattle.sfu_commands.specs.Record.{IsRecord}
@@ -9,7 +9,7 @@ use Rattle.sfu_commands.specs.Convert.{IsConvert}
 use Rattle.sfu_commands.specs.Help.{IsHelp}
 use Rattle.sfu_commands.specs.StreamWords.{IsCascade, IsTrial}
 use Rattle.stream_maker.specs.Stream.{Stream}
-use Rattle.sfu_commands.specs.Words.{IsForm, Says}
+use Rattle.sfu_commands.specs.Words.{IsForm, IsSimulcast, Says}
 use Rattle.sfu_program.specs.Forms.{IsStatus}
 use Rattle.sfu_together.specs.Together.{IsTogether}
 
@@ -29,6 +29,9 @@ not_help words t r = clash 4 8 (ap first_length (sym r ∙ t)) (omega arith)
 pub not_convert : (words : List (List ℕ)) → IsTogether words → IsConvert words → ⊥
 not_convert words t r = clash 7 8 (ap first_length (sym r ∙ t)) (omega arith)
 
+pub not_simulcast : (words : List (List ℕ)) → IsTogether words → IsSimulcast words → ⊥
+not_simulcast words t r = clash 8 9 (ap first_length (sym t ∙ r)) (omega arith)
+
 pub not_check : (words : List (List ℕ)) (id : ℕ) → IsTogether words → IsCheck words id → ⊥
 not_check words id t r = clash 1 2 (ap length (sym t ∙ r.2)) (omega arith)
 
@@ -38,6 +41,7 @@ not_record words id t r = clash 1 2 (ap length (sym t ∙ r.2)) (omega arith)
 not_said : (words : List (List ℕ)) (command : Command) → IsTogether words → Says words command → ⊥
 not_said words Run t is = not_run words t is
 not_said words Convert t is = not_convert words t is
+not_said words Simulcast t is = not_simulcast words t is
 not_said words Help t is = not_help words t is
 not_said words (Check id) t is = not_check words id t is
 not_said words (Record id) t is = not_record words id t is

@@ -20,11 +20,13 @@ use Rattle.sfu_commands.specs.Record.{IsRecord, record_due}
 use Rattle.sfu_commands.specs.Run.{IsRun, run_due}
 use Rattle.sfu_commands.specs.StreamWords.{IsCascade, IsTrial}
 use Rattle.sfu_commands.specs.Trial.{trial_text}
+use Rattle.sfu_commands.specs.Words.{IsSimulcast}
 use Rattle.cascade.specs.Summary.{cascade_text}
 use Rattle.sfu_together.specs.Together.{IsPlayed, IsTogether, together_due}
 use Rattle.sfu_program.specs.ServeEnds.{ends_text}
 use Rattle.sfu_program.specs.ServeOpening.{first_text}
 use Rattle.sfu_program.specs.ServeWords.{IsServe}
+use Rattle.sfu_program.specs.Simulcast.{simulcast_due}
 
 -- ---- nothing outside fails
 
@@ -80,6 +82,7 @@ serve_due bytes = due_of_setup (configuration_of bytes)
 pub record Completes (words : List (List ℕ)) (x : Exchange) (status : ℕ) : Type 0 where
   pub run : IsRun words → Finishes run_due x status
   pub convert : IsConvert words → Finishes convert_due x status
+  pub simulcast : IsSimulcast words → Finishes simulcast_due x status
   -- 8 exactly where the receiver complains
   pub check : (id : ℕ) → IsCheck words id → Finishes (check_due id) x status
   -- 8 and 10 exactly where the recorder complains of a packet and of an element

@@ -5,4 +5,8 @@ pub mod ServePorts
 pub mod ServeEnds
 pub mod Serve
 pub mod ServeEnding
+pub mod SimulcastScript
+pub mod SimulcastTexts
+pub mod Simulcast
+pub mod SimulcastServing
 pub mod Complete

@@ -11,12 +11,14 @@ ghost use Rattle.sfu_commands.specs.Run.{IsRun, Runs};
 ghost use Rattle.cascade.specs.Command.{PlaysCascade};
 ghost use Rattle.sfu_commands.specs.StreamWords.{IsCascade, IsTrial};
 ghost use Rattle.sfu_commands.specs.Trial.{Tries};
-ghost use Rattle.sfu_commands.specs.Words.{IsForm};
 ghost use Rattle.sfu_base.specs.Faults.{Rose};
+ghost use Rattle.sfu_commands.specs.Words.{IsForm, IsSimulcast};
 ghost use Rattle.sfu_program.specs.Complete.{IsInside};
 ghost use Rattle.sfu_program.specs.Forms.{IsStatus};
+ghost use Rattle.sfu_program.specs.Simulcast.{Simulcasts};
 ghost use Rattle.sfu_driver.specs.Exchange.{exchange_of};
 
+use crate::bundling::run_with_bundles;
 use cascade::cascade;
 use sfu_base::{Sink, Source};
 use sfu_commands::{Command, check, convert, help, read_words, record, refuse, run, trial};
@@ -45,6 +47,8 @@ pub fn sfu_alone<S: Source, K: Sink>(
         → Records id (exchange_of S.left S.faults K.written K.faults source.old source.new sink.old sink.new) result }
     ensures convert { IsConvert (map string_bytes words.now)
         → Converts (exchange_of S.left S.faults K.written K.faults source.old source.new sink.old sink.new) result }
+    ensures simulcast { IsSimulcast (map string_bytes words.now)
+        → Simulcasts (exchange_of S.left S.faults K.written K.faults source.old source.new sink.old sink.new) result }
     ensures help { IsHelp (map string_bytes words.now) → Helps source.old source.new (K.written sink.old) (K.written sink.new) (K.faults sink.old) (K.faults sink.new) result }
     ensures trial { (s : Stream) → IsTrial (map string_bytes words.now) s
         → Tries source.old source.new s (K.written sink.old) (K.written sink.new) (K.faults sink.old) (K.faults sink.new) result }
@@ -59,6 +63,7 @@ pub fn sfu_alone<S: Source, K: Sink>(
     match read_words(words) {
         Some(Command::Run) => run(alloc, source, sink).number(),
         Some(Command::Convert) => convert(alloc, source, sink).number(),
+        Some(Command::Simulcast) => run_with_bundles(alloc, source, sink).number(),
         Some(Command::Help) => help(sink).number(),
         Some(Command::Check(id)) => check(alloc, id, source, sink).number(),
         Some(Command::Record(id)) => record(alloc, id, source, sink).number(),

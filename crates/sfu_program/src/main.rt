@@ -3,6 +3,7 @@
 #![tactic(auto)]
 
 mod alone;
+mod bundling;
 mod calm;
 mod serve;
 mod sfu;

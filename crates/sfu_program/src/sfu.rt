@@ -11,6 +11,8 @@ ghost use Rattle.sfu_commands.specs.Run.{IsRun, Runs};
 ghost use Rattle.cascade.specs.Command.{PlaysCascade};
 ghost use Rattle.sfu_commands.specs.StreamWords.{IsCascade, IsTrial};
 ghost use Rattle.sfu_commands.specs.Trial.{Tries};
+ghost use Rattle.sfu_commands.specs.Words.{IsSimulcast};
+ghost use Rattle.sfu_program.specs.Simulcast.{Simulcasts};
 ghost use Rattle.sfu_program.specs.Complete.{Completes, IsInside, NoneRose};
 ghost use Rattle.sfu_program.specs.Forms.{IsCommand, IsEnd, IsServing};
 ghost use Rattle.sfu_program.specs.Serve.{Serves};
@@ -75,6 +77,8 @@ pub fn sfu<W: Threads + Wait + Sync, S: Source, K: Sink, P: Ports, C: Clock + Sy
         → Records id (exchange_of S.left S.faults K.written K.faults source.old source.new sink.old sink.new) result }
     ensures convert { IsConvert (map string_bytes words.now)
         → Converts (exchange_of S.left S.faults K.written K.faults source.old source.new sink.old sink.new) result }
+    ensures simulcast { IsSimulcast (map string_bytes words.now)
+        → Simulcasts (exchange_of S.left S.faults K.written K.faults source.old source.new sink.old sink.new) result }
     ensures help { IsHelp (map string_bytes words.now) → Helps source.old source.new (K.written sink.old) (K.written sink.new) (K.faults sink.old) (K.faults sink.new) result }
     ensures trial { (s : Stream) → IsTrial (map string_bytes words.now) s
         → Tries source.old source.new s (K.written sink.old) (K.written sink.new) (K.faults sink.old) (K.faults sink.new) result }

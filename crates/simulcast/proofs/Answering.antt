@@ -83,7 +83,7 @@ module _ {R : Type 0} (noted : R → Option (List Noted)) (old new : Bundles R) 
 
     pub redraws_err : (n : ℕ) (bytes : List ℕ) (why : Refusal) → ((m : Made) → IsBundle found m → RedrawsTo m n bytes (Err why)) → RedrawsAt h (place_of number h.made) n bytes (Err (fault.Room why))
     redraws_err n bytes why does =
-        subst (λ (o : Option ℕ). RedrawsAt h o n bytes (Err (fault.Room why))) is_there (λ m at. let done = does m (there_is m at).bundle_is in (ap fault.Room done.0, done.1))
+        subst (λ (o : Option ℕ). RedrawsAt h o n bytes (Err (fault.Room why))) is_there (λ m at. let done = does m (there_is m at).bundle_is in (ap fault.Room done.0, done.1, done.2))
 
     module _ (c : Bundle) (set_is : new.bundles.items ≡ slice_set old.bundles.items place c) where
       -- ---- a pump

@@ -1,5 +1,5 @@
 -- Where nothing waits for the active leg, a key start of the chosen leg goes out.
-use Rattle.std.proofs.Common.{◌≡◌, ℕ, List, [], ◌∷◌, ◌++◌, refl, sym, ap, ◌∙◌, Some}
+use Rattle.std.proofs.Common.{◌≡◌, ℕ, List, [], ◌∷◌, ◌++◌, refl, sym, ap, ◌∙◌}
 use Rattle.std.proofs.lemmas.List.{append-nil, append_assoc}
 use Rattle.room_core.specs.Given.{given_to}
 use Rattle.room_core.specs.History.{accepted}

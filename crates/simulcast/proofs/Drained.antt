@@ -1,18 +1,18 @@
 -- After a whole pump each leg's queue is empty, or 512 packets of the bundle are queued.
-use Rattle.std.proofs.Common.{◌≡◌, ◌≤◌, ◌<◌, ◌⊎◌, inl, inr, ℕ, zero, suc, Bool, true, false, cond, List, [], ◌∷◌, length, drop, refl, sym, ap, ap₂, subst, ◌∙◌, true≢false, Option, Some, None, arith, eqb, slice_get}
+use Rattle.std.proofs.Common.{◌≡◌, ◌≤◌, ◌<◌, ◌⊎◌, inl, inr, ℕ, zero, suc, Bool, true, false, cond, List, [], ◌∷◌, length, drop, refl, sym, ap, ap₂, subst, ◌∙◌, true≢false, Option, Some, None, arith, eqb}
 use Rattle.std.specs.Prelude.{◌==◌, ◌||◌}
 use Rattle.std.proofs.lemmas.Bool.{eqb-true}
 use Rattle.std.proofs.lemmas.Option.{slice_get_within}
 use Rattle.sfu_base.specs.Answer.{Answer}
 use Rattle.sfu_base.specs.declared.call.Call.{Call}
 use Rattle.sfu_base.specs.declared.call.Call.TheVariants as call
-use Rattle.room_core.specs.History.{Entry, accepted, after}
+use Rattle.room_core.specs.History.{accepted, after}
 use Rattle.room_core.specs.Live.{Joined, joined}
 use Rattle.room_core.specs.WellFormed.{AreWellFormed}
 use Rattle.room_core.proofs.Promising.{headline}
 use Rattle.leg_switch.specs.Switching.{Standing, is_active}
 use Rattle.simulcast.specs.Waiting.{waiting, waiting_for}
-use Rattle.simulcast.specs.Made.{AreLegs, Made, leg_at}
+use Rattle.simulcast.specs.Made.{AreLegs, leg_at}
 use Rattle.simulcast.specs.Pumping.{IsDrained, Pumping, and_took, called, drained, drained_from, drained_leg, is_full, order, other, pumped, unless}
 use Rattle.simulcast.proofs.OneTake.{full_stays}
 use Rattle.simulcast.proofs.Waiting.{IsLive, called_accepted, dry_answer, given_same, going_out_stays, next_answer, waits_less}

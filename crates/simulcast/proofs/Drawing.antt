@@ -1,5 +1,5 @@
 -- What a bundle's ring gives.
-use Rattle.std.proofs.Common.{◌≡◌, ℕ, List, [], ◌∷◌, length, sym, ap, ap₂, subst, ◌∙◌, Option, Some, None, Result, Ok, Err}
+use Rattle.std.proofs.Common.{◌≡◌, ℕ, List, [], ◌∷◌, length, refl, sym, ap, ap₂, subst, ◌∙◌, Option, Some, None, Result, Ok, Err}
 use Rattle.std.specs.Prelude.{◌==◌, IfOk, OnErr, OnOk, ◌↔◌}
 use Rattle.std.specs.List.{find}
 use Rattle.std.specs.Option.{option_map}
@@ -14,7 +14,7 @@ use Rattle.leg_switch.specs.Marks.{marks_of}
 use Rattle.leg_switch.specs.Switching.{passed}
 use Rattle.simulcast.specs.declared.bundle.Bundle.{Bundle}
 use Rattle.simulcast.specs.Made.{Made, ring_history}
-use Rattle.simulcast.specs.Bundle.{DrawsTo, IsBundle, RedrawsTo}
+use Rattle.simulcast.specs.Bundle.{DrawsTo, IsBundle, RedrawsTo, again_of}
 
 empty_by : (queue : List (List ℕ)) (old new : Ring) (why : Refusal) (before bytes : List ℕ) → TakesFrom queue old new (Err why) before bytes → why ≡ Empty
 empty_by [] old new why before bytes h = let same : Err why ≡ Err Empty = h.0 in cc
@@ -60,14 +60,29 @@ not_kept_by : (o : Option Sent) (ring : Ring) (why : Refusal) (before bytes : Li
 not_kept_by None ring why before bytes h = let same : Err why ≡ Err (NotKept (oldest_in ring.kept ring.next) ring.next) = h.0 in cc
 not_kept_by (Some p) ring why before bytes h = absurd (let other : Err why ≡ Ok tt = h.0 in cc)
 
+kept_by : (o : Option Sent) (ring : Ring) (before bytes : List ℕ) → ResendsIt o ring (Ok tt) before bytes → option_map (λ (p : Sent). p.bytes) o ≡ Some bytes
+kept_by None ring before bytes h = absurd (let other : Ok tt ≡ Err (NotKept (oldest_in ring.kept ring.next) ring.next) = h.0 in cc)
+kept_by (Some p) ring before bytes h = ap Some (sym h.1)
+
+none_kept : (o : Option Sent) (ring : Ring) (why : Refusal) (before bytes : List ℕ) → ResendsIt o ring (Err why) before bytes → option_map (λ (p : Sent). p.bytes) o ≡ None
+none_kept None ring why before bytes h = refl
+none_kept (Some p) ring why before bytes h = absurd (let other : Err why ≡ Ok tt = h.0 in cc)
+
+same_again : (b : Bundle) (m : Made) (n : ℕ) → IsBundle b m → again_of n m ≡ option_map (λ (p : Sent). p.bytes) (find (λ packet. packet.number == n) b.ring.kept)
+same_again b m n is = ap (λ (kept : List Sent). option_map (λ (p : Sent). p.bytes) (find (λ packet. packet.number == n) kept)) (sym is.ring_is.kept)
+
 pub redrawn : (b : Bundle) (m : Made) (n : ℕ) (result : Result (Unit {0}) Refusal) (before bytes : List ℕ) → IsBundle b m → Resends b.ring n result before bytes
     → ((h : History) → IsAfter b.ring h → OnOk result (GaveLately h (record { number = n; bytes = bytes }))) → ((h : History) → IsAfter b.ring h → OnErr result (GaveNoneLately h n))
     → RedrawsTo m n bytes result
-redrawn b m n (Ok x) before bytes is resends lately none = lately (ring_history m) is.ring_is
+redrawn b m n (Ok x) before bytes is resends lately none = (
+  lately (ring_history m) is.ring_is,
+  same_again b m n is ∙ kept_by (find (λ packet. packet.number == n) b.ring.kept) b.ring before bytes resends,
+)
 redrawn b m n (Err why) before bytes is resends lately none = (
   not_kept_by (find (λ packet. packet.number == n) b.ring.kept) b.ring why before bytes resends
       ∙ ap₂ (λ (kept : List Sent) (next : ℕ). NotKept (oldest_in kept next) next) is.ring_is.kept is.ring_is.next,
   none (ring_history m) is.ring_is,
+  same_again b m n is ∙ none_kept (find (λ packet. packet.number == n) b.ring.kept) b.ring why before bytes resends,
 )
 
 -- ---- a buffer stays where nothing is handed out

@@ -1,5 +1,5 @@
 -- What was drawn is a front of all that goes out.
-use Rattle.std.proofs.Common.{◌≡◌, ◌≤◌, ◌+◌, ℕ, zero, suc, List, [], ◌∷◌, ◌++◌, length, take, refl, sym, ap, ap₂, ◌∙◌, Some, None, slice_get, add-one}
+use Rattle.std.proofs.Common.{◌≡◌, ℕ, zero, suc, List, [], ◌∷◌, ◌++◌, take, ap, ◌∙◌, Some, slice_get, add-one}
 use Rattle.std.proofs.lemmas.List.{take-append-le}
 use Rattle.leg_switch.specs.Marks.{marks_of}
 use Rattle.leg_switch.proofs.Growing.{outgoing_grows}

@@ -16,7 +16,7 @@ use Rattle.forwarding_model.specs.frames.Reading.{Descriptor, Format, Payload, s
 use Rattle.forwarding_model.specs.frames.Reading.Payload.{Elements}
 use Rattle.forwarding_model.specs.frames.Reading.Showing.{Shows}
 use Rattle.forwarding_model.specs.frames.TrackFrames.{IsOneTrack}
-use Rattle.forwarding_model.specs.History.{Entry, items_of, timeline}
+use Rattle.forwarding_model.specs.History.{Entry, items_of}
 use Rattle.forwarding_laws.specs.frames.WholeFrames.{AreContinuations, AreWhole, IsLayered, IsReadFrame, IsSentWhole, IsWholeFrame, KeepsWhole}
 use Rattle.forwarding_laws.proofs.MadeFrames.{frames_are_read}
 use Rattle.forwarding_laws.proofs.StrictReceiver.{numbered-append}

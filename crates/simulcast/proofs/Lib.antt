@@ -17,3 +17,4 @@ pub mod Bundling
 pub mod OneMore
 pub mod LastPackets
 pub mod Changing
+pub mod Answers

@@ -1,5 +1,5 @@
 -- Want of memory at a call that takes none is the recorder's.
-use Rattle.std.proofs.Common.{◌≡◌, ◌⊎◌, inl, inr, ℕ, Bool, true}
+use Rattle.std.proofs.Common.{◌≡◌, ◌⊎◌, inl, inr, Bool, true}
 use Rattle.std.specs.Prelude.{IsTrue}
 use Rattle.sfu_base.specs.Answer.{is_starved}
 use Rattle.sfu_base.specs.declared.call.Call.{Call}

@@ -30,7 +30,7 @@ use Rattle.simulcast.specs.declared.fault.BundleFault.TheVariants as fault
 use Rattle.simulcast.specs.declared.pumped.Pumped.{Pumped}
 use Rattle.simulcast.specs.Made.{AreLegs, HasNoStrays, Made, has_leg, leg_at, ring_history}
 use Rattle.simulcast.specs.Pumping.{IsDrained, Pumping, called, pumped}
-use Rattle.simulcast.specs.Bundle.{IsBundle, IsCounted, IsTaken, and_chosen, and_drawn, is_active_in, kept_of, next_of, pumped_whole}
+use Rattle.simulcast.specs.Bundle.{IsBundle, IsCounted, IsTaken, again_of, and_chosen, and_drawn, is_active_in, kept_of, next_of, pumped_whole}
 
 -- the room's history, and the bundles in the order in which they were made
 pub record Simulcast : Type 0 where
@@ -158,8 +158,8 @@ abbrev pub Draws : {R : Type 0} → (R → Option (List Noted)) → (old new : B
 Draws noted old new number bytes result = (h : Simulcast) → StandsFor noted old h → DrawsAt noted new h (place_of number h.made) bytes result
 
 abbrev pub RedrawnTo : Made → ℕ → List ℕ → Result (Unit {0}) BundleFault → Type 0
-RedrawnTo m n bytes (Ok x) = GaveLately (ring_history m) (record { number = n; bytes = bytes })
-RedrawnTo m n bytes (Err why) = (why ≡ fault.Room (NotKept (oldest_in (kept_of m) (next_of m)) (next_of m))) × GaveNoneLately (ring_history m) n
+RedrawnTo m n bytes (Ok x) = GaveLately (ring_history m) (record { number = n; bytes = bytes }) × (again_of n m ≡ Some bytes)
+RedrawnTo m n bytes (Err why) = (why ≡ fault.Room (NotKept (oldest_in (kept_of m) (next_of m)) (next_of m))) × GaveNoneLately (ring_history m) n × (again_of n m ≡ None)
 
 abbrev pub RedrawsAt : Simulcast → Option ℕ → ℕ → List ℕ → Result (Unit {0}) BundleFault → Type 0
 RedrawsAt h None n bytes result = result ≡ Err NoBundle

@@ -5,3 +5,4 @@ pub mod Bundle
 pub mod Bundles
 pub mod Drawn
 pub mod Changes
+pub mod Answers

@@ -170,7 +170,7 @@ const LAYERED: [(&str, &str); 8] = [
 ];
 
 // The commands that read calls.
-const OF_CALLS: [Row; 6] = [
+const OF_CALLS: [Row; 8] = [
     Row {
         words: &["run"],
         pieces: &LAYERED,
@@ -211,6 +211,29 @@ const OF_CALLS: [Row; 6] = [
         ],
         reads: 14,
         last: b"record 2\n",
+        status: 5,
+    },
+    Row {
+        words: &["simulcast"],
+        pieces: &[
+            ("pump 1\n", "refused nobundle\n"),
+            ("draw 1\n", "refused nobundle\n"),
+            ("choose 1 1\n", "refused nobundle\n"),
+            ("leave 7\n", "refused nosubscriber\n"),
+        ],
+        reads: 34,
+        last: b"",
+        status: 0,
+    },
+    Row {
+        words: &["simulcast"],
+        pieces: &[
+            ("pump 1\n", "refused nobundle\n"),
+            ("take 01\n", ""),
+            ("draw 1\n", ""),
+        ],
+        reads: 15,
+        last: b"line 2\n",
         status: 5,
     },
     Row {

@@ -11,7 +11,7 @@ const FIRST: &str =
 const FIRST_REPLIES: &str = "ok\nok\nempty\nok\n";
 
 pub const USAGE: &str =
-    "usage: run, together, trial, check, record, serve, convert, cascade, help\n";
+    "usage: run, together, trial, check, record, serve, convert, simulcast, cascade, help\n";
 
 /// Words of these texts.
 pub fn words(alloc: Global, texts: &[&str]) -> Result<Vec<String>, AllocError> {

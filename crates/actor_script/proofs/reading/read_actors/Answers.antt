@@ -20,12 +20,12 @@ returns-then-is_err-clause-err g c =
     (g.S.Source.faults c.args.source.now) (g.S.Source.faults c.drive-came_out.new.source) (g.K.Sink.faults c.args.sink.now) (g.K.Sink.faults c.drive-came_out.new.sink) n)
     (sym c.of.ensures)
     (let all = statuses_same (λ bytes. due_of (due read_rule (at [] 1 []) bytes)) (λ taken. due_of (takes (byte read_rule) (at [] 1 []) taken)) read_due read_part
-          (g.S.Source.left c.args.source.now) (g.S.Source.left c.drive-came_out.new.source) (g.K.Sink.written c.args.sink.now) (g.K.Sink.written c.drive-came_out.new.sink)
-          (g.S.Source.faults c.args.source.now) (g.S.Source.faults c.drive-came_out.new.source) (g.K.Sink.faults c.args.sink.now) (g.K.Sink.faults c.drive-came_out.new.sink) _
-          read_is_due read_is_part
-          (statuses (JudgeStands Holds) (byte read_rule) (ends read_rule) (at [] 1 []) c.drive-came_out.new.units (g.S.Source.left c.args.source.now) (g.S.Source.left c.drive-came_out.new.source)
-          (g.K.Sink.written c.args.sink.now) (g.K.Sink.written c.drive-came_out.new.sink) (g.S.Source.faults c.args.source.now) (g.S.Source.faults c.drive-came_out.new.source)
-          (g.K.Sink.faults c.args.sink.now) (g.K.Sink.faults c.drive-came_out.new.sink) c.drive-came_out.result c.drive-came_out.ensures.cause drove) in record {
+    (g.S.Source.left c.args.source.now) (g.S.Source.left c.drive-came_out.new.source) (g.K.Sink.written c.args.sink.now) (g.K.Sink.written c.drive-came_out.new.sink)
+    (g.S.Source.faults c.args.source.now) (g.S.Source.faults c.drive-came_out.new.source) (g.K.Sink.faults c.args.sink.now) (g.K.Sink.faults c.drive-came_out.new.sink) _
+    read_is_due read_is_part
+    (statuses (JudgeStands Holds) (byte read_rule) (ends read_rule) (at [] 1 []) c.drive-came_out.new.units (g.S.Source.left c.args.source.now) (g.S.Source.left c.drive-came_out.new.source)
+    (g.K.Sink.written c.args.sink.now) (g.K.Sink.written c.drive-came_out.new.sink) (g.S.Source.faults c.args.source.now) (g.S.Source.faults c.drive-came_out.new.source)
+    (g.K.Sink.faults c.args.sink.now) (g.K.Sink.faults c.drive-came_out.new.sink) c.drive-came_out.result c.drive-came_out.ensures.cause drove) in record {
       statuses = all;
       only = read_only (JudgeStands Holds) c.drive-came_out.new.units (g.S.Source.left c.args.source.now) (g.S.Source.left c.drive-came_out.new.source)
           (g.K.Sink.written c.args.sink.now) (g.K.Sink.written c.drive-came_out.new.sink) (g.K.Sink.faults c.args.sink.now) (g.K.Sink.faults c.drive-came_out.new.sink) c.drive-came_out.result (sym c.is_err.ensures.value ∙ c.if-is_err.true) drove;

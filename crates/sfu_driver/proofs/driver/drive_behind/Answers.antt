@@ -12,10 +12,10 @@ returns-clause-drove g c left point from stand =
     let rule = rule_of g.C.Cut.scan g.C.Cut.scan_end g.J.Judge.step g.J.Judge.outside g.J.Judge.closing in
     let took = c.in_ok-take_all.ensures.took left from in record {
       drove = drove_ended IsAtUnit (StandsAt g.J.Judge.stands) (JudgeStands g.J.Judge.stands) (byte rule) (ends rule) c.args.units.now c.take_all.new.units c.finish.new.units
-    c.new-ready.result c.take_all.new.ready left (g.S.Source.left c.take_all.new.source)
-    (g.K.Sink.written c.args.sink.now) (g.K.Sink.written c.take_all.new.sink) (g.K.Sink.written c.finish.new.sink)
-    (g.K.Sink.faults c.args.sink.now) (g.K.Sink.faults c.take_all.new.sink) (g.K.Sink.faults c.finish.new.sink) c.finish.result
-    c.take_all.ensures.never_falls c.new-ready.ensures took.took c.in_ok-take_all.ensures.written c.in_ok-take_all.ensures.end c.finish.ensures.ends point stand;
+          c.new-ready.result c.take_all.new.ready left (g.S.Source.left c.take_all.new.source)
+          (g.K.Sink.written c.args.sink.now) (g.K.Sink.written c.take_all.new.sink) (g.K.Sink.written c.finish.new.sink)
+          (g.K.Sink.faults c.args.sink.now) (g.K.Sink.faults c.take_all.new.sink) (g.K.Sink.faults c.finish.new.sink) c.finish.result
+          c.take_all.ensures.never_falls c.new-ready.ensures took.took c.in_ok-take_all.ensures.written c.in_ok-take_all.ensures.end c.finish.ensures.ends point stand;
       begins = took.begins;
     }
 
@@ -28,9 +28,9 @@ returns-in_err-take_all-clause-drove g c left point from stand =
     (g.K.Sink.written c.args.sink.now) (g.K.Sink.written c.take_all.new.sink) (g.K.Sink.faults c.args.sink.now) (g.K.Sink.faults c.take_all.new.sink) r) (sym (err_of c.from_residual.result stop c.from_residual.ensures.1))
     (record {
       drove = drove_took IsAtUnit (StandsAt g.J.Judge.stands) (JudgeStands g.J.Judge.stands) (byte rule) (ends rule) c.args.units.now c.take_all.new.units c.take_all.new.units
-    c.new-ready.result c.take_all.new.ready left (g.S.Source.left c.take_all.new.source)
-    (g.K.Sink.written c.args.sink.now) (g.K.Sink.written c.take_all.new.sink) (g.K.Sink.faults c.args.sink.now) (g.K.Sink.faults c.take_all.new.sink) stop
-    c.new-ready.ensures took.took point stand;
+          c.new-ready.result c.take_all.new.ready left (g.S.Source.left c.take_all.new.source)
+          (g.K.Sink.written c.args.sink.now) (g.K.Sink.written c.take_all.new.sink) (g.K.Sink.faults c.args.sink.now) (g.K.Sink.faults c.take_all.new.sink) stop
+          c.new-ready.ensures took.took point stand;
       begins = took.begins;
     })
 

@@ -1,4 +1,4 @@
-use Rattle.std.proofs.Common.{◌≡◌, ◌++◌, ℕ, List, length-append, length-take, append-nil, take, subst, sym, rules, arith, Result, Ok, Err}
+use Rattle.std.proofs.Common.{◌≡◌, ◌++◌, ℕ, length-append, length-take, append-nil, take, subst, sym, rules, arith, Result, Ok, Err}
 use Rattle.std.specs.Io.KnownBytes.{Consumes}
 use Rattle.sfu_driver.specs.declared.halt.Interruption.{Interruption}
 use Rattle.sfu_driver.specs.Point.{byte}
@@ -70,12 +70,12 @@ returns-in_default-clause-took g c left from =
     let step = byte (rule_of g.C.Cut.scan g.C.Cut.scan_end g.J.Judge.step g.J.Judge.outside g.J.Judge.closing) in
     let read = c.loop-count.invariant.read left from in record {
       took = took_fails IsAtUnit (StandsAt g.J.Judge.stands) step c.args.units.now c.feed.new.units c.args.ready.now c.feed.new.ready left (g.S.Source.left c.loop-count.source) (g.S.Source.left c.read.new.self)
-    (g.K.Sink.written c.args.sink.now) (g.K.Sink.written c.feed.new.sink) (g.K.Sink.faults c.args.sink.now) (g.K.Sink.faults c.feed.new.sink) c.in_ok-feed.ensures.written
-    (took_on IsAtUnit (StandsAt g.J.Judge.stands) step c.args.units.now c.loop-count.units c.feed.new.units c.args.ready.now c.loop-count.ready c.feed.new.ready
-    left read.before (g.S.Source.left c.loop-count.source) (g.K.Sink.written c.args.sink.now) (g.K.Sink.written c.loop-count.sink) (g.K.Sink.written c.feed.new.sink)
-    (g.K.Sink.faults c.args.sink.now) (g.K.Sink.faults c.loop-count.sink) (g.K.Sink.faults c.feed.new.sink) (take c.loop-count.count c.loop-count.piece) (Ok tt) c.loop-count.invariant.never_falls c.requires.ready
-    c.loop-count.invariant.written (omega (arith, c.loop-count.invariant.within, length-take {A = ℕ})) read.took (omega (arith, read.far, c.loop-count.units.bounded, c.loop-count.units.short)) read.read c.in_ok-feed.ensures.feeds)
-    c.in_default.ensures.bytes;
+          (g.K.Sink.written c.args.sink.now) (g.K.Sink.written c.feed.new.sink) (g.K.Sink.faults c.args.sink.now) (g.K.Sink.faults c.feed.new.sink) c.in_ok-feed.ensures.written
+          (took_on IsAtUnit (StandsAt g.J.Judge.stands) step c.args.units.now c.loop-count.units c.feed.new.units c.args.ready.now c.loop-count.ready c.feed.new.ready
+          left read.before (g.S.Source.left c.loop-count.source) (g.K.Sink.written c.args.sink.now) (g.K.Sink.written c.loop-count.sink) (g.K.Sink.written c.feed.new.sink)
+          (g.K.Sink.faults c.args.sink.now) (g.K.Sink.faults c.loop-count.sink) (g.K.Sink.faults c.feed.new.sink) (take c.loop-count.count c.loop-count.piece) (Ok tt) c.loop-count.invariant.never_falls c.requires.ready
+          c.loop-count.invariant.written (omega (arith, c.loop-count.invariant.within, length-take {A = ℕ})) read.took (omega (arith, read.far, c.loop-count.units.bounded, c.loop-count.units.short)) read.read c.in_ok-feed.ensures.feeds)
+          c.in_default.ensures.bytes;
       begins = read.begins;
     }
 
@@ -85,9 +85,9 @@ returns-clause-took g c left from =
     let read = c.loop-count.invariant.read left from in
     let none : c.loop-count.count ≡ 0 = omega arith in record {
       took = took_all IsAtUnit (StandsAt g.J.Judge.stands) (byte (rule_of g.C.Cut.scan g.C.Cut.scan_end g.J.Judge.step g.J.Judge.outside g.J.Judge.closing)) c.args.units.now c.loop-count.units
-    c.args.ready.now c.loop-count.ready left read.before (g.S.Source.left c.loop-count.source) (g.K.Sink.written c.args.sink.now) (g.K.Sink.written c.loop-count.sink)
-    (g.K.Sink.faults c.args.sink.now) (g.K.Sink.faults c.loop-count.sink) (Ok tt) read.took
-    (subst (λ (n : ℕ). Consumes read.before (g.S.Source.left c.loop-count.source) (take n c.loop-count.piece)) none read.read);
+          c.args.ready.now c.loop-count.ready left read.before (g.S.Source.left c.loop-count.source) (g.K.Sink.written c.args.sink.now) (g.K.Sink.written c.loop-count.sink)
+          (g.K.Sink.faults c.args.sink.now) (g.K.Sink.faults c.loop-count.sink) (Ok tt) read.took
+          (subst (λ (n : ℕ). Consumes read.before (g.S.Source.left c.loop-count.source) (take n c.loop-count.piece)) none read.read);
       begins = subst (BeginsWith (take c.args.first c.args.piece.now)) (append-nil (read.took.earlier ++ read.took.piece))
           (subst (λ (n : ℕ). BeginsWith (take c.args.first c.args.piece.now) ((read.took.earlier ++ read.took.piece) ++ take n c.loop-count.piece)) none read.begins);
     }

@@ -70,6 +70,9 @@ returns-in-Some-Run-clause-inside g c = λ calm quiet. rw c.number.ensures (unit
 pub returns-in-Some-Convert-clause-inside : goal.returns-in-Some-Convert-clause-inside
 returns-in-Some-Convert-clause-inside g c = λ calm quiet. rw c.number-in-Some-Convert.ensures (unit_inside _ _ _ _ _ _ _ _ _ _ _ c.convert.ensures.converts calm quiet)
 
+pub returns-in-Some-Simulcast-clause-inside : goal.returns-in-Some-Simulcast-clause-inside
+returns-in-Some-Simulcast-clause-inside g c = λ calm quiet. rw c.number-in-Some-Simulcast.ensures (unit_inside _ _ _ _ _ _ _ _ _ _ _ c.run_with_bundles.ensures.simulcasts calm quiet)
+
 pub returns-in-Some-Help-clause-inside : goal.returns-in-Some-Help-clause-inside
 returns-in-Some-Help-clause-inside g c = λ calm quiet. rw c.number-in-Some-Help.ensures (usage_inside _ _ _ _ _ c.help.ensures quiet)
 

@@ -5,7 +5,7 @@ use Rattle.sfu_driver.specs.Exchange.{exchange_by}
 use Rattle.sfu_program.specs.Serve.{Serves}
 use Rattle.sfu_program.specs.ServePorts.{seen_ports}
 use Rattle.std.proofs.lemmas.Bool.{false≢true}
-use Rattle.sfu_program.proofs.TogetherForms.{is_status, not_cascade, not_check, not_convert, not_help, not_record, not_run, not_trial, not_two}
+use Rattle.sfu_program.proofs.TogetherForms.{is_status, not_cascade, not_check, not_convert, not_help, not_record, not_run, not_simulcast, not_trial, not_two}
 use Rattle.sfu_program.specs.Forms.{IsServing}
 use Rattle.sfu_program.proofs.Completing.{serve_finishes, serve_inside, summary_shows, unit_finishes, unit_inside, usage_shows}
 use Rattle.sfu_program.proofs.ServeForms as serve
@@ -25,6 +25,9 @@ returns-then-are_together-clause-record g c = λ id is. absurd (not_record _ id 
 
 pub returns-then-are_together-clause-convert : goal.returns-then-are_together-clause-convert
 returns-then-are_together-clause-convert g c = λ is. absurd (not_convert _ (c.if-are_together.ensures.0 refl) is)
+
+pub returns-then-are_together-clause-simulcast : goal.returns-then-are_together-clause-simulcast
+returns-then-are_together-clause-simulcast g c = λ is. absurd (not_simulcast _ (c.if-are_together.ensures.0 refl) is)
 
 pub returns-then-are_together-clause-help : goal.returns-then-are_together-clause-help
 returns-then-are_together-clause-help g c = λ is. absurd (not_help _ (c.if-are_together.ensures.0 refl) is)
@@ -64,6 +67,9 @@ returns-in-Some-clause-record g c = λ id is. absurd (serve.not_record _ id (_, 
 
 pub returns-in-Some-clause-convert : goal.returns-in-Some-clause-convert
 returns-in-Some-clause-convert g c = λ is. absurd (serve.not_convert _ (_, c.in-Some.ensures) is)
+
+pub returns-in-Some-clause-simulcast : goal.returns-in-Some-clause-simulcast
+returns-in-Some-clause-simulcast g c = λ is. absurd (serve.not_simulcast _ (_, c.in-Some.ensures) is)
 
 pub returns-in-Some-clause-help : goal.returns-in-Some-clause-help
 returns-in-Some-clause-help g c = λ is. absurd (serve.not_help _ (_, c.in-Some.ensures) is)
@@ -105,6 +111,7 @@ returns-then-are_together-clause-complete g c = λ none.
     record {
       run = λ r. absurd (not_run _ is r);
       convert = λ r. absurd (not_convert _ is r);
+      simulcast = λ r. absurd (not_simulcast _ is r);
       check = λ id r. absurd (not_check _ id is r);
       recorded = λ id r. absurd (not_record _ id is r);
       together = λ _. rw c.number.ensures (plays.history, unit_finishes _ _ _ _ _ _ _ _ _ _ _ plays.statuses none.reads none.writes, λ zero. plays.played (inl zero));
@@ -123,6 +130,7 @@ returns-in-Some-clause-complete g c = λ none.
     record {
       run = λ r. absurd (serve.not_run _ is r);
       convert = λ r. absurd (serve.not_convert _ is r);
+      simulcast = λ r. absurd (serve.not_simulcast _ is r);
       check = λ id r. absurd (serve.not_check _ id is r);
       recorded = λ id r. absurd (serve.not_record _ id is r);
       together = λ r. absurd (serve.not_together _ is r);
@@ -141,6 +149,7 @@ returns-clause-complete g c = λ none.
     record {
       run = λ r. unit_finishes _ _ _ _ _ _ _ _ _ _ _ (alone.run r) none.reads none.writes;
       convert = λ r. unit_finishes _ _ _ _ _ _ _ _ _ _ _ (alone.convert r) none.reads none.writes;
+      simulcast = λ r. unit_finishes _ _ _ _ _ _ _ _ _ _ _ (alone.simulcast r) none.reads none.writes;
       check = λ id r. unit_finishes _ _ _ _ _ _ _ _ _ _ _ (alone.check id r) none.reads none.writes;
       recorded = λ id r. unit_finishes _ _ _ _ _ _ _ _ _ _ _ (alone.record id r) none.reads none.writes;
       together = λ r. absurd (false≢true (c.if-are_together.ensures.1 r));

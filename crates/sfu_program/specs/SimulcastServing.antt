@@ -1,0 +1,15 @@
+-- What the server of a script with bundles makes of a line.
+use Rattle.std.specs.Prelude.{◌≤◌, ℕ, List, Result, length}
+use Rattle.sfu_driver.specs.declared.halt.Halt.{Halt}
+use Rattle.sfu_driver.specs.Drive.{Judges}
+use Rattle.sfu_driver.specs.Outcome.{writes}
+use Rattle.sfu_commands.specs.Run.{untold}
+use Rattle.simulcast.specs.Bundles.{Simulcast, StandsFor}
+use Rattle.sfu_program.specs.declared.bundling.server.BundleServer.{BundleServer}
+use Rattle.sfu_program.specs.SimulcastTexts.{Told}
+
+-- Whatever it stood for, the reply was put behind the texts that were ready, and it stands for what is left; or memory was wanting.
+pub record ServesLine (says : Simulcast → Told) (old new : BundleServer) (ready ready' : List ℕ) (result : Result (Unit {0}) Halt) : Type 0 where
+  pub judges : (h : Simulcast) → StandsFor untold old.bundles h
+      → Judges (λ (server : BundleServer) (h : Simulcast). StandsFor untold server.bundles h) (writes (says h).reply (says h).after) new ready ready' result
+  pub grows : length ready ≤ length ready'

@@ -1,0 +1,227 @@
+// Serving the lines of a script on a room with bundles.
+ghost use Rattle.std.specs.Prelude.{◌≡◌, ◌≤◌, ◌++◌, ◌∷◌, [], Err, OnErr, OnOk, length, true};
+ghost use Rattle.sfu_base.specs.Answer.{answer_of, is_starved};
+ghost use Rattle.script_texts.specs.Replies.{answer_text};
+ghost use Rattle.script_texts.specs.WholeLines.{fault_line};
+ghost use Rattle.sfu_driver.specs.declared.halt.Halt.TheVariants.{Starved};
+ghost use Rattle.sfu_commands.specs.Run.{untold};
+ghost use Rattle.simulcast.specs.Answers.{bundle_made, bundle_pumped, leg_chosen, packet_drawn, packet_redrawn, room_called};
+ghost use Rattle.simulcast.specs.Bundles.{Simulcast, StandsFor, nothing_made};
+ghost use Rattle.simulcast.specs.Made.{just_made};
+ghost use Rattle.bundle_lines.specs.Lines.{HasLegs};
+ghost use Rattle.bundle_lines.specs.Replies.{bundle_reply_text};
+ghost use Rattle.sfu_program.specs.Simulcast.{bundle_served};
+ghost use Rattle.sfu_program.specs.SimulcastServing.{ServesLine};
+ghost use Rattle.sfu_program.specs.SimulcastTexts.{done_text, fault_text, line_told, packet_text, pumped_text, told};
+
+use bundle_lines::{BundleLine, BundleReply, add_bundle_reply, read_bundle_line};
+use room_core::{KeepNone, Room};
+use script_texts::{DigitBuf, add_fault, add_reply, wants_memory};
+use sfu_base::{Blob, Call, NoMemory, PacketBuf, Refusal, Reply, Scratch, SeqList};
+use sfu_driver::{Ending, Halt, Judge};
+use sfu_script::is_skipped;
+use simulcast::{BundleFault, Bundles};
+use std::alloc::Global;
+
+/// Serves each line of a script by seat 0 on a room with bundles that keeps nothing.
+#[derive(Drop)]
+pub struct BundleServer {
+    pub bundles: Bundles<KeepNone>,
+    pub scratch: Scratch,
+    pub digits: DigitBuf,
+}
+
+impl BundleServer {
+    /// A server that has served nothing.
+    pub fn new(alloc: Global) -> BundleServer
+        ensures { StandsFor untold result.bundles (nothing_made []) }
+    {
+        BundleServer {
+            bundles: Bundles::new(alloc, Room::new(alloc, KeepNone::new())),
+            scratch: Scratch {
+                packet: PacketBuf::new(),
+                names: SeqList::new(),
+            },
+            digits: DigitBuf::new(),
+        }
+    }
+
+    // Puts the line of a reply that the room has behind the texts that are ready.
+    fn answer(&mut self, reply: &Reply, ready: &mut Blob) -> Result<(), Halt>
+        ensures starved { is_starved reply.now ≡ true → result ≡ Err Starved }
+        ensures ok { OnOk result (ready.new ≡ ready.old ++ (answer_text (answer_of reply.now self.old.scratch.packet self.old.scratch.names) ++ 10 ∷ [])) }
+        ensures err { OnErr result (ready.new ≡ ready.old) }
+        ensures only { OnErr result (result ≡ Err Starved) }
+        ensures same { self.new.bundles ≡ self.old.bundles }
+    {
+        if wants_memory(reply) {
+            return Err(Halt::Starved);
+        }
+        add_reply(reply, &self.scratch, &mut self.digits, ready)?;
+        Ok(())
+    }
+
+    // Puts the line of a refusal behind them.
+    fn refuse(&mut self, why: BundleFault, ready: &mut Blob) -> Result<(), Halt>
+        ensures starved { why ≡ BundleFault.NoMemory → result ≡ Err Starved }
+        ensures ok { OnOk result (ready.new ≡ ready.old ++ (fault_text why ++ 10 ∷ [])) }
+        ensures err { OnErr result (ready.new ≡ ready.old) }
+        ensures only { OnErr result (result ≡ Err Starved) }
+        ensures same { self.new.bundles ≡ self.old.bundles }
+    {
+        match why {
+            BundleFault::NumberUsed { highest } => {
+                self.answer(&Reply::Refused(Refusal::NumberUsed { highest }), ready)
+            }
+            BundleFault::TooMany { live } => {
+                self.answer(&Reply::Refused(Refusal::TooMany { live }), ready)
+            }
+            BundleFault::Room(why) => self.answer(&Reply::Refused(why), ready),
+            BundleFault::NoBundle => tell(BundleReply::NoBundle, ready),
+            BundleFault::NoLeg { legs } => tell(BundleReply::NoLeg { legs }, ready),
+            BundleFault::WrongKind => tell(BundleReply::WrongKind, ready),
+            BundleFault::Bound { bundle } => tell(BundleReply::Bound { bundle }, ready),
+            BundleFault::NoMemory => Err(Halt::Starved),
+        }
+    }
+
+    fn call(&mut self, call: &Call, ready: &mut Blob) -> Result<(), Halt>
+        ensures { ServesLine (λ h. told answer_text (room_called call.now h)) self.old self.new ready.old ready.new result }
+    {
+        match self.bundles.call(0, call, &mut self.scratch) {
+            Ok(reply) => self.answer(&reply, ready),
+            Err(why) => self.refuse(why, ready),
+        }
+    }
+
+    fn bundle(
+        &mut self,
+        number: u32,
+        id: u8,
+        ssrc: u32,
+        first: u16,
+        legs: &[u32],
+        ready: &mut Blob,
+    ) -> Result<(), Halt>
+        requires two { 2 ≤ length legs.now }
+        requires three { length legs.now ≤ 3 }
+        ensures { ServesLine (λ h. told done_text (bundle_made (just_made number id ssrc first legs.now) h)) self.old self.new ready.old ready.new result }
+    {
+        match self.bundles.bundle(number, id, ssrc, first, legs) {
+            Ok(()) => self.answer(&Reply::Done, ready),
+            Err(why) => self.refuse(why, ready),
+        }
+    }
+
+    fn choose(&mut self, number: u32, leg: u8, ready: &mut Blob) -> Result<(), Halt>
+        ensures { ServesLine (λ h. told done_text (leg_chosen number leg h)) self.old self.new ready.old ready.new result }
+    {
+        match self.bundles.choose(number, leg, &mut self.scratch) {
+            Ok(()) => self.answer(&Reply::Done, ready),
+            Err(why) => self.refuse(why, ready),
+        }
+    }
+
+    fn pump(&mut self, number: u32, ready: &mut Blob) -> Result<(), Halt>
+        ensures { ServesLine (λ h. told pumped_text (bundle_pumped number h)) self.old self.new ready.old ready.new result }
+    {
+        match self.bundles.pump(number, &mut self.scratch) {
+            Ok(counts) => tell(
+                BundleReply::Pumped {
+                    forwarded: counts.forwarded,
+                    dropped: counts.dropped,
+                },
+                ready,
+            ),
+            Err(why) => self.refuse(why, ready),
+        }
+    }
+
+    fn draw(&mut self, number: u32, ready: &mut Blob) -> Result<(), Halt>
+        ensures { ServesLine (λ h. told packet_text (packet_drawn number h)) self.old self.new ready.old ready.new result }
+    {
+        match self.bundles.draw(number, &mut self.scratch.packet) {
+            Ok(_) => self.answer(&Reply::Packet, ready),
+            Err(why) => self.refuse(why, ready),
+        }
+    }
+
+    fn redraw(&mut self, number: u32, seq: u16, ready: &mut Blob) -> Result<(), Halt>
+        ensures { ServesLine (λ h. told packet_text (packet_redrawn number seq h)) self.old self.new ready.old ready.new result }
+    {
+        match self.bundles.redraw(number, seq, &mut self.scratch.packet) {
+            Ok(()) => self.answer(&Reply::Packet, ready),
+            Err(why) => self.refuse(why, ready),
+        }
+    }
+
+    // Serves what a line says.
+    fn serve(&mut self, line: &BundleLine, ready: &mut Blob) -> Result<(), Halt>
+        requires { HasLegs line.now }
+        ensures { ServesLine (λ h. line_told line.now h) self.old self.new ready.old ready.new result }
+    {
+        match line {
+            BundleLine::Room(call) => self.call(call, ready),
+            BundleLine::Bundle {
+                bundle,
+                id,
+                ssrc,
+                first,
+                legs,
+                count,
+            } => self.bundle(
+                *bundle,
+                *id,
+                *ssrc,
+                *first,
+                &legs[..usize::from(*count)],
+                ready,
+            ),
+            BundleLine::Choose { bundle, leg } => self.choose(*bundle, *leg, ready),
+            BundleLine::Pump { bundle } => self.pump(*bundle, ready),
+            BundleLine::Draw { bundle } => self.draw(*bundle, ready),
+            BundleLine::Redraw { bundle, seq } => self.redraw(*bundle, *seq, ready),
+        }
+    }
+}
+
+// Puts the line of a reply that lines of bundles alone have behind the texts that are ready.
+fn tell(reply: BundleReply, ready: &mut Blob) -> Result<(), Halt>
+    ensures ok { OnOk result (ready.new ≡ ready.old ++ (bundle_reply_text reply ++ 10 ∷ [])) }
+    ensures err { OnErr result (ready.new ≡ ready.old) }
+    ensures only { OnErr result (result ≡ Err Starved) }
+{
+    add_bundle_reply(reply, ready)?;
+    Ok(())
+}
+
+impl Judge for BundleServer {
+    ghost State = { Simulcast };
+
+    ghost stands = { λ server h. StandsFor untold server.bundles h };
+
+    ghost step = { bundle_served };
+
+    ghost outside = { fault_line };
+
+    ghost closing = { λ _. [] };
+
+    fn judge(&mut self, number: u32, line: &[u8], ready: &mut Blob) -> Result<(), Halt> {
+        if is_skipped(line) {
+            return Ok(());
+        }
+        let Ok(said) = read_bundle_line(line) else {
+            add_fault(u64::from(number), ready)?;
+            return Err(Halt::Ended(Ending::Outside));
+        };
+        self.serve(&said, ready)
+    }
+
+    fn refuse(&self, number: u64, ready: &mut Blob) -> Result<(), NoMemory> {
+        add_fault(number, ready)
+    }
+
+    fn close(&mut self, _ready: &mut Blob) -> Result<(), NoMemory> {
+        Ok(())
+    }
+}
