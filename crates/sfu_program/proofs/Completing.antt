@@ -22,7 +22,7 @@ use Rattle.sfu_driver.specs.Exchange.{Exchange, exchange_by}
 use Rattle.sfu_driver.specs.Outcome.{End}
 use Rattle.sfu_driver.specs.Statuses.{Due, Statuses, full_text, last_text, status_of}
 use Rattle.sfu_commands.specs.Help.{ShowsUsage, usage_text}
-use Rattle.sfu_program.specs.Complete.{EndsAs, Finishes, IsInside, NoneRose, Shows, all_turns, serve_due, unless_fault}
+use Rattle.sfu_program.specs.Complete.{EndsAs, Finishes, IsInside, NoneRose, all_turns, serve_due, unless_fault}
 use Rattle.sfu_program.specs.Serve.{ActsOn, Serves, afters}
 use Rattle.sfu_program.specs.ServeEnds.{all_made, ends_of, ends_text, is_all}
 use Rattle.sfu_program.specs.ServeOpening.{first_text}
@@ -88,22 +88,22 @@ module _ (whole part : List ℕ → Due) (left left' w w' : Option (List ℕ)) (
 -- ---- commands that read nothing
 
 -- a command that writes one text: its status, and what was written
-pub summary_shows : (text : List ℕ) (left left' w w' : Option (List ℕ)) (g g' f f' status : ℕ) → (status ≡ 0) ⊎ (status ≡ 4) ⊎ (status ≡ 6) → (status ≡ 4 → Rose f f') → (status ≡ 0 → Appends w w' text) → ¬ (Rose f f')
-    → (status ≡ 6) ⊎ Shows text (exchange_by left left' w w' g g' f f') status
-summary_shows text left left' w w' g g' f f' status (inl zero) sink done quiet = inr (zero, done zero)
-summary_shows text left left' w w' g g' f f' status (inr (inl four)) sink done quiet = absurd (quiet (sink four))
-summary_shows text left left' w w' g g' f f' status (inr (inr six)) sink done quiet = inl six
+pub summary_shows : (text : List ℕ) (w w' : Option (List ℕ)) (f f' status : ℕ) → (status ≡ 0) ⊎ (status ≡ 4) ⊎ (status ≡ 6) → (status ≡ 4 → Rose f f') → (status ≡ 0 → Appends w w' text) → ¬ (Rose f f')
+    → (status ≡ 6) ⊎ ((status ≡ 0) × Appends w w' text)
+summary_shows text w w' f f' status (inl zero) sink done quiet = inr (zero, done zero)
+summary_shows text w w' f f' status (inr (inl four)) sink done quiet = absurd (quiet (sink four))
+summary_shows text w w' f f' status (inr (inr six)) sink done quiet = inl six
 
 pub summary_inside : (f f' status : ℕ) → (status ≡ 0) ⊎ (status ≡ 4) ⊎ (status ≡ 6) → (status ≡ 4 → Rose f f') → ¬ (Rose f f') → IsInside status
 summary_inside f f' status (inl zero) sink quiet = inl zero
 summary_inside f f' status (inr (inl four)) sink quiet = absurd (quiet (sink four))
 summary_inside f f' status (inr (inr six)) sink quiet = inr (inr (inr (inl six)))
 
-module _ (left left' w w' : Option (List ℕ)) (g g' f f' status : ℕ) (s : ShowsUsage w w' f f' status) (quiet : ¬ (Rose f f')) where
-  pub usage_shows : Shows usage_text (exchange_by left left' w w' g g' f f') status
+module _ (w w' : Option (List ℕ)) (f f' status : ℕ) (s : ShowsUsage w w' f f' status) (quiet : ¬ (Rose f f')) where
+  pub usage_shows : (status ≡ 0) × Appends w w' usage_text
   usage_shows = by s.only
     where
-      by : (status ≡ 0) ⊎ (status ≡ 4) → Shows usage_text (exchange_by left left' w w' g g' f f') status
+      by : (status ≡ 0) ⊎ (status ≡ 4) → (status ≡ 0) × Appends w w' usage_text
       by (inl zero) = (zero, s.done zero)
       by (inr four) = absurd (quiet (s.sink four))
 

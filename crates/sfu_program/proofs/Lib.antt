@@ -6,6 +6,7 @@ pub mod ServeRun
 pub mod ServeActing
 pub mod ServeForms
 pub mod ServeRoles
+pub mod Completing
 mod SimulcastServing
 mod SimulcastReplies
 pub mod Completing

@@ -1,4 +1,4 @@
-use Rattle.std.proofs.Common.{ℕ, None, inl, inr, map, refl, subst}
+use Rattle.std.proofs.Common.{ℕ, inl, inr, map, refl, subst}
 use Rattle.std.specs.Prelude.{codes}
 use Rattle.std.specs.String.{string_bytes}
 use Rattle.sfu_driver.specs.Statuses.{number_of}
@@ -89,7 +89,7 @@ pub returns-in-Some-Simulcast-clause-inside : goal.returns-in-Some-Simulcast-cla
 returns-in-Some-Simulcast-clause-inside g c = λ calm quiet. rw c.number-in-Some-Simulcast.ensures (unit_inside _ _ _ _ _ _ _ _ _ _ _ c.run_with_bundles.ensures.simulcasts calm quiet)
 
 pub returns-in-Some-Help-clause-inside : goal.returns-in-Some-Help-clause-inside
-returns-in-Some-Help-clause-inside g c = λ calm quiet. rw c.number-in-Some-Help.ensures (usage_inside None None _ _ 0 0 _ _ _ c.help.ensures quiet)
+returns-in-Some-Help-clause-inside g c = λ calm quiet. rw c.number-in-Some-Help.ensures (usage_inside _ _ _ _ _ c.help.ensures quiet)
 
 pub returns-in-Some-Check-clause-inside : goal.returns-in-Some-Check-clause-inside
 returns-in-Some-Check-clause-inside g c = λ calm quiet. rw c.number-in-Some-Check.ensures (unit_inside _ _ _ _ _ _ _ _ _ _ _ c.check.ensures.checks calm quiet)

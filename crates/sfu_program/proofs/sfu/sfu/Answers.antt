@@ -1,10 +1,12 @@
-use Rattle.std.proofs.Common.{ℕ, inl, inr, refl, subst, sym, ◌∙◌}
+use Rattle.std.proofs.Common.{ℕ, inl, inr, map, refl, subst, sym, ◌∙◌}
+use Rattle.std.specs.String.{string_bytes}
 use Rattle.sfu_driver.specs.Statuses.{number_of}
 use Rattle.sfu_driver.specs.Exchange.{exchange_by}
 use Rattle.sfu_program.specs.Serve.{Serves}
 use Rattle.sfu_program.specs.ServePorts.{seen_ports}
 use Rattle.std.proofs.lemmas.Bool.{false≢true}
 use Rattle.sfu_program.proofs.TogetherForms.{is_status, not_cascade, not_check, not_convert, not_help, not_record, not_run, not_simulcast, not_trial, not_two}
+use Rattle.sfu_program.specs.Forms.{IsServing}
 use Rattle.sfu_program.proofs.Completing.{serve_finishes, serve_inside, summary_shows, unit_finishes, unit_inside, usage_shows}
 use Rattle.sfu_program.proofs.ServeForms as serve
 use Rattle.sfu_program.proofs.sfu.sfu.Goals as goal
@@ -124,7 +126,7 @@ returns-then-are_together-clause-inside g c = λ none. rw c.number.ensures (unit
 
 pub returns-in-Some-clause-complete : goal.returns-in-Some-clause-complete
 returns-in-Some-clause-complete g c = λ none.
-    let is = (_, c.in-Some.ensures) in
+    let is : IsServing (map string_bytes c.args.words.now) = (_, c.in-Some.ensures) in
     record {
       run = λ r. absurd (serve.not_run _ is r);
       convert = λ r. absurd (serve.not_convert _ is r);
@@ -151,10 +153,10 @@ returns-clause-complete g c = λ none.
       check = λ id r. unit_finishes _ _ _ _ _ _ _ _ _ _ _ (alone.check id r) none.reads none.writes;
       recorded = λ id r. unit_finishes _ _ _ _ _ _ _ _ _ _ _ (alone.record id r) none.reads none.writes;
       together = λ r. absurd (false≢true (c.if-are_together.ensures.1 r));
-      serve = λ turns r. absurd (c.in-None.ensures (turns, r));
-      trial = λ s r. let shows = (alone.trial s r).shows in summary_shows _ _ _ _ _ _ _ _ _ _ shows.only shows.sink shows.done none.writes;
-      cascade = λ s r. let shows = (alone.cascade s r).shows in summary_shows _ _ _ _ _ _ _ _ _ _ shows.only shows.sink shows.done none.writes;
-      help = λ r. usage_shows _ _ _ _ _ _ _ _ _ (alone.help r).shows none.writes;
+      serve = λ turns r. absurd (c.in_default.ensures turns r);
+      trial = λ s r. let shows = (alone.trial s r).shows in summary_shows _ _ _ _ _ _ shows.only shows.sink shows.done none.writes;
+      cascade = λ s r. let shows = (alone.cascade s r).shows in summary_shows _ _ _ _ _ _ shows.only shows.sink shows.done none.writes;
+      help = λ r. usage_shows _ _ _ _ _ (alone.help r).shows none.writes;
     }
 
 pub returns-clause-inside : goal.returns-clause-inside
