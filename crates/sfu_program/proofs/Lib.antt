@@ -9,4 +9,3 @@ pub mod ServeRoles
 pub mod Completing
 mod SimulcastServing
 mod SimulcastReplies
-pub mod Completing
