@@ -15,7 +15,7 @@ fn calm_calls_end_by_their_input(rt: HostRuntime) -> Result<(), Fail> {
         (&["run"], "take 1\n", 0),
         (&["run"], "take 1\ntake 01\n", 5),
         (&["convert"], "take 1\n", 0),
-        (&["simulcast"], "pump 1\n", 0),
+        (&["simulcast"], "take 1\npump 1\n", 0),
         (&["check", "4"], twice.as_str(), 8),
         (&["record", "4"], FORBIDDEN, 10),
         (&["trial", "2", "7", "0"], "", 0),

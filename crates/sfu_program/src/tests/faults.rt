@@ -214,29 +214,6 @@ const OF_CALLS: [Row; 8] = [
         status: 5,
     },
     Row {
-        words: &["simulcast"],
-        pieces: &[
-            ("pump 1\n", "refused nobundle\n"),
-            ("draw 1\n", "refused nobundle\n"),
-            ("choose 1 1\n", "refused nobundle\n"),
-            ("leave 7\n", "refused nosubscriber\n"),
-        ],
-        reads: 34,
-        last: b"",
-        status: 0,
-    },
-    Row {
-        words: &["simulcast"],
-        pieces: &[
-            ("pump 1\n", "refused nobundle\n"),
-            ("take 01\n", ""),
-            ("draw 1\n", ""),
-        ],
-        reads: 15,
-        last: b"line 2\n",
-        status: 5,
-    },
-    Row {
         words: &["convert"],
         pieces: &[
             ("", "\0SF2"),
