@@ -160,7 +160,7 @@ fn each_receive_and_each_send_of_a_session_fails_in_turn(rt: HostRuntime) -> Res
     ];
     for (configuration, turns, receives, datagrams, sent, replies, sends_in) in rows {
         // Each receive fails, then the send, and then nothing.
-        for place in 0..=receives + 1 {
+        for place in 0..receives.saturating_add(2) {
             let (failing, turn): (&[u64], u64) = if place == receives {
                 (&[0], sends_in)
             } else {
