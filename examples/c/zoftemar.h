@@ -6,7 +6,7 @@
  *     zoftemar_publish_layered(&room, 0, 1, 4, 0x11111111, 100);     // seat 0: track 1, descriptors under id 4, its SSRC, hold in ms
  *     zoftemar_join(&room, 0, 1, 1, 0x22222222, 65534, 1, 1);        // subscriber 1 of track 1, its SSRC, first number, wish
  *     zoftemar_packet(&room, 0, 1, now, bytes, count);               // each packet of the publisher
- *     zoftemar_tick(&room, 0, 1, now);                               // some times a second
+ *     zoftemar_tick(&room, 0, 1, now);                               // every 20 ms or so
  *     for (zoftemar_reply r; (r = zoftemar_take(&room, 0, 1, out, sizeof out)).code == ZOFTEMAR_PACKET;)
  *         send_to_subscriber(out, r.first);
  *     zoftemar_close(&room);
@@ -15,9 +15,9 @@
  * (crates/room_core/README.md), and that these functions are those calls (crates/room_c/README.md), of callers who keep to "What the caller
  * owes". Nothing checks a caller in C.
  *
- * Units. Moments and holds are milliseconds, from any start. SSRCs, sequence numbers and the numbers of tracks and subscribers are numbers
- * of the machine's byte order; packets are the bytes on the wire. Numbers of tracks and of subscribers begin at 1 and only grow: none is
- * used twice. A seat is a number of the caller's own for who makes the call; it changes no answer, and 0 will do.
+ * Units. Moments and holds are milliseconds, by one clock for packets and ticks, from any start. SSRCs, sequence numbers and the numbers of tracks and subscribers are numbers
+ * of the machine's byte order; packets are the bytes on the wire. Numbers of tracks and of subscribers begin at 1 and only grow, in each
+ * room: none is used twice, nor one below another that was. A seat is a number of the caller's own for who makes the call; it changes no answer, and 0 will do.
  *
  * Codes. Nothing aborts and nothing is thrown: each call answers a zoftemar_reply. A refused call changes nothing. Only opening, publishing
  * and joining take memory, through malloc, and may answer ZOFTEMAR_NO_MEMORY; every other call takes none.
@@ -60,7 +60,8 @@ typedef struct zoftemar_room {
 #define ZOFTEMAR_ROOM_NONE { 0 }
 #endif
 
-/* What a call answers. `has` says whether an optional number is there; `first` and `second` are named beside each code. */
+/* What a call answers. `first` and `second` are named beside each code; `has` is true where `first` is there, but where a meaning of its own
+ * stands beside the code. What isn't named is false or 0, also in a refusal. */
 typedef struct zoftemar_reply {
     uint32_t code;
     bool has;
@@ -89,7 +90,7 @@ enum zoftemar_code {
     /* Why a call was refused. */
     ZOFTEMAR_NO_TRACK = 32,
     ZOFTEMAR_NO_SUBSCRIBER = 33,
-    ZOFTEMAR_NUMBER_USED = 34,      /* first: the highest number that was ever live; numbers begin at 1 and only grow */
+    ZOFTEMAR_NUMBER_USED = 34,      /* at most the highest number that was ever live (first), or 0 */
     ZOFTEMAR_TOO_MANY = 35,         /* first: how many are live (64 tracks, 256 subscribers) */
     ZOFTEMAR_BAD_EXTENSION_ID = 36, /* 0 or 15 */
     ZOFTEMAR_TOO_BIG = 37,          /* first: how many bytes the packet has, more than 1,500 */
@@ -97,10 +98,10 @@ enum zoftemar_code {
     ZOFTEMAR_WRONG_SSRC = 39,       /* first: the packet's; second: the track's */
     ZOFTEMAR_SPENT = 40,            /* the packet's number without its wrap is 2^46 or more */
     ZOFTEMAR_LATE = 41,             /* first: the number that the track waits for, without the wrap */
-    ZOFTEMAR_REPEAT = 42,
+    ZOFTEMAR_REPEAT = 42,           /* it came before, and still waits behind a gap; once passed on, it is late */
     ZOFTEMAR_EMPTY = 43,            /* nothing waits for the subscriber */
-    ZOFTEMAR_NOT_KEPT = 44,         /* first: the oldest number that is kept; second: the number of the next take */
-    ZOFTEMAR_AHEAD = 45,            /* has, first: the newest frame, if there is one */
+    ZOFTEMAR_NOT_KEPT = 44,         /* first: the oldest number that is kept; second: that of the next take; both as on the wire */
+    ZOFTEMAR_AHEAD = 45,            /* has, first: the newest frame, if there is one; none on a plain track */
     ZOFTEMAR_TOO_OLD = 46,          /* first: the lowest frame that may be asked for */
     ZOFTEMAR_PLAIN = 47,            /* the subscriber's track is plain */
     ZOFTEMAR_NO_MEMORY = 48,
@@ -127,13 +128,13 @@ void zoftemar_close(zoftemar_room *room);
 zoftemar_reply zoftemar_publish_plain(zoftemar_room *room, uint32_t seat, uint32_t track, uint32_t ssrc, uint32_t hold);
 zoftemar_reply zoftemar_publish_layered(zoftemar_room *room, uint32_t seat, uint32_t track, uint8_t id, uint32_t ssrc, uint32_t hold);
 
-/* Ends a track. Its subscribers stay, and may take what waits for them. */
+/* Ends a track. Its subscribers stay, and may take what waits for them and have it sent again. */
 zoftemar_reply zoftemar_unpublish(zoftemar_room *room, uint32_t seat, uint32_t track);
 
-/* Brings an RTP packet to its track. */
+/* Brings an RTP packet to its track. The first one begins the track's order. A packet that is 1,024 or more ahead gives up the oldest gap. */
 zoftemar_reply zoftemar_packet(zoftemar_room *room, uint32_t seat, uint32_t track, uint64_t moment, const uint8_t *bytes, size_t count);
 
-/* Tells a track that it is this moment: gaps that were waited for long enough are given up. Call it some times a second. */
+/* Tells a track that it is this moment: gaps that were waited for long enough are given up. Call it every 20 ms or so. */
 zoftemar_reply zoftemar_tick(zoftemar_room *room, uint32_t seat, uint32_t track, uint64_t moment);
 
 /* Hands out the sequence numbers that a track waits for (ZOFTEMAR_NAMES), for NACKs to the publisher (RFC 4585, section 6.2.1). `count` is at
@@ -141,11 +142,12 @@ zoftemar_reply zoftemar_tick(zoftemar_room *room, uint32_t seat, uint32_t track,
 zoftemar_reply zoftemar_missing(zoftemar_room *room, uint32_t seat, uint32_t track, uint16_t *out, size_t count);
 
 /* Whether the track's publisher is to be asked for a key frame (ZOFTEMAR_KEY), by a PLI (RFC 4585, section 6.3.1): a plea stands, or a
- * subscriber of it has no decode target. */
+ * subscriber of it has no decode target. Never of a plain track. */
 zoftemar_reply zoftemar_key_wanted(zoftemar_room *room, uint32_t seat, uint32_t track);
 
 /* Begins a subscriber of a track: what goes out to it has this SSRC and sequence numbers from `first` on. It wishes for at most these
- * layers, spatial 0 to 3 and temporal 0 to 7; zoftemar_aim changes that from the next frame on. A plain track ignores wishes. */
+ * layers, spatial 0 to 3 and temporal 0 to 7 (more is as much as there is); zoftemar_aim changes that from the next frame on. A plain track
+ * ignores wishes. */
 zoftemar_reply zoftemar_join(zoftemar_room *room, uint32_t seat, uint32_t subscriber, uint32_t track, uint32_t ssrc, uint16_t first,
                              uint8_t spatial, uint8_t temporal);
 zoftemar_reply zoftemar_aim(zoftemar_room *room, uint32_t seat, uint32_t subscriber, uint8_t spatial, uint8_t temporal);
@@ -156,7 +158,8 @@ zoftemar_reply zoftemar_leave(zoftemar_room *room, uint32_t seat, uint32_t subsc
 zoftemar_reply zoftemar_take(zoftemar_room *room, uint32_t seat, uint32_t subscriber, uint8_t *out, size_t count);
 zoftemar_reply zoftemar_resend(zoftemar_room *room, uint32_t seat, uint32_t subscriber, uint16_t number, uint8_t *out, size_t count);
 
-/* A subscriber asks for a key frame (RFC 4585, section 6.3.1). The plea stands until the next one came whole. */
+/* A subscriber asks for a key frame (RFC 4585, section 6.3.1). The plea stands until the next one came whole. ZOFTEMAR_PLAIN of a plain
+ * track. */
 zoftemar_reply zoftemar_plead(zoftemar_room *room, uint32_t seat, uint32_t subscriber);
 
 /* Why the frame with this number was or wasn't passed on to the subscriber. */
