@@ -14,7 +14,7 @@ pub const SSRC: u32 = 0x1111_1111;
 
 const OUT_SSRC: u32 = 0x2222_2222;
 
-// The lock of a room on which these calls were made, with its first seat.
+/// The lock of a room on which these calls were made, with its first seat.
 pub fn room_after<W: Wait + Sync>(
     rt: &W,
     alloc: Global,
@@ -32,7 +32,7 @@ pub fn room_after<W: Wait + Sync>(
     Ok((turns, seat))
 }
 
-// A link that brings these datagrams, and fails at these places.
+/// A link that brings these datagrams, and fails at these places.
 pub fn link(
     alloc: Global,
     datagrams: &[&[u8]],
@@ -55,7 +55,7 @@ pub fn link(
     ))
 }
 
-// An RTP packet with this number, SSRC 11111111 and the payload aabb (RFC 3550, section 5.1).
+/// An RTP packet with this number, SSRC 11111111 and the payload aabb (RFC 3550, section 5.1).
 pub fn rtp(number: u16) -> [u8; 14] {
     let [high, low] = number.to_be_bytes();
     [
@@ -71,7 +71,7 @@ fn outgoing(number: u16) -> [u8; 14] {
     ]
 }
 
-// Whether exactly these datagrams were sent.
+/// Whether exactly these datagrams were sent.
 pub fn has_sent(link: &MemLink, wanted: &[&[u8]]) -> bool {
     if link.sent().len() != wanted.len() {
         return false;

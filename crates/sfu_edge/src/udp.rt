@@ -1,8 +1,5 @@
 // Links over UDP sockets: the trusted edge. They tell nothing of content.
 ghost use Rattle.std.specs.Prelude.{◌≡◌, ◌<◌, ◌≤◌, None, IfOk, IfSome, length};
-ghost use Rattle.sfu_base.specs.Faults.{CountsFaults, HasCause};
-ghost use Rattle.sfu_base.specs.Links.{FillsOnlyWhere, after_receive, after_send};
-ghost use Rattle.sfu_base.specs.Ports.{after_bind, tells_nothing_yet};
 
 use crate::room::widen;
 use crate::trouble::{Trouble, trouble_of};
@@ -170,13 +167,7 @@ impl<'a, R: Net + time::Clock> Link for UdpLink<'a, R> {
     ghost faults = { λ s. s.faults };
 
     /// Waits about half a millisecond, and at most 5 where nothing came or went for a second, while no datagram of the peer's is there.
-    fn receive(&mut self, buf: &mut PacketBuf) -> Result<bool, Failed>
-        ensures buffer { FillsOnlyWhere result buf.old buf.new }
-        ensures told { None ≡ after_receive result buf.new None }
-        ensures cause { HasCause (⟦<UdpLink<'a, R> as Link>⟧.faults self.old) (⟦<UdpLink<'a, R> as Link>⟧.faults self.new) result }
-
-        ensures counts { CountsFaults (⟦<UdpLink<'a, R> as Link>⟧.faults self.old) (⟦<UdpLink<'a, R> as Link>⟧.faults self.new) result }
-    {
+    fn receive(&mut self, buf: &mut PacketBuf) -> Result<bool, Failed> {
         match self.wait() {
             Ok(Some(count)) => {
                 buf.fill(&self.room[..count]);
@@ -191,12 +182,7 @@ impl<'a, R: Net + time::Clock> Link for UdpLink<'a, R> {
     }
 
     /// A full buffer of the system is waited for, about 100 milliseconds at most; then, and where the network doesn't take the datagram, it is lost.
-    fn send(&mut self, packet: &PacketBuf) -> Result<(), Failed>
-        ensures told { None ≡ after_send result packet.now None }
-        ensures cause { HasCause (⟦<UdpLink<'a, R> as Link>⟧.faults self.old) (⟦<UdpLink<'a, R> as Link>⟧.faults self.new) result }
-
-        ensures counts { CountsFaults (⟦<UdpLink<'a, R> as Link>⟧.faults self.old) (⟦<UdpLink<'a, R> as Link>⟧.faults self.new) result }
-    {
+    fn send(&mut self, packet: &PacketBuf) -> Result<(), Failed> {
         match self.post(packet.bytes()) {
             Ok(()) => Ok(()),
             Err(_) => {
@@ -244,17 +230,7 @@ impl<'a, R: Net + time::Clock + Sync> Ports for UdpPorts<'a, R> {
 
     ghost faults = { λ s. s.faults };
 
-    fn bind(&mut self, local: Address, peer: Address) -> Result<UdpLink<'a, R>, Failed>
-        requires { ⟦<UdpPorts<'a, R> as Ports>⟧.bound self.old < 64 }
-        ensures bound { ⟦<UdpPorts<'a, R> as Ports>⟧.bound self.new ≡ after_bind result (⟦<UdpPorts<'a, R> as Ports>⟧.bound self.old) }
-        ensures back_count { ⟦<UdpPorts<'a, R> as Ports>⟧.back_count self.new ≡ ⟦<UdpPorts<'a, R> as Ports>⟧.back_count self.old }
-        ensures returned { ⟦<UdpPorts<'a, R> as Ports>⟧.returned self.new ≡ ⟦<UdpPorts<'a, R> as Ports>⟧.returned self.old }
-        ensures quiet { IfOk result (λ port. ⟦<UdpLink<'a, R> as Link>⟧.faults port ≡ 0) }
-        ensures silent { IfOk result (λ port. tells_nothing_yet (⟦<UdpLink<'a, R> as Link>⟧.told port)) }
-        ensures cause { HasCause (⟦<UdpPorts<'a, R> as Ports>⟧.faults self.old) (⟦<UdpPorts<'a, R> as Ports>⟧.faults self.new) result }
-
-        ensures counts { CountsFaults (⟦<UdpPorts<'a, R> as Ports>⟧.faults self.old) (⟦<UdpPorts<'a, R> as Ports>⟧.faults self.new) result }
-    {
+    fn bind(&mut self, local: Address, peer: Address) -> Result<UdpLink<'a, R>, Failed> {
         match UdpLink::bind(self.system, local, peer) {
             Ok(link) => {
                 self.bound += 1;

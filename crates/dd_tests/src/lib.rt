@@ -1,0 +1,12 @@
+#![tactic(auto)]
+//! Tests, alone, of the crates that read and write the Dependency Descriptor, and of whole packets that carry one. They stand here and not
+//! in those crates, since a crate with tests is proved twice.
+
+#[cfg(test)]
+mod dd_bits_tests;
+#[cfg(test)]
+mod dd_descriptor_tests;
+#[cfg(test)]
+mod dd_structure_tests;
+#[cfg(test)]
+mod packet_format_tests;
