@@ -2,28 +2,25 @@
 use Rattle.std.proofs.Common.{◌≡◌, ◌+◌, ◌*◌, ◌<◌, ◌≤◌, ◌^◌, ℕ, zero, suc, arith, Bool, true, false, cond, eqb, nat_lt, List, [], ◌∷◌, ◌++◌, length, map, take, refl, sym, ap, subst, ◌∙◌, Option, None, Some, Ok}
 use Rattle.std.specs.List.{AllByRecursion}
 use Rattle.std.proofs.lemmas.Bool.{cond-false, cond-true, eq-eqb, le-ltb}
-use Rattle.sfu_base.specs.Answer.{Answer, Done, Sent}
+use Rattle.sfu_base.specs.Answer.{Done, Sent}
 use Rattle.sfu_base.specs.declared.call.Call.{Call}
 use Rattle.sfu_base.specs.declared.call.Call.TheVariants as call
-use Rattle.sfu_base.specs.declared.call.Kind.{Kind}
 use Rattle.sfu_base.specs.declared.call.Kind.TheVariants.{Layered}
-use Rattle.sfu_base.specs.declared.call.Refusal.{Refusal}
 use Rattle.sfu_base.specs.declared.call.Refusal.TheVariants as refusal
 use Rattle.sfu_base.specs.declared.call.RtpFault.{RtpFault}
 use Rattle.rtp_packet.specs.Fields.{sequence_of, ssrc_of}
 use Rattle.rtp_packet.specs.Faults.{first_fault}
-use Rattle.reorder_window.specs.declared.arrival.Arrival.{Arrival}
 use Rattle.reorder_window.specs.Events.{Arrives, Ticks}
-use Rattle.reorder_window.specs.Order.{Order, judged_sequence}
+use Rattle.reorder_window.specs.Order.{judged_sequence}
 use Rattle.forwarding_model.specs.Lists.{IsMember}
 use Rattle.forwarding_model.specs.forwarding.Timeline.{Packet, takes_of}
-use Rattle.forwarding_model.specs.forwarding.Outgoing.{forwarded, numbered, outgoing, taken}
+use Rattle.forwarding_model.specs.forwarding.Outgoing.{forwarded, numbered, outgoing}
 use Rattle.forwarding_model.specs.frames.Frames.{Item}
 use Rattle.forwarding_model.specs.frames.Frames.Item.{Missing, Arrived}
 use Rattle.forwarding_model.specs.History.{items_of}
 use Rattle.forwarding_laws.proofs.Members.{each_member, each_of}
 use Rattle.packet_format.specs.Packets.{bytes_of, packet_of}
-use Rattle.track_core.specs.Track.{first_refusal, order_refusal, read_refusal, source_refusal}
+use Rattle.track_core.specs.Track.{first_refusal, order_refusal, read_refusal}
 use Rattle.track_core.proofs.Brought.{ItemHas}
 use Rattle.room_core.specs.Follows.{Happened}
 use Rattle.room_core.specs.Given.{given_to}
@@ -31,7 +28,7 @@ use Rattle.room_core.specs.History.{is_accepted}
 use Rattle.room_core.specs.Live.{Joined, Published, hold_of, joined, kind_of, published}
 use Rattle.room_core.specs.Replies.{answer, done_or, of_track}
 use Rattle.room_core.specs.Sent.{sent}
-use Rattle.room_core.specs.SentBytes.{AreInOrder, going_out}
+use Rattle.room_core.specs.SentBytes.{AreInOrder}
 use Rattle.room_core.specs.TrackHistory.{entries_of, order_at, released}
 use Rattle.room_core.specs.Views.{events_for, subscriber_by}
 use Rattle.room_core.specs.WellFormed.{AreWellFormed}

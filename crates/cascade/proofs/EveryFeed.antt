@@ -1,5 +1,5 @@
 -- In every cascade no packet of a feed is refused, so that both tracks of the second room are fed, and no packet finds a full queue.
-use Rattle.std.proofs.Common.{◌≡◌, ◌+◌, ◌*◌, ◌<◌, ◌≤◌, ◌^◌, ℕ, zero, suc, arith, Bool, true, false, cond, List, [], ◌∷◌, ◌++◌, length, length-append, fold, map, take, refl, sym, ap, subst, ◌∙◌, Option, None, Some}
+use Rattle.std.proofs.Common.{◌≡◌, ◌+◌, ◌*◌, ◌<◌, ◌≤◌, ◌^◌, ℕ, zero, suc, arith, Bool, true, List, [], ◌∷◌, ◌++◌, length, length-append, fold, map, take, refl, sym, ap, subst, ◌∙◌, Option, None, Some}
 use Rattle.std.specs.List.{AllByRecursion}
 use Rattle.std.proofs.lemmas.Bool.{lt-ltb}
 use Rattle.std.proofs.lemmas.List.{take-map}
@@ -13,11 +13,10 @@ use Rattle.rtp_packet.specs.Fields.{sequence_of}
 use Rattle.rtp_packet.specs.Faults.{first_fault}
 use Rattle.reorder_window.specs.Events.{Arrives, Ticks}
 use Rattle.forwarding_model.specs.forwarding.Timeline.{Packet, takes_of}
-use Rattle.forwarding_model.specs.forwarding.Timeline.Event.{PlainPacket, Take}
-use Rattle.forwarding_model.specs.forwarding.Standing.{Standing, after_plain, standing}
+use Rattle.forwarding_model.specs.forwarding.Timeline.Event.{PlainPacket}
+use Rattle.forwarding_model.specs.forwarding.Standing.{after_plain, standing}
 use Rattle.forwarding_model.specs.frames.Frames.{Item}
 use Rattle.forwarding_model.specs.frames.Frames.Item.{Arrived}
-use Rattle.forwarding_model.specs.History.{Entry}
 use Rattle.forwarding_model.specs.History.Entry.{Released, Asked}
 use Rattle.forwarding_laws.proofs.Plains.{queues_are_short}
 use Rattle.forwarding_model.specs.forwarding.Outgoing.{outgoing, taken}
@@ -25,7 +24,7 @@ use Rattle.packet_format.specs.Formats.{format_of as format_at}
 use Rattle.packet_format.specs.Packets.{bytes_of, packet_of, read_packet}
 use Rattle.room_core.specs.Follows.{Happened}
 use Rattle.room_core.specs.Formats.{format_of}
-use Rattle.room_core.specs.Given.{and_sent, given_to}
+use Rattle.room_core.specs.Given.{given_to}
 use Rattle.room_core.specs.History.{is_accepted}
 use Rattle.room_core.specs.Live.{Joined, Published, is_on, joined, kind_of, published}
 use Rattle.room_core.specs.Replies.{answer}
@@ -42,17 +41,16 @@ use Rattle.stream_maker.specs.Bytes.{packet_bytes}
 use Rattle.stream_maker.specs.Stream.{Stream, events}
 use Rattle.stream_maker.specs.Turn.{Given}
 use Rattle.strict_receiver.specs.Receivers.{complaint_over}
-use Rattle.cascade.specs.Calls.{Both, after_packet, after_tick, all_fed, all_taken, and_call, fed_on, if_done, if_sent, opened, taken_on, ticked_first, ticked_second, viewed, wish_for}
+use Rattle.cascade.specs.Calls.{Both, after_packet, after_tick, all_fed, and_call, fed_on, if_done, if_sent, opened, taken_on, ticked_first, ticked_second, wish_for}
 use Rattle.cascade.specs.Cascades.{FindRoom}
 use Rattle.cascade.specs.Fed.{IsFed, before_join, packets_on}
 use Rattle.cascade.specs.Summary.{after_event, after_given, cascade_calls}
-use Rattle.cascade.specs.Whole.{AreFed, FeedsAll, joined_as}
+use Rattle.cascade.specs.Whole.{FeedsAll, joined_as}
 use Rattle.cascade.proofs.Accepting.{IsShort, Moves, moves, tick_quiet}
 use Rattle.cascade.proofs.EveryCascade.{by_answer, well_in_front}
 use Rattle.cascade.proofs.Fronts.{first_please}
 use Rattle.cascade.proofs.Moving.{none_waits, takes_waiting}
 use Rattle.cascade.proofs.Plainly.{AreCalls, goes_on}
-use Rattle.cascade.proofs.Standing.{given_more}
 use Rattle.cascade.proofs.StreamSizes.{made_short, tick_count, ticks_few, ticks_in}
 
 -- ---- who is there

@@ -1,5 +1,5 @@
 -- What holds of each packet that a track accepted holds of each that its order releases.
-use Rattle.std.proofs.Common.{◌≡◌, ◌-◌, ◌+◌, ℕ, Bool, true, false, cond, nat_lt, nat_le, eqb, List, [], ◌∷◌, ◌++◌, refl, sym, subst, Option, Some, None, Result, Ok, Err}
+use Rattle.std.proofs.Common.{◌≡◌, ◌-◌, ◌+◌, ℕ, Bool, true, false, cond, nat_lt, nat_le, eqb, List, [], ◌∷◌, ◌++◌, refl, sym, subst, Result, Ok, Err}
 use Rattle.std.specs.List.{AllByRecursion}
 use Rattle.sfu_base.specs.declared.call.Call.{Call}
 use Rattle.sfu_base.specs.declared.call.Call.TheVariants as call

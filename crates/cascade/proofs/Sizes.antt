@@ -1,15 +1,12 @@
 -- How long a packet is after its mask was written anew.
-use Rattle.std.proofs.Common.{◌≡◌, ◌+◌, ◌-◌, ◌*◌, ◌/◌, ◌%◌, ◌≤◌, ℕ, zero, suc, min, arith, Bool, true, false, cond, eqb, nat_lt, List, [], ◌∷◌, ◌++◌, length, length-append, length-drop, length-take, take, drop, refl, sym, ap, ◌∙◌, Option, None, Some}
+use Rattle.std.proofs.Common.{◌≡◌, ◌+◌, ◌-◌, ◌*◌, ◌/◌, ◌%◌, ◌≤◌, ℕ, zero, suc, arith, Bool, true, false, cond, eqb, nat_lt, List, [], ◌∷◌, ◌++◌, length, length-append, length-drop, length-take, take, drop, refl, ap, Option, None, Some}
 use Rattle.std.proofs.lemmas.Bool.{ltb-false}
-use Rattle.std.specs.Int.{bytes_high_first}
-use Rattle.rtp_packet.specs.Fields.{behind_csrcs, behind_extension, behind_header, block_in, block_of, block_words, csrc_count, is_extended, payload_type_of, profile_of}
-use Rattle.rtp_packet.specs.Packet.{second_byte}
+use Rattle.rtp_packet.specs.Fields.{behind_csrcs, behind_extension, behind_header, block_in, block_of, block_words, csrc_count, is_extended, profile_of}
 use Rattle.rtp_packet.specs.Rewritten.{rewritten}
-use Rattle.byteorder.specs.Endian.{big_bytes}
 use Rattle.rtp_extension.specs.declared.form.Form.{Form}
 use Rattle.rtp_extension.specs.declared.form.Form.TheVariants.{OneByte, TwoByte}
 use Rattle.rtp_extension.specs.Forms.{PlainElement, element_bytes, form_of}
-use Rattle.rtp_extension.specs.Reading.{elements_if, elements_in, elements_of, ends_one, one_byte_from, two_byte_from}
+use Rattle.rtp_extension.specs.Reading.{elements_if, elements_of, ends_one, one_byte_from, two_byte_from}
 use Rattle.rtp_extension.specs.Reblocked.{block_if, block_with, elements_laid, extension_with, profile_for, replaced, word_padding}
 use Rattle.rtp_extension.proofs.Reblocking.{length-block_in}
 use Rattle.dd_structure.specs.TemplateStructure.{TemplateStructure}

@@ -3,6 +3,7 @@ use Rattle.std.specs.Prelude.{◌≡◌, ◌⊎◌, ℕ, List, [], Option}
 use Rattle.std.specs.Io.KnownBytes.{Appends}
 use Rattle.sfu_base.specs.Faults.{Rose}
 use Rattle.sfu_driver.specs.Drive.{WritesPart}
+use Rattle.sfu_driver.specs.Statuses.{FirstFault}
 use Rattle.stream_maker.specs.Stream.{Stream}
 use Rattle.cascade.specs.Summary.{cascade_calls, cascade_text}
 use Rattle.cascade.specs.Whole.{FeedsAll, HoldsOf}
@@ -14,6 +15,7 @@ pub record ShowsCascade (s : Stream) (written written' : Option (List ℕ)) (wri
   pub unwritten : status ≡ 4 → WritesPart written written' (cascade_text s)
   pub memory : status ≡ 6 → Appends written written' []
   pub only : (status ≡ 0) ⊎ (status ≡ 4) ⊎ (status ≡ 6)
+  pub first_fault : FirstFault 0 0 writes writes' status
   pub holds : HoldsOf (cascade_calls s)
   pub feeds : FeedsAll (cascade_calls s)
 

@@ -1,5 +1,5 @@
 // The configuration of `serve`, read to its end.
-ghost use Rattle.std.specs.Prelude.{◌≤◌, IfErr, IfOk};
+ghost use Rattle.std.specs.Prelude.{◌≡◌, ◌≤◌, IfErr, IfOk, OnOk};
 ghost use Rattle.port_config.specs.Reading.{ReadsNoSetup, ReadsSetup};
 ghost use Rattle.sfu_driver.specs.Statuses.{number_of};
 
@@ -16,6 +16,7 @@ pub fn read_served<S: Source, K: Sink>(
     sink: &mut K,
 ) -> Result<Served, Status>
     ensures ok { IfOk result (λ served. ReadsSetup (S.left source.old) (S.left source.new) (K.written sink.old) (K.written sink.new) served) }
+    ensures kept { OnOk result ((S.faults source.new ≡ S.faults source.old) × (K.faults sink.new ≡ K.faults sink.old)) }
     ensures err { IfErr result (λ status. ReadsNoSetup (S.left source.old) (S.left source.new) (K.written sink.old) (K.written sink.new)
         (S.faults source.old) (S.faults source.new)
         (K.faults sink.old) (K.faults sink.new) (number_of status)) }

@@ -1,14 +1,17 @@
 -- What is due may be said in other words of the bytes that are there, and a text may stand before all that is due.
-use Rattle.std.proofs.Common.{◌≡◌, ◌⊎◌, ◌≤◌, ◌<◌, inl, inr, ℕ, List, [], ◌++◌, refl, sym, ap, ◌∙◌, subst, arith, Option, Some, None, append_assoc}
+use Rattle.std.proofs.Common.{◌≡◌, ◌⊎◌, ◌≤◌, ◌<◌, inl, inr, ℕ, List, [], ◌++◌, refl, sym, ap, ◌∙◌, subst, arith, Option, Some, None, Err, append_assoc}
 use Rattle.std.specs.Prelude.{IfSome}
 use Rattle.std.specs.Io.KnownBytes.{Appends, Consumes, IsAtEnd, Keeps}
 use Rattle.std.proofs.KnownBytes.{Appends-nil, Appends-trans, Consumes-kept, Consumes-nil}
-use Rattle.sfu_base.specs.Faults.{Rose}
+use Rattle.sfu_base.specs.Faults.{Rose, raised}
 use Rattle.sfu_driver.specs.declared.halt.Ending.{Ending}
 use Rattle.sfu_driver.specs.declared.halt.Ending.TheVariants as ending
 use Rattle.sfu_driver.specs.Outcome.{End}
 use Rattle.sfu_driver.specs.Drive.{WritesEnd, WritesFront, WritesPart, end_by}
-use Rattle.sfu_driver.specs.Statuses.{Completes, Decides, Due, IsPrompt, OfEvery, SaysOf, Statuses, full_text, last_text, status_of, text_before}
+use Rattle.sfu_driver.specs.Statuses.{Completes, Decides, Due, FirstFault, IsPrompt, OfEvery, SaysOf, Statuses, full_text, last_text, status_of, text_before}
+use Rattle.sfu_driver.specs.declared.halt.Interruption.TheVariants.{SourceFault, SinkFault}
+use Rattle.sfu_driver.proofs.Answering.{first_fault_by}
+use Rattle.sfu_driver.proofs.Counting.{rose_by}
 use Rattle.sfu_driver.proofs.Reading.{reads_none}
 use Rattle.sfu_driver.proofs.Fronts.{end_after, front_longer, part_after, part_front, part_longer, rose_since}
 
@@ -101,9 +104,9 @@ statuses_alike whole part whole' part' (Some bytes) left' w w' g g' f f' status 
 
 -- ---- the first read fails
 
-pub failed_at_once : (whole part : List ℕ → Due) (left left' w : Option (List ℕ)) (g g' f : ℕ) → part [] ≡ record { text = []; end = None } → Rose g g' → Keeps left left'
+pub failed_at_once : (whole part : List ℕ → Due) (left left' w : Option (List ℕ)) (g g' f : ℕ) → part [] ≡ record { text = []; end = None } → g' ≡ raised g → Keeps left left'
     → Statuses whole part left left' w w g g' f f 3
-failed_at_once whole part left left' w g g' f none rose keeps = record {
+failed_at_once whole part left left' w g g' f none once keeps = record {
   done = λ e. absurd (omega arith);
   source = λ e. rose;
   judged = λ e. if_told left _ (λ b. ([], from, goes, wrote));
@@ -129,9 +132,13 @@ failed_at_once whole part left left' w g g' f none rose keeps = record {
       begun = ([], full_text (whole []), Appends-nil w, refl);
     };
     complete = λ a c. absurd (a rose);
+    first_fault = first_fault_by g g' f f (Err SourceFault) (record { reading = once; writing = refl });
   };
 }
   where
+    rose : Rose g g'
+    rose = rose_by g g' once
+
     from : Consumes left left' []
     from = Consumes-kept left left left' [] (Consumes-nil left) keeps
 
@@ -182,10 +189,10 @@ module _ (head : List ℕ) (whole part : List ℕ → Due) where
       decided_behind why (inr end) = inr end
 
   -- it was written first
-  pub statuses_behind : (left left' w0 w1 w' : Option (List ℕ)) (g g' f0 f1 f' status : ℕ) → f0 ≤ f1 → Appends w0 w1 head
+  pub statuses_behind : (left left' w0 w1 w' : Option (List ℕ)) (g g' f0 f1 f' status : ℕ) → f1 ≡ f0 → Appends w0 w1 head
       → Statuses whole part left left' w1 w' g g' f1 f' status
       → Statuses (λ bytes. text_before head (whole bytes)) (λ bytes. text_before head (part bytes)) left left' w0 w' g g' f0 f' status
-  statuses_behind left left' w0 w1 w' g g' f0 f1 f' status le first s = record {
+  statuses_behind left left' w0 w1 w' g g' f0 f1 f' status kept first s = record {
     done = λ e. if_some left _ _ (λ b x. (x.0, x.1, Appends-trans w0 w1 w' head (whole b).text first x.2)) (s.done e);
     source = s.source;
     judged = λ e. if_some left _ _ (λ b x. (x.0, x.1, x.2, Appends-trans w0 w1 w' head (part x.0).text first x.3)) (s.judged e);
@@ -204,13 +211,17 @@ module _ (head : List ℕ) (whole part : List ℕ → Due) where
       bounded = s.every.bounded;
       says = says_behind (s.every.prompt.earlier ++ s.every.prompt.piece) left' w0 w1 w' f0 f1 f' status le first s.every.says;
       complete = λ a c. s.every.complete a (λ rose. c (rose_since f0 f1 f' le rose));
+      first_fault = subst (λ (f : ℕ). FirstFault g g' f f' status) kept s.every.first_fault;
     };
   }
+    where
+      le : f0 ≤ f1
+      le = omega (arith, kept)
 
   -- the sink failed before all of it was written
-  pub failed_before : (left w w' : Option (List ℕ)) (g f f' : ℕ) → (part []).end ≡ None → Rose f f' → WritesPart w w' head
+  pub failed_before : (left w w' : Option (List ℕ)) (g f f' : ℕ) → (part []).end ≡ None → f' ≡ raised f → WritesPart w w' head
       → Statuses (λ bytes. text_before head (whole bytes)) (λ bytes. text_before head (part bytes)) left left w w' g g f f' 4
-  failed_before left w w' g f f' goes rose wrote = record {
+  failed_before left w w' g f f' goes once wrote = record {
     done = λ e. absurd (omega arith);
     source = λ e. absurd (omega arith);
     judged = λ e. absurd (omega arith);
@@ -236,5 +247,9 @@ module _ (head : List ℕ) (whole part : List ℕ → Due) where
         begun = front_longer w w' (head ++ (whole []).text) (last_text (whole []).end) (part_front w w' (head ++ (whole []).text) (part_longer w w' head (whole []).text wrote));
       };
       complete = λ a c. absurd (c rose);
+      first_fault = first_fault_by g g f f' (Err SinkFault) (record { reading = refl; writing = once });
     };
   }
+    where
+      rose : Rose f f'
+      rose = rose_by f f' once

@@ -1,11 +1,14 @@
 -- A command that finds no memory before its first read.
-use Rattle.std.proofs.Common.{◌≡◌, inl, inr, ℕ, List, [], refl, sym, ap, subst, arith, Option, Some, None}
+use Rattle.std.proofs.Common.{◌≡◌, inl, inr, ℕ, List, [], refl, sym, ap, subst, arith, Option, Some, None, Err}
 use Rattle.std.specs.Prelude.{IfSome}
 use Rattle.std.specs.Io.KnownBytes.{Appends}
 use Rattle.std.proofs.KnownBytes.{Appends-nil, Consumes-nil}
 use Rattle.sfu_driver.specs.declared.halt.Ending.{Ending}
 use Rattle.sfu_driver.specs.declared.halt.Ending.TheVariants as ending
 use Rattle.sfu_driver.specs.Outcome.{End}
+use Rattle.sfu_driver.specs.declared.halt.Halt.TheVariants.{Starved}
+use Rattle.sfu_driver.specs.declared.halt.Interruption.TheVariants.{Halted}
+use Rattle.sfu_driver.proofs.Answering.{first_fault_by}
 use Rattle.sfu_driver.proofs.Reading.{reads_none}
 use Rattle.sfu_driver.specs.Statuses.{Completes, Due, Statuses, full_text, status_of}
 
@@ -58,6 +61,7 @@ starved_at_once whole part left w g f none = record {
       begun = ([], full_text (whole []), Appends-nil w, refl);
     };
     complete = λ a b. completes (whole []).end;
+    first_fault = first_fault_by g g f f (Err (Halted Starved)) (record { reading = refl; writing = refl });
   };
 }
   where

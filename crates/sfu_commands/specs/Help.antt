@@ -3,6 +3,7 @@ use Rattle.std.specs.Prelude.{◌≡◌, ◌⊎◌, ℕ, List, [], ◌∷◌, Op
 use Rattle.std.specs.Io.KnownBytes.{Appends}
 use Rattle.sfu_base.specs.Faults.{Rose}
 use Rattle.sfu_driver.specs.Drive.{WritesEnd, WritesPart}
+use Rattle.sfu_driver.specs.Statuses.{FirstFault, KeptOrCut}
 
 abbrev pub IsHelp : List (List ℕ) → Type 0
 IsHelp words = words ≡ codes "help" ∷ []
@@ -17,6 +18,7 @@ pub record ShowsUsage (written written' : Option (List ℕ)) (writes writes' sta
   pub sink : status ≡ 4 → Rose writes writes'
   pub unwritten : status ≡ 4 → WritesPart written written' usage_text
   pub only : (status ≡ 0) ⊎ (status ≡ 4)
+  pub first_fault : FirstFault 0 0 writes writes' status
 
 -- `help`: nothing is read.
 pub record Helps {S : Type 0} (source source' : S) (written written' : Option (List ℕ)) (writes writes' status : ℕ) : Type 0 where
@@ -27,4 +29,5 @@ pub record Helps {S : Type 0} (source source' : S) (written written' : Option (L
 pub record Refuses {S : Type 0} (source source' : S) (written written' : Option (List ℕ)) (writes writes' status : ℕ) : Type 0 where
   pub unread : source' ≡ source
   pub shows : WritesEnd written written' writes writes' [] usage_text
+  pub once : KeptOrCut writes writes'
   pub status_is : status ≡ 2

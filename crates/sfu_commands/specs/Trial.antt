@@ -27,6 +27,7 @@ use Rattle.stream_maker.specs.Summary.{counts_text, made, made_text}
 use Rattle.stream_maker.specs.Turn.{Given}
 use Rattle.strict_receiver.specs.Receivers.{complaint_over, frames_over, greatest_count, packets_over}
 use Rattle.sfu_driver.specs.Drive.{WritesPart}
+use Rattle.sfu_driver.specs.Statuses.{FirstFault}
 
 -- ---- calls; the accepted ones stand newest first
 
@@ -137,6 +138,7 @@ pub record ShowsTrial (s : Stream) (written written' : Option (List ℕ)) (write
   pub unwritten : status ≡ 4 → WritesPart written written' (trial_text s)
   pub memory : status ≡ 6 → Appends written written' []
   pub only : (status ≡ 0) ⊎ (status ≡ 4) ⊎ (status ≡ 6)
+  pub first_fault : FirstFault 0 0 writes writes' status
   pub joined : HaveJoined (trial_calls s)
   pub given : AreGiven (trial_calls s)
   pub pleased : ArePleased (trial_calls s)

@@ -35,7 +35,7 @@ fn run_lines<S: Source, K: Sink>(
 ) -> Status
     requires within { first ≤ MOST_PIECE }
     requires end { first ≡ 0 → IsAtEnd (S.left source.old) }
-    ensures { (left : Option (List ℕ)) (reads : ℕ) → Consumes left (S.left source.old) (take first piece.old) → reads ≤ S.faults source.old
+    ensures { (left : Option (List ℕ)) (reads : ℕ) → Consumes left (S.left source.old) (take first piece.old) → S.faults source.old ≡ reads
         → StatusesBehind (take first piece.old) (due_in Form.Lines) (part_in Form.Lines) left (S.left source.new) (K.written sink.old)
         (K.written sink.new) reads (S.faults source.new)
         (K.faults sink.old) (K.faults sink.new) (number_of result) }
@@ -58,7 +58,7 @@ fn run_records<S: Source, K: Sink>(
 ) -> Status
     requires within { first ≤ MOST_PIECE }
     requires end { first ≡ 0 → IsAtEnd (S.left source.old) }
-    ensures { (left : Option (List ℕ)) (reads : ℕ) → Consumes left (S.left source.old) (take first piece.old) → reads ≤ S.faults source.old
+    ensures { (left : Option (List ℕ)) (reads : ℕ) → Consumes left (S.left source.old) (take first piece.old) → S.faults source.old ≡ reads
         → StatusesBehind (take first piece.old) (due_in Form.Records) (part_in Form.Records) left (S.left source.new) (K.written sink.old)
         (K.written sink.new) reads (S.faults source.new)
         (K.faults sink.old) (K.faults sink.new) (number_of result) }

@@ -2,7 +2,7 @@
 ghost use Rattle.std.specs.Prelude.{◌≡◌, []};
 ghost use Rattle.sfu_driver.specs.Drive.{WritesEnd};
 ghost use Rattle.sfu_commands.specs.Help.{ShowsUsage, usage_text};
-ghost use Rattle.sfu_driver.specs.Statuses.{number_of};
+ghost use Rattle.sfu_driver.specs.Statuses.{KeptOrCut, number_of};
 
 use sfu_base::Sink;
 use sfu_driver::{Status, write_all};
@@ -23,6 +23,7 @@ pub fn help<K: Sink>(sink: &mut K) -> Status
 /// Refuses words that are no command: writes the usage line, and answers the status, which stays where the sink fails.
 pub fn refuse<K: Sink>(sink: &mut K) -> Status
     ensures shows { WritesEnd (K.written sink.old) (K.written sink.new) (K.faults sink.old) (K.faults sink.new) [] usage_text }
+    ensures once { KeptOrCut (K.faults sink.old) (K.faults sink.new) }
     ensures status { number_of result ≡ 2 }
 {
     let _ = write_all(sink, USAGE);

@@ -1,8 +1,8 @@
 -- What a command did, by its status.
-use Rattle.std.proofs.Common.{◌≡◌, ◌<◌, ◌≤◌, ◌⊎◌, inl, inr, ℕ, List, ◌++◌, refl, sym, ap, ◌∙◌, subst, arith, Option, Some, None, Result, Ok, Err}
+use Rattle.std.proofs.Common.{◌≡◌, ◌≢◌, ◌<◌, ◌⊎◌, inl, inr, ℕ, List, ◌++◌, refl, sym, ap, ◌∙◌, subst, arith, Option, Some, None, Result, Ok, Err}
 use Rattle.std.specs.Prelude.{IfSome, IsOk}
 use Rattle.std.specs.Io.KnownBytes.{Consumes, IsAtEnd}
-use Rattle.sfu_base.specs.Faults.{Rose}
+use Rattle.sfu_base.specs.Faults.{Rose, raised}
 use Rattle.sfu_driver.specs.declared.halt.Ending.{Ending}
 use Rattle.sfu_driver.specs.declared.halt.Ending.TheVariants as ending
 use Rattle.sfu_driver.specs.declared.halt.Halt.TheVariants.{Ended, Starved}
@@ -10,9 +10,9 @@ use Rattle.sfu_driver.specs.declared.halt.Interruption.{Interruption}
 use Rattle.sfu_driver.specs.declared.halt.Interruption.TheVariants.{SourceFault, SinkFault, Halted}
 use Rattle.sfu_driver.specs.Outcome.{End, Outcome, takes, then_due}
 use Rattle.sfu_driver.specs.Drive.{CauseOf, Drove, DroveBehind, DroveBy, WritesFront, end_by}
-use Rattle.sfu_driver.specs.Statuses.{Completes, Decides, IsPrompt, OfEvery, SaysOf, Statuses, StatusesBehind, due_of, end_of, full_text, status_for, status_of}
+use Rattle.sfu_driver.specs.Statuses.{Completes, Decides, FirstFault, IsPrompt, KeptOrCut, OfEvery, SaysOf, Statuses, StatusesBehind, due_of, end_of, full_text, status_for, status_of}
 use Rattle.sfu_driver.proofs.Driving.{ToldBy, begun_of, told, told_begun}
-use Rattle.sfu_driver.proofs.Fronts.{rose_since}
+use Rattle.sfu_driver.proofs.Counting.{rose_by}
 
 if_some : (left : Option (List ℕ)) (P Q : List ℕ → Type 0) → ((b : List ℕ) → P b → Q b) → IfSome left P → IfSome left Q
 if_some None P Q f p = tt
@@ -51,6 +51,19 @@ no_status n ending.Obu other is = omega arith
 status_above : (why : Ending) (n : ℕ) → status_of why ≡ n → (n < 5) ⊎ (n ≡ 6) → ⊥
 status_above why n is other = no_status n why other (sym is)
 
+neither : (n : ℕ) → (n ≡ 0) ⊎ (n ≡ 6) → n ≢ 0 → n ≢ 6 → ⊥
+neither n (inl is) a b = a is
+neither n (inr is) a b = b is
+
+pub not_seven : (why : Ending) → status_of why ≡ 7 → ⊥
+not_seven ending.Outside is = absurd (omega arith)
+not_seven ending.Complaint is = absurd (omega arith)
+not_seven ending.Obu is = absurd (omega arith)
+
+neither_ending : (why : Ending) → (status_of why ≡ 0) ⊎ (status_of why ≡ 6) → ⊥
+neither_ending why (inl is) = status_above why 0 is (inl (omega arith))
+neither_ending why (inr is) = status_above why 6 is (inr refl)
+
 same_why : (why other : Ending) → status_of why ≡ status_of other → why ≡ other
 same_why ending.Outside ending.Outside is = refl
 same_why ending.Outside ending.Complaint is = absurd (omega arith)
@@ -62,12 +75,9 @@ same_why ending.Obu ending.Outside is = absurd (omega arith)
 same_why ending.Obu ending.Complaint is = absurd (omega arith)
 same_why ending.Obu ending.Obu is = refl
 
--- a count that rose in a later call rose in both together
-pub cause_since : (g0 g g' f f' : ℕ) (result : Result (Unit {0}) Interruption) → g0 ≤ g → CauseOf g g' f f' result → CauseOf g0 g' f f' result
-cause_since g0 g g' f f' (Ok _) le cause = tt
-cause_since g0 g g' f f' (Err SourceFault) le cause = rose_since g0 g g' le cause
-cause_since g0 g g' f f' (Err SinkFault) le cause = cause
-cause_since g0 g g' f f' (Err (Halted why)) le cause = tt
+-- the count of a source whose first read went well is the one before it
+pub cause_since : (g0 g g' f f' : ℕ) (result : Result (Unit {0}) Interruption) → g ≡ g0 → CauseOf g g' f f' result → CauseOf g0 g' f f' result
+cause_since g0 g g' f f' result same cause = subst (λ (n : ℕ). CauseOf n g' f f' result) same cause
 
 -- the told facts, whatever the source tells
 told_if : {U S T : Type 0} (stands : U → T → Type 0) (byte : S → ℕ → Outcome S) (ends : S → Outcome T) (s : S) (new : U) (left left' w w' : Option (List ℕ)) (f f' : ℕ) (result : Result (Unit {0}) Interruption)
@@ -159,11 +169,78 @@ says_by {U} {S} {T} stands byte ends s taken new left' w w' f f' (Err (Halted (E
 pub completes_by : {U S T : Type 0} (stands : U → T → Type 0) (byte : S → ℕ → Outcome S) (ends : S → Outcome T) (s : S) (taken : List ℕ) (new : U) (left' w w' : Option (List ℕ)) (g g' f f' : ℕ) (result : Result (Unit {0}) Interruption)
     → CauseOf g g' f f' result → DroveBy stands byte ends s taken new left' w w' f f' result → ¬ (Rose g g') → ¬ (Rose f f') → Completes (end_of (then_due (takes byte s taken) ends).result) (status_for result)
 completes_by stands byte ends s taken new left' w w' g g' f f' (Ok _) cause d a c = completes_none (end_of (then_due (takes byte s taken) ends).result) 0 (goes_by (then_due (takes byte s taken) ends).result d.1.0 d.1.1) (inl refl)
-completes_by stands byte ends s taken new left' w w' g g' f f' (Err SourceFault) cause d a c = absurd (a cause)
-completes_by stands byte ends s taken new left' w w' g g' f f' (Err SinkFault) cause d a c = absurd (c cause)
+completes_by stands byte ends s taken new left' w w' g g' f f' (Err SourceFault) cause d a c = absurd (a (rose_by g g' cause.reading))
+completes_by stands byte ends s taken new left' w w' g g' f f' (Err SinkFault) cause d a c = absurd (c (rose_by f f' cause.writing))
 completes_by stands byte ends s taken new left' w w' g g' f f' (Err (Halted Starved)) cause d a c = completes_six (end_of (then_due (takes byte s taken) ends).result)
 completes_by stands byte ends s taken new left' w w' g g' f f' (Err (Halted (Ended why))) cause d a c =
     completes_some (end_of (then_due (takes byte s taken) ends).result) (end_by why d.1.0) (status_of why) (ended_by (then_due (takes byte s taken) ends).result (end_by why d.1.0) d.1.1) refl
+
+pub first_fault_by : (g g' f f' : ℕ) (result : Result (Unit {0}) Interruption) → CauseOf g g' f f' result → FirstFault g g' f f' (status_for result)
+first_fault_by g g' f f' (Ok _) cause = record {
+  none = λ e. (cause.reading, cause.writing);
+  source = λ e. absurd (omega arith);
+  sink = λ e. absurd (omega arith);
+  ended = λ why e. absurd (no_status 0 why (inl (omega arith)) e);
+  refused = λ e. absurd (omega arith);
+  ports = λ e. absurd (omega arith);
+}
+first_fault_by g g' f f' (Err SourceFault) cause = record {
+  none = λ e. absurd (neither 3 e (omega arith) (omega arith));
+  source = λ e. (cause.reading, cause.writing);
+  sink = λ e. absurd (omega arith);
+  ended = λ why e. absurd (no_status 3 why (inl (omega arith)) e);
+  refused = λ e. absurd (omega arith);
+  ports = λ e. absurd (omega arith);
+}
+first_fault_by g g' f f' (Err SinkFault) cause = record {
+  none = λ e. absurd (neither 4 e (omega arith) (omega arith));
+  source = λ e. absurd (omega arith);
+  sink = λ e. (cause.reading, cause.writing);
+  ended = λ why e. absurd (no_status 4 why (inl (omega arith)) e);
+  refused = λ e. absurd (omega arith);
+  ports = λ e. absurd (omega arith);
+}
+first_fault_by g g' f f' (Err (Halted Starved)) cause = record {
+  none = λ e. (cause.reading, cause.writing);
+  source = λ e. absurd (omega arith);
+  sink = λ e. absurd (omega arith);
+  ended = λ why e. absurd (no_status 6 why (inr refl) e);
+  refused = λ e. absurd (omega arith);
+  ports = λ e. absurd (omega arith);
+}
+first_fault_by g g' f f' (Err (Halted (Ended why))) cause = record {
+  none = λ e. absurd (neither_ending why e);
+  source = λ e. absurd (status_above why 3 e (inl (omega arith)));
+  sink = λ e. absurd (status_above why 4 e (inl (omega arith)));
+  ended = λ other e. (cause.reading, cause.writing);
+  refused = λ e. absurd (status_above why 2 e (inl (omega arith)));
+  ports = λ e. absurd (not_seven why e);
+}
+
+-- the same where reads before it went well, or there were none
+pub with_reads : (g g' f f' status : ℕ) → g' ≡ g → FirstFault 0 0 f f' status → FirstFault g g' f f' status
+with_reads g g' f f' status kept x = record {
+  none = λ e. (kept, (x.none e).1);
+  source = λ e. absurd (zero_isnt (x.source e).0);
+  sink = λ e. (kept, (x.sink e).1);
+  ended = λ why e. (kept, (x.ended why e).1);
+  refused = λ e. (kept, (x.refused e).1);
+  ports = λ e. (kept, (x.ports e).1);
+}
+  where
+    zero_isnt : 0 ≡ raised 0 → ⊥
+    zero_isnt is = omega (arith, is)
+
+-- words that are no command
+pub at_two : (g f f' : ℕ) → KeptOrCut f f' → FirstFault g g f f' 2
+at_two g f f' once = record {
+  none = λ e. absurd (neither 2 e (omega arith) (omega arith));
+  source = λ e. absurd (omega arith);
+  sink = λ e. absurd (omega arith);
+  ended = λ why e. absurd (no_status 2 why (inl (omega arith)) e);
+  refused = λ e. (refl, once);
+  ports = λ e. absurd (omega arith);
+}
 
 abbrev pub every_of : {U S T : Type 0} (stands : U → T → Type 0) (byte : S → ℕ → Outcome S) (ends : S → Outcome T) (s : S) (new : U) (left left' w w' : Option (List ℕ)) (g g' f f' : ℕ) (result : Result (Unit {0}) Interruption)
     → CauseOf g g' f f' result → Drove stands byte ends s new left left' w w' f f' result
@@ -174,6 +251,7 @@ every_of stands byte ends s new left left' w w' g g' f f' result cause d = recor
   bounded = d.bounded;
   says = says_by stands byte ends s (d.earlier ++ d.piece) new left' w w' f f' result d.by_result;
   complete = completes_by stands byte ends s (d.earlier ++ d.piece) new left' w w' g g' f f' result cause d.by_result;
+  first_fault = first_fault_by g g' f f' result cause;
 }
 
 pub statuses : {U S T : Type 0} (stands : U → T → Type 0) (byte : S → ℕ → Outcome S) (ends : S → Outcome T) (s : S) (new : U) (left left' w w' : Option (List ℕ)) (g g' f f' : ℕ) (result : Result (Unit {0}) Interruption)
@@ -198,7 +276,7 @@ statuses {U} {S} {T} stands byte ends s new left left' w w' g g' f f' (Ok _) cau
 statuses {U} {S} {T} stands byte ends s new left left' w w' g g' f f' (Err SourceFault) cause d =
     let t = told_if stands byte ends s new left left' w w' f f' (Err SourceFault) d in record {
       done = λ e. absurd (omega arith);
-      source = λ e. cause;
+      source = λ e. rose_by g g' cause.reading;
       judged = λ e. always left _ (d.earlier ++ d.piece, d.consumed, no_end (takes byte s (d.earlier ++ d.piece)).result d.by_result.0, d.by_result.1);
       sink = λ e. absurd (omega arith);
       unwritten = λ e. absurd (omega arith);
@@ -208,7 +286,7 @@ statuses {U} {S} {T} stands byte ends s new left left' w w' g g' f f' (Err Sourc
       prompt = prompt_by stands byte ends s new left left' w w' f f' (Err SourceFault) d;
       begun = begun_by stands byte ends s new left left' w w' f f' (Err SourceFault) d;
       only = inr (inl refl);
-      complete = λ a c. absurd (a cause);
+      complete = λ a c. absurd (a (rose_by g g' cause.reading));
       every = every_of stands byte ends s new left left' w w' g g' f f' (Err SourceFault) cause d;
     }
 statuses {U} {S} {T} stands byte ends s new left left' w w' g g' f f' (Err SinkFault) cause d =
@@ -216,7 +294,7 @@ statuses {U} {S} {T} stands byte ends s new left left' w w' g g' f f' (Err SinkF
       done = λ e. absurd (omega arith);
       source = λ e. absurd (omega arith);
       judged = λ e. absurd (omega arith);
-      sink = λ e. cause;
+      sink = λ e. rose_by f f' cause.writing;
       unwritten = λ e. t;
       ended = λ why e. absurd (no_status 4 why (inl (omega arith)) e);
       decided = λ why e. absurd (no_status 4 why (inl (omega arith)) e);
@@ -224,7 +302,7 @@ statuses {U} {S} {T} stands byte ends s new left left' w w' g g' f f' (Err SinkF
       prompt = prompt_by stands byte ends s new left left' w w' f f' (Err SinkFault) d;
       begun = begun_by stands byte ends s new left left' w w' f f' (Err SinkFault) d;
       only = inr (inr (inl refl));
-      complete = λ a c. absurd (c cause);
+      complete = λ a c. absurd (c (rose_by f f' cause.writing));
       every = every_of stands byte ends s new left left' w w' g g' f f' (Err SinkFault) cause d;
     }
 statuses {U} {S} {T} stands byte ends s new left left' w w' g g' f f' (Err (Halted Starved)) cause d =

@@ -1,4 +1,5 @@
 pub mod Results
+pub mod Counting
 pub mod Takes
 pub mod Cutting
 pub mod Nexts

@@ -60,6 +60,7 @@ every_alike whole part whole' part' left left' w w' g g' f f' status x same same
   bounded = x.bounded;
   says = says_alike whole part whole' part' (x.prompt.earlier ++ x.prompt.piece) left' w w' f f' status same same_part x.says;
   complete = λ a c. subst (λ (d : Due). Completes d.end status) same (x.complete a c);
+  first_fault = x.first_fault;
 }
 
 -- What is due may be said in other words.

@@ -1,7 +1,7 @@
 -- What a command takes of its source and writes to its sink.
-use Rattle.std.specs.Prelude.{◌≡◌, ◌⊎◌, ℕ, ◌<◌, ◌≤◌, List, [], ◌++◌, length, take, Option, Some, None, IsOk, Result, Ok, Err}
+use Rattle.std.specs.Prelude.{◌≡◌, ◌⊎◌, ℕ, ◌<◌, ◌≤◌, List, [], ◌++◌, length, take, Option, Some, None, IsOk, MatchResult, Result, Ok, Err}
 use Rattle.std.specs.Io.KnownBytes.{Appends, Consumes, IsAtEnd}
-use Rattle.sfu_base.specs.Faults.{Rose}
+use Rattle.sfu_base.specs.Faults.{Rose, raised}
 use Rattle.sfu_driver.specs.declared.halt.Ending.{Ending}
 use Rattle.sfu_driver.specs.declared.halt.Ending.TheVariants.{Outside}
 use Rattle.sfu_driver.specs.declared.halt.Halt.{Halt}
@@ -137,11 +137,33 @@ pub record TookBehind {U S : Type 0} (first : List ℕ) (wants stands : U → S 
   pub took : Took wants stands byte old new ready ready' left left' written written' faults faults' result
   pub begins : BeginsWith first (took.earlier ++ took.piece)
 
--- A fault comes only where the count of its object rose.
-abbrev pub CauseOf : ℕ → ℕ → ℕ → ℕ → Result (Unit {0}) Interruption → Type 0
-CauseOf reads reads' writes writes' (Err SourceFault) = Rose reads reads'
-CauseOf reads reads' writes writes' (Err SinkFault) = Rose writes writes'
-CauseOf reads reads' writes writes' other = Unit {0}
+-- ---- the first fault
+
+-- the count of failed writes where a command stopped: none failed but the one that stopped it, or the one that cut a last text short
+abbrev pub StopWrites : ℕ → ℕ → Interruption → Type 0
+StopWrites writes writes' SinkFault = writes' ≡ raised writes
+StopWrites writes writes' (Halted (Ended why)) = (writes' ≡ writes) ⊎ (writes' ≡ raised writes)
+StopWrites writes writes' (Halted Starved) = writes' ≡ writes
+StopWrites writes writes' SourceFault = writes' ≡ writes
+
+-- the count of failed reads where a command stopped: none failed but the one that stopped it
+abbrev pub StopReads : ℕ → ℕ → Interruption → Type 0
+StopReads reads reads' SourceFault = reads' ≡ raised reads
+StopReads reads reads' SinkFault = reads' ≡ reads
+StopReads reads reads' (Halted why) = reads' ≡ reads
+
+-- the count of failed writes, by what came of a command
+abbrev pub CountsWrites : {T : Type 0} → ℕ → ℕ → Result T Interruption → Type 0
+CountsWrites writes writes' result = MatchResult result (λ _. writes' ≡ writes) (λ stop. StopWrites writes writes' stop)
+
+-- the count of failed reads, by what came of a command
+abbrev pub CountsReads : {T : Type 0} → ℕ → ℕ → Result T Interruption → Type 0
+CountsReads reads reads' result = MatchResult result (λ _. reads' ≡ reads) (λ stop. StopReads reads reads' stop)
+
+-- The first call that fails ends a command, and the result says which object's it was.
+pub record CauseOf (reads reads' writes writes' : ℕ) (result : Result (Unit {0}) Interruption) : Type 0 where
+  pub reading : CountsReads reads reads' result
+  pub writing : CountsWrites writes writes' result
 
 -- ---- the end of the input
 

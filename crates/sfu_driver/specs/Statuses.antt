@@ -3,7 +3,7 @@
 -- `every` speaks of it. Where a sink tells nothing of its bytes, nothing is said of what was written.
 use Rattle.std.specs.Prelude.{◌≡◌, ◌⊎◌, ℕ, ◌<◌, ◌≤◌, List, [], ◌++◌, length, Option, Some, None, IfSome, Result, Ok, Err}
 use Rattle.std.specs.Io.KnownBytes.{Appends, Consumes, IsAtEnd}
-use Rattle.sfu_base.specs.Faults.{Rose}
+use Rattle.sfu_base.specs.Faults.{Rose, raised}
 use Rattle.sfu_driver.specs.declared.halt.Ending.{Ending}
 use Rattle.sfu_driver.specs.declared.halt.Ending.TheVariants as ending
 use Rattle.sfu_driver.specs.declared.halt.Halt.TheVariants.{Ended, Starved}
@@ -70,6 +70,24 @@ abbrev pub Completes : Option End → ℕ → Type 0
 Completes None status = (status ≡ 0) ⊎ (status ≡ 6)
 Completes (Some end) status = (status ≡ status_of end.why) ⊎ (status ≡ 6)
 
+-- no write failed but the one that cut a last text short
+abbrev pub KeptOrCut : ℕ → ℕ → Type 0
+KeptOrCut writes writes' = (writes' ≡ writes) ⊎ (writes' ≡ raised writes)
+
+-- The first read or write that fails ends a command.
+pub record FirstFault (reads reads' writes writes' status : ℕ) : Type 0 where
+  -- 0 and 6: none failed
+  pub none : (status ≡ 0) ⊎ (status ≡ 6) → (reads' ≡ reads) × (writes' ≡ writes)
+  -- 3: one read alone
+  pub source : status ≡ 3 → (reads' ≡ raised reads) × (writes' ≡ writes)
+  -- 4: one write alone
+  pub sink : status ≡ 4 → (reads' ≡ reads) × (writes' ≡ raised writes)
+  -- 2, 5, 8 and 10: no read, and no write but the one that cut the last text short
+  pub ended : (why : Ending) → status ≡ status_of why → (reads' ≡ reads) × KeptOrCut writes writes'
+  pub refused : status ≡ 2 → (reads' ≡ reads) × KeptOrCut writes writes'
+  -- 7: none failed, but a port did
+  pub ports : status ≡ 7 → (reads' ≡ reads) × (writes' ≡ writes)
+
 -- The bytes that were taken end the command, or the end of the input does.
 abbrev pub Decides : (List ℕ → Due) → Ending → Option (List ℕ) → List ℕ → Type 0
 Decides part why left' taken = ((last : List ℕ) × ((part taken).end ≡ Some (end_by why last))) ⊎ IsAtEnd left'
@@ -110,6 +128,7 @@ pub record OfEvery (whole part : List ℕ → Due) (left left' written written' 
   pub says : SaysOf whole part (prompt.earlier ++ prompt.piece) left' written written' writes writes' status
   -- where nothing outside fails, the status is the one of the bytes that were taken, or 6
   pub complete : ¬ (Rose reads reads') → ¬ (Rose writes writes') → Completes (whole (prompt.earlier ++ prompt.piece)).end status
+  pub first_fault : FirstFault reads reads' writes writes' status
 
 -- What a status says. The first that is met ends the command.
 pub record Statuses (whole part : List ℕ → Due) (left left' written written' : Option (List ℕ)) (reads reads' writes writes' status : ℕ) : Type 0 where

@@ -38,7 +38,7 @@ pub fn answer_behind<C: Cut, J: Judge, S: Source, K: Sink>(
     requires within { first ≤ MOST_PIECE }
     requires end { first ≡ 0 → IsAtEnd (S.left source.old) }
     ensures { (left : Option (List ℕ)) (reads : ℕ) (point : Point J.State) → Consumes left (S.left source.old) (take first piece.old)
-        → reads ≤ S.faults source.old
+        → S.faults source.old ≡ reads
         → StandsAt J.stands units.old point
         → StatusesBehind (take first piece.old) (λ bytes. due_of (due (rule_of C.scan C.scan_end J.step J.outside J.closing) point bytes))
         (λ taken. due_of (takes (byte (rule_of C.scan C.scan_end J.step J.outside J.closing)) point taken))

@@ -2,7 +2,7 @@
 ghost use Rattle.std.specs.Prelude.{◌≡◌, ◌≢◌, ◌≤◌, ◌<◌, ◌+◌, ℕ, List, Option, [], Ok, Err, OnOk, OnErr, IfOk, take, drop, length};
 ghost use Rattle.std.specs.Io.KnownBytes.{Appends, Consumes, IsAtEnd};
 ghost use Rattle.sfu_base.specs.Faults.{Rose};
-ghost use Rattle.sfu_driver.specs.Drive.{CauseOf, Drove, DroveBehind, EndsBy, Feeds, Halts, Starves, TookBehind, WritesPart};
+ghost use Rattle.sfu_driver.specs.Drive.{CauseOf, CountsWrites, Drove, DroveBehind, EndsBy, Feeds, Halts, Starves, StopWrites, TookBehind, WritesPart};
 ghost use Rattle.sfu_driver.specs.Point.{Point, byte, ends};
 ghost use Rattle.sfu_driver.specs.Units.{IsAtUnit, JudgeStands, StandsAt, progress, rule_of};
 
@@ -24,6 +24,7 @@ fn flush<K: Sink>(ready: &mut Blob, sink: &mut K) -> Result<(), Interruption>
     ensures fault { OnErr result (result ≡ Err Interruption.SinkFault) }
     ensures part { OnErr result (WritesPart (K.written sink.old) (K.written sink.new) ready.old) }
     ensures rose { OnErr result (Rose (K.faults sink.old) (K.faults sink.new)) }
+    ensures counts { CountsWrites (K.faults sink.old) (K.faults sink.new) result }
     ensures never_falls { K.faults sink.old ≤ K.faults sink.new }
 {
     match write_all(sink, ready.bytes()) {
@@ -40,6 +41,7 @@ fn halt<K: Sink>(ready: &Blob, mark: usize, why: Halt, sink: &mut K) -> Interrup
     requires { mark ≤ length ready.now }
     ensures halts { Halts result why (take mark ready.now) (drop mark ready.now) (K.written sink.old) (K.written sink.new) (K.faults sink.old)
         (K.faults sink.new) }
+    ensures counts { StopWrites (K.faults sink.old) (K.faults sink.new) result }
     ensures never_falls { K.faults sink.old ≤ K.faults sink.new }
 {
     if write_all(sink, &ready.bytes()[..mark]).is_err() {
@@ -71,6 +73,7 @@ fn take_unit<C: Cut, J: Judge, K: Sink>(
     ensures progress { IfOk result (λ count. progress units.old + count ≤ progress units.new) }
     ensures source { result ≢ Err Interruption.SourceFault }
     ensures sink { result ≡ Err Interruption.SinkFault → Rose (K.faults sink.old) (K.faults sink.new) }
+    ensures counts { CountsWrites (K.faults sink.old) (K.faults sink.new) result }
     ensures never_falls { K.faults sink.old ≤ K.faults sink.new }
 {
     let mark = ready.bytes().len();
@@ -98,6 +101,7 @@ fn feed<C: Cut, J: Judge, K: Sink>(
     ensures written { OnOk result (ready.new ≡ []) }
     ensures source { result ≢ Err Interruption.SourceFault }
     ensures sink { result ≡ Err Interruption.SinkFault → Rose (K.faults sink.old) (K.faults sink.new) }
+    ensures counts { CountsWrites (K.faults sink.old) (K.faults sink.new) result }
     ensures never_falls { K.faults sink.old ≤ K.faults sink.new }
 {
     let mut rest = piece;
@@ -150,7 +154,8 @@ fn finish<C: Cut, J: Judge, K: Sink>(
     ensures ends { (point : Point J.State) → StandsAt J.stands units.old point
         → EndsBy (JudgeStands J.stands) (ends (rule_of C.scan C.scan_end J.step J.outside J.closing) point) units.new (K.written sink.old)
         (K.written sink.new) (K.faults sink.old) (K.faults sink.new) result }
-    ensures cause { CauseOf 0 0 (K.faults sink.old) (K.faults sink.new) result }
+    ensures source { result ≢ Err Interruption.SourceFault }
+    ensures counts { CountsWrites (K.faults sink.old) (K.faults sink.new) result }
     ensures never_falls { K.faults sink.old ≤ K.faults sink.new }
 {
     match units.finish(ready) {

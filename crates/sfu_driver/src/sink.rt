@@ -1,16 +1,18 @@
 // Writing a text to its end.
 ghost use Rattle.std.specs.Prelude.{◌≤◌, OnErr, OnOk};
 ghost use Rattle.std.specs.Io.KnownBytes.{Appends};
-ghost use Rattle.sfu_base.specs.Faults.{Rose};
+ghost use Rattle.sfu_base.specs.Faults.{CountsFaults, Rose};
 ghost use Rattle.sfu_driver.specs.Drive.{WritesPart};
 
 use sfu_base::{Failed, Sink};
 
-/// Writes all of a text, in as many calls as the sink wants. After `Failed` a front of it was written, and not all of it.
+/// Writes all of a text, in as many calls as the sink wants. The first that fails is the last. After `Failed` a front of the text was written,
+/// and not all of it.
 pub fn write_all<K: Sink>(sink: &mut K, text: &[u8]) -> Result<(), Failed>
     ensures ok { OnOk result (Appends (K.written sink.old) (K.written sink.new) text.now) }
     ensures part { OnErr result (WritesPart (K.written sink.old) (K.written sink.new) text.now) }
     ensures rose { OnErr result (Rose (K.faults sink.old) (K.faults sink.new)) }
+    ensures counts { CountsFaults (K.faults sink.old) (K.faults sink.new) result }
     ensures never_falls { K.faults sink.old ≤ K.faults sink.new }
 {
     let mut at = 0;

@@ -1,14 +1,17 @@
 -- What each status of `together` says, once its script was read or wasn't.
-use Rattle.std.proofs.Common.{◌≡◌, ◌⊎◌, inl, inr, ⊎_elim, ℕ, ◌≤◌, List, [], ◌++◌, refl, sym, ap, ◌∙◌, subst, arith, append-nil, Option, Some, None}
+use Rattle.std.proofs.Common.{◌≡◌, ◌⊎◌, inl, inr, ⊎_elim, ℕ, List, [], ◌++◌, refl, sym, ap, ◌∙◌, subst, arith, append-nil, Option, Some, None, Ok, Err}
 use Rattle.std.specs.Prelude.{IfSome}
 use Rattle.std.specs.Io.KnownBytes.{Appends, Consumes, IsAtEnd}
 use Rattle.std.proofs.KnownBytes.{Appends-trans, Consumes-whole}
 use Rattle.sfu_driver.specs.Exchange.{exchange_by}
-use Rattle.sfu_base.specs.Faults.{Rose}
+use Rattle.sfu_base.specs.Faults.{Rose, raised}
 use Rattle.sfu_driver.specs.declared.halt.Ending.{Ending}
 use Rattle.sfu_driver.specs.Drive.{WritesPart, outside_end}
 use Rattle.sfu_driver.specs.Statuses.{Completes, Due, IsPrompt, full_text, status_of}
-use Rattle.sfu_driver.proofs.Answering.{no_status as none_of}
+use Rattle.sfu_driver.specs.declared.halt.Halt.TheVariants.{Starved}
+use Rattle.sfu_driver.specs.declared.halt.Interruption.TheVariants.{Halted, SinkFault}
+use Rattle.sfu_driver.proofs.Answering.{first_fault_by, no_status as none_of}
+use Rattle.sfu_driver.proofs.Counting.{rose_by}
 use Rattle.sfu_driver.proofs.Meanings.{statuses_same}
 use Rattle.script_texts.specs.declared.journal.Actors.{Actors}
 use Rattle.room_core.specs.History.{Entry, accepted}
@@ -80,6 +83,10 @@ module _ (left left' w w1 : Option (List ℕ)) (g g' f f1 : ℕ) (actors : Actor
   read_whole : IfSome left (λ b. IsAtEnd left' × ((together_script b).fault ≡ None))
   read_whole = if_some left _ _ (λ b x. (x.0, no_fault (together_script b).fault x.1)) (reads.statuses.done refl)
 
+  -- no read and no write failed
+  quiet : (g' ≡ g) × (f1 ≡ f)
+  quiet = reads.statuses.every.first_fault.none (inl refl)
+
   -- the same of the bytes that were taken
   abbrev prompt : IsPrompt read_part left left' w w1
   prompt = reads.statuses.every.prompt
@@ -127,6 +134,7 @@ module _ (left left' w w1 : Option (List ℕ)) (g g' f f1 : ℕ) (actors : Actor
           begun = ([], full_text (together_due [] taken), reads.unwritten, refl);
         };
         complete = λ a c. subst (λ (d : Due). Completes d.end 6) (sym (journal_due [] taken taken_whole)) (inr refl);
+        first_fault = first_fault_by g g' f f1 (Err (Halted Starved)) (record { reading = quiet.0; writing = quiet.1 });
       };
     };
     played = λ is. ⊎_elim (λ (a : 6 ≡ 0). absurd (omega arith)) (λ (a : 6 ≡ 4). absurd (omega arith)) is;
@@ -143,8 +151,8 @@ module _ (left left' w w1 : Option (List ℕ)) (g g' f f1 : ℕ) (actors : Actor
   script_by h made = (reads.bytes, reads.consumed, reads.at_end, record { whole = reads.whole; actors = actors; parts = reads.parts; made = made })
 
   -- the journal was written
-  pub plays_whole : (w2 : Option (List ℕ)) (f2 : ℕ) (h : List Entry) → IsMadeBy actors h → Headline (accepted h) → Appends w1 w2 (journal_text h) → Plays (exchange_by left left' w w2 g g' f f2) 0
-  plays_whole w2 f2 h made promised wrote =
+  pub plays_whole : (w2 : Option (List ℕ)) (f2 : ℕ) (h : List Entry) → IsMadeBy actors h → Headline (accepted h) → Appends w1 w2 (journal_text h) → f2 ≡ f1 → Plays (exchange_by left left' w w2 g g' f f2) 0
+  plays_whole w2 f2 h made promised wrote kept =
       let all : Appends w w2 (journal_text h) = Appends-trans w w1 w2 [] (journal_text h) reads.unwritten wrote in record {
         history = h;
         statuses = record {
@@ -173,6 +181,7 @@ module _ (left left' w w1 : Option (List ℕ)) (g g' f f1 : ℕ) (actors : Actor
               begun = (journal_text h, [], all, ap full_text (journal_due h taken taken_whole));
             };
             complete = λ a c. subst (λ (d : Due). Completes d.end 0) (sym (journal_due h taken taken_whole)) (inl refl);
+            first_fault = first_fault_by g g' f f2 (Ok tt) (record { reading = quiet.0; writing = kept ∙ quiet.1 });
           };
         };
         played = λ is. played_by h made;
@@ -183,11 +192,11 @@ module _ (left left' w w1 : Option (List ℕ)) (g g' f f1 : ℕ) (actors : Actor
       }
 
   -- the sink failed before all of it was written
-  pub plays_part : (w2 : Option (List ℕ)) (f2 : ℕ) (h : List Entry) → IsMadeBy actors h → Headline (accepted h) → WritesPart w1 w2 (journal_text h) → f ≤ f1 → Rose f1 f2 → Plays (exchange_by left left' w w2 g g' f f2) 4
-  plays_part w2 f2 h made promised part falls rose =
+  pub plays_part : (w2 : Option (List ℕ)) (f2 : ℕ) (h : List Entry) → IsMadeBy actors h → Headline (accepted h) → WritesPart w1 w2 (journal_text h) → f2 ≡ raised f1 → Plays (exchange_by left left' w w2 g g' f f2) 4
+  plays_part w2 f2 h made promised part once =
       let all : Appends w w2 part.text = Appends-trans w w1 w2 [] part.text reads.unwritten part.wrote in
       let whole : WritesPart w w2 (journal_text h) = record { text = part.text; more = part.more; wrote = all; split = part.split; missing = part.missing } in
-      let risen : Rose f f2 = omega arith in record {
+      let risen : Rose f f2 = rose_by f f2 (once ∙ ap raised quiet.1) in record {
         history = h;
         statuses = record {
           done = λ e. absurd (let no : 4 ≡ 0 = e in omega arith);
@@ -215,6 +224,7 @@ module _ (left left' w w1 : Option (List ℕ)) (g g' f f1 : ℕ) (actors : Actor
               begun = (part.text, part.more, all, ap full_text (journal_due h taken taken_whole) ∙ (append-nil (journal_text h) ∙ part.split));
             };
             complete = λ a c. absurd (c risen);
+            first_fault = first_fault_by g g' f f2 (Err SinkFault) (record { reading = quiet.0; writing = once ∙ ap raised quiet.1 });
           };
         };
         played = λ is. played_by h made;

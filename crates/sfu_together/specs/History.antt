@@ -1,6 +1,6 @@
 -- The history of a script for `together`, and its journal. Own rule.
-use Rattle.std.specs.Prelude.{◌≡◌, ℕ, ◌+◌, ◌<◌, ◌≤◌, ◌==◌, if◌then◌else◌, false, List, [], ◌∷◌, ◌++◌, length, map, sum_by}
-use Rattle.std.specs.List.{All, AllByRecursion}
+use Rattle.std.specs.Prelude.{◌≡◌, ℕ, ◌+◌, ◌<◌, ◌≤◌, ◌==◌, if◌then◌else◌, false, List, [], ◌∷◌, ◌++◌, map}
+use Rattle.std.specs.List.{All}
 use mathlib.Core.Option.{some}
 use lib.ListN.{get_elem?}
 use Rattle.sfu_base.specs.declared.call.Call.{Call}
@@ -8,7 +8,6 @@ use Rattle.room_core.specs.Headline.{Headline}
 use Rattle.room_core.specs.History.{Entry, accepted, reply_of}
 use Rattle.script_texts.specs.declared.journal.Actors.{Actors}
 use Rattle.script_texts.specs.declared.journal.Entry as journal
-use Rattle.script_texts.specs.Lines.{HasBytes}
 use Rattle.script_texts.specs.Replies.{answer_text}
 
 -- ---- the history

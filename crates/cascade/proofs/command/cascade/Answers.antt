@@ -1,7 +1,10 @@
-use Rattle.std.proofs.Common.{◌≡◌, inl, inr, ℕ, List, refl, subst, ◌∙◌, arith}
+use Rattle.std.proofs.Common.{◌≡◌, inl, inr, ℕ, List, refl, subst, ◌∙◌, arith, Ok, Err}
 use Rattle.std.proofs.KnownBytes.{Appends-nil}
 use Rattle.std.specs.Io.KnownBytes.{Appends}
+use Rattle.sfu_driver.specs.declared.halt.Halt.TheVariants.{Starved}
+use Rattle.sfu_driver.specs.declared.halt.Interruption.TheVariants.{Halted, SinkFault}
 use Rattle.sfu_driver.specs.Drive.{WritesPart}
+use Rattle.sfu_driver.proofs.Answering.{first_fault_by}
 use Rattle.cascade.proofs.EveryCascade.{cascade_holds}
 use Rattle.cascade.proofs.EveryFeed.{cascades_feed}
 use Rattle.cascade.proofs.command.cascade.Goals as goal
@@ -13,6 +16,7 @@ returns-in_default g c = record {
   unwritten = λ e. absurd (let no : 6 ≡ 4 = e in omega arith);
   memory = λ e. Appends-nil (g.K.Sink.written c.args.sink.now);
   only = inr (inr refl);
+  first_fault = first_fault_by 0 0 (g.K.Sink.faults c.args.sink.now) (g.K.Sink.faults c.args.sink.now) (Err (Halted Starved)) (record { reading = refl; writing = refl });
   holds = cascade_holds (record { frames = c.args.frames; start = c.args.start; loss = c.args.loss });
   feeds = cascades_feed (record { frames = c.args.frames; start = c.args.start; loss = c.args.loss }) c.requires.few_frames;
 }
@@ -24,6 +28,7 @@ returns-in-Ok-write_all g c = record {
   unwritten = λ e. absurd (let no : 0 ≡ 4 = e in omega arith);
   memory = λ e. absurd (let no : 0 ≡ 6 = e in omega arith);
   only = inl refl;
+  first_fault = first_fault_by 0 0 (g.K.Sink.faults c.args.sink.now) (g.K.Sink.faults c.write_all.new.sink) (Ok tt) (record { reading = refl; writing = c.in-Ok-write_all.ensures.counts });
   holds = cascade_holds (record { frames = c.args.frames; start = c.args.start; loss = c.args.loss });
   feeds = cascades_feed (record { frames = c.args.frames; start = c.args.start; loss = c.args.loss }) c.requires.few_frames;
 }
@@ -35,6 +40,7 @@ returns g c = record {
   unwritten = λ e. subst (λ (t : List ℕ). WritesPart (g.K.Sink.written c.args.sink.now) (g.K.Sink.written c.write_all.new.sink) t) (c.as_bytes.ensures.value ∙ c.in-Ok.ensures) c.in-Err.ensures.part;
   memory = λ e. absurd (let no : 4 ≡ 6 = e in omega arith);
   only = inr (inl refl);
+  first_fault = first_fault_by 0 0 (g.K.Sink.faults c.args.sink.now) (g.K.Sink.faults c.write_all.new.sink) (Err SinkFault) (record { reading = refl; writing = c.in-Err.ensures.counts });
   holds = cascade_holds (record { frames = c.args.frames; start = c.args.start; loss = c.args.loss });
   feeds = cascades_feed (record { frames = c.args.frames; start = c.args.start; loss = c.args.loss }) c.requires.few_frames;
 }

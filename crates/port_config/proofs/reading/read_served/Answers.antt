@@ -4,6 +4,7 @@ use Rattle.sfu_driver.specs.Point.{byte, due, ends}
 use Rattle.sfu_driver.specs.Statuses.{due_of}
 use Rattle.sfu_driver.specs.Units.{JudgeStands}
 use Rattle.sfu_driver.proofs.Answering.{statuses}
+use Rattle.sfu_driver.proofs.Counting.{quiet_of}
 use Rattle.sfu_driver.proofs.Cutting.{at}
 use Rattle.sfu_driver.proofs.Meanings.{statuses_same}
 use Rattle.port_config.specs.Script.{Setup, nothing_said}
@@ -44,3 +45,7 @@ returns-clause-ok g c =
       setup = subst (λ (x : Setup). IsSetup x c.into_served.result) (sym r.5) (c.into_served.ensures r.1 r.6);
       unwritten = r.7;
     }
+
+pub returns-clause-kept : goal.returns-clause-kept
+returns-clause-kept g c = quiet_of c.drive-came_out.result (g.S.Source.faults c.args.source.now) (g.S.Source.faults c.drive-came_out.new.source) (g.K.Sink.faults c.args.sink.now) (g.K.Sink.faults c.drive-came_out.new.sink)
+    (sym c.is_err.ensures.value ∙ c.if-is_err.false) c.drive-came_out.ensures.cause

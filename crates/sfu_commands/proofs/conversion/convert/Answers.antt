@@ -20,7 +20,7 @@ returns-in-Err-clause-converts g c =
     let r = g.S.Source.faults c.args.source.now in
     let f = g.K.Sink.faults c.args.sink.now in
     let f' = g.K.Sink.faults c.write_all.new.sink in
-    failed_before header (λ bytes. records_due (script_in Lines bytes)) (λ bytes. records_due (judged_in Lines bytes)) left w w' r f f' refl c.in-Err.ensures.rose c.in-Err.ensures.part
+    failed_before header (λ bytes. records_due (script_in Lines bytes)) (λ bytes. records_due (judged_in Lines bytes)) left w w' r f f' refl c.in-Err.ensures.counts c.in-Err.ensures.part
 
 pub returns-in-Ok-clause-converts : goal.returns-in-Ok-clause-converts
 returns-in-Ok-clause-converts g c =
@@ -36,7 +36,7 @@ returns-in-Ok-clause-converts g c =
     let f' = g.K.Sink.faults c.answer.new.sink in
     let whole = λ (bytes : List ℕ). records_due (script_in Lines bytes) in
     let part = λ (bytes : List ℕ). records_due (judged_in Lines bytes) in
-    statuses_behind header whole part left left' w0 w1 w' r r' f0 f1 f' (number_of c.answer.result) c.write_all.ensures.never_falls c.in-Ok.ensures.ok
+    statuses_behind header whole part left left' w0 w1 w' r r' f0 f1 f' (number_of c.answer.result) c.in-Ok.ensures.counts c.in-Ok.ensures.ok
     (statuses_same (λ bytes. due_of (due convert_rule (at tt 1 []) bytes)) (λ taken. due_of (takes (byte convert_rule) (at tt 1 []) taken)) whole part
     left left' w1 w' r r' f1 f' (number_of c.answer.result) convert_is_due convert_is_part
     (c.answer.ensures (at tt 1 []) (record { state = tt; number = c.new-units.ensures.number; kept = c.new-units.ensures.kept })))

@@ -14,7 +14,7 @@ returns-in_default-clause-runs g c =
     let w = g.K.Sink.written c.args.sink.now in
     let f = g.K.Sink.faults c.args.sink.now in
     failed_at_once run_due run_part left (g.S.Source.left c.read.new.self) w (g.S.Source.faults c.args.source.now) (g.S.Source.faults c.read.new.self) f refl
-    c.in_default.ensures.cause.failed c.in_default.ensures.bytes
+    c.in_default.ensures.cause.counts c.in_default.ensures.bytes
 
 pub returns-in_default-clause-headline : goal.returns-in_default-clause-headline
 returns-in_default-clause-headline g c = are_served (g.S.Source.left c.args.source.now)
@@ -27,7 +27,7 @@ returns-in-Lines-clause-runs g c =
     runs_in Lines piece left (g.S.Source.left c.run_lines.new.source) (g.K.Sink.written c.args.sink.now) (g.K.Sink.written c.run_lines.new.sink) (g.S.Source.faults c.args.source.now) (g.S.Source.faults c.run_lines.new.source)
     (g.K.Sink.faults c.args.sink.now) (g.K.Sink.faults c.run_lines.new.sink) (number_of c.run_lines.result)
     is (form_known Lines piece left (g.S.Source.left c.read.new.self) is c.in-Ok.ensures.bytes.0 (λ none. search (rules, arith)))
-    (c.run_lines.ensures left (g.S.Source.faults c.args.source.now) c.in-Ok.ensures.bytes.0 c.in-Ok.ensures.cause.never_falls)
+    (c.run_lines.ensures left (g.S.Source.faults c.args.source.now) c.in-Ok.ensures.bytes.0 c.in-Ok.ensures.cause.counts)
 
 pub returns-in-Lines-clause-headline : goal.returns-in-Lines-clause-headline
 returns-in-Lines-clause-headline g c = are_served (g.S.Source.left c.args.source.now)
@@ -43,7 +43,7 @@ returns-in-Records-clause-runs g c =
     runs_in Records piece left (g.S.Source.left c.run_records.new.source) (g.K.Sink.written c.args.sink.now) (g.K.Sink.written c.run_records.new.sink) (g.S.Source.faults c.args.source.now) (g.S.Source.faults c.run_records.new.source)
     (g.K.Sink.faults c.args.sink.now) (g.K.Sink.faults c.run_records.new.sink) (number_of c.run_records.result)
     is (form_known Records piece left (g.S.Source.left c.read.new.self) is c.in-Ok.ensures.bytes.0 (λ none. search (rules, arith)))
-    (c.run_records.ensures left (g.S.Source.faults c.args.source.now) c.in-Ok.ensures.bytes.0 c.in-Ok.ensures.cause.never_falls)
+    (c.run_records.ensures left (g.S.Source.faults c.args.source.now) c.in-Ok.ensures.bytes.0 c.in-Ok.ensures.cause.counts)
 
 pub returns-in-Records-clause-headline : goal.returns-in-Records-clause-headline
 returns-in-Records-clause-headline g c = are_served (g.S.Source.left c.args.source.now)

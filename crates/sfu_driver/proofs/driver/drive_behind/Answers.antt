@@ -1,6 +1,7 @@
-use Rattle.std.proofs.Common.{subst, sym, take, Result}
+use Rattle.std.proofs.Common.{ℕ, subst, sym, take, Result}
 use Rattle.sfu_driver.specs.declared.halt.Interruption.{Interruption}
-use Rattle.sfu_driver.specs.Drive.{DroveBehind, Starves}
+use Rattle.sfu_driver.specs.Drive.{CauseOf, CountsWrites, DroveBehind, Starves}
+use Rattle.sfu_driver.proofs.Counting.{reads_kept}
 use Rattle.sfu_driver.proofs.Results.{err_of}
 use Rattle.sfu_driver.specs.Point.{byte, ends}
 use Rattle.sfu_driver.specs.Units.{IsAtUnit, JudgeStands, StandsAt, rule_of}
@@ -54,3 +55,15 @@ returns-in_err-take_all-clause-starves g c left point from stand =
     (starves_took IsAtUnit (StandsAt g.J.Judge.stands) (byte rule) c.args.units.now c.take_all.new.units c.new-ready.result c.take_all.new.ready left (g.S.Source.left c.take_all.new.source)
     (g.K.Sink.written c.args.sink.now) (g.K.Sink.written c.take_all.new.sink) (g.K.Sink.faults c.args.sink.now) (g.K.Sink.faults c.take_all.new.sink) stop
     c.new-ready.ensures took.took point stand)
+
+pub returns-clause-cause : goal.returns-clause-cause
+returns-clause-cause g c = record {
+  reading = reads_kept c.finish.result (g.S.Source.faults c.args.source.now) (g.S.Source.faults c.take_all.new.source) c.finish.ensures.source c.in_ok-take_all.ensures.cause.reading;
+  writing = subst (λ (f : ℕ). CountsWrites f (g.K.Sink.faults c.finish.new.sink) c.finish.result) c.in_ok-take_all.ensures.cause.writing c.finish.ensures.counts;
+}
+
+pub returns-in_err-take_all-clause-cause : goal.returns-in_err-take_all-clause-cause
+returns-in_err-take_all-clause-cause g c =
+    let stop = c.in_err-take_all.field-0.0 in
+    subst (CauseOf (g.S.Source.faults c.args.source.now) (g.S.Source.faults c.take_all.new.source) (g.K.Sink.faults c.args.sink.now) (g.K.Sink.faults c.take_all.new.sink))
+    (sym (err_of c.from_residual.result stop c.from_residual.ensures.1)) c.in_err-take_all.ensures.cause

@@ -1,10 +1,11 @@
-use Rattle.std.proofs.Common.{◌≡◌, ◌++◌, ℕ, List, [], length, take, subst, refl, sym, length-append, rules, arith, Result, Ok, Err}
+use Rattle.std.proofs.Common.{◌≡◌, ◌∙◌, ◌++◌, ℕ, List, [], length, take, subst, refl, sym, length-append, rules, arith, Result, Ok, Err}
 use Rattle.std.proofs.lemmas.List.{length-take-le}
 use Rattle.sfu_driver.specs.declared.halt.Interruption.{Interruption}
 use Rattle.sfu_driver.specs.Point.{byte}
 use Rattle.sfu_driver.specs.Units.{IsAtUnit, StandsAt, rule_of}
-use Rattle.sfu_driver.specs.Drive.{Feeds}
+use Rattle.sfu_driver.specs.Drive.{CountsWrites, Feeds, StopWrites}
 use Rattle.sfu_driver.proofs.Feeding.{all_of, feeds_none, feeds_on, feeds_then, flush_does, split_piece}
+use Rattle.sfu_driver.proofs.Counting.{writes_err}
 use Rattle.sfu_driver.proofs.Results.{err_of}
 use Rattle.sfu_driver.proofs.driver.feed.Goals as goal
 
@@ -16,6 +17,7 @@ loop-rest-init g c = record {
       (g.K.Sink.faults c.args.sink.now) (g.K.Sink.faults c.args.sink.now);
   far = omega arith;
   never_falls = omega arith;
+  kept = refl;
 }
 
 pub loop-rest-preserved : goal.loop-rest-preserved
@@ -31,6 +33,7 @@ loop-rest-preserved g c =
           (g.K.Sink.faults c.args.sink.now) (g.K.Sink.faults c.loop-rest.sink) (g.K.Sink.faults c.take_unit.new.sink) (Ok tt) c.loop-rest.invariant.never_falls c.loop-rest.invariant.fed c.in_ok-count.ensures.feeds;
       far = omega (arith, c.in_ok-count.ensures.progress, c.loop-rest.invariant.far, length-append c.loop-rest.invariant.front (take count rest), size);
       never_falls = omega (arith, c.in_ok-count.ensures.never_falls, c.loop-rest.invariant.never_falls);
+      kept = c.in_ok-count.ensures.counts ∙ c.loop-rest.invariant.kept;
     }
 
 pub returns-in_err-count-clause-feeds : goal.returns-in_err-count-clause-feeds
@@ -63,3 +66,13 @@ returns-clause-feeds g c =
     c.loop-rest.invariant.never_falls c.loop-rest.invariant.fed
     (flush_does IsAtUnit (StandsAt g.J.Judge.stands) step c.loop-rest.units c.loop-rest.ready c.flush.new.ready (g.K.Sink.written c.loop-rest.sink) w2 f1 f2 c.flush.result
     c.flush.ensures.ok c.flush.ensures.empty c.flush.ensures.fault c.flush.ensures.part c.flush.ensures.rose))
+
+pub returns-in_err-count-clause-counts : goal.returns-in_err-count-clause-counts
+returns-in_err-count-clause-counts g c =
+    let stop = c.in_err-count.field-0.0 in
+    let f2 = g.K.Sink.faults c.take_unit.new.sink in
+    writes_err c.from_residual.result stop (g.K.Sink.faults c.args.sink.now) f2 c.from_residual.ensures.1
+    (subst (λ (f : ℕ). StopWrites f f2 stop) c.loop-rest.invariant.kept c.in_err-count.ensures.counts)
+
+pub returns-clause-counts : goal.returns-clause-counts
+returns-clause-counts g c = subst (λ (f : ℕ). CountsWrites f (g.K.Sink.faults c.flush.new.sink) c.flush.result) c.loop-rest.invariant.kept c.flush.ensures.counts

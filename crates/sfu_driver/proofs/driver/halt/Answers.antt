@@ -3,8 +3,9 @@ use Rattle.std.specs.Io.KnownBytes.{Appends}
 use Rattle.std.proofs.lemmas.List.{take_rest}
 use Rattle.sfu_driver.specs.declared.halt.Halt.{Halt}
 use Rattle.sfu_driver.specs.declared.halt.Interruption.TheVariants.{Halted}
-use Rattle.sfu_driver.specs.Drive.{Halts, WritesEnd}
+use Rattle.sfu_driver.specs.Drive.{Halts, StopWrites, WritesEnd}
 use Rattle.sfu_driver.proofs.Fronts.{end_behind}
+use Rattle.sfu_driver.proofs.Counting.{kept_first, kept_or_cut}
 use Rattle.sfu_driver.proofs.Results.{known_ok}
 use Rattle.sfu_driver.proofs.driver.halt.Goals as goal
 
@@ -27,3 +28,11 @@ returns-in-Ended-clause-halts g c =
     (end_behind w0 w1 w2 f0 f1 f2 (take mark ready) (take (length again - mark) (drop mark again)) c.write_all-in-Ended.result c.write_all.ensures.never_falls first
     c.write_all-in-Ended.ensures.ok c.write_all-in-Ended.ensures.part c.write_all-in-Ended.ensures.rose) in
     subst (λ (why : Halt). Halts (Halted why) why (take mark ready) (drop mark ready) w0 w2 f0 f2) (sym c.in-Ended.is) (refl, last)
+
+pub returns-in-Ended-clause-counts : goal.returns-in-Ended-clause-counts
+returns-in-Ended-clause-counts g c =
+    let f0 = g.K.Sink.faults c.args.sink.now in
+    let f1 = g.K.Sink.faults c.write_all.new.sink in
+    let f2 = g.K.Sink.faults c.write_all-in-Ended.new.sink in
+    subst (λ (why : Halt). StopWrites f0 f2 (Halted why)) (sym c.in-Ended.is)
+    (kept_or_cut c.write_all-in-Ended.result f0 f1 f2 (kept_first c.write_all.result f0 f1 c.if-is_err.ensures.value c.write_all.ensures.counts) c.write_all-in-Ended.ensures.counts)

@@ -1,12 +1,14 @@
-use Rattle.std.proofs.Common.{◌≡◌, ◌++◌, ℕ, length-append, length-take, append-nil, take, subst, sym, rules, arith, Result, Ok, Err}
+use Rattle.std.proofs.Common.{◌≡◌, ◌∙◌, ◌++◌, ℕ, ap, refl, length-append, length-take, append-nil, take, subst, sym, rules, arith, Result, Ok, Err}
 use Rattle.std.specs.Io.KnownBytes.{Consumes}
 use Rattle.sfu_driver.specs.declared.halt.Interruption.{Interruption}
 use Rattle.sfu_driver.specs.Point.{byte}
-use Rattle.sfu_driver.specs.Drive.{TookBehind}
+use Rattle.sfu_base.specs.Faults.{raised}
+use Rattle.sfu_driver.specs.Drive.{StopWrites, TookBehind}
 use Rattle.sfu_driver.specs.Reads.{BeginsWith}
 use Rattle.sfu_driver.specs.Units.{IsAtUnit, StandsAt, rule_of}
 use Rattle.sfu_driver.proofs.Feeding.{took_all, took_fails, took_none, took_on}
 use Rattle.sfu_driver.proofs.Reading.{begins_first, begins_on}
+use Rattle.sfu_driver.proofs.Counting.{reads_err, writes_err}
 use Rattle.sfu_driver.proofs.Results.{err_of}
 use Rattle.sfu_driver.proofs.driver.take_all.Goals as goal
 
@@ -24,8 +26,9 @@ loop-count-init g c = record {
   within = c.requires.within;
   end = c.requires.end;
   written = c.requires.ready;
-  read_later = omega arith;
+  reads_kept = refl;
   never_falls = omega arith;
+  kept = refl;
 }
 
 -- the piece that was read is taken
@@ -47,8 +50,9 @@ loop-count-preserved g c = record {
   within = search (rules, arith);
   end = λ none. c.in-Ok.ensures.bytes.1 none (search (rules, arith));
   written = c.in_ok-feed.ensures.written;
-  read_later = omega (arith, c.loop-count.invariant.read_later, c.in-Ok.ensures.cause.never_falls);
+  reads_kept = c.in-Ok.ensures.cause.counts ∙ c.loop-count.invariant.reads_kept;
   never_falls = omega (arith, c.loop-count.invariant.never_falls, c.in_ok-feed.ensures.never_falls);
+  kept = c.in_ok-feed.ensures.counts ∙ c.loop-count.invariant.kept;
 }
 
 pub returns-in_err-feed-clause-took : goal.returns-in_err-feed-clause-took
@@ -91,3 +95,23 @@ returns-clause-took g c left from =
       begins = subst (BeginsWith (take c.args.first c.args.piece.now)) (append-nil (read.took.earlier ++ read.took.piece))
           (subst (λ (n : ℕ). BeginsWith (take c.args.first c.args.piece.now) ((read.took.earlier ++ read.took.piece) ++ take n c.loop-count.piece)) none read.begins);
     }
+
+-- ---- the counts
+
+pub returns-in_err-feed-clause-cause : goal.returns-in_err-feed-clause-cause
+returns-in_err-feed-clause-cause g c =
+    let stop = c.in_err-feed.field-0.0 in
+    let f2 = g.K.Sink.faults c.feed.new.sink in record {
+      reading = reads_err c.from_residual.result stop (g.S.Source.faults c.args.source.now) (g.S.Source.faults c.loop-count.source) c.from_residual.ensures.1 (λ same. c.in_err-feed.ensures.source (ap Err same)) c.loop-count.invariant.reads_kept;
+      writing = writes_err c.from_residual.result stop (g.K.Sink.faults c.args.sink.now) f2 c.from_residual.ensures.1
+          (subst (λ (f : ℕ). StopWrites f f2 stop) c.loop-count.invariant.kept c.in_err-feed.ensures.counts);
+    }
+
+pub returns-in_default-clause-cause : goal.returns-in_default-clause-cause
+returns-in_default-clause-cause g c = record {
+  reading = c.in_default.ensures.cause.counts ∙ ap raised c.loop-count.invariant.reads_kept;
+  writing = c.in_ok-feed.ensures.counts ∙ c.loop-count.invariant.kept;
+}
+
+pub returns-clause-cause : goal.returns-clause-cause
+returns-clause-cause g c = record { reading = c.loop-count.invariant.reads_kept; writing = c.loop-count.invariant.kept }

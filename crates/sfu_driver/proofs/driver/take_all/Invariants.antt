@@ -14,8 +14,9 @@ invariant-loop-count g l = record {
   within : l.count ≤ 65536;
   end : l.count ≡ 0 → IsAtEnd (g.S.Source.left l.source);
   written : l.ready ≡ [];
-  read_later : g.S.Source.faults l.fn.source ≤ g.S.Source.faults l.source;
+  reads_kept : g.S.Source.faults l.source ≡ g.S.Source.faults l.fn.source;
   never_falls : g.K.Sink.faults l.fn.sink ≤ g.K.Sink.faults l.sink;
+  kept : g.K.Sink.faults l.sink ≡ g.K.Sink.faults l.fn.sink;
 }
 
 abbrev pub decreases-loop-count : goal.decreases-loop-count

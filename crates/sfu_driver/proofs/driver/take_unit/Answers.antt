@@ -6,6 +6,7 @@ use Rattle.sfu_driver.specs.Point.{byte}
 use Rattle.sfu_driver.specs.Units.{IsAtUnit, StandsAt, rule_of}
 use Rattle.sfu_driver.specs.Drive.{Feeds}
 use Rattle.sfu_driver.proofs.Feeding.{feeds_longer, feeds_then, flush_fails, flush_feeds, next_feeds, next_halts}
+use Rattle.sfu_driver.proofs.Counting.{writes_err}
 use Rattle.sfu_driver.proofs.Results.{err_of}
 use Rattle.sfu_driver.proofs.driver.take_unit.Goals as goal
 
@@ -53,3 +54,7 @@ returns-in_err-flush-clause-stops g c stop is =
     let all : Feeds IsAtUnit (StandsAt g.J.Judge.stands) step c.args.units.now c.args.piece.now c.next.new.self c.args.ready.now c.flush.new.ready w0 w2 f0 f2 (Err SinkFault) =
     subst (λ (bytes : List ℕ). Feeds IsAtUnit (StandsAt g.J.Judge.stands) step c.args.units.now bytes c.next.new.self c.args.ready.now c.flush.new.ready w0 w2 f0 f2 (Err SinkFault)) (take-append-drop c.in-Ok.count c.args.piece.now) longer in
     subst (λ (x : Interruption). Feeds IsAtUnit (StandsAt g.J.Judge.stands) step c.args.units.now c.args.piece.now c.next.new.self c.args.ready.now c.flush.new.ready w0 w2 f0 f2 (Err x)) same all
+
+pub returns-in_err-flush-clause-counts : goal.returns-in_err-flush-clause-counts
+returns-in_err-flush-clause-counts g c = writes_err c.from_residual.result c.in_err-flush.field-0.0 (g.K.Sink.faults c.args.sink.now) (g.K.Sink.faults c.flush.new.sink) c.from_residual.ensures.1
+    c.in_err-flush.ensures.counts

@@ -26,6 +26,7 @@ returns-in-Ok-write_all g c =
     let text : c.bytes.result.now ≡ journal_text is.history = c.bytes.ensures ∙ (c.in-Ok-text_of.ensures ∙ ap (flat_map entry_text) is.told) in
     plays_whole _ _ _ _ _ _ _ _ c.in-Ok.script c.in-Ok.ensures.ok _ _ is.history is.made is.headline
     (subst (λ (t : List ℕ). Appends (g.K.Sink.written c.read_actors.new.sink) (g.K.Sink.written c.write_all.new.sink) t) text c.in-Ok-write_all.ensures.ok)
+    c.in-Ok-write_all.ensures.counts
 
 pub returns : goal.returns
 returns g c =
@@ -33,4 +34,4 @@ returns g c =
     let text : c.bytes.result.now ≡ journal_text is.history = c.bytes.ensures ∙ (c.in-Ok-text_of.ensures ∙ ap (flat_map entry_text) is.told) in
     plays_part _ _ _ _ _ _ _ _ c.in-Ok.script c.in-Ok.ensures.ok _ _ is.history is.made is.headline
     (subst (λ (t : List ℕ). WritesPart (g.K.Sink.written c.read_actors.new.sink) (g.K.Sink.written c.write_all.new.sink) t) text c.in-Err-write_all.ensures.part)
-    c.in-Ok.ensures.never_falls c.in-Err-write_all.ensures.rose
+    c.in-Err-write_all.ensures.counts
