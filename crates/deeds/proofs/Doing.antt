@@ -31,7 +31,7 @@ module _ {C A D : Type 0} (reply : List (Entry C) → C → A) (starved : A) (Is
     link = more_none told;
     short = tt;
     count = refl;
-    faults = omega arith;
+    faults = refl;
     seat = (refl, refl, refl, refl, refl, omega arith);
     fits = fits;
   }
@@ -49,15 +49,15 @@ module _ {C A D : Type 0} (reply : List (Entry C) → C → A) (starved : A) (Is
         ∙ (λ i. with_more (sym (received_append p.steps q.steps) i) (sym (sent_append p.steps q.steps) i) told)));
     short = subst AllFitBuffers (sym (received_append p.steps q.steps)) (all_fit (received_of p.steps) (received_of q.steps) p.short q.short);
     count = ap length (received_append p.steps q.steps) ∙ (length-append (received_of p.steps) (received_of q.steps) ∙ (λ i. p.count i + q.count i));
-    faults = (let u = p.faults in let v = q.faults in omega (arith, u, v));
+    faults = q.faults ∙ p.faults;
     seat = keeps_on a b c p.seat q.seat;
     fits = q.fits;
   }
 
   -- one receive
   pub hears : (f : Option (List ℕ) → ℕ → Deed C A D) (got : Option (List ℕ)) (moment : ℕ) (now : Known C) (told told' : Option Traffic) (faults faults' : ℕ)
-      → Fits now → FitsBuffer got → told' ≡ with_more (got ∷ []) [] told → faults ≤ faults' → Done (Listen f) (f got moment) now now told told' faults faults' 1
-  hears f got moment now told told' faults faults' fits short link rose = record {
+      → Fits now → FitsBuffer got → told' ≡ with_more (got ∷ []) [] told → faults' ≡ faults → Done (Listen f) (f got moment) now now told told' faults faults' 1
+  hears f got moment now told told' faults faults' fits short link calm = record {
     steps = Heard got moment ∷ [];
     leads = leads_by IsOne (Listen f) (Heard got moment) (f got moment) refl;
     words = sym (append-nil (words_of reply starved now.number now.seen));
@@ -65,15 +65,15 @@ module _ {C A D : Type 0} (reply : List (Entry C) → C → A) (starved : A) (Is
     link = link;
     short = (short, tt);
     count = refl;
-    faults = rose;
+    faults = calm;
     seat = (refl, refl, refl, refl, refl, omega arith);
     fits = fits;
   }
 
   -- one datagram is sent
   pub posts : (what : D) (packet : List ℕ) (next : Deed C A D) (now : Known C) (told told' : Option Traffic) (faults faults' : ℕ)
-      → Fits now → IsOne what packet → told' ≡ with_more [] (packet ∷ []) told → faults ≤ faults' → Done (Post what next) next now now told told' faults faults' 0
-  posts what packet next now told told' faults faults' fits is link rose = record {
+      → Fits now → IsOne what packet → told' ≡ with_more [] (packet ∷ []) told → faults' ≡ faults → Done (Post what next) next now now told told' faults faults' 0
+  posts what packet next now told told' faults faults' fits is link calm = record {
     steps = Posted packet ∷ [];
     leads = leads_by IsOne (Post what next) (Posted packet) next (is, refl);
     words = sym (append-nil (words_of reply starved now.number now.seen));
@@ -81,7 +81,7 @@ module _ {C A D : Type 0} (reply : List (Entry C) → C → A) (starved : A) (Is
     link = link;
     short = tt;
     count = refl;
-    faults = rose;
+    faults = calm;
     seat = (refl, refl, refl, refl, refl, omega arith);
     fits = fits;
   }
@@ -108,15 +108,15 @@ module _ {C A D : Type 0} (reply : List (Entry C) → C → A) (starved : A) (Is
         link = more_none told;
         short = tt;
         count = refl;
-        faults = omega arith;
+        faults = refl;
         seat = t.0;
         fits = fits';
       }
 
-  -- a call on the link that failed leaves what is told
-  pub still : (whole rest : Deed C A D) (old new : Known C) (told told' told'' : Option Traffic) (faults faults' faults'' turns : ℕ)
-      → Done whole rest old new told told' faults faults' turns → told'' ≡ told' → faults' ≤ faults'' → Done whole rest old new told told'' faults faults'' turns
-  still whole rest old new told told' told'' faults faults' faults'' turns d same rose = record {
+  -- a call on the link that fails leaves what is told, and nothing that was done before it failed
+  pub still : (whole rest : Deed C A D) (old new : Known C) (told told' told'' : Option Traffic) (faults faults' turns : ℕ)
+      → Done whole rest old new told told' faults faults' turns → told'' ≡ told' → Done whole rest old new told told'' faults faults turns
+  still whole rest old new told told' told'' faults faults' turns d same = record {
     steps = d.steps;
     leads = d.leads;
     words = d.words;
@@ -124,7 +124,7 @@ module _ {C A D : Type 0} (reply : List (Entry C) → C → A) (starved : A) (Is
     link = same ∙ d.link;
     short = d.short;
     count = d.count;
-    faults = (let a = d.faults in omega (arith, a, rose));
+    faults = refl;
     seat = d.seat;
     fits = d.fits;
   }

@@ -15,9 +15,9 @@ AllFitBuffers [] = Unit {0}
 AllFitBuffers (got ∷ others) = FitsBuffer got × AllFitBuffers others
 
 -- So much of the deed `whole` is done that `rest` is left, after so many receives: there are steps that lead from the one to the other,
--- and meanwhile a seat, what a link tells and its count of faults went from old to new. What a call is answered is told by `reply`, of
--- the history before it, and by `starved`, where its entry found no memory; which bytes are a datagram that is to be sent, by `IsOne`; what
--- is so of the history that the seat has seen once it made a call, by `Holds`.
+-- and meanwhile a seat and what a link tells went from old to new, and the link's count of faults from before to after. What a call is
+-- answered is told by `reply`, of the history before it, and by `starved`, where its entry found no memory; which bytes are a datagram that
+-- is to be sent, by `IsOne`; what is so of the history that the seat has seen once it made a call, by `Holds`.
 pub record IsDone {C A D : Type 0} (reply : List (Entry C) → C → A) (starved : A) (IsOne : D → List ℕ → Type 0) (Holds : List (Entry C)
     → Type 0) (whole rest : Deed C A D) (old new : Known C) (told told' : Option Traffic) (before after turns : ℕ) : Type 0 where
   pub steps : List (Step C A)
@@ -30,6 +30,7 @@ pub record IsDone {C A D : Type 0} (reply : List (Entry C) → C → A) (starved
   pub link : told' ≡ with_more (received_of steps) (sent_of steps) told
   pub short : AllFitBuffers (received_of steps)
   pub count : length (received_of steps) ≡ turns
-  pub faults : before ≤ after
+  -- no call on the link failed
+  pub faults : after ≡ before
   pub seat : KeepsSeat old new
   pub fits : Fits new

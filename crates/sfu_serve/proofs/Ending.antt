@@ -1,8 +1,8 @@
 -- The turns of a session, and how it ends.
 use Rattle.std.proofs.Common.{◌≡◌, ℕ, suc, ◌+◌, ◌-◌, ◌<◌, ◌≤◌, Bool, true, false, List, [], ◌∷◌, length, Option, Result, Ok, Err, refl, sym, subst, arith}
 use Rattle.sfu_base.specs.Answer.{Refused}
-use Rattle.sfu_base.specs.Faults.{Rose, HasCause}
-use Rattle.sfu_base.specs.Links.{Traffic, with_more, datagram, after_receive}
+use Rattle.sfu_base.specs.Faults.{Rose}
+use Rattle.sfu_base.specs.Links.{Traffic, with_more, datagram}
 use Rattle.sfu_base.specs.declared.call.Call.{Call}
 use Rattle.sfu_base.specs.declared.call.Refusal.TheVariants.{NoMemory}
 use Rattle.turn_lock.specs.Known.{Known, Fits}
@@ -16,22 +16,16 @@ use Rattle.sfu_serve.specs.declared.ends.SessionEnd.TheVariants.{AllTurns, LinkF
 use Rattle.sfu_serve.specs.Ends.{ended}
 use Rattle.sfu_serve.specs.Datagrams.{IsOne}
 use Rattle.sfu_serve.specs.Sessions.{Doing}
-use Rattle.sfu_serve.specs.Parts.{HasHeadline, Done, Stops, IsPart, Keeps, reply_after}
-use Rattle.sfu_serve.proofs.Parting.{after, rose_later, begins}
+use Rattle.sfu_serve.specs.Parts.{HasHeadline, Done, FailedOnce, Stops, IsPart, Keeps, reply_after}
+use Rattle.sfu_serve.proofs.Parting.{after, begins, first_failed, unfailed}
 
 fits_buffer : (came : Bool) (bytes : List ℕ) → length bytes ≤ 2048 → FitsBuffer (datagram came bytes)
 fits_buffer true bytes p = p
 fits_buffer false bytes p = tt
 
--- ---- a call that failed
-
-pub failed_told : {E : Type 0} (r : Result Bool E) (bytes : List ℕ) (told told' : Option Traffic) → ((came : Bool) → r ≡ Ok came → ⊥) → told' ≡ after_receive r bytes told → told' ≡ told
-failed_told (Ok came) bytes told told' isnt is = absurd (isnt came refl)
-failed_told (Err e) bytes told told' isnt is = is
-
-pub failed_rose : {T E : Type 0} (r : Result T E) (x y : ℕ) → ((v : T) → r ≡ Ok v → ⊥) → HasCause x y r → Rose x y
-failed_rose (Ok v) x y isnt cause = absurd (isnt v refl)
-failed_rose (Err e) x y isnt cause = cause.failed
+-- where one call failed the count rose
+pub once_rose : (before after : ℕ) → FailedOnce before after → Rose before after
+once_rose before after once = let counts = once.counts in omega arith
 
 -- a part that didn't stop
 pub part_done : {T : Type 0} (r : Result T TurnStop) (part next : Doing) (a b : Known Call) (told told' : Option Traffic) (x y : ℕ) → ((stop : TurnStop) → r ≡ Err stop → ⊥) → IsPart part next a b told told' x y r
@@ -57,20 +51,20 @@ module _ (turns_left : ℕ → Doing) (f : Option (List ℕ) → ℕ → Doing) 
 
   -- its receive brought something, or nothing
   pub heard : (came : Bool) (bytes : List ℕ) (moment : ℕ) → turn < limit → turns_left (suc (limit - (turn + 1))) ≡ Listen f → Done whole (turns_left (limit - turn)) old new told told' x y turn
-      → length bytes ≤ 2048 → told'' ≡ with_more (datagram came bytes ∷ []) [] told' → y ≤ z → Done whole (f (datagram came bytes) moment) old new told told'' x z (turn + 1)
-  heard came bytes moment less is d short link rose =
+      → length bytes ≤ 2048 → told'' ≡ with_more (datagram came bytes ∷ []) [] told' → z ≡ y → Done whole (f (datagram came bytes) moment) old new told told'' x z (turn + 1)
+  heard came bytes moment less is d short link calm =
       let e = opens less is d in
       doing.joins reply_after (Refused NoMemory) IsOne HasHeadline whole (Listen f) (f (datagram came bytes) moment) old new new told told' told'' x y z turn 1 e
-      (doing.hears reply_after (Refused NoMemory) IsOne HasHeadline f (datagram came bytes) moment new told' told'' y z e.fits (fits_buffer came bytes short) link rose)
+      (doing.hears reply_after (Refused NoMemory) IsOne HasHeadline f (datagram came bytes) moment new told' told'' y z e.fits (fits_buffer came bytes short) link calm)
 
   -- its receive failed
-  pub unheard : turn < limit → turns_left (suc (limit - (turn + 1))) ≡ Listen f → Done whole (turns_left (limit - turn)) old new told told' x y turn → told'' ≡ told' → y ≤ z → Rose y z
+  pub unheard : turn < limit → turns_left (suc (limit - (turn + 1))) ≡ Listen f → Done whole (turns_left (limit - turn)) old new told told' x y turn → told'' ≡ told' → FailedOnce y z
       → Keeps whole limit old new told told'' x z (LinkFault turn)
-  unheard less is d same rose up = let e = opens less is d in record {
+  unheard less is d same once = let e = opens less is d in record {
     rest = Listen f;
     turns = turn;
-    done = doing.still reply_after (Refused NoMemory) IsOne HasHeadline whole (Listen f) old new told told' told'' x y z turn e same rose;
-    ends = (rose_later x y z e.faults up, less, refl);
+    done = doing.still reply_after (Refused NoMemory) IsOne HasHeadline whole (Listen f) old new told told' told'' x y turn e same;
+    ends = (first_failed x y z e.faults once, less, refl);
   }
 
 -- the turn stopped
@@ -78,10 +72,10 @@ pub stopped : {whole mid : Doing} {old new : Known Call} {told told' : Option Tr
     → turn < limit → Done whole mid old new told told' x y (turn + 1) → Stops mid new new' told' told'' y z stop → Keeps whole limit old new' told told'' x z end
 stopped {whole = whole} {old = old} {told = told} {x = x} {y = y} limit turn new' told'' z Lost end is less d p =
     subst (λ (e : SessionEnd). Keeps whole limit old new' told told'' x z e) (sym is)
-    (record { rest = Post p.0 p.1; turns = turn + 1; done = after d p.2; ends = (rose_later x y z d.faults p.3, less, refl) })
+    (record { rest = Post p.0 p.1; turns = turn + 1; done = unfailed (after d p.2); ends = (first_failed x y z d.faults p.3, less, refl) })
 stopped {whole = whole} {old = old} {told = told} {x = x} limit turn new' told'' z Closed end is less d p =
     subst (λ (e : SessionEnd). Keeps whole limit old new' told told'' x z e) (sym is)
-    (record { rest = Ask p.0 p.1; turns = turn + 1; done = after d p.2; ends = (p.3, omega (arith, less)) })
+    (let e = after d p.2 in record { rest = Ask p.0 p.1; turns = turn + 1; done = unfailed e; ends = (e.faults, p.3, omega (arith, less)) })
 
 -- no turn is left
 pub all_turns : (turns_left : ℕ → Doing) (limit turn : ℕ) (whole : Doing) (old new : Known Call) (told told' : Option Traffic) (x y : ℕ) → turns_left 0 ≡ Over → limit - turn ≡ 0 → turn ≡ limit
@@ -89,6 +83,6 @@ pub all_turns : (turns_left : ℕ → Doing) (limit turn : ℕ) (whole : Doing) 
 all_turns turns_left limit turn whole old new told told' x y over none all d = record {
   rest = Over;
   turns = turn;
-  done = subst (λ (r : Doing). Done whole r old new told told' x y turn) over (subst (λ (n : ℕ). Done whole (turns_left n) old new told told' x y turn) none d);
-  ends = all;
+  done = unfailed (subst (λ (r : Doing). Done whole r old new told told' x y turn) over (subst (λ (n : ℕ). Done whole (turns_left n) old new told told' x y turn) none d));
+  ends = (d.faults, all);
 }

@@ -31,7 +31,7 @@ ends_later before after found found' limit (Post what next) turns (LinkFault tur
 ends_later before after found found' limit (Post what next) turns Worn p e = absurd e
 ends_later before after found found' limit (Ask call f) turns AllTurns p e = absurd e
 ends_later before after found found' limit (Ask call f) turns (LinkFault turn) p e = absurd e
-ends_later before after found found' limit (Ask call f) turns Worn p e = (p e.0, e.1)
+ends_later before after found found' limit (Ask call f) turns Worn p e = (e.0, p e.1, e.2)
 
 -- a session of a seat with no entries stands in each later history in which the seat has no more
 pub is_session : (whole : Doing) (limit found : ℕ) (old new : Known Call) (history : List (Entry Call)) (told told' : Option Traffic) (before after : ℕ) (end : SessionEnd)
@@ -51,6 +51,5 @@ is_session whole limit found old new history told told' before after end k none 
       link = d.link;
       short = d.short;
       most = few_said IsOne whole d.steps k.rest (10000 * limit) d.leads d.short few;
-      faults = d.faults;
       ends = subst (λ (t : ℕ). MeetsEnd before after found limit k.rest t end) (sym d.count) (ends_later before after new.found found limit k.rest k.turns end worn k.ends);
     }

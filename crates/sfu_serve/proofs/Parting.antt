@@ -1,7 +1,6 @@
 -- Parts of a turn, one after another.
-use Rattle.std.proofs.Common.{◌≡◌, ℕ, ◌+◌, ◌-◌, ◌<◌, ◌≤◌, suc, Bool, true, false, if◌then◌else◌, Option, Result, Ok, Err, IfOk, IfErr, refl, subst, arith}
+use Rattle.std.proofs.Common.{◌≡◌, ℕ, ◌+◌, ◌-◌, ◌<◌, suc, Bool, true, false, if◌then◌else◌, Option, Result, Ok, Err, IfOk, IfErr, refl, subst, arith}
 use Rattle.sfu_base.specs.Answer.{Refused}
-use Rattle.sfu_base.specs.Faults.{Rose}
 use Rattle.sfu_base.specs.Links.{Traffic}
 use Rattle.sfu_base.specs.declared.call.Call.{Call}
 use Rattle.sfu_base.specs.declared.call.Call.TheVariants.{Take}
@@ -13,10 +12,11 @@ use Rattle.sfu_serve.specs.declared.ends.TurnStop.{TurnStop}
 use Rattle.sfu_serve.specs.declared.ends.TurnStop.TheVariants.{Lost, Closed}
 use Rattle.sfu_serve.specs.Datagrams.{IsOne}
 use Rattle.sfu_serve.specs.Sessions.{Doing, takes, sends_on}
-use Rattle.sfu_serve.specs.Parts.{HasHeadline, Done, IsPart, Stops, reply_after}
+use Rattle.sfu_serve.specs.Parts.{HasHeadline, Done, FailedOnce, IsPart, Stops, reply_after}
 
-pub rose_later : (a b c : ℕ) → a ≤ b → Rose b c → Rose a c
-rose_later a b c p q = omega (arith, p, q)
+-- a call that failed, the first one since an earlier moment
+pub first_failed : (a b c : ℕ) → b ≡ a → FailedOnce b c → FailedOnce a c
+first_failed a b c none once = subst (λ (n : ℕ). FailedOnce n c) none once
 
 -- nothing is done yet
 pub begins : (whole : Doing) (seat : Known Call) (told : Option Traffic) (faults : ℕ) → Fits seat → Done whole whole seat seat told told faults faults 0
@@ -25,6 +25,10 @@ begins whole seat told faults fits = doing.begins reply_after (Refused NoMemory)
 -- what is left is told in another way
 pub leaves : {whole : Doing} {a b : Known Call} {told told' : Option Traffic} {x y n : ℕ} (mid rest : Doing) → mid ≡ rest → Done whole mid a b told told' x y n → Done whole rest a b told told' x y n
 leaves {whole = whole} {a = a} {b = b} {told = told} {told' = told'} {x = x} {y = y} {n = n} mid rest same d = subst (λ (r : Doing). Done whole r a b told told' x y n) same d
+
+-- what was done failed no call
+pub unfailed : {whole rest : Doing} {a b : Known Call} {told told' : Option Traffic} {x y n : ℕ} → Done whole rest a b told told' x y n → Done whole rest a b told told' x x n
+unfailed {whole = whole} {rest = rest} {a = a} {b = b} {told = told} {told' = told'} {x = x} {n = n} d = subst (λ (y : ℕ). Done whole rest a b told told' x y n) d.faults d
 
 -- a part without receives after what came before it
 pub after : {whole mid rest : Doing} {a b c : Known Call} {told told' told'' : Option Traffic} {x y z n : ℕ} → Done whole mid a b told told' x y n → Done mid rest b c told' told'' y z 0 → Done whole rest a c told told'' x z n
@@ -35,7 +39,7 @@ after {whole = whole} {mid = mid} {rest = rest} {a = a} {b = b} {c = c} {told = 
 -- a part that stopped after what came before it
 pub stops_after : {part mid : Doing} {a b : Known Call} {told told' : Option Traffic} {x y : ℕ} (c : Known Call) (told'' : Option Traffic) (z : ℕ) (stop : TurnStop)
     → Done part mid a b told told' x y 0 → Stops mid b c told' told'' y z stop → Stops part a c told told'' x z stop
-stops_after {x = x} {y = y} c told'' z Lost d p = (p.0, p.1, after d p.2, rose_later x y z d.faults p.3)
+stops_after {x = x} {y = y} c told'' z Lost d p = (p.0, p.1, unfailed (after d p.2), first_failed x y z d.faults p.3)
 stops_after c told'' z Closed d p = (p.0, p.1, after d p.2, p.3)
 
 pub part_after : {T : Type 0} {part mid : Doing} {a b : Known Call} {told told' : Option Traffic} {x y : ℕ} (next : Doing) (c : Known Call) (told'' : Option Traffic) (z : ℕ) (r : Result T TurnStop)

@@ -1,7 +1,7 @@
 -- How far a session has come, and how it ends.
 use Rattle.std.specs.Prelude.{◌≡◌, ℕ, ◌+◌, ◌^◌, ◌<◌, ◌≤◌, List, Option, Result, Ok, Err}
 use Rattle.sfu_base.specs.Answer.{Answer, Refused}
-use Rattle.sfu_base.specs.Faults.{Rose}
+use Rattle.sfu_base.specs.Faults.{raised}
 use Rattle.sfu_base.specs.Links.{Traffic}
 use Rattle.sfu_base.specs.declared.call.Call.{Call}
 use Rattle.sfu_base.specs.declared.call.Refusal.TheVariants.{NoMemory}
@@ -36,11 +36,16 @@ pub record HasHeadline (history : List (Entry Call)) : Type 0 where
 abbrev pub Done : Doing → Doing → Known Call → Known Call → Option Traffic → Option Traffic → ℕ → ℕ → ℕ → Type 0
 Done whole rest old new told told' before after turns = IsDone reply_after (Refused NoMemory) IsOne HasHeadline whole rest old new told told' before after turns
 
--- A part of a turn stopped where a datagram wasn't sent, since the count of faults rose; or where a call wasn't made, since all tickets of
--- the lock are drawn.
+-- Exactly one call failed: the count is one more, or stood at 2^64 - 1 and stays there.
+pub record FailedOnce (before after : ℕ) : Type 0 where
+  pub never_falls : before ≤ after
+  pub counts : after ≡ raised before
+
+-- A part of a turn stopped where a datagram wasn't sent, since that call failed, the first one that did; or where a call wasn't made, since
+-- all tickets of the lock are drawn.
 abbrev pub Stops : Doing → Known Call → Known Call → Option Traffic → Option Traffic → ℕ → ℕ → TurnStop → Type 0
 Stops part old new told told' before after Lost =
-    (what : Datagram) × (rest : Doing) × Done part (Post what rest) old new told told' before after 0 × Rose before after
+    (what : Datagram) × (rest : Doing) × Done part (Post what rest) old new told told' before before 0 × FailedOnce before after
 Stops part old new told told' before after Closed =
     (call : Call) × (f : Answer → Doing) × Done part (Ask call f) old new told told' before after 0 × (new.found ≡ 2 ^ 63)
 
@@ -49,19 +54,19 @@ abbrev pub IsPart : {T : Type 0} → Doing → Doing → Known Call → Known Ca
 IsPart part next old new told told' before after (Ok value) = Done part next old new told told' before after 0
 IsPart part next old new told told' before after (Err stop) = Stops part old new told told' before after stop
 
--- How a session of `limit` turns ends, by where it stands then and after how many receives. `AllTurns`: it is over, and that was after
--- `limit` receives. `LinkFault`: in this turn its receive failed, or a send; the count of faults rose. `Worn`: a call wasn't made, and
--- the seat found all tickets drawn.
+-- How a session of `limit` turns ends, by where it stands then and after how many receives. `AllTurns`: it is over, that was after `limit`
+-- receives, and no call on its link failed. `LinkFault`: in this turn its receive failed, or a send, and no other call did. `Worn`: a call
+-- wasn't made, and the seat found all tickets drawn; no call on its link failed.
 abbrev pub MeetsEnd : ℕ → ℕ → ℕ → ℕ → Doing → ℕ → SessionEnd → Type 0
-MeetsEnd before after found limit Over turns AllTurns = turns ≡ limit
-MeetsEnd before after found limit (Listen f) turns (LinkFault turn) = Rose before after × (turn < limit) × (turns ≡ turn)
-MeetsEnd before after found limit (Post what next) turns (LinkFault turn) = Rose before after × (turn < limit) × (turns ≡ turn + 1)
-MeetsEnd before after found limit (Ask call f) turns Worn = (found ≡ 2 ^ 63) × (turns ≤ limit)
+MeetsEnd before after found limit Over turns AllTurns = (after ≡ before) × (turns ≡ limit)
+MeetsEnd before after found limit (Listen f) turns (LinkFault turn) = FailedOnce before after × (turn < limit) × (turns ≡ turn)
+MeetsEnd before after found limit (Post what next) turns (LinkFault turn) = FailedOnce before after × (turn < limit) × (turns ≡ turn + 1)
+MeetsEnd before after found limit (Ask call f) turns Worn = (after ≡ before) × (found ≡ 2 ^ 63) × (turns ≤ limit)
 MeetsEnd before after found limit rest turns end = ⊥
 
--- what a session of `limit` turns makes of its seat and its link
+-- What a session of `limit` turns makes of its seat and its link. All that was done failed no call: the one that failed ended it.
 pub record Keeps (whole : Doing) (limit : ℕ) (old new : Known Call) (told told' : Option Traffic) (before after : ℕ) (end : SessionEnd) : Type 0 where
   pub rest : Doing
   pub turns : ℕ
-  pub done : Done whole rest old new told told' before after turns
+  pub done : Done whole rest old new told told' before before turns
   pub ends : MeetsEnd before after new.found limit rest turns end

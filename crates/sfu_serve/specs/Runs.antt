@@ -41,7 +41,6 @@ pub record IsSession (whole : Doing) (limit number found : ℕ) (history : List 
   pub short : AllFitBuffers (received_of steps)
   -- at most 10,000 calls a turn: feedback of 2,048 bytes has at most 8,704 items, and at most 32 takes follow
   pub most : length (said_of steps) ≤ 10000 * limit
-  pub faults : before ≤ after
   pub ends : MeetsEnd before after found limit rest (length (received_of steps)) end
 
 -- a job before its session: its role, what its link tells and the link's count of faults

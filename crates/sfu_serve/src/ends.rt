@@ -5,11 +5,11 @@ ghost use Rattle.sfu_serve.specs.Ends.{ended};
 /// How a session ended.
 #[derive(Clone, Copy, Debug, PartialEq, Eq)]
 pub enum SessionEnd {
-    /// All its turns were made.
+    /// All its turns were made, and no call on its link failed.
     AllTurns,
-    /// A call on its link failed in this turn, counted from 0.
+    /// A call on its link failed in this turn, counted from 0, and no other one did.
     LinkFault { turn: u64 },
-    /// The lock made no more turns.
+    /// The lock made no more turns. No call on its link failed.
     Worn,
 }
 

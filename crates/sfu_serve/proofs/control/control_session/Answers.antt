@@ -17,7 +17,7 @@ returns-in_default g c =
       keeps = unheard control_deed (λ (got : Option (List ℕ)) (moment : ℕ). controls got next) limit turn (control_deed limit) c.args.seat.now c.loop-turn.seat
           (g.L.Link.told c.args.link.now) (g.L.Link.told c.loop-turn.link) (g.L.Link.told c.listen.new.link) (g.L.Link.faults c.args.link.now) (g.L.Link.faults c.loop-turn.link) (g.L.Link.faults c.listen.new.link)
           c.loop-turn-test.true refl c.loop-turn.invariant.1
-          c.in_default.ensures.unheard c.listen.ensures.cause.never_falls c.in_default.ensures.cause.failed;
+          c.in_default.ensures.unheard (record { never_falls = c.listen.ensures.cause.never_falls; counts = c.in_default.ensures.cause.counts });
     }
 
 pub returns-in-Err : goal.returns-in-Err
@@ -27,7 +27,7 @@ returns-in-Err g c =
     let next : Doing = control_deed (limit - (turn + 1)) in
     let d = heard control_deed (λ (got : Option (List ℕ)) (moment : ℕ). controls got next) limit turn (control_deed limit) c.args.seat.now c.loop-turn.seat
     (g.L.Link.told c.args.link.now) (g.L.Link.told c.loop-turn.link) (g.L.Link.told c.listen.new.link) (g.L.Link.faults c.args.link.now) (g.L.Link.faults c.loop-turn.link) (g.L.Link.faults c.listen.new.link)
-    c.in-Ok.came c.listen.new.into c.in-Ok._moment c.loop-turn-test.true refl c.loop-turn.invariant.1 c.control_turn-worked.ensures.bounded c.in-Ok.ensures.heard c.listen.ensures.cause.never_falls in
+    c.in-Ok.came c.listen.new.into c.in-Ok._moment c.loop-turn-test.true refl c.loop-turn.invariant.1 c.control_turn-worked.ensures.bounded c.in-Ok.ensures.heard c.in-Ok.ensures.cause.counts in
     record {
       keeps = stopped limit turn c.control_turn-worked.new.seat (g.L.Link.told c.control_turn-worked.new.link) (g.L.Link.faults c.control_turn-worked.new.link) c.in-Err.stop c.end_at.result c.end_at.ensures
           c.loop-turn-test.true d (c.in-Err.ensures.part next);
@@ -41,7 +41,7 @@ loop-turn-preserved g c =
     let next : Doing = control_deed (limit - (turn + 1)) in
     let d = heard control_deed (λ (got : Option (List ℕ)) (moment : ℕ). controls got next) limit turn (control_deed limit) c.args.seat.now c.loop-turn.seat
     (g.L.Link.told c.args.link.now) (g.L.Link.told c.loop-turn.link) (g.L.Link.told c.listen.new.link) (g.L.Link.faults c.args.link.now) (g.L.Link.faults c.loop-turn.link) (g.L.Link.faults c.listen.new.link)
-    c.in-Ok.came c.listen.new.into c.in-Ok._moment less refl c.loop-turn.invariant.1 c.control_turn-worked.ensures.bounded c.in-Ok.ensures.heard c.listen.ensures.cause.never_falls in (
+    c.in-Ok.came c.listen.new.into c.in-Ok._moment less refl c.loop-turn.invariant.1 c.control_turn-worked.ensures.bounded c.in-Ok.ensures.heard c.in-Ok.ensures.cause.counts in (
       omega (arith, less),
       after d
           (part_done c.control_turn-worked.result (controls (datagram c.in-Ok.came c.listen.new.into) next) next c.loop-turn.seat c.control_turn-worked.new.seat

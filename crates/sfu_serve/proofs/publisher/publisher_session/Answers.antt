@@ -29,7 +29,7 @@ returns-in_default g c =
           brings c.args.track moment got (Ask (Tick c.args.track moment) (λ (a : Answer). asks c.args.track c.args.ssrc moment asked pleaded (publisher_deed c.args.track c.args.ssrc left))))
           limit turn (publisher_deed c.args.track c.args.ssrc limit None None) c.args.seat.now c.loop-turn.seat
           (g.L.Link.told c.args.link.now) (g.L.Link.told c.loop-turn.link) (g.L.Link.told c.hear.new.link) (g.L.Link.faults c.args.link.now) (g.L.Link.faults c.loop-turn.link) (g.L.Link.faults c.hear.new.link)
-          c.loop-turn-test.true refl c.loop-turn.invariant.done c.in_default.ensures.unheard c.hear.ensures.cause.never_falls c.in_default.ensures.cause.failed;
+          c.loop-turn-test.true refl c.loop-turn.invariant.done c.in_default.ensures.unheard (record { never_falls = c.hear.ensures.cause.never_falls; counts = c.in_default.ensures.cause.counts });
     }
 
 pub returns-in-Err : goal.returns-in-Err
@@ -46,7 +46,7 @@ returns-in-Err g c =
     brings c.args.track moment got (Ask (Tick c.args.track moment) (λ (a : Answer). asks c.args.track c.args.ssrc moment asked pleaded (publisher_deed c.args.track c.args.ssrc left))))
     limit turn (publisher_deed c.args.track c.args.ssrc limit None None) c.args.seat.now c.loop-turn.seat
     (g.L.Link.told c.args.link.now) (g.L.Link.told c.loop-turn.link) (g.L.Link.told c.hear.new.link) (g.L.Link.faults c.args.link.now) (g.L.Link.faults c.loop-turn.link) (g.L.Link.faults c.hear.new.link)
-    c.in-Ok.came (bytes_in c.hear.new.packet) c.in-Ok.moment c.loop-turn-test.true refl c.loop-turn.invariant.done c.publisher_turn.ensures.bounded came.1 c.hear.ensures.cause.never_falls in
+    c.in-Ok.came (bytes_in c.hear.new.packet) c.in-Ok.moment c.loop-turn-test.true refl c.loop-turn.invariant.done c.publisher_turn.ensures.bounded came.1 c.in-Ok.ensures.cause.counts in
     record {
       keeps = stopped limit turn c.publisher_turn.new.seat (g.L.Link.told c.publisher_turn.new.link) (g.L.Link.faults c.publisher_turn.new.link) c.in-Err.stop c.end_at.result c.end_at.ensures
           c.loop-turn-test.true d (c.in-Err.ensures.stopped (publisher_deed c.args.track c.args.ssrc left));
@@ -67,7 +67,7 @@ loop-turn-preserved g c =
     brings c.args.track moment got (Ask (Tick c.args.track moment) (λ (a : Answer). asks c.args.track c.args.ssrc moment asked pleaded (publisher_deed c.args.track c.args.ssrc left))))
     limit turn (publisher_deed c.args.track c.args.ssrc limit None None) c.args.seat.now c.loop-turn.seat
     (g.L.Link.told c.args.link.now) (g.L.Link.told c.loop-turn.link) (g.L.Link.told c.hear.new.link) (g.L.Link.faults c.args.link.now) (g.L.Link.faults c.loop-turn.link) (g.L.Link.faults c.hear.new.link)
-    c.in-Ok.came (bytes_in c.hear.new.packet) c.in-Ok.moment less refl c.loop-turn.invariant.done c.publisher_turn.ensures.bounded came.1 c.hear.ensures.cause.never_falls in
+    c.in-Ok.came (bytes_in c.hear.new.packet) c.in-Ok.moment less refl c.loop-turn.invariant.done c.publisher_turn.ensures.bounded came.1 c.in-Ok.ensures.cause.counts in
     record {
       turns = omega (arith, less);
       done = after d (c.in-Ok-publisher_turn.ensures.done (publisher_deed c.args.track c.args.ssrc left));

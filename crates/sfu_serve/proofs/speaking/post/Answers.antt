@@ -10,7 +10,7 @@ pub returns-in-Ok : goal.returns-in-Ok
 returns-in-Ok g c = record {
   part = λ what next seat fits is.
       posts reply_after (Refused NoMemory) IsOne HasHeadline what c.args.packet.now next seat (g.L.Link.told c.args.link.now) (g.L.Link.told c.send.new.self) (g.L.Link.faults c.args.link.now) (g.L.Link.faults c.send.new.self)
-      fits is c.in-Ok.ensures.told c.send.ensures.cause.never_falls;
+      fits is c.in-Ok.ensures.told c.in-Ok.ensures.cause.counts;
 }
 
 pub returns-in-Err : goal.returns-in-Err
@@ -18,8 +18,8 @@ returns-in-Err g c = record {
   part = λ what next seat fits is. (
     what,
     next,
-    still reply_after (Refused NoMemory) IsOne HasHeadline (Post what next) (Post what next) seat seat (g.L.Link.told c.args.link.now) (g.L.Link.told c.args.link.now) (g.L.Link.told c.send.new.self) (g.L.Link.faults c.args.link.now) (g.L.Link.faults c.args.link.now) (g.L.Link.faults c.send.new.self) 0
-        (begins reply_after (Refused NoMemory) IsOne HasHeadline (Post what next) seat (g.L.Link.told c.args.link.now) (g.L.Link.faults c.args.link.now) fits) c.in-Err.ensures.told c.send.ensures.cause.never_falls,
-    c.in-Err.ensures.cause.failed,
+    still reply_after (Refused NoMemory) IsOne HasHeadline (Post what next) (Post what next) seat seat (g.L.Link.told c.args.link.now) (g.L.Link.told c.args.link.now) (g.L.Link.told c.send.new.self) (g.L.Link.faults c.args.link.now) (g.L.Link.faults c.args.link.now) 0
+        (begins reply_after (Refused NoMemory) IsOne HasHeadline (Post what next) seat (g.L.Link.told c.args.link.now) (g.L.Link.faults c.args.link.now) fits) c.in-Err.ensures.told,
+    record { never_falls = c.send.ensures.cause.never_falls; counts = c.in-Err.ensures.cause.counts },
   );
 }

@@ -20,7 +20,7 @@ returns-in_default g c =
           limit turn (outgoing_deed c.args.subscriber c.args.ssrc c.args.way limit 0) c.args.seat.now c.loop-turn.seat
           (g.L.Link.told c.args.link.now) (g.L.Link.told c.loop-turn.link) (g.L.Link.told c.listen.new.link) (g.L.Link.faults c.args.link.now) (g.L.Link.faults c.loop-turn.link) (g.L.Link.faults c.listen.new.link)
           c.loop-turn-test.true refl c.loop-turn.invariant.1
-          c.in_default.ensures.unheard c.listen.ensures.cause.never_falls c.in_default.ensures.cause.failed;
+          c.in_default.ensures.unheard (record { never_falls = c.listen.ensures.cause.never_falls; counts = c.in_default.ensures.cause.counts });
     }
 
 pub returns-in-Err : goal.returns-in-Err
@@ -33,7 +33,7 @@ returns-in-Err g c =
     (λ (got : Option (List ℕ)) (moment : ℕ). hears_feedback c.args.subscriber c.args.ssrc c.args.way got number (λ (later : ℕ). takes c.args.subscriber 32 (next later)))
     limit turn (outgoing_deed c.args.subscriber c.args.ssrc c.args.way limit 0) c.args.seat.now c.loop-turn.seat
     (g.L.Link.told c.args.link.now) (g.L.Link.told c.loop-turn.link) (g.L.Link.told c.listen.new.link) (g.L.Link.faults c.args.link.now) (g.L.Link.faults c.loop-turn.link) (g.L.Link.faults c.listen.new.link)
-    c.in-Ok.came c.listen.new.into c.in-Ok._moment c.loop-turn-test.true refl c.loop-turn.invariant.1 c.subscriber_turn-worked.ensures.bounded c.in-Ok.ensures.heard c.listen.ensures.cause.never_falls in
+    c.in-Ok.came c.listen.new.into c.in-Ok._moment c.loop-turn-test.true refl c.loop-turn.invariant.1 c.subscriber_turn-worked.ensures.bounded c.in-Ok.ensures.heard c.in-Ok.ensures.cause.counts in
     record {
       keeps = stopped limit turn c.subscriber_turn-worked.new.seat (g.L.Link.told c.subscriber_turn-worked.new.link) (g.L.Link.faults c.subscriber_turn-worked.new.link) c.in-Err.stop c.end_at.result c.end_at.ensures
           c.loop-turn-test.true d (c.in-Err.ensures.part next);
@@ -50,7 +50,7 @@ loop-turn-preserved g c =
     (λ (got : Option (List ℕ)) (moment : ℕ). hears_feedback c.args.subscriber c.args.ssrc c.args.way got number (λ (later : ℕ). takes c.args.subscriber 32 (next later)))
     limit turn (outgoing_deed c.args.subscriber c.args.ssrc c.args.way limit 0) c.args.seat.now c.loop-turn.seat
     (g.L.Link.told c.args.link.now) (g.L.Link.told c.loop-turn.link) (g.L.Link.told c.listen.new.link) (g.L.Link.faults c.args.link.now) (g.L.Link.faults c.loop-turn.link) (g.L.Link.faults c.listen.new.link)
-    c.in-Ok.came c.listen.new.into c.in-Ok._moment less refl c.loop-turn.invariant.1 c.subscriber_turn-worked.ensures.bounded c.in-Ok.ensures.heard c.listen.ensures.cause.never_falls in (
+    c.in-Ok.came c.listen.new.into c.in-Ok._moment less refl c.loop-turn.invariant.1 c.subscriber_turn-worked.ensures.bounded c.in-Ok.ensures.heard c.in-Ok.ensures.cause.counts in (
       omega (arith, less),
       after d
           (part_done c.subscriber_turn-worked.result
