@@ -3,11 +3,16 @@ use Rattle.std.proofs.Common.{◌≡◌, ◌⊎◌, inl, inr, ◌+◌, ◌<◌, 
 use Rattle.std.specs.Prelude.{◌&&◌, OnOk, is_err}
 use Rattle.std.proofs.lemmas.List.{length-map}
 use Rattle.std.specs.Io.KnownBytes.{Appends}
-use Rattle.sfu_base.specs.Faults.{Rose}
+use Rattle.sfu_base.specs.Faults.{Rose, raised}
 use Rattle.sfu_base.specs.Links.{Traffic}
 use Rattle.sfu_base.specs.declared.call.Call.{Call}
 use Rattle.turn_lock.specs.declared.history.Entry.{Entry}
+use Rattle.sfu_driver.specs.declared.halt.Halt.TheVariants.{Starved}
+use Rattle.sfu_driver.specs.declared.halt.Interruption.TheVariants.{Halted, SinkFault}
 use Rattle.sfu_driver.specs.Drive.{WritesPart}
+use Rattle.sfu_driver.specs.Statuses.{FirstFault}
+use Rattle.sfu_driver.proofs.Answering.{first_fault_by, not_seven}
+use Rattle.sfu_driver.proofs.Counting.{rose_by}
 use Rattle.sfu_driver.proofs.Fronts.{part_after}
 use Rattle.sfu_script.specs.declared.ports.PortLine.{PortLine}
 use Rattle.deeds.specs.Deeds.{Listen, Ask, Post, Over, received_of}
@@ -22,7 +27,7 @@ use Rattle.sfu_program.specs.Serve.{Acts, Ends, HasServed, HaveServed, afters}
 use Rattle.sfu_program.specs.ServeEnding.{EndsWith}
 use Rattle.sfu_program.specs.ServeEnds.{AreUnworn, all_made, ends_of, ends_text, is_all}
 use Rattle.sfu_program.specs.ServeOpening.{first_text}
-use Rattle.sfu_program.specs.ServePorts.{AreFresh, PortsSeen, SomeFault, WasUnbound, befores}
+use Rattle.sfu_program.specs.ServePorts.{AreFresh, NoFault, PortsSeen, SomeFault, WasUnbound, befores}
 
 pub appends_none : (w : Option (List ℕ)) → Appends w w []
 appends_none None = tt
@@ -41,6 +46,27 @@ rose_first a b c r le = omega arith
 pub rose_then : (a b c : ℕ) → a ≤ b → Rose b c → Rose a c
 rose_then a b c le r = omega arith
 
+-- ---- the first fault
+
+-- at 6 none failed
+starved_once : {f f' : ℕ} → f' ≡ f → FirstFault 0 0 f f' 6
+starved_once {f} {f'} kept = first_fault_by 0 0 f f' (Err (Halted Starved)) (record { reading = refl; writing = kept })
+
+-- at 7 no write did
+at_seven : {f f' : ℕ} → f' ≡ f → FirstFault 0 0 f f' 7
+at_seven kept = record {
+  none = λ e. absurd (neither e);
+  source = λ e. absurd (omega arith);
+  sink = λ e. absurd (omega arith);
+  ended = λ why e. absurd (not_seven why (sym e));
+  refused = λ e. absurd (omega arith);
+  ports = λ e. (refl, kept);
+}
+  where
+    neither : ◌≡◌ {A = ℕ} 7 0 ⊎ ◌≡◌ {A = ℕ} 7 6 → ⊥
+    neither (inl is) = omega arith
+    neither (inr is) = omega arith
+
 -- ---- sessions
 
 -- each job has its end
@@ -54,13 +80,22 @@ same_count limit history number (j ∷ js) (e ∷ es) all = ap (λ (n : ℕ). su
 link_failed : (after limit : ℕ) (rest : Doing) (turns : ℕ) (end : SessionEnd) → MeetsEnd 0 after 0 limit rest turns end → is_all end ≡ false → 0 < after
 link_failed after limit rest turns AllTurns h few = absurd (cc few)
 link_failed after limit Over turns (LinkFault turn) h few = absurd h
-link_failed after limit (Listen f) turns (LinkFault turn) h few = let r = h.0 in omega arith
-link_failed after limit (Post what next) turns (LinkFault turn) h few = let r = h.0 in omega arith
+link_failed after limit (Listen f) turns (LinkFault turn) h few = let r = h.0.counts in omega arith
+link_failed after limit (Post what next) turns (LinkFault turn) h few = let r = h.0.counts in omega arith
 link_failed after limit (Ask call f) turns (LinkFault turn) h few = absurd h
 link_failed after limit Over turns Worn h few = absurd h
 link_failed after limit (Listen f) turns Worn h few = absurd h
 link_failed after limit (Post what next) turns Worn h few = absurd h
-link_failed after limit (Ask call f) turns Worn h few = absurd (let z = h.0 in omega arith)
+link_failed after limit (Ask call f) turns Worn h few = absurd (let z = h.1 in omega arith)
+
+-- a session that made all its turns has a link whose count is as it was
+link_quiet : (before after limit : ℕ) (rest : Doing) (turns : ℕ) (end : SessionEnd) → MeetsEnd before after 0 limit rest turns end → is_all end ≡ true → after ≡ before
+link_quiet before after limit Over turns AllTurns h made = h.0
+link_quiet before after limit (Listen f) turns AllTurns h made = absurd h
+link_quiet before after limit (Post what next) turns AllTurns h made = absurd h
+link_quiet before after limit (Ask call f) turns AllTurns h made = absurd h
+link_quiet before after limit rest turns (LinkFault turn) h made = absurd (cc made)
+link_quiet before after limit rest turns Worn h made = absurd (cc made)
 
 module _ {L : Type 0} (told : L → Option Traffic) (faults : L → ℕ) where
   pub some_failed : (limit : ℕ) (history : List (Entry Call)) (number : ℕ) (lines : List PortLine) (jobs : List Before) (ended : List (Ended L)) → AreFresh lines jobs
@@ -75,12 +110,25 @@ module _ {L : Type 0} (told : L → Option Traffic) (faults : L → ℕ) where
       go true here rest few = inr (rest few)
       go false here rest few = inl (link_failed (faults e.link) limit all.0.rest (length (received_of all.0.steps)) e.end (subst (λ (n : ℕ). MeetsEnd n (faults e.link) 0 limit all.0.rest (length (received_of all.0.steps)) e.end) fresh.0.quiet all.0.ends) here)
 
+  -- where all made all their turns, no link has faults
+  pub none_failed : (limit : ℕ) (history : List (Entry Call)) (number : ℕ) (lines : List PortLine) (jobs : List Before) (ended : List (Ended L)) → AreFresh lines jobs
+      → AreSessions limit 0 history number jobs (afters told faults ended) → all_made (ends_of ended) ≡ true → NoFault faults (map (λ session. session.link) ended)
+  none_failed limit history number lines [] [] fresh all made = tt
+  none_failed limit history number lines [] (e ∷ es) fresh all made = absurd all
+  none_failed limit history number lines (j ∷ js) [] fresh all made = absurd all
+  none_failed limit history number [] (j ∷ js) (e ∷ es) fresh all made = absurd fresh
+  none_failed limit history number (l ∷ ls) (j ∷ js) (e ∷ es) fresh all made = go (is_all e.end) refl (none_failed limit history (number + 1) ls js es fresh.1 all.1) made
+    where
+      go : (b : Bool) → is_all e.end ≡ b → (all_made (ends_of es) ≡ true → NoFault faults (map (λ session. session.link) es)) → (b && all_made (ends_of es)) ≡ true → NoFault faults (map (λ session. session.link) (e ∷ es))
+      go true here rest made = (link_quiet j.faults (faults e.link) limit all.0.rest (length (received_of all.0.steps)) e.end all.0.ends here ∙ fresh.0.quiet, rest made)
+      go false here rest made = absurd (cc made)
+
   -- ---- statuses
 
   module _ (limit : ℕ) (calls : List Call) (lines : List PortLine) (w w' : Option (List ℕ)) (f f' : ℕ) (old new : PortsSeen L) where
     -- memory was wanting
-    pub ends_starved : Appends w w' [] → Ends told faults limit calls lines w w' f f' old new 6
-    ends_starved none = record {
+    pub ends_starved : Appends w w' [] → f' ≡ f → Ends told faults limit calls lines w w' f f' old new 6
+    ends_starved none kept = record {
       done = λ e. absurd (omega arith);
       sink = λ e. absurd (omega arith);
       unwritten = λ e. absurd (omega arith);
@@ -88,11 +136,13 @@ module _ {L : Type 0} (told : L → Option Traffic) (faults : L → ℕ) where
       ports = λ e. absurd (omega arith);
       failed = λ e. absurd (omega arith);
       only = inr (inr (inl refl));
+      first_fault = starved_once kept;
+      calm = λ e. absurd (omega arith);
     }
 
     -- a port wasn't bound
-    pub ends_unbound : Appends w w' [] → WasUnbound told faults lines old new → Ends told faults limit calls lines w w' f f' old new 7
-    ends_unbound none unbound = record {
+    pub ends_unbound : Appends w w' [] → f' ≡ f → WasUnbound told faults lines old new → Ends told faults limit calls lines w w' f f' old new 7
+    ends_unbound none kept unbound = record {
       done = λ e. absurd (omega arith);
       sink = λ e. absurd (omega arith);
       unwritten = λ e. absurd (omega arith);
@@ -100,12 +150,14 @@ module _ {L : Type 0} (told : L → Option Traffic) (faults : L → ℕ) where
       ports = λ e. unbound.rose;
       failed = λ e. inl (unbound, none);
       only = inr (inr (inr refl));
+      first_fault = at_seven kept;
+      calm = λ e. absurd (omega arith);
     }
 
     -- sessions ended
     pub ends_served : (status : ℕ) (ended : List (Ended L)) → HasServed told faults limit calls lines old new ended → (SomeFault faults (map (λ session. session.link) ended) → Rose old.faults new.faults)
-        → EndsWith (ends_of ended) w w' f f' status → Ends told faults limit calls lines w w' f f' old new status
-    ends_served status ended served rose ends = record {
+        → (NoFault faults (map (λ session. session.link) ended) → new.faults ≡ old.faults) → EndsWith (ends_of ended) w w' f f' status → Ends told faults limit calls lines w w' f f' old new status
+    ends_served status ended served rose calm ends = record {
       done = λ e. (ended, served, (ends.done e).0, (ends.done e).1);
       sink = λ e. (ends.sink e).0;
       unwritten = λ e. (ended, served, (ends.sink e).1);
@@ -113,11 +165,13 @@ module _ {L : Type 0} (told : L → Option Traffic) (faults : L → ℕ) where
       ports = λ e. rose (some_failed limit served.served.history 1 lines served.jobs ended served.fresh served.served.each (ends.failed e).0);
       failed = λ e. inr (ended, served, (ends.failed e).0, (ends.failed e).1);
       only = ends.only;
+      first_fault = ends.first_fault;
+      calm = λ e. calm (none_failed limit served.served.history 1 lines served.jobs ended served.fresh served.served.each (ends.done e).0);
     }
 
     -- memory was wanting for the first calls
-    pub acts_starved : new ≡ old → Appends w w' [] → Acts told faults limit calls lines w w' f f' old new 6
-    acts_starved same none = record {
+    pub acts_starved : new ≡ old → Appends w w' [] → f' ≡ f → Acts told faults limit calls lines w w' f f' old new 6
+    acts_starved same none kept = record {
       done = λ e. absurd (omega arith);
       sink = λ e. absurd (omega arith);
       unwritten = λ e. absurd (omega arith);
@@ -125,31 +179,37 @@ module _ {L : Type 0} (told : L → Option Traffic) (faults : L → ℕ) where
       ports = λ e. absurd (omega arith);
       failed = λ e. absurd (omega arith);
       only = inr (inr (inl refl));
+      first_fault = starved_once kept;
+      calm = λ e. absurd (omega arith);
     }
 
     -- the sink failed in the replies to them
-    pub acts_unwritten : new ≡ old → Rose f f' → WritesPart w w' (first_text calls) → Acts told faults limit calls lines w w' f f' old new 4
-    acts_unwritten same rose part = record {
+    pub acts_unwritten : new ≡ old → f' ≡ raised f → WritesPart w w' (first_text calls) → Acts told faults limit calls lines w w' f f' old new 4
+    acts_unwritten same once part = record {
       done = λ e. absurd (omega arith);
-      sink = λ e. rose;
+      sink = λ e. rose_by f f' once;
       unwritten = λ e. inl (part, same);
       memory = λ e. absurd (omega arith);
       ports = λ e. absurd (omega arith);
       failed = λ e. absurd (omega arith);
       only = inr (inl refl);
+      first_fault = first_fault_by 0 0 f f' (Err SinkFault) (record { reading = refl; writing = once });
+      calm = λ e. absurd (omega arith);
     }
 
   -- the replies to the first calls were written, and then came the ports
-  pub acts_behind : (limit : ℕ) (calls : List Call) (lines : List PortLine) (w w1 w' : Option (List ℕ)) (f f1 f' : ℕ) (old new : PortsSeen L) (status : ℕ) → f ≤ f1 → Appends w w1 (first_text calls)
+  pub acts_behind : (limit : ℕ) (calls : List Call) (lines : List PortLine) (w w1 w' : Option (List ℕ)) (f f1 f' : ℕ) (old new : PortsSeen L) (status : ℕ) → f1 ≡ f → Appends w w1 (first_text calls)
       → Ends told faults limit calls lines w1 w' f1 f' old new status → Acts told faults limit calls lines w w' f f' old new status
-  acts_behind limit calls lines w w1 w' f f1 f' old new status le first ends = record {
+  acts_behind limit calls lines w w1 w' f f1 f' old new status kept first ends = record {
     done = λ e. let d = ends.done e in (d.0, d.1, d.2, appends_both w w1 w' (first_text calls) (ends_text 1 (ends_of d.0)) first d.3);
-    sink = λ e. rose_then f f1 f' le (ends.sink e);
+    sink = λ e. subst (λ (n : ℕ). Rose n f') kept (ends.sink e);
     unwritten = λ e. let u = ends.unwritten e in inr (u.0, u.1, part_after w w1 w' (first_text calls) (ends_text 1 (ends_of u.0)) first u.2);
     memory = λ e. inr (subst (λ (text : List ℕ). Appends w w' text) (append-nil (first_text calls)) (appends_both w w1 w' (first_text calls) [] first (ends.memory e)));
     ports = ends.ports;
     failed = λ e. by_failure (ends.failed e);
     only = ends.only;
+    first_fault = subst (λ (n : ℕ). FirstFault 0 0 n f' status) kept ends.first_fault;
+    calm = ends.calm;
   }
     where
       by_failure : (WasUnbound told faults lines old new × Appends w1 w' [])
@@ -181,16 +241,18 @@ module _ {L : Type 0} (told : L → Option Traffic) (faults : L → ℕ) where
 pub appends_behind : (w w1 w' : Option (List ℕ)) (text : List ℕ) → Appends w w1 [] → Appends w1 w' text → Appends w w' text
 appends_behind w w1 w' text none more = appends_both w w1 w' [] text none more
 
-pub acts_before : {L : Type 0} (told : L → Option Traffic) (faults : L → ℕ) (limit : ℕ) (calls : List Call) (lines : List PortLine) (w w1 w' : Option (List ℕ)) (f f1 f' : ℕ) (old new : PortsSeen L) (status : ℕ) → f ≤ f1 → Appends w w1 []
+pub acts_before : {L : Type 0} (told : L → Option Traffic) (faults : L → ℕ) (limit : ℕ) (calls : List Call) (lines : List PortLine) (w w1 w' : Option (List ℕ)) (f f1 f' : ℕ) (old new : PortsSeen L) (status : ℕ) → f1 ≡ f → Appends w w1 []
     → Acts told faults limit calls lines w1 w' f1 f' old new status → Acts told faults limit calls lines w w' f f' old new status
-acts_before {L} told faults limit calls lines w w1 w' f f1 f' old new status le none acts = record {
+acts_before {L} told faults limit calls lines w w1 w' f f1 f' old new status kept none acts = record {
   done = λ e. let d = acts.done e in (d.0, d.1, d.2, appends_behind w w1 w' _ none d.3);
-  sink = λ e. rose_then f f1 f' le (acts.sink e);
+  sink = λ e. subst (λ (n : ℕ). Rose n f') kept (acts.sink e);
   unwritten = λ e. by_part (acts.unwritten e);
   memory = λ e. by_memory (acts.memory e);
   ports = acts.ports;
   failed = λ e. by_failure (acts.failed e);
   only = acts.only;
+  first_fault = subst (λ (n : ℕ). FirstFault 0 0 n f' status) kept acts.first_fault;
+  calm = acts.calm;
 }
   where
     by_part : (WritesPart w1 w' (first_text calls) × (new ≡ old)) ⊎ ((ended : List (Ended L)) × HasServed told faults limit calls lines old new ended × WritesPart w1 w' (first_text calls ++ ends_text 1 (ends_of ended)))

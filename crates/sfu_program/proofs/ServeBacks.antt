@@ -1,10 +1,10 @@
 -- Ports that are bound and come back, one after another.
-use Rattle.std.proofs.Common.{◌≡◌, ◌⊎◌, inl, inr, ◌<◌, ◌≤◌, ℕ, List, [], ◌∷◌, ◌++◌, refl, sym, ap, arith, Option, Some, None, append-nil, append_assoc}
+use Rattle.std.proofs.Common.{◌≡◌, ◌⊎◌, inl, inr, ◌<◌, ◌≤◌, ℕ, List, [], ◌∷◌, ◌++◌, refl, sym, ap, ◌∙◌, arith, Option, Some, None, append-nil, append_assoc}
 use Rattle.sfu_base.specs.Faults.{Rose}
 use Rattle.sfu_base.specs.Ports.{CountsBack, after_back}
 use Rattle.sfu_script.specs.declared.ports.PortLine.{PortLine}
 use Rattle.sfu_serve.specs.Runs.{Before}
-use Rattle.sfu_program.specs.ServePorts.{AreFresh, IsFresh, SomeFault, after_backs}
+use Rattle.sfu_program.specs.ServePorts.{AreFresh, IsFresh, NoFault, SomeFault, after_backs}
 
 -- one line more, and its job
 pub fresh_more : (lines : List PortLine) (jobs : List Before) (line : PortLine) (job : Before) → AreFresh lines jobs → IsFresh line job → AreFresh (lines ++ line ∷ []) (jobs ++ job ∷ [])
@@ -41,3 +41,11 @@ module _ {L : Type 0} where
       go : SomeFault faults links ⊎ (0 < faults link) → Rose first now
       go (inl earlier) = let r = rose earlier in let n = counts.never_falls in omega arith
       go (inr here) = let r = counts.rises here in omega arith
+
+  no_fault_last : (faults : L → ℕ) (links : List L) (link : L) → NoFault faults (links ++ link ∷ []) → NoFault faults links × (faults link ≡ 0)
+  no_fault_last faults [] link none = (tt, none.0)
+  no_fault_last faults (l ∷ ls) link none = let rest = no_fault_last faults ls link none.1 in ((none.0, rest.0), rest.1)
+
+  -- the count stays where none of them has
+  pub calm_more : (faults : L → ℕ) (links : List L) (link : L) (first before now : ℕ) → (NoFault faults links → before ≡ first) → CountsBack (faults link) before now → NoFault faults (links ++ link ∷ []) → now ≡ first
+  calm_more faults links link first before now calm counts none = let both = no_fault_last faults links link none in counts.stays both.1 ∙ calm both.0

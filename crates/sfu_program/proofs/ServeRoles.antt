@@ -8,7 +8,6 @@ use Rattle.sfu_script.specs.declared.ports.PortRole.{PortRole}
 use Rattle.sfu_script.specs.declared.ports.PortRole.TheVariants as line
 use Rattle.sfu_script.specs.Ports.{is_apart}
 use Rattle.sfu_serve.specs.declared.run.Job.{Job}
-use Rattle.sfu_serve.specs.declared.run.Role.{Role}
 use Rattle.sfu_serve.specs.Runs.{CanBe}
 use Rattle.port_config.specs.Script.{all_apart}
 use Rattle.sfu_program.specs.ServePorts.{AreFresh, befores, role_of}

@@ -34,7 +34,7 @@ meets before after found limit (Post what next) turns (LinkFault turn) low h = (
 meets before after found limit (Post what next) turns Worn low h = absurd h
 meets before after found limit (Ask call f) turns AllTurns low h = absurd h
 meets before after found limit (Ask call f) turns (LinkFault turn) low h = absurd h
-meets before after found limit (Ask call f) turns Worn low h = absurd (low h.0)
+meets before after found limit (Ask call f) turns Worn low h = absurd (low h.1)
 
 sessions_unworn : (limit found : ℕ) (history : List (Entry Call)) (number : ℕ) (jobs : List Before) (ended : List After) → (found ≡ 2 ^ 63 → ⊥) → AreSessions limit found history number jobs ended
     → AreSessions limit 0 history number jobs ended × AreUnworn (map (λ after. after.end) ended)
@@ -53,7 +53,6 @@ sessions_unworn limit found history number (j ∷ js) (e ∷ es) low all =
           link = all.0.link;
           short = all.0.short;
           most = all.0.most;
-          faults = all.0.faults;
           ends = one.0;
         },
         rest.0,

@@ -9,4 +9,5 @@ pub mod SimulcastScript
 pub mod SimulcastTexts
 pub mod Simulcast
 pub mod SimulcastServing
+pub mod FirstFault
 pub mod Complete

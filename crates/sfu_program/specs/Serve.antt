@@ -13,6 +13,7 @@ use Rattle.sfu_serve.specs.History.{entries_of}
 use Rattle.sfu_serve.specs.Runs.{After, AreSessions, Before, job_after}
 use Rattle.sfu_driver.specs.Exchange.{Exchange}
 use Rattle.sfu_driver.specs.Drive.{WritesPart}
+use Rattle.sfu_driver.specs.Statuses.{FirstFault}
 use Rattle.sfu_program.specs.ServeEnds.{AreUnworn, all_made, ends_of, ends_text}
 use Rattle.sfu_program.specs.ServeOpening.{first_text, made_first}
 use Rattle.sfu_program.specs.ServePorts.{AreFresh, PortsSeen, WasUnbound, after_backs}
@@ -64,6 +65,9 @@ pub record Ends {L : Type 0} (told : L → Option Traffic) (faults : L → ℕ) 
       ⊎ ((ended : List (Ended L)) × HasServed told faults limit calls lines old new ended × (all_made (ends_of ended) ≡ false)
       × Appends written written' (ends_text 1 (ends_of ended)))
   pub only : (status ≡ 0) ⊎ (status ≡ 4) ⊎ (status ≡ 6) ⊎ (status ≡ 7)
+  -- no write failed but the one that ended the command, and at 0 no bind, receive or send
+  pub first_fault : FirstFault 0 0 writes writes' status
+  pub calm : status ≡ 0 → new.faults ≡ old.faults
 
 -- all that is due: the replies to the first calls, and then a line for each session
 abbrev pub serve_text : {L : Type 0} → List Call → List (Ended L) → List ℕ
@@ -87,6 +91,9 @@ pub record Acts {L : Type 0} (told : L → Option Traffic) (faults : L → ℕ) 
       ⊎ ((ended : List (Ended L)) × HasServed told faults limit calls lines old new ended × (all_made (ends_of ended) ≡ false)
       × Appends written written' (serve_text calls ended))
   pub only : (status ≡ 0) ⊎ (status ≡ 4) ⊎ (status ≡ 6) ⊎ (status ≡ 7)
+  -- no write failed but the one that ended the command, and at 0 no bind, receive or send
+  pub first_fault : FirstFault 0 0 writes writes' status
+  pub calm : status ≡ 0 → new.faults ≡ old.faults
 
 -- The source was read to its end, its bytes are a configuration, and this was done for its calls and its ports.
 pub record ActsOn {L : Type 0} (told : L → Option Traffic) (faults : L → ℕ) (limit : ℕ) (left left' written written' : Option (List ℕ))
@@ -102,6 +109,9 @@ pub record ActsOn {L : Type 0} (told : L → Option Traffic) (faults : L → ℕ
 pub record Serves {L : Type 0} (told : L → Option Traffic) (faults : L → ℕ) (limit : ℕ) (x : Exchange) (old new : PortsSeen L) (status : ℕ) : Type 0 where
   pub came : (ReadsNoSetup x.left x.left' x.written x.written' x.reads x.reads' x.writes x.writes' status × (new ≡ old))
       ⊎ ActsOn told faults limit x.left x.left' x.written x.written' x.writes x.writes' old new status
+  -- the first read or write that fails ends the command, and at 0 no bind, receive or send failed
+  pub first_fault : FirstFault x.reads x.reads' x.writes x.writes' status
+  pub calm : status ≡ 0 → new.faults ≡ old.faults
   -- no other status comes
   pub only : (status ≡ 0) ⊎ (status ≡ 3) ⊎ (status ≡ 4) ⊎ (status ≡ 5) ⊎ (status ≡ 6) ⊎ (status ≡ 7)
   -- where nothing outside fails, all sessions make all their turns, unless a line is outside the grammar

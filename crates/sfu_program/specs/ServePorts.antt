@@ -48,6 +48,11 @@ abbrev pub SomeFault : {L : Type 0} → (L → ℕ) → List L → Type 0
 SomeFault faults [] = ⊥
 SomeFault faults (link ∷ links) = (0 < faults link) ⊎ SomeFault faults links
 
+-- none of these links has
+abbrev pub NoFault : {L : Type 0} → (L → ℕ) → List L → Type 0
+NoFault faults [] = Unit {0}
+NoFault faults (link ∷ links) = (faults link ≡ 0) × NoFault faults links
+
 -- what ports count and tell: how many were bound and came back, those that came back, and the faults
 pub record PortsSeen (L : Type 0) : Type 0 where
   pub bound : ℕ

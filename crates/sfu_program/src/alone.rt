@@ -17,6 +17,7 @@ ghost use Rattle.sfu_program.specs.Complete.{IsInside};
 ghost use Rattle.sfu_program.specs.Forms.{IsStatus};
 ghost use Rattle.sfu_program.specs.Simulcast.{Simulcasts};
 ghost use Rattle.sfu_driver.specs.Exchange.{exchange_of};
+ghost use Rattle.sfu_driver.specs.Statuses.{FirstFault};
 
 use crate::bundling::run_with_bundles;
 use cascade::cascade;
@@ -59,6 +60,7 @@ pub fn sfu_alone<S: Source, K: Sink>(
         → Refuses source.old source.new (K.written sink.old) (K.written sink.new) (K.faults sink.old) (K.faults sink.new) result }
     ensures form { (result ≡ 2) ↔ ¬ (IsForm (map string_bytes words.now)) }
     ensures only { IsStatus result }
+    ensures first_fault { FirstFault (S.faults source.old) (S.faults source.new) (K.faults sink.old) (K.faults sink.new) result }
     ensures inside { ¬ (Rose (S.faults source.old) (S.faults source.new)) → ¬ (Rose (K.faults sink.old) (K.faults sink.new)) → IsInside result }
 {
     match read_words(words) {

@@ -14,6 +14,7 @@ ghost use Rattle.sfu_commands.specs.Trial.{Tries};
 ghost use Rattle.sfu_commands.specs.Words.{IsSimulcast};
 ghost use Rattle.sfu_program.specs.Simulcast.{Simulcasts};
 ghost use Rattle.sfu_program.specs.Complete.{Completes, IsInside, NoneRose};
+ghost use Rattle.sfu_program.specs.FirstFault.{FailsOnce};
 ghost use Rattle.sfu_program.specs.Forms.{IsCommand, IsEnd, IsServing};
 ghost use Rattle.sfu_program.specs.Serve.{Serves};
 ghost use Rattle.sfu_program.specs.ServePorts.{seen_ports};
@@ -96,6 +97,8 @@ pub fn sfu<W: Threads + Wait + Sync, S: Source, K: Sink, P: Ports, C: Clock + Sy
         → Refuses source.old source.new (K.written sink.old) (K.written sink.new) (K.faults sink.old) (K.faults sink.new) result }
     ensures form { (result ≡ 2) ↔ ¬ (IsCommand (map string_bytes words.now)) }
     ensures only { IsEnd result }
+    ensures first_fault { FailsOnce (exchange_of S.left S.faults K.written K.faults source.old source.new sink.old sink.new) (P.faults ports.old)
+        (P.faults ports.new) result }
     ensures complete { NoneRose (exchange_of S.left S.faults K.written K.faults source.old source.new sink.old sink.new) (P.faults ports.old)
         (P.faults ports.new)
         → Completes (map string_bytes words.now) (exchange_of S.left S.faults K.written K.faults source.old source.new sink.old sink.new) result }

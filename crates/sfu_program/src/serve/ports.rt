@@ -4,7 +4,7 @@ ghost use Rattle.std.specs.Vec.{vec_capacity};
 ghost use Rattle.sfu_base.specs.Faults.{HasCause, Rose};
 ghost use Rattle.sfu_base.specs.Ports.{after_bind};
 ghost use Rattle.sfu_serve.specs.Runs.{job_before};
-ghost use Rattle.sfu_program.specs.ServePorts.{AreFresh, IsFresh, WasUnbound, SomeFault, after_backs, befores, role_of, seen_ports};
+ghost use Rattle.sfu_program.specs.ServePorts.{AreFresh, IsFresh, NoFault, WasUnbound, SomeFault, after_backs, befores, role_of, seen_ports};
 ghost use Rattle.sfu_program.specs.declared.serve.ports.Unbound.TheVariants.{PortFault, Starved};
 
 use rtx_stream::Rtx;
@@ -75,6 +75,7 @@ fn bind_each<P: Ports>(
     ensures all { OnOk result (vec_len jobs.new ≡ length lines.now) }
     ensures failed { OnErr result (vec_len jobs.new < length lines.now) }
     ensures rose { OnErr result (Rose (P.faults ports.old) (P.faults ports.new)) }
+    ensures kept { OnOk result (P.faults ports.new ≡ P.faults ports.old) }
     ensures never_falls { P.faults ports.old ≤ P.faults ports.new }
     ensures fresh { AreFresh (take (vec_len jobs.new) lines.now) (befores P.Port.told P.Port.faults jobs.new.items) }
     ensures bound { P.bound ports.new ≡ vec_len jobs.new }
@@ -109,6 +110,7 @@ pub fn give_back_ended<P: Ports>(ended: Vec<Ended<P::Port>>, ports: &mut P)
     ensures back_count { P.back_count ports.new ≡ P.back_count ports.old + vec_len ended }
     ensures returned { P.returned ports.new ≡ after_backs (map (λ e. e.link) ended.items) (P.returned ports.old) }
     ensures never_falls { P.faults ports.old ≤ P.faults ports.new }
+    ensures calm { NoFault P.Port.faults (map (λ e. e.link) ended.items) → P.faults ports.new ≡ P.faults ports.old }
     ensures rose { SomeFault P.Port.faults (map (λ e. e.link) ended.items) → Rose (P.faults ports.old) (P.faults ports.new) }
 {
     for session in ended {
@@ -131,6 +133,7 @@ pub fn bind_all<P: Ports>(
     ensures all { IfOk result (λ jobs. vec_len jobs ≡ length lines.now) }
     ensures none_came { OnOk result (P.back_count ports.new ≡ 0) }
     ensures returned { OnOk result (P.returned ports.new ≡ P.returned ports.old) }
+    ensures kept { OnOk result (P.faults ports.new ≡ P.faults ports.old) }
     ensures never_falls { P.faults ports.old ≤ P.faults ports.new }
     ensures failed { IfErr result (λ why. why ≡ PortFault → WasUnbound P.Port.told P.Port.faults lines.now
         (seen_ports (P.bound ports.old) (P.back_count ports.old) (P.returned ports.old) (P.faults ports.old))

@@ -9,7 +9,7 @@ ghost use Rattle.sfu_driver.specs.Drive.{WritesPart};
 ghost use Rattle.sfu_serve.specs.Runs.{CanBe};
 ghost use Rattle.sfu_program.specs.ServeEnds.{AreUnworn, all_made, ends_of, ends_text};
 ghost use Rattle.sfu_program.specs.ServeOpening.{HasMade};
-ghost use Rattle.sfu_program.specs.ServePorts.{SomeFault, after_backs, befores};
+ghost use Rattle.sfu_program.specs.ServePorts.{NoFault, SomeFault, after_backs, befores};
 ghost use Rattle.sfu_program.specs.Serve.{HaveServed, afters};
 ghost use Rattle.sfu_program.specs.ServeEnding.{EndsWith};
 ghost use Rattle.sfu_driver.specs.Statuses.{number_of};
@@ -64,6 +64,7 @@ pub fn end_all<P: Ports, K: Sink>(
     ensures back_count { P.back_count ports.new ≡ P.back_count ports.old + vec_len ended }
     ensures returned { P.returned ports.new ≡ after_backs (map (λ e. e.link) ended.items) (P.returned ports.old) }
     ensures never_falls { P.faults ports.old ≤ P.faults ports.new }
+    ensures calm { NoFault P.Port.faults (map (λ e. e.link) ended.items) → P.faults ports.new ≡ P.faults ports.old }
     ensures rose { SomeFault P.Port.faults (map (λ e. e.link) ended.items) → Rose (P.faults ports.old) (P.faults ports.new) }
     ensures writes { K.faults sink.old ≤ K.faults sink.new }
     ensures ends { EndsWith (ends_of ended.items) (K.written sink.old) (K.written sink.new) (K.faults sink.old) (K.faults sink.new) (number_of result) }

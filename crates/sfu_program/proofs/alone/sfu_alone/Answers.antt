@@ -13,6 +13,7 @@ use Rattle.sfu_commands.specs.Trial.{ShowsTrial}
 use Rattle.sfu_commands.specs.Words.{Says}
 use Rattle.sfu_commands.proofs.IdWords.{one_id}
 use Rattle.sfu_commands.proofs.StreamNumbers.{same_stream}
+use Rattle.sfu_driver.proofs.Answering.{at_two, with_reads}
 use Rattle.sfu_program.proofs.Completing.{summary_inside, unit_inside, usage_inside}
 use Rattle.sfu_program.proofs.alone.sfu_alone.Goals as goal
 
@@ -105,3 +106,32 @@ returns-in-Some-Cascade-clause-inside g c = λ calm quiet. rw c.number-in-Some-C
 
 pub returns-in-None-clause-inside : goal.returns-in-None-clause-inside
 returns-in-None-clause-inside g c = λ calm quiet. rw c.number-in-None.ensures (inr (inl c.refuse.ensures.status))
+
+-- ---- the first fault
+
+pub returns-in-Some-Run-clause-first_fault : goal.returns-in-Some-Run-clause-first_fault
+returns-in-Some-Run-clause-first_fault g c = rw c.number.ensures c.run.ensures.runs.every.first_fault
+
+pub returns-in-Some-Convert-clause-first_fault : goal.returns-in-Some-Convert-clause-first_fault
+returns-in-Some-Convert-clause-first_fault g c = rw c.number-in-Some-Convert.ensures c.convert.ensures.converts.every.first_fault
+
+pub returns-in-Some-Simulcast-clause-first_fault : goal.returns-in-Some-Simulcast-clause-first_fault
+returns-in-Some-Simulcast-clause-first_fault g c = rw c.number-in-Some-Simulcast.ensures c.run_with_bundles.ensures.simulcasts.every.first_fault
+
+pub returns-in-Some-Help-clause-first_fault : goal.returns-in-Some-Help-clause-first_fault
+returns-in-Some-Help-clause-first_fault g c = rw c.number-in-Some-Help.ensures (with_reads _ _ _ _ _ refl c.help.ensures.first_fault)
+
+pub returns-in-Some-Check-clause-first_fault : goal.returns-in-Some-Check-clause-first_fault
+returns-in-Some-Check-clause-first_fault g c = rw c.number-in-Some-Check.ensures c.check.ensures.checks.every.first_fault
+
+pub returns-in-Some-Record-clause-first_fault : goal.returns-in-Some-Record-clause-first_fault
+returns-in-Some-Record-clause-first_fault g c = rw c.number-in-Some-Record.ensures c.record.ensures.records.every.first_fault
+
+pub returns-in-Some-Trial-clause-first_fault : goal.returns-in-Some-Trial-clause-first_fault
+returns-in-Some-Trial-clause-first_fault g c = rw c.number-in-Some-Trial.ensures (with_reads _ _ _ _ _ refl c.trial.ensures.first_fault)
+
+pub returns-in-Some-Cascade-clause-first_fault : goal.returns-in-Some-Cascade-clause-first_fault
+returns-in-Some-Cascade-clause-first_fault g c = rw c.number-in-Some-Cascade.ensures (with_reads _ _ _ _ _ refl c.cascade.ensures.first_fault)
+
+pub returns-in-None-clause-first_fault : goal.returns-in-None-clause-first_fault
+returns-in-None-clause-first_fault g c = rw c.number-in-None.ensures (rw c.refuse.ensures.status (at_two _ _ _ c.refuse.ensures.once))

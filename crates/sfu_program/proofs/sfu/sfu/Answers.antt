@@ -161,3 +161,14 @@ returns-clause-complete g c = λ none.
 
 pub returns-clause-inside : goal.returns-clause-inside
 returns-clause-inside g c = λ none. c.sfu_alone.ensures.inside none.reads none.writes
+
+-- ---- the first fault
+
+pub returns-then-are_together-clause-first_fault : goal.returns-then-are_together-clause-first_fault
+returns-then-are_together-clause-first_fault g c = record { exchange = rw c.number.ensures c.play_script.ensures.statuses.every.first_fault; ports = λ _. refl }
+
+pub returns-in-Some-clause-first_fault : goal.returns-in-Some-clause-first_fault
+returns-in-Some-clause-first_fault g c = record { exchange = rw c.number-in-Some.ensures c.serve.ensures.first_fault; ports = rw c.number-in-Some.ensures c.serve.ensures.calm }
+
+pub returns-clause-first_fault : goal.returns-clause-first_fault
+returns-clause-first_fault g c = record { exchange = c.sfu_alone.ensures.first_fault; ports = λ _. refl }

@@ -62,4 +62,5 @@ returns-clause-ends g c =
       returned = c.end_all.ensures.returned ∙ ap (after_backs (map (λ session. session.link) ended)) c.in-Ok.ensures.returned;
     })
     (λ some. rose_then (g.P.Ports.faults c.args.ports.now) (g.P.Ports.faults c.bind_all.new.ports) (g.P.Ports.faults c.end_all.new.ports) c.bind_all.ensures.never_falls (c.end_all.ensures.rose some))
+    (λ none. c.end_all.ensures.calm none ∙ c.in-Ok.ensures.kept)
     c.end_all.ensures.ends

@@ -10,6 +10,7 @@ use Rattle.port_config.proofs.Apart.{apart_ports}
 use Rattle.port_config.proofs.Counts.{few_calls, few_ports}
 use Rattle.sfu_program.proofs.serve.command.serve.Goals as goal
 use Rattle.sfu_driver.specs.Statuses.{number_of}
+use Rattle.sfu_driver.proofs.Answering.{with_reads}
 
 pub act-requires-clause-calls : goal.act-requires-clause-calls
 act-requires-clause-calls g c κs within =
@@ -50,9 +51,11 @@ returns-in-Ok g c =
     let said : Acts told faults c.args.limit setup.calls setup.ports w1 w' f1 f' old new status =
     subst (λ (calls : List Call). Acts told faults c.args.limit calls setup.ports w1 w' f1 f' old new status) read.setup.calls
     (subst (λ (lines : List PortLine). Acts told faults c.args.limit c.in-Ok.served.calls lines w1 w' f1 f' old new status) read.setup.ports acts) in
-    let all = acts_before told faults c.args.limit setup.calls setup.ports w w1 w' f f1 f' old new status c.read_served.ensures.never_falls read.unwritten said in
+    let all = acts_before told faults c.args.limit setup.calls setup.ports w w1 w' f f1 f' old new status c.in-Ok.ensures.kept.1 read.unwritten said in
     record {
       came = inr (record { bytes = read.bytes; consumed = read.consumed; at_end = read.at_end; whole = read.whole; acts = all });
+      first_fault = with_reads (g.S.Source.faults c.args.source.now) (g.S.Source.faults c.read_served.new.source) f f' status c.in-Ok.ensures.kept.0 all.first_fault;
+      calm = all.calm;
       only = acts_only status all.only;
       complete = λ read calm quiet. acts_complete status f f' old.faults new.faults all.sink all.ports all.only calm quiet;
     }

@@ -25,5 +25,6 @@ loop-line-preserved g c =
       bound = c.in_ok-job.ensures.bound ∙ ap (λ n. n + 1) inv.bound;
       back_count = c.in_ok-job.ensures.back_count ∙ inv.back_count;
       returned = c.in_ok-job.ensures.returned ∙ inv.returned;
+      kept = c.in_ok-job.ensures.cause.counts ∙ inv.kept;
       never_falls = let n = c.in_ok-job.ensures.cause.never_falls in let m = inv.never_falls in omega arith;
     }

@@ -11,5 +11,6 @@ invariant-loop-line g l = record {
   bound : g.P.Ports.bound l.ports ≡ l.line-index;
   back_count : g.P.Ports.back_count l.ports ≡ g.P.Ports.back_count l.initial.ports;
   returned : g.P.Ports.returned l.ports ≡ g.P.Ports.returned l.initial.ports;
+  kept : g.P.Ports.faults l.ports ≡ g.P.Ports.faults l.initial.ports;
   never_falls : g.P.Ports.faults l.initial.ports ≤ g.P.Ports.faults l.ports;
 }
