@@ -12,7 +12,6 @@ use Rattle.sfu_driver.specs.Statuses.{Completes, Decides, Due, FirstFault, IsPro
 use Rattle.sfu_driver.specs.declared.halt.Interruption.TheVariants.{SourceFault, SinkFault}
 use Rattle.sfu_driver.proofs.Answering.{first_fault_by}
 use Rattle.sfu_driver.proofs.Counting.{rose_by}
-use Rattle.sfu_driver.proofs.Reading.{reads_none}
 use Rattle.sfu_driver.proofs.Fronts.{end_after, front_longer, part_after, part_front, part_longer, rose_since}
 
 if_some : (left : Option (List ℕ)) (P Q : List ℕ → Type 0) → ((b : List ℕ) → P b → Q b) → IfSome left P → IfSome left Q
@@ -121,7 +120,6 @@ failed_at_once whole part left left' w g g' f none once keeps = record {
   complete = λ a c. absurd (a rose);
   every = record {
     prompt = record { earlier = []; piece = []; consumed = from; small = omega arith; goes = goes; wrote = λ some. absurd (omega arith) };
-    in_reads = reads_none;
     bounded = omega arith;
     says = record {
       done = λ e. absurd (omega arith);
@@ -207,7 +205,6 @@ module _ (head : List ℕ) (whole part : List ℕ → Due) where
     complete = λ a c. s.complete a (λ rose. c (rose_since f0 f1 f' le rose));
     every = record {
       prompt = prompt_behind left left' w0 w1 w' first s.every.prompt;
-      in_reads = s.every.in_reads;
       bounded = s.every.bounded;
       says = says_behind (s.every.prompt.earlier ++ s.every.prompt.piece) left' w0 w1 w' f0 f1 f' status le first s.every.says;
       complete = λ a c. s.every.complete a (λ rose. c (rose_since f0 f1 f' le rose));
@@ -236,7 +233,6 @@ module _ (head : List ℕ) (whole part : List ℕ → Due) where
     complete = λ a c. absurd (c rose);
     every = record {
       prompt = record { earlier = []; piece = []; consumed = Consumes-nil left; small = omega arith; goes = goes; wrote = λ some. absurd (omega arith) };
-      in_reads = reads_none;
       bounded = omega arith;
       says = record {
         done = λ e. absurd (omega arith);

@@ -9,7 +9,6 @@ use Rattle.sfu_driver.specs.Outcome.{End}
 use Rattle.sfu_driver.specs.declared.halt.Halt.TheVariants.{Starved}
 use Rattle.sfu_driver.specs.declared.halt.Interruption.TheVariants.{Halted}
 use Rattle.sfu_driver.proofs.Answering.{first_fault_by}
-use Rattle.sfu_driver.proofs.Reading.{reads_none}
 use Rattle.sfu_driver.specs.Statuses.{Completes, Due, Statuses, full_text, status_of}
 
 if_some : {X : Type 0} (o : Option X) (P : X → Type 0) → ((x : X) → P x) → IfSome o P
@@ -50,7 +49,6 @@ starved_at_once whole part left w g f none = record {
   complete = λ a b. if_some left _ (λ bytes. completes (whole bytes).end);
   every = record {
     prompt = record { earlier = []; piece = []; consumed = Consumes-nil left; small = omega arith; goes = ap (λ (d : Due). d.end) none; wrote = λ some. absurd (omega arith) };
-    in_reads = reads_none;
     bounded = omega arith;
     says = record {
       done = λ e. absurd cc;

@@ -247,7 +247,6 @@ abbrev pub every_of : {U S T : Type 0} (stands : U → T → Type 0) (byte : S �
     → OfEvery (λ bytes. due_of (then_due (takes byte s bytes) ends)) (λ taken. due_of (takes byte s taken)) left left' w w' g g' f f' (status_for result)
 every_of stands byte ends s new left left' w w' g g' f f' result cause d = record {
   prompt = prompt_of stands byte ends s new left left' w w' f f' result d;
-  in_reads = d.reads;
   bounded = d.bounded;
   says = says_by stands byte ends s (d.earlier ++ d.piece) new left' w w' f f' result d.by_result;
   complete = completes_by stands byte ends s (d.earlier ++ d.piece) new left' w w' g g' f f' result cause d.by_result;

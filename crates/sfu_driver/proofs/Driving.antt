@@ -174,7 +174,6 @@ drove_took {U} {V} {S} {T} wants at stands byte ends u u1 new r r1 left left' w0
   piece = took.piece;
   consumed = took.consumed;
   small = took.small;
-  reads = took.reads;
   bounded = took.bounded;
   first = took.first s stand;
   by_result = stopped_drove (wants u1) stands byte ends s (took.earlier ++ took.piece) new left' w0 w1 f0 f1 stop
@@ -203,7 +202,6 @@ drove_ended {U} {V} {S} {T} wants at stands byte ends u u1 new r r1 left left' w
       piece = took.piece;
       consumed = took.consumed;
       small = took.small;
-      reads = took.reads;
       bounded = took.bounded;
       first = (first.0, first.1 ++ more.0, subst (Appends w0 w2) (append_assoc text first.1 more.0) (Appends-trans w0 w1 w2 (text ++ first.1) more.0 first.2 more.1));
       by_result = ended_drove at stands byte ends s bytes u1 new r1 left' w0 w1 w2 f0 f1 f2 result le a empty end last;

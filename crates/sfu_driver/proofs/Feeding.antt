@@ -16,7 +16,6 @@ use Rattle.sfu_driver.specs.Drive.{Fed, Feeds, FeedsBy, Halts, Judges, Nexts, St
 use Rattle.sfu_driver.proofs.Takes.{takes_front, takes_ok}
 use Rattle.sfu_driver.specs.Reads.{BeginsWith, most_bytes}
 use Rattle.sfu_driver.proofs.Fronts.{end_after, part_after, part_longer, rose_since}
-use Rattle.sfu_driver.proofs.Reading.{reads_none, reads_on}
 
 -- ---- bytes after others
 
@@ -189,7 +188,6 @@ took_none wants stands byte u r left w f f' = record {
   piece = [];
   consumed = Consumes-nil left;
   small = omega arith;
-  reads = reads_none;
   bounded = omega arith;
   first = λ s stand. (refl, [], Appends-nil w);
   feeds = feeds_none wants stands byte u r w f f';
@@ -205,7 +203,6 @@ took_on wants stands byte u0 u1 u2 r0 r1 r2 left0 left1 left2 w0 w1 w2 f0 f1 f2 
   piece = piece;
   consumed = Consumes-trans left0 left1 left2 (took.earlier ++ took.piece) piece took.consumed consumed;
   small = small;
-  reads = reads_on took.earlier took.piece took.reads took.small;
   bounded = bounded;
   first = λ s stand.
       let bytes = took.earlier ++ took.piece in
@@ -231,7 +228,6 @@ took_all wants stands byte u0 u1 r0 r1 left left1 left2 w0 w1 f0 f1 result took 
   piece = took.piece;
   consumed = subst (Consumes left left2) (append-nil (took.earlier ++ took.piece)) (Consumes-trans left left1 left2 (took.earlier ++ took.piece) [] took.consumed none);
   small = took.small;
-  reads = took.reads;
   bounded = took.bounded;
   first = took.first;
   feeds = took.feeds;
@@ -245,7 +241,6 @@ took_fails wants stands byte u0 u1 r0 r1 left left1 left2 w0 w1 f0 f1 empty took
   piece = took.piece;
   consumed = Consumes-kept left left1 left2 (took.earlier ++ took.piece) took.consumed keeps;
   small = took.small;
-  reads = took.reads;
   bounded = took.bounded;
   first = took.first;
   feeds = λ s stand.

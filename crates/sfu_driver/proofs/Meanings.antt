@@ -56,7 +56,6 @@ abbrev pub every_alike : (whole part whole' part' : List ℕ → Due) (left left
     → ((front more : List ℕ) → x.prompt.earlier ++ x.prompt.piece ≡ front ++ more → part front ≡ part' front) → OfEvery whole' part' left left' w w' g g' f f' status
 every_alike whole part whole' part' left left' w w' g g' f f' status x same same_part = record {
   prompt = prompt_alike part part' left left' w w' x.prompt (same_part x.prompt.earlier x.prompt.piece refl);
-  in_reads = x.in_reads;
   bounded = x.bounded;
   says = says_alike whole part whole' part' (x.prompt.earlier ++ x.prompt.piece) left' w w' f f' status same same_part x.says;
   complete = λ a c. subst (λ (d : Due). Completes d.end status) same (x.complete a c);

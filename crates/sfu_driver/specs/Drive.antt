@@ -9,7 +9,7 @@ use Rattle.sfu_driver.specs.declared.halt.Halt.TheVariants.{Ended, Starved}
 use Rattle.sfu_driver.specs.declared.halt.Interruption.{Interruption}
 use Rattle.sfu_driver.specs.declared.halt.Interruption.TheVariants.{SourceFault, SinkFault, Halted}
 use Rattle.sfu_driver.specs.Outcome.{End, Outcome, ends_with, takes, then_due}
-use Rattle.sfu_driver.specs.Reads.{BeginsWith, CameInReads, most_bytes}
+use Rattle.sfu_driver.specs.Reads.{BeginsWith, most_bytes}
 
 -- ---- what is written
 
@@ -126,7 +126,6 @@ pub record Took {U S : Type 0} (wants stands : U → S → Type 0) (byte : S →
   pub piece : List ℕ
   pub consumed : Consumes left left' (earlier ++ piece)
   pub small : length piece ≤ 65536
-  pub reads : CameInReads earlier
   pub bounded : length earlier < most_bytes
   pub first : (state : S) → stands old state → WritesFirst byte state earlier written written'
   pub feeds : Feeds wants stands byte old (earlier ++ piece) new ready ready' written written' faults faults' result
@@ -202,7 +201,6 @@ pub record Drove {U S T : Type 0} (stands : U → T → Type 0) (byte : S → �
   pub piece : List ℕ
   pub consumed : Consumes left left' (earlier ++ piece)
   pub small : length piece ≤ 65536
-  pub reads : CameInReads earlier
   pub bounded : length earlier < most_bytes
   pub first : WritesFirst byte state earlier written written'
   pub by_result : DroveBy stands byte ends state (earlier ++ piece) new left' written written' faults faults' result

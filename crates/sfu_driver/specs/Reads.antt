@@ -1,17 +1,5 @@
 -- What the reads of a command gave. Own rule.
-use Rattle.std.specs.Prelude.{◌≡◌, ℕ, ◌*◌, ◌<◌, ◌≤◌, List, [], ◌++◌, length}
-use Rattle.std.specs.List.{AllByRecursion, concat}
-
--- a read took at least one byte, and not more than 65,536
-abbrev pub IsRead : List ℕ → Type 0
-IsRead piece = (0 < length piece) × (length piece ≤ 65536)
-
--- Bytes that came in reads each of which took at least one. So there were at most as many reads as bytes.
-pub record CameInReads (bytes : List ℕ) : Type 0 where
-  pub pieces : List (List ℕ)
-  pub joined : concat pieces ≡ bytes
-  pub each : AllByRecursion IsRead pieces
-  pub few : length pieces ≤ length bytes
+use Rattle.std.specs.Prelude.{◌≡◌, ℕ, ◌*◌, List, [], ◌++◌, length}
 
 -- More bytes than are taken before a command ends: with its end a unit has at most 4,201, and their numbers go up to 4,294,967,295.
 abbrev pub most_bytes : ℕ

@@ -13,7 +13,7 @@ use Rattle.sfu_driver.specs.declared.statuses.Status.{Status}
 use Rattle.sfu_driver.specs.declared.statuses.Status.TheVariants as status
 use Rattle.sfu_driver.specs.Outcome.{End, Outcome}
 use Rattle.sfu_driver.specs.Drive.{WritesEnd, WritesFront, WritesPart, end_by}
-use Rattle.sfu_driver.specs.Reads.{BeginsWith, CameInReads, most_bytes}
+use Rattle.sfu_driver.specs.Reads.{BeginsWith, most_bytes}
 
 -- a text, and why the input ends the command behind it, with its last text, if it does
 pub record Due : Type 0 where
@@ -119,11 +119,9 @@ pub record SaysOf (whole part : List ℕ → Due) (taken : List ℕ) (left' writ
   -- whatever the status, a front of what is due was written
   pub begun : WritesFront written written' (full_text (whole taken))
 
--- What is said of every source. The bytes before the last piece came in reads that took some each, and units are bounded in length and
--- number: so the reads are.
+-- What is said of every source. Units are bounded in length and number: so are the bytes before the last piece.
 pub record OfEvery (whole part : List ℕ → Due) (left left' written written' : Option (List ℕ)) (reads reads' writes writes' status : ℕ) : Type 0 where
   pub prompt : IsPrompt part left left' written written'
-  pub in_reads : CameInReads prompt.earlier
   pub bounded : length prompt.earlier < most_bytes
   pub says : SaysOf whole part (prompt.earlier ++ prompt.piece) left' written written' writes writes' status
   -- where nothing outside fails, the status is the one of the bytes that were taken, or 6

@@ -7,7 +7,7 @@ use Rattle.sfu_base.specs.Faults.{Rose, raised}
 use Rattle.sfu_base.specs.Links.{Traffic}
 use Rattle.sfu_base.specs.declared.call.Call.{Call}
 use Rattle.turn_lock.specs.declared.history.Entry.{Entry}
-use Rattle.sfu_driver.specs.declared.halt.Halt.TheVariants.{Starved}
+use Rattle.sfu_driver.specs.declared.halt.Halt.TheVariants as halt
 use Rattle.sfu_driver.specs.declared.halt.Interruption.TheVariants.{Halted, SinkFault}
 use Rattle.sfu_driver.specs.Drive.{WritesPart}
 use Rattle.sfu_driver.specs.Statuses.{FirstFault}
@@ -23,7 +23,7 @@ use Rattle.sfu_serve.specs.declared.ends.SessionEnd.{SessionEnd}
 use Rattle.sfu_serve.specs.declared.ends.SessionEnd.TheVariants.{AllTurns, LinkFault, Worn}
 use Rattle.sfu_serve.specs.declared.run.Ended.{Ended}
 use Rattle.sfu_serve.specs.declared.run.Job.{Job}
-use Rattle.sfu_program.specs.Serve.{Acts, Ends, HasServed, HaveServed, afters}
+use Rattle.sfu_program.specs.Serve.{Acts, Ends, HasServed, HaveServed, Starved, afters}
 use Rattle.sfu_program.specs.ServeEnding.{EndsWith}
 use Rattle.sfu_program.specs.ServeEnds.{AreUnworn, all_made, ends_of, ends_text, is_all}
 use Rattle.sfu_program.specs.ServeOpening.{first_text}
@@ -50,7 +50,7 @@ rose_then a b c le r = omega arith
 
 -- at 6 none failed
 starved_once : {f f' : ℕ} → f' ≡ f → FirstFault 0 0 f f' 6
-starved_once {f} {f'} kept = first_fault_by 0 0 f f' (Err (Halted Starved)) (record { reading = refl; writing = kept })
+starved_once {f} {f'} kept = first_fault_by 0 0 f f' (Err (Halted halt.Starved)) (record { reading = refl; writing = kept })
 
 -- at 7 no write did
 at_seven : {f f' : ℕ} → f' ≡ f → FirstFault 0 0 f f' 7
@@ -127,12 +127,12 @@ module _ {L : Type 0} (told : L → Option Traffic) (faults : L → ℕ) where
 
   module _ (limit : ℕ) (calls : List Call) (lines : List PortLine) (w w' : Option (List ℕ)) (f f' : ℕ) (old new : PortsSeen L) where
     -- memory was wanting
-    pub ends_starved : Appends w w' [] → f' ≡ f → Ends told faults limit calls lines w w' f f' old new 6
-    ends_starved none kept = record {
+    pub ends_starved : Appends w w' [] → f' ≡ f → new.faults ≡ old.faults → Ends told faults limit calls lines w w' f f' old new 6
+    ends_starved none kept quiet = record {
       done = λ e. absurd (omega arith);
       sink = λ e. absurd (omega arith);
       unwritten = λ e. absurd (omega arith);
-      memory = λ e. none;
+      memory = λ e. (none, inl quiet);
       ports = λ e. absurd (omega arith);
       failed = λ e. absurd (omega arith);
       only = inr (inr (inl refl));
@@ -147,7 +147,7 @@ module _ {L : Type 0} (told : L → Option Traffic) (faults : L → ℕ) where
       sink = λ e. absurd (omega arith);
       unwritten = λ e. absurd (omega arith);
       memory = λ e. absurd (omega arith);
-      ports = λ e. unbound.rose;
+      ports = λ e. rose_by old.faults new.faults unbound.once;
       failed = λ e. inl (unbound, none);
       only = inr (inr (inr refl));
       first_fault = at_seven kept;
@@ -161,7 +161,7 @@ module _ {L : Type 0} (told : L → Option Traffic) (faults : L → ℕ) where
       done = λ e. (ended, served, (ends.done e).0, (ends.done e).1);
       sink = λ e. (ends.sink e).0;
       unwritten = λ e. (ended, served, (ends.sink e).1);
-      memory = ends.memory;
+      memory = λ e. (ends.memory e, inr (ended, served));
       ports = λ e. rose (some_failed limit served.served.history 1 lines served.jobs ended served.fresh served.served.each (ends.failed e).0);
       failed = λ e. inr (ended, served, (ends.failed e).0, (ends.failed e).1);
       only = ends.only;
@@ -204,7 +204,7 @@ module _ {L : Type 0} (told : L → Option Traffic) (faults : L → ℕ) where
     done = λ e. let d = ends.done e in (d.0, d.1, d.2, appends_both w w1 w' (first_text calls) (ends_text 1 (ends_of d.0)) first d.3);
     sink = λ e. subst (λ (n : ℕ). Rose n f') kept (ends.sink e);
     unwritten = λ e. let u = ends.unwritten e in inr (u.0, u.1, part_after w w1 w' (first_text calls) (ends_text 1 (ends_of u.0)) first u.2);
-    memory = λ e. inr (subst (λ (text : List ℕ). Appends w w' text) (append-nil (first_text calls)) (appends_both w w1 w' (first_text calls) [] first (ends.memory e)));
+    memory = λ e. inr (subst (λ (text : List ℕ). Appends w w' text) (append-nil (first_text calls)) (appends_both w w1 w' (first_text calls) [] first (ends.memory e).0), (ends.memory e).1);
     ports = ends.ports;
     failed = λ e. by_failure (ends.failed e);
     only = ends.only;
@@ -260,9 +260,10 @@ acts_before {L} told faults limit calls lines w w1 w' f f1 f' old new status kep
     by_part (inl part) = inl (part_after w w1 w' [] (first_text calls) none part.0, part.1)
     by_part (inr d) = inr (d.0, d.1, part_after w w1 w' [] (first_text calls ++ ends_text 1 (ends_of d.0)) none d.2)
 
-    by_memory : (Appends w1 w' [] × (new ≡ old)) ⊎ Appends w1 w' (first_text calls) → (Appends w w' [] × (new ≡ old)) ⊎ Appends w w' (first_text calls)
+    by_memory : (Appends w1 w' [] × (new ≡ old)) ⊎ (Appends w1 w' (first_text calls) × Starved told faults limit calls lines old new)
+        → (Appends w w' [] × (new ≡ old)) ⊎ (Appends w w' (first_text calls) × Starved told faults limit calls lines old new)
     by_memory (inl a) = inl (appends_behind w w1 w' [] none a.0, a.1)
-    by_memory (inr a) = inr (appends_behind w w1 w' (first_text calls) none a)
+    by_memory (inr a) = inr (appends_behind w w1 w' (first_text calls) none a.0, a.1)
 
     by_failure : (WasUnbound told faults lines old new × Appends w1 w' (first_text calls))
         ⊎ ((ended : List (Ended L)) × HasServed told faults limit calls lines old new ended × (all_made (ends_of ended) ≡ false) × Appends w1 w' (first_text calls ++ ends_text 1 (ends_of ended)))

@@ -1,10 +1,12 @@
 -- Ports that are bound and come back, one after another.
-use Rattle.std.proofs.Common.{◌≡◌, ◌⊎◌, inl, inr, ◌<◌, ◌≤◌, ℕ, List, [], ◌∷◌, ◌++◌, refl, sym, ap, ◌∙◌, arith, Option, Some, None, append-nil, append_assoc}
+use Rattle.std.proofs.Common.{◌≡◌, ◌⊎◌, inl, inr, ◌<◌, ◌≤◌, ℕ, List, [], ◌∷◌, ◌++◌, map, refl, sym, ap, ◌∙◌, arith, Option, Some, None, append-nil, append_assoc}
 use Rattle.sfu_base.specs.Faults.{Rose}
 use Rattle.sfu_base.specs.Ports.{CountsBack, after_back}
 use Rattle.sfu_script.specs.declared.ports.PortLine.{PortLine}
+use Rattle.sfu_base.specs.Links.{Traffic}
+use Rattle.sfu_serve.specs.declared.run.Job.{Job}
 use Rattle.sfu_serve.specs.Runs.{Before}
-use Rattle.sfu_program.specs.ServePorts.{AreFresh, IsFresh, NoFault, SomeFault, after_backs}
+use Rattle.sfu_program.specs.ServePorts.{AreFresh, IsFresh, NoFault, SomeFault, after_backs, befores}
 
 -- one line more, and its job
 pub fresh_more : (lines : List PortLine) (jobs : List Before) (line : PortLine) (job : Before) → AreFresh lines jobs → IsFresh line job → AreFresh (lines ++ line ∷ []) (jobs ++ job ∷ [])
@@ -49,3 +51,9 @@ module _ {L : Type 0} where
   -- the count stays where none of them has
   pub calm_more : (faults : L → ℕ) (links : List L) (link : L) (first before now : ℕ) → (NoFault faults links → before ≡ first) → CountsBack (faults link) before now → NoFault faults (links ++ link ∷ []) → now ≡ first
   calm_more faults links link first before now calm counts none = let both = no_fault_last faults links link none in counts.stays both.1 ∙ calm both.0
+
+-- ports that were just bound have no faults
+pub fresh_quiet : {L : Type 0} (told : L → Option Traffic) (faults : L → ℕ) (lines : List PortLine) (jobs : List (Job L)) → AreFresh lines (befores told faults jobs) → NoFault faults (map (λ job. job.link) jobs)
+fresh_quiet told faults lines [] fresh = tt
+fresh_quiet told faults [] (job ∷ jobs) fresh = absurd fresh
+fresh_quiet told faults (line ∷ lines) (job ∷ jobs) fresh = (fresh.0.quiet, fresh_quiet told faults lines jobs fresh.1)

@@ -47,6 +47,11 @@ pub record HasServed {L : Type 0} (told : L → Option Traffic) (faults : L → 
   pub back : new.back ≡ length lines
   pub returned : new.returned ≡ after_backs (map (λ session. session.link) ended) old.returned
 
+-- Where memory was wanting no bind failed. So no port failed, but where all sessions had ended.
+abbrev pub Starved : {L : Type 0} → (L → Option Traffic) → (L → ℕ) → ℕ → List Call → List PortLine → PortsSeen L → PortsSeen L → Type 0
+Starved {L} told faults limit calls lines old new =
+    (new.faults ≡ old.faults) ⊎ ((ended : List (Ended L)) × HasServed told faults limit calls lines old new ended)
+
 -- What came of the ports of these lines, behind these calls.
 pub record Ends {L : Type 0} (told : L → Option Traffic) (faults : L → ℕ) (limit : ℕ) (calls : List Call) (lines : List PortLine)
     (written written' : Option (List ℕ)) (writes writes' : ℕ) (old new : PortsSeen L) (status : ℕ) : Type 0 where
@@ -57,8 +62,8 @@ pub record Ends {L : Type 0} (told : L → Option Traffic) (faults : L → ℕ) 
   pub sink : status ≡ 4 → Rose writes writes'
   pub unwritten : status ≡ 4 → (ended : List (Ended L)) × HasServed told faults limit calls lines old new ended
       × WritesPart written written' (ends_text 1 (ends_of ended))
-  -- 6: memory was wanting, and nothing was written
-  pub memory : status ≡ 6 → Appends written written' []
+  -- 6: memory was wanting, and nothing was written; no bind failed, and where a session's link did, all ports came back
+  pub memory : status ≡ 6 → Appends written written' [] × Starved told faults limit calls lines old new
   -- 7: a port wasn't bound, so no session started; or the link of a session failed, and the lines were written
   pub ports : status ≡ 7 → Rose old.faults new.faults
   pub failed : status ≡ 7 → (WasUnbound told faults lines old new × Appends written written' [])
@@ -83,8 +88,9 @@ pub record Acts {L : Type 0} (told : L → Option Traffic) (faults : L → ℕ) 
   pub sink : status ≡ 4 → Rose writes writes'
   pub unwritten : status ≡ 4 → (WritesPart written written' (first_text calls) × (new ≡ old))
       ⊎ ((ended : List (Ended L)) × HasServed told faults limit calls lines old new ended × WritesPart written written' (serve_text calls ended))
-  -- 6: memory was wanting; nothing was written, or the replies to the first calls
-  pub memory : status ≡ 6 → (Appends written written' [] × (new ≡ old)) ⊎ Appends written written' (first_text calls)
+  -- 6: memory was wanting; nothing was written, or the replies to the first calls. No bind failed, and where a session's link did, all ports came back
+  pub memory : status ≡ 6 → (Appends written written' [] × (new ≡ old))
+      ⊎ (Appends written written' (first_text calls) × Starved told faults limit calls lines old new)
   -- 7: a port wasn't bound, so no session started and the replies alone were written; or the link of a session failed, and all was written
   pub ports : status ≡ 7 → Rose old.faults new.faults
   pub failed : status ≡ 7 → (WasUnbound told faults lines old new × Appends written written' (first_text calls))

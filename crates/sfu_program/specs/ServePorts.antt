@@ -1,7 +1,7 @@
 -- Ports that are bound for sessions, and that come back. Own rule.
 use Rattle.std.specs.Prelude.{◌≡◌, ◌⊎◌, ◌<◌, ℕ, List, [], ◌∷◌, ◌++◌, length, map, take, Option}
 use Rattle.std.specs.Option.{option_map}
-use Rattle.sfu_base.specs.Faults.{Rose}
+use Rattle.sfu_base.specs.Faults.{raised}
 use Rattle.sfu_base.specs.Links.{Traffic}
 use Rattle.sfu_base.specs.Ports.{tells_nothing_yet}
 use Rattle.sfu_script.specs.declared.ports.PortLine.{PortLine}
@@ -63,7 +63,7 @@ pub record PortsSeen (L : Type 0) : Type 0 where
 abbrev pub seen_ports : {L : Type 0} → ℕ → ℕ → Option (List L) → ℕ → PortsSeen L
 seen_ports bound back returned faults = record { bound = bound; back = back; returned = returned; faults = faults }
 
--- A port wasn't bound. Those of the lines before it were, in their order, and came back.
+-- A port wasn't bound: one bind failed, and no other was made. Those of the lines before it were bound, in their order, and came back.
 pub record WasUnbound {L : Type 0} (told : L → Option Traffic) (faults : L → ℕ) (lines : List PortLine) (old new : PortsSeen L) : Type 0 where
   pub jobs : List (Job L)
   pub fewer : length jobs < length lines
@@ -71,4 +71,4 @@ pub record WasUnbound {L : Type 0} (told : L → Option Traffic) (faults : L →
   pub bound : new.bound ≡ length jobs
   pub back : new.back ≡ length jobs
   pub returned : new.returned ≡ after_backs (map (λ job. job.link) jobs) old.returned
-  pub rose : Rose old.faults new.faults
+  pub once : new.faults ≡ raised old.faults

@@ -123,7 +123,6 @@ module _ (left left' w w1 : Option (List ℕ)) (g g' f f1 : ℕ) (actors : Actor
       complete = λ a c. if_some left _ _ (λ b x. subst (λ (d : Due). Completes d.end 6) (sym (journal_due [] b x.1)) (inr refl)) read_whole;
       every = record {
         prompt = prompt;
-        in_reads = reads.statuses.every.in_reads;
         bounded = reads.statuses.every.bounded;
         says = record {
           done = λ e. absurd (let no : 6 ≡ 0 = e in omega arith);
@@ -170,7 +169,6 @@ module _ (left left' w w1 : Option (List ℕ)) (g g' f f1 : ℕ) (actors : Actor
           complete = λ a c. if_some left _ _ (λ b x. subst (λ (d : Due). Completes d.end 0) (sym (journal_due h b x.1)) (inl refl)) read_whole;
           every = record {
             prompt = prompt_on w2 (journal_text h) all;
-            in_reads = reads.statuses.every.in_reads;
             bounded = reads.statuses.every.bounded;
             says = record {
               done = λ e. subst (λ (d : Due). IsAtEnd left' × (d.end ≡ None) × Appends w w2 d.text) (sym (journal_due h taken taken_whole)) (taken_end, refl, all);
@@ -213,7 +211,6 @@ module _ (left left' w w1 : Option (List ℕ)) (g g' f f1 : ℕ) (actors : Actor
           complete = λ a c. absurd (c risen);
           every = record {
             prompt = prompt_on w2 part.text all;
-            in_reads = reads.statuses.every.in_reads;
             bounded = reads.statuses.every.bounded;
             says = record {
               done = λ e. absurd (let no : 4 ≡ 0 = e in omega arith);

@@ -1,7 +1,7 @@
 // The ports of `serve`: bound in order, and given back in order.
 ghost use Rattle.std.specs.Prelude.{◌≡◌, ◌+◌, ◌<◌, ◌≤◌, ℕ, [], length, map, take, vec_len, IfErr, IfOk, OnErr, OnOk};
 ghost use Rattle.std.specs.Vec.{vec_capacity};
-ghost use Rattle.sfu_base.specs.Faults.{HasCause, Rose};
+ghost use Rattle.sfu_base.specs.Faults.{HasCause, Rose, raised};
 ghost use Rattle.sfu_base.specs.Ports.{after_bind};
 ghost use Rattle.sfu_serve.specs.Runs.{job_before};
 ghost use Rattle.sfu_program.specs.ServePorts.{AreFresh, IsFresh, NoFault, WasUnbound, SomeFault, after_backs, befores, role_of, seen_ports};
@@ -74,7 +74,7 @@ fn bind_each<P: Ports>(
     requires unbound { P.bound ports.old ≡ 0 }
     ensures all { OnOk result (vec_len jobs.new ≡ length lines.now) }
     ensures failed { OnErr result (vec_len jobs.new < length lines.now) }
-    ensures rose { OnErr result (Rose (P.faults ports.old) (P.faults ports.new)) }
+    ensures once { OnErr result (P.faults ports.new ≡ raised (P.faults ports.old)) }
     ensures kept { OnOk result (P.faults ports.new ≡ P.faults ports.old) }
     ensures never_falls { P.faults ports.old ≤ P.faults ports.new }
     ensures fresh { AreFresh (take (vec_len jobs.new) lines.now) (befores P.Port.told P.Port.faults jobs.new.items) }
@@ -95,6 +95,7 @@ fn give_back<P: Ports>(jobs: Vec<Job<P::Port>>, ports: &mut P)
     ensures bound { P.bound ports.new ≡ P.bound ports.old }
     ensures back_count { P.back_count ports.new ≡ P.back_count ports.old + vec_len jobs }
     ensures returned { P.returned ports.new ≡ after_backs (map (λ job. job.link) jobs.items) (P.returned ports.old) }
+    ensures calm { NoFault P.Port.faults (map (λ job. job.link) jobs.items) → P.faults ports.new ≡ P.faults ports.old }
     ensures never_falls { P.faults ports.old ≤ P.faults ports.new }
 {
     for job in jobs {
@@ -120,6 +121,7 @@ pub fn give_back_ended<P: Ports>(ended: Vec<Ended<P::Port>>, ports: &mut P)
 }
 
 /// Binds the ports of lines in their order, each for a job. Where one fails, those that were bound before it are given back in order.
+#[tactic(auto, using(crate::proofs::ServeBacks::fresh_quiet))]
 pub fn bind_all<P: Ports>(
     alloc: Global,
     lines: &[PortLine],
