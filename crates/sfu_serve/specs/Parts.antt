@@ -64,7 +64,7 @@ MeetsEnd before after found limit (Post what next) turns (LinkFault turn) = Fail
 MeetsEnd before after found limit (Ask call f) turns Worn = (after ≡ before) × (found ≡ 2 ^ 63) × (turns ≤ limit)
 MeetsEnd before after found limit rest turns end = ⊥
 
--- What a session of `limit` turns makes of its seat and its link. All that was done failed no call: the one that failed ended it.
+-- What a session of `limit` turns makes of its seat and its link. Nothing of what is done failed: the first call on the link that fails ends it.
 pub record Keeps (whole : Doing) (limit : ℕ) (old new : Known Call) (told told' : Option Traffic) (before after : ℕ) (end : SessionEnd) : Type 0 where
   pub rest : Doing
   pub turns : ℕ
