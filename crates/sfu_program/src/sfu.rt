@@ -51,7 +51,7 @@ fn are_together(words: &[String]) -> bool
 }
 
 /// Does what the words say, and answers the program's status. Only `serve` binds ports and looks at the clock; each port that it bound for a
-/// session comes back.
+/// session comes back, but where memory is wanting for the sessions.
 ///
 /// Status 0: the source was read to its end, where the command reads it, and all that is due was written; in `serve` each session made all its
 /// turns. 2: the words are no command; nothing was read, and the usage line was written. 3 and 4: the source or the sink failed. 5: a line is
