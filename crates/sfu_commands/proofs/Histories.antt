@@ -215,6 +215,5 @@ bytes_are_served bytes are = record {
       (served_well (script_so_far front).calls [] (values (form_of front) (units_so_far (form_of front) front) (first_number (form_of front)) (part_fits (form_of front) front fits)) tt);
 }
 
-pub are_served : (left : Option (List ℕ)) → AreServed left
-are_served None = tt
-are_served (Some bytes) = bytes_are_served bytes
+pub are_served : AreServed
+are_served bytes are = bytes_are_served bytes are

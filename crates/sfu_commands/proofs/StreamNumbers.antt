@@ -1,6 +1,6 @@
 -- The words of a command that makes a stream, and the numbers that they say.
 use Rattle.std.proofs.Common.{◌≡◌, ◌⊎◌, inl, inr, ◌≤◌, ◌<◌, ℕ, List, [], ◌∷◌, length, sym, ap, subst, ◌∙◌, arith, Option, Some, None, slice_index, get_or}
-use Rattle.std.specs.Prelude.{MatchOption, codes, decimal}
+use Rattle.std.specs.Prelude.{decimal}
 use Rattle.sfu_script.specs.Reading.{◌>>=◌, number_of}
 use Rattle.sfu_script.specs.Fields.{fields_of}
 use Rattle.sfu_script.specs.declared.fields.Field.TheVariants.{Number64}

@@ -1,6 +1,6 @@
 -- What is promised to the subscribers of a script: own statement. The replies that `run` writes are those of the script's history, by
 -- its statuses; here is what is true of every such history.
-use Rattle.std.specs.Prelude.{◌≡◌, ℕ, List, ◌++◌, map, Option, IfSome}
+use Rattle.std.specs.Prelude.{◌≡◌, ℕ, List, ◌++◌, map}
 use Rattle.room_core.specs.History.{Entry, accepted}
 use Rattle.room_core.specs.Headline.{Headline}
 use Rattle.sfu_base.specs.Bytes.{AreBytes}
@@ -22,6 +22,6 @@ abbrev pub IsOfBytes : Form → List ℕ → Type 0
 IsOfBytes Lines bytes = Unit {0}
 IsOfBytes Records bytes = AreBytes bytes
 
--- the same of the bytes that a source still has, where it tells them
-abbrev pub AreServed : Option (List ℕ) → Type 0
-AreServed left = IfSome left (λ bytes. IsOfBytes (form_of bytes) bytes → IsServed bytes)
+-- The same of whatever bytes a source has, whether it tells them or not.
+abbrev pub AreServed : Type 0
+AreServed = (bytes : List ℕ) → IsOfBytes (form_of bytes) bytes → IsServed bytes

@@ -1,6 +1,6 @@
 -- The command `trial`: the stream of a number goes through a room to three subscribers, and what each took into a strict receiver of its own.
 -- Own rule. The code has a room and three receivers; here are the calls, and what the history of the calls says was taken.
-use Rattle.std.specs.Prelude.{◌≡◌, ◌⊎◌, ◌<◌, ◌≤◌, ◌+◌, ◌^◌, ℕ, zero, suc, min, fold, List, [], ◌∷◌, ◌++◌, length, reverse, Option, Some, None, is_some, codes, decimal}
+use Rattle.std.specs.Prelude.{◌≡◌, ◌⊎◌, ◌+◌, ℕ, zero, suc, min, fold, List, [], ◌∷◌, ◌++◌, length, Option, Some, None, is_some}
 use Rattle.std.specs.Io.KnownBytes.{Appends}
 use Rattle.sfu_base.specs.Bytes.{bit}
 use Rattle.sfu_base.specs.Faults.{Rose}
@@ -21,8 +21,7 @@ use Rattle.stream_maker.specs.declared.event.Event.{Event}
 use Rattle.stream_maker.specs.declared.event.Event.TheVariants as event
 use Rattle.stream_maker.specs.declared.place.Place.{Place}
 use Rattle.stream_maker.specs.Bytes.{packet_bytes}
-use Rattle.stream_maker.specs.Packets.{packets}
-use Rattle.stream_maker.specs.Stream.{Stream, counts_of, events}
+use Rattle.stream_maker.specs.Stream.{Stream, events}
 use Rattle.stream_maker.specs.Summary.{counts_text, made, made_text}
 use Rattle.stream_maker.specs.Turn.{Given}
 use Rattle.strict_receiver.specs.Receivers.{complaint_over, frames_over, greatest_count, packets_over}

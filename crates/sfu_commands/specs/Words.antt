@@ -1,5 +1,5 @@
 -- The words after the program's name, and which command they are. Own rule.
-use Rattle.std.specs.Prelude.{◌≡◌, ◌⊎◌, ℕ, List, [], ◌∷◌, Option, Some, None, codes}
+use Rattle.std.specs.Prelude.{◌≡◌, ℕ, List, [], ◌∷◌, Option, Some, None, codes}
 use Rattle.sfu_commands.specs.declared.words.Command.{Command}
 use Rattle.sfu_commands.specs.declared.words.Command.TheVariants.{Run, Convert, Simulcast, Help, Check, Record, Trial, Cascade}
 use Rattle.sfu_commands.specs.Run.{IsRun}

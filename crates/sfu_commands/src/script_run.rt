@@ -74,7 +74,7 @@ fn run_records<S: Source, K: Sink>(
 /// answers the status.
 pub fn run<S: Source, K: Sink>(alloc: Global, source: &mut S, sink: &mut K) -> Status
     ensures runs { Runs (exchange_of S.left S.faults K.written K.faults source.old source.new sink.old sink.new) (number_of result) }
-    ensures headline { AreServed (S.left source.old) }
+    ensures headline { AreServed }
     ensures only { IsRunStatus (number_of result) }
 {
     let mut piece = [0u8; MOST_PIECE];

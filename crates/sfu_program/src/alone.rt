@@ -41,7 +41,7 @@ pub fn sfu_alone<S: Source, K: Sink>(
 ) -> u8
     ensures run { IsRun (map string_bytes words.now)
         → Runs (exchange_of S.left S.faults K.written K.faults source.old source.new sink.old sink.new) result }
-    ensures headline { IsRun (map string_bytes words.now) → AreServed (S.left source.old) }
+    ensures headline { IsRun (map string_bytes words.now) → AreServed }
     ensures check { (id : ℕ) → IsCheck (map string_bytes words.now) id
         → Checks id (exchange_of S.left S.faults K.written K.faults source.old source.new sink.old sink.new) result }
     ensures record { (id : ℕ) → IsRecord (map string_bytes words.now) id

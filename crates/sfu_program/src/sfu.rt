@@ -71,7 +71,7 @@ pub fn sfu<W: Threads + Wait + Sync, S: Source, K: Sink, P: Ports, C: Clock + Sy
     requires unbound { P.bound ports.old ≡ 0 }
     ensures run { IsRun (map string_bytes words.now)
         → Runs (exchange_of S.left S.faults K.written K.faults source.old source.new sink.old sink.new) result }
-    ensures headline { IsRun (map string_bytes words.now) → AreServed (S.left source.old) }
+    ensures headline { IsRun (map string_bytes words.now) → AreServed }
     ensures check { (id : ℕ) → IsCheck (map string_bytes words.now) id
         → Checks id (exchange_of S.left S.faults K.written K.faults source.old source.new sink.old sink.new) result }
     ensures record { (id : ℕ) → IsRecord (map string_bytes words.now) id

@@ -1,4 +1,4 @@
-use Rattle.std.proofs.Common.{[], ℕ, List, refl, sym, subst}
+use Rattle.std.proofs.Common.{[], ℕ, List, refl}
 use Rattle.sfu_driver.specs.Outcome.{takes}
 use Rattle.sfu_driver.specs.Point.{byte, due}
 use Rattle.sfu_driver.specs.Statuses.{due_of, number_of}
@@ -7,7 +7,7 @@ use Rattle.sfu_driver.proofs.Meanings.{statuses_same}
 use Rattle.sfu_commands.specs.declared.form.Form.TheVariants.{Lines}
 use Rattle.sfu_commands.specs.Records.{header}
 use Rattle.sfu_commands.specs.Script.{judged_in, script_in}
-use Rattle.sfu_commands.specs.Convert.{Converts, records_due}
+use Rattle.sfu_commands.specs.Convert.{records_due}
 use Rattle.sfu_commands.proofs.Alike.{failed_before, statuses_behind}
 use Rattle.sfu_commands.proofs.Converting.{convert_is_due, convert_is_part, convert_rule, convert_statuses}
 use Rattle.sfu_commands.proofs.conversion.convert.Goals as goal

@@ -1,10 +1,10 @@
-use Rattle.std.proofs.Common.{[], refl, sym, subst, ℕ}
+use Rattle.std.proofs.Common.{[], refl}
 use Rattle.sfu_driver.specs.Outcome.{takes}
 use Rattle.sfu_driver.specs.Point.{byte, due}
 use Rattle.sfu_driver.specs.Statuses.{due_of, number_of}
 use Rattle.sfu_driver.proofs.Cutting.{at}
 use Rattle.sfu_driver.proofs.Meanings.{statuses_same}
-use Rattle.sfu_commands.specs.Check.{Checks, check_due, check_part, nothing_received}
+use Rattle.sfu_commands.specs.Check.{check_due, check_part, nothing_received}
 use Rattle.sfu_commands.proofs.Checking.{check_is_due, check_is_part, check_only, check_rule}
 use Rattle.sfu_commands.proofs.Starving.{starved_at_once}
 use Rattle.sfu_commands.proofs.packet_check.check.Goals as goal

@@ -1,11 +1,11 @@
-use Rattle.std.proofs.Common.{[], refl, sym, subst, ℕ}
+use Rattle.std.proofs.Common.{[], refl}
 use Rattle.sfu_driver.specs.Outcome.{takes}
 use Rattle.sfu_driver.specs.Point.{byte, due}
 use Rattle.sfu_driver.specs.Statuses.{due_of, number_of}
 use Rattle.sfu_driver.proofs.Cutting.{at}
 use Rattle.sfu_driver.proofs.Meanings.{statuses_same}
 use Rattle.sfu_commands.specs.Check.{nothing_received}
-use Rattle.sfu_commands.specs.Record.{Records, record_due, record_part}
+use Rattle.sfu_commands.specs.Record.{record_due, record_part}
 use Rattle.sfu_commands.proofs.Recording.{record_is_due, record_is_part, record_only, record_rule}
 use Rattle.sfu_commands.proofs.Starving.{starved_at_once}
 use Rattle.sfu_commands.proofs.packet_recording.record.Goals as goal

@@ -1,6 +1,6 @@
-use Rattle.std.proofs.Common.{◌≡◌, ℕ, refl, sym, subst, take, rules, arith}
+use Rattle.std.proofs.Common.{◌≡◌, refl, take, rules, arith}
 use Rattle.sfu_commands.specs.declared.form.Form.TheVariants.{Lines, Records}
-use Rattle.sfu_commands.specs.Run.{Runs, run_due, run_part}
+use Rattle.sfu_commands.specs.Run.{run_due, run_part}
 use Rattle.sfu_commands.specs.Script.{form_of}
 use Rattle.sfu_commands.proofs.Alike.{failed_at_once}
 use Rattle.sfu_commands.proofs.Histories.{are_served}
@@ -17,7 +17,7 @@ returns-in_default-clause-runs g c =
     c.in_default.ensures.cause.counts c.in_default.ensures.bytes
 
 pub returns-in_default-clause-headline : goal.returns-in_default-clause-headline
-returns-in_default-clause-headline g c = are_served (g.S.Source.left c.args.source.now)
+returns-in_default-clause-headline g c = are_served
 
 pub returns-in-Lines-clause-runs : goal.returns-in-Lines-clause-runs
 returns-in-Lines-clause-runs g c =
@@ -30,7 +30,7 @@ returns-in-Lines-clause-runs g c =
     (c.run_lines.ensures left (g.S.Source.faults c.args.source.now) c.in-Ok.ensures.bytes.0 c.in-Ok.ensures.cause.counts)
 
 pub returns-in-Lines-clause-headline : goal.returns-in-Lines-clause-headline
-returns-in-Lines-clause-headline g c = are_served (g.S.Source.left c.args.source.now)
+returns-in-Lines-clause-headline g c = are_served
 
 pub returns-in-Lines-clause-only : goal.returns-in-Lines-clause-only
 returns-in-Lines-clause-only g c = let runs = returns-in-Lines-clause-runs g c in run_only (number_of c.run_lines.result) runs.only
@@ -46,7 +46,7 @@ returns-in-Records-clause-runs g c =
     (c.run_records.ensures left (g.S.Source.faults c.args.source.now) c.in-Ok.ensures.bytes.0 c.in-Ok.ensures.cause.counts)
 
 pub returns-in-Records-clause-headline : goal.returns-in-Records-clause-headline
-returns-in-Records-clause-headline g c = are_served (g.S.Source.left c.args.source.now)
+returns-in-Records-clause-headline g c = are_served
 
 pub returns-in-Records-clause-only : goal.returns-in-Records-clause-only
 returns-in-Records-clause-only g c = let runs = returns-in-Records-clause-runs g c in run_only (number_of c.run_records.result) runs.only
