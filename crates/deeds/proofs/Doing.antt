@@ -5,16 +5,16 @@ use Rattle.turn_lock.specs.declared.history.Entry.{Entry}
 use Rattle.turn_lock.specs.History.{own_of, entry}
 use Rattle.turn_lock.specs.Known.{Known, KeepsSeat, Fits, MakesTurn, FindsWorn}
 use Rattle.deeds.specs.Deeds.{Deed, Listen, Ask, Post, Heard, Said, Posted, Word, received_of, said_of, sent_of, word_at, words_of}
-use Rattle.deeds.specs.Doing.{AllFitBuffers, FitsBuffer, IsDone}
+use Rattle.deeds.specs.Doing.{AllFitBuffers, FitsBuffer, IsDone, StarveWhereTheyMay}
 use Rattle.deeds.proofs.Words.{words_turn}
-use Rattle.deeds.proofs.Steps.{more_twice, more_none, all_fit, leads_on, leads_by, received_append, said_append, sent_append}
+use Rattle.deeds.proofs.Steps.{more_twice, more_none, all_fit, leads_on, leads_by, received_append, said_append, sent_append, starve_append, starve_wider}
 
 pub keeps_on : {C : Type 0} (j k l : Known C) → KeepsSeat j k → KeepsSeat k l → KeepsSeat j l
 keeps_on j k l p q = (q.0 ∙ p.0, q.1 ∙ p.1, q.2 ∙ p.2, q.3 ∙ p.3, q.4 ∙ p.4, (let a = p.5 in let b = q.5 in omega (arith, a, b)))
 
-module _ {C A D : Type 0} (reply : List (Entry C) → C → A) (starved : A) (IsOne : D → List ℕ → Type 0) (Holds : List (Entry C) → Type 0) where
+module _ {C A D : Type 0} (reply : List (Entry C) → C → A) (starved : A) (MayStarve : C → Type 0) (IsOne : D → List ℕ → Type 0) (Holds : List (Entry C) → Type 0) where
   abbrev Done : Deed C A D → Deed C A D → Known C → Known C → Option Traffic → Option Traffic → ℕ → ℕ → ℕ → Type 0
-  Done whole rest old new told told' before after turns = IsDone reply starved IsOne Holds whole rest old new told told' before after turns
+  Done whole rest old new told told' before after turns = IsDone reply starved MayStarve IsOne Holds whole rest old new told told' before after turns
 
   still_holds : (a b c : List (Entry C)) → (b ≡ a) ⊎ Holds b → (c ≡ b) ⊎ Holds c → (c ≡ a) ⊎ Holds c
   still_holds a b c before (inr holds) = inr holds
@@ -27,6 +27,7 @@ module _ {C A D : Type 0} (reply : List (Entry C) → C → A) (starved : A) (Is
     steps = [];
     leads = refl;
     words = sym (append-nil (words_of reply starved old.number old.seen));
+    memory = tt;
     holds = inl refl;
     link = more_none told;
     short = tt;
@@ -44,6 +45,7 @@ module _ {C A D : Type 0} (reply : List (Entry C) → C → A) (starved : A) (Is
     leads = leads_on IsOne whole p.steps mid q.steps rest p.leads q.leads;
     words = q.words ∙ (ap (λ (l : List (Word C A)). l ++ said_of q.steps) p.words ∙ (append_assoc (words_of reply starved a.number a.seen) (said_of p.steps) (said_of q.steps)
         ∙ ap (λ (l : List (Word C A)). words_of reply starved a.number a.seen ++ l) (sym (said_append p.steps q.steps))));
+    memory = subst (StarveWhereTheyMay starved MayStarve) (sym (said_append p.steps q.steps)) (starve_append starved MayStarve (said_of p.steps) (said_of q.steps) p.memory q.memory);
     holds = still_holds a.seen b.seen c.seen p.holds q.holds;
     link = q.link ∙ (ap (with_more (received_of q.steps) (sent_of q.steps)) p.link ∙ (more_twice (received_of p.steps) (received_of q.steps) (sent_of p.steps) (sent_of q.steps) told
         ∙ (λ i. with_more (sym (received_append p.steps q.steps) i) (sym (sent_append p.steps q.steps) i) told)));
@@ -61,6 +63,7 @@ module _ {C A D : Type 0} (reply : List (Entry C) → C → A) (starved : A) (Is
     steps = Heard got moment ∷ [];
     leads = leads_by IsOne (Listen f) (Heard got moment) (f got moment) refl;
     words = sym (append-nil (words_of reply starved now.number now.seen));
+    memory = tt;
     holds = inl refl;
     link = link;
     short = (short, tt);
@@ -77,6 +80,7 @@ module _ {C A D : Type 0} (reply : List (Entry C) → C → A) (starved : A) (Is
     steps = Posted packet ∷ [];
     leads = leads_by IsOne (Post what next) (Posted packet) next (is, refl);
     words = sym (append-nil (words_of reply starved now.number now.seen));
+    memory = tt;
     holds = inl refl;
     link = link;
     short = tt;
@@ -89,9 +93,9 @@ module _ {C A D : Type 0} (reply : List (Entry C) → C → A) (starved : A) (Is
   -- one call: its entry stands after a history, and the answer is the one of that history
   pub says : (call : C) (f : A → Deed C A D) (answer : A) (is_starved : Bool) (gives : List (Entry C) → Type 0) (place : ℕ) (old new : Known C) (told : Option Traffic) (faults : ℕ)
       → Fits old → MakesTurn old new (entry old.number call is_starved) place gives → ((h : List (Entry C)) → gives h → (if is_starved then starved else reply h call) ≡ answer)
-      → ((h : List (Entry C)) → gives h → Holds (h ++ entry old.number call is_starved ∷ [])) → Fits new
+      → ((h : List (Entry C)) → gives h → answer ≡ starved → MayStarve call) → ((h : List (Entry C)) → gives h → Holds (h ++ entry old.number call is_starved ∷ [])) → Fits new
       → Done (Ask call f) (f answer) old new told told faults faults 0
-  says call f answer is_starved gives place old new told faults fits t told_by holds_by fits' =
+  says call f answer is_starved gives place old new told faults fits t told_by starved_by holds_by fits' =
       let h : List (Entry C) = t.1.0 in
       let e : Entry C = entry old.number call is_starved in
       let w : Word C A = record { call = call; answer = answer } in
@@ -104,6 +108,7 @@ module _ {C A D : Type 0} (reply : List (Entry C) → C → A) (starved : A) (Is
         steps = Said call answer ∷ [];
         leads = leads_by IsOne (Ask call f) (Said call answer) (f answer) (refl, refl);
         words = ap (λ (m : ℕ). words_of reply starved m new.seen) t.0.2 ∙ all;
+        memory = (starved_by h t.1.3, tt);
         holds = inr (subst Holds (sym t.1.2) (holds_by h t.1.3));
         link = more_none told;
         short = tt;
@@ -120,6 +125,7 @@ module _ {C A D : Type 0} (reply : List (Entry C) → C → A) (starved : A) (Is
     steps = d.steps;
     leads = d.leads;
     words = d.words;
+    memory = d.memory;
     holds = d.holds;
     link = same ∙ d.link;
     short = d.short;
@@ -145,6 +151,7 @@ module _ {C A D : Type 0} (reply : List (Entry C) → C → A) (starved : A) (Is
         steps = d.steps;
         leads = d.leads;
         words = ap (λ (k : Known C). words_of reply starved k.number k.seen) w.0 ∙ d.words;
+        memory = d.memory;
         holds = still_holds old.seen new.seen new'.seen d.holds (inl (ap (λ (k : Known C). k.seen) w.0));
         link = d.link;
         short = d.short;
@@ -153,3 +160,21 @@ module _ {C A D : Type 0} (reply : List (Entry C) → C → A) (starved : A) (Is
         seat = keeps_on old new new' d.seat s;
         fits = fits;
       }
+
+module _ {C A D : Type 0} (reply : List (Entry C) → C → A) (starved : A) (MayStarve Wider : C → Type 0) (IsOne : D → List ℕ → Type 0) (Holds : List (Entry C) → Type 0) where
+  -- more calls may find no memory
+  pub widens : (whole rest : Deed C A D) (old new : Known C) (told told' : Option Traffic) (faults faults' turns : ℕ) → ((call : C) → MayStarve call → Wider call)
+      → IsDone reply starved MayStarve IsOne Holds whole rest old new told told' faults faults' turns → IsDone reply starved Wider IsOne Holds whole rest old new told told' faults faults' turns
+  widens whole rest old new told told' faults faults' turns wide d = record {
+    steps = d.steps;
+    leads = d.leads;
+    words = d.words;
+    memory = starve_wider starved MayStarve Wider (said_of d.steps) wide d.memory;
+    holds = d.holds;
+    link = d.link;
+    short = d.short;
+    count = d.count;
+    faults = d.faults;
+    seat = d.seat;
+    fits = d.fits;
+  }

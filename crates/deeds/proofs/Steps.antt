@@ -2,7 +2,7 @@
 use Rattle.std.proofs.Common.{◌≡◌, ℕ, List, [], ◌∷◌, ◌++◌, refl, ap, sym, subst, append-nil, append_assoc, Option, Some, None}
 use Rattle.sfu_base.specs.Links.{Traffic, with_more}
 use Rattle.deeds.specs.Deeds.{Deed, Step, Heard, Said, Posted, Word, Does, Leads, received_of, said_of, sent_of}
-use Rattle.deeds.specs.Doing.{AllFitBuffers}
+use Rattle.deeds.specs.Doing.{AllFitBuffers, StarveWhereTheyMay}
 
 pub more_twice : (us vs : List (Option (List ℕ))) (xs ys : List (List ℕ)) (told : Option Traffic) → with_more vs ys (with_more us xs told) ≡ with_more (us ++ vs) (xs ++ ys) told
 more_twice us vs xs ys None = refl
@@ -15,6 +15,16 @@ more_none (Some told) = ap Some (λ i. record { received = sym (append-nil told.
 pub all_fit : (us vs : List (Option (List ℕ))) → AllFitBuffers us → AllFitBuffers vs → AllFitBuffers (us ++ vs)
 all_fit [] vs p q = q
 all_fit (u ∷ us) vs p q = (p.0, all_fit us vs p.1 q)
+
+module _ {C A : Type 0} (starved : A) (MayStarve : C → Type 0) where
+  pub starve_append : (us vs : List (Word C A)) → StarveWhereTheyMay starved MayStarve us → StarveWhereTheyMay starved MayStarve vs → StarveWhereTheyMay starved MayStarve (us ++ vs)
+  starve_append [] vs p q = q
+  starve_append (u ∷ us) vs p q = (p.0, starve_append us vs p.1 q)
+
+  -- where more calls may
+  pub starve_wider : (Wider : C → Type 0) (us : List (Word C A)) → ((call : C) → MayStarve call → Wider call) → StarveWhereTheyMay starved MayStarve us → StarveWhereTheyMay starved Wider us
+  starve_wider Wider [] wide p = tt
+  starve_wider Wider (u ∷ us) wide p = (λ was. wide u.call (p.0 was), starve_wider Wider us wide p.1)
 
 module _ {C A D : Type 0} (IsOne : D → List ℕ → Type 0) where
   pub leads_on : (d : Deed C A D) (ss : List (Step C A)) (e : Deed C A D) (ts : List (Step C A)) (rest : Deed C A D) → Leads IsOne d ss e → Leads IsOne e ts rest → Leads IsOne d (ss ++ ts) rest
