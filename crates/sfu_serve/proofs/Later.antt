@@ -9,6 +9,7 @@ use Rattle.turn_lock.specs.declared.history.Entry.{Entry}
 use Rattle.turn_lock.specs.History.{own_of}
 use Rattle.turn_lock.specs.Known.{Known}
 use Rattle.deeds.specs.Deeds.{Listen, Ask, Post, Over, Word, said_of}
+use Rattle.deeds.specs.Doing.{StarveWhereTheyMay}
 use Rattle.deeds.proofs.Words.{words_none, words_same}
 use Rattle.deeds.proofs.Counting.{AsksAtMost, few_said}
 use Rattle.sfu_serve.specs.declared.ends.SessionEnd.{SessionEnd}
@@ -33,21 +34,35 @@ ends_later before after found found' limit (Ask call f) turns AllTurns p e = abs
 ends_later before after found found' limit (Ask call f) turns (LinkFault turn) p e = absurd e
 ends_later before after found found' limit (Ask call f) turns Worn p e = (e.0, p e.1, e.2)
 
--- a session of a seat with no entries stands in each later history in which the seat has no more
-pub is_session : (whole : Doing) (limit found : ℕ) (old new : Known Call) (history : List (Entry Call)) (told told' : Option Traffic) (before after : ℕ) (end : SessionEnd)
-    → Keeps whole limit old new told told' before after end → own_of old.number old.seen ≡ [] → IsPrefix new.seen history → own_of old.number history ≡ new.own → (new.found ≡ 2 ^ 63 → found ≡ 2 ^ 63)
-    → AsksAtMost whole (10000 * limit) → IsSession whole limit old.number found history told told' before after end
-is_session whole limit found old new history told told' before after end k none pre own worn few =
+-- the calls of a seat that had no entries are those of its session, in each later history in which the seat has no more
+pub later_words : (P : Call → Type 0) (whole : Doing) (limit : ℕ) (old new : Known Call) (history : List (Entry Call)) (told told' : Option Traffic) (before after : ℕ) (end : SessionEnd)
+    → (k : Keeps P whole limit old new told told' before after end) → own_of old.number old.seen ≡ [] → IsPrefix new.seen history → own_of old.number history ≡ new.own → words_of old.number history ≡ said_of k.done.steps
+later_words P whole limit old new history told told' before after end k none pre own =
     let d = k.done in
     let n : new.number ≡ old.number = d.seat.2 in
     let had : own_of old.number new.seen ≡ new.own = ap (λ (m : ℕ). own_of m new.seen) (sym n) ∙ d.fits.own in
     let same : words_of old.number history ≡ words_of old.number new.seen = words_same reply_after (Refused NoMemory) old.number new.seen history new.own pre had own in
     let start : words_of old.number old.seen ≡ [] = words_none reply_after (Refused NoMemory) [] old.number old.seen none in
+    same ∙ (ap (λ (m : ℕ). words_of m new.seen) (sym n) ∙ (d.words ∙ ap (λ (l : List (Word Call Answer)). l ++ said_of d.steps) start))
+
+-- and they were answered want of memory only where they may be
+pub later_memory : (P : Call → Type 0) (whole : Doing) (limit : ℕ) (old new : Known Call) (history : List (Entry Call)) (told told' : Option Traffic) (before after : ℕ) (end : SessionEnd)
+    → Keeps P whole limit old new told told' before after end → own_of old.number old.seen ≡ [] → IsPrefix new.seen history → own_of old.number history ≡ new.own
+    → StarveWhereTheyMay (Refused NoMemory) P (words_of old.number history)
+later_memory P whole limit old new history told told' before after end k none pre own =
+    subst (λ (l : List (Word Call Answer)). StarveWhereTheyMay (Refused NoMemory) P l) (sym (later_words P whole limit old new history told told' before after end k none pre own)) k.done.memory
+
+-- a session of a seat with no entries stands in each later history in which the seat has no more
+pub is_session : (P : Call → Type 0) (whole : Doing) (limit found : ℕ) (old new : Known Call) (history : List (Entry Call)) (told told' : Option Traffic) (before after : ℕ) (end : SessionEnd)
+    → Keeps P whole limit old new told told' before after end → own_of old.number old.seen ≡ [] → IsPrefix new.seen history → own_of old.number history ≡ new.own → (new.found ≡ 2 ^ 63 → found ≡ 2 ^ 63)
+    → AsksAtMost whole (10000 * limit) → IsSession whole limit old.number found history told told' before after end
+is_session P whole limit found old new history told told' before after end k none pre own worn few =
+    let d = k.done in
     record {
       steps = d.steps;
       rest = k.rest;
       leads = d.leads;
-      words = same ∙ (ap (λ (m : ℕ). words_of m new.seen) (sym n) ∙ (d.words ∙ ap (λ (l : List (Word Call Answer)). l ++ said_of d.steps) start));
+      words = later_words P whole limit old new history told told' before after end k none pre own;
       link = d.link;
       short = d.short;
       most = few_said IsOne whole d.steps k.rest (10000 * limit) d.leads d.short few;

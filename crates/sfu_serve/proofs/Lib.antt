@@ -6,6 +6,7 @@ pub mod Choosing
 pub mod Parting
 pub mod Ending
 pub mod Later
+pub mod Starving
 pub mod Casting
 pub mod Running
 pub mod FewItems

@@ -32,9 +32,15 @@ words_of n history = deeds.words_of reply_after (Refused NoMemory) n history
 pub record HasHeadline (history : List (Entry Call)) : Type 0 where
   pub headline : Headline (accepted (entries_of history))
 
--- so much of a session is done that the rest is left, after so many receives; a seat and a link went from old to new
-abbrev pub Done : Doing → Doing → Known Call → Known Call → Option Traffic → Option Traffic → ℕ → ℕ → ℕ → Type 0
-Done whole rest old new told told' before after turns = IsDone reply_after (Refused NoMemory) IsOne HasHeadline whole rest old new told told' before after turns
+-- So much of a session is done that the rest is left, after so many receives; a seat and a link went from old to new. Want of memory was
+-- answered only to calls that may find none.
+abbrev pub Done : (Call → Type 0) → Doing → Doing → Known Call → Known Call → Option Traffic → Option Traffic → ℕ → ℕ → ℕ → Type 0
+Done MayStarve whole rest old new told told' before after turns =
+    IsDone reply_after (Refused NoMemory) MayStarve IsOne HasHeadline whole rest old new told told' before after turns
+
+-- nothing was answered want of memory
+abbrev pub NoneMayStarve : Call → Type 0
+NoneMayStarve call = ⊥
 
 -- Exactly one call failed: the count is one more, or stood at 2^64 - 1 and stays there.
 pub record FailedOnce (before after : ℕ) : Type 0 where
@@ -43,16 +49,17 @@ pub record FailedOnce (before after : ℕ) : Type 0 where
 
 -- A part of a turn stopped where a datagram wasn't sent, since that call failed, the first one that did; or where a call wasn't made, since
 -- all tickets of the lock are drawn.
-abbrev pub Stops : Doing → Known Call → Known Call → Option Traffic → Option Traffic → ℕ → ℕ → TurnStop → Type 0
-Stops part old new told told' before after Lost =
-    (what : Datagram) × (rest : Doing) × Done part (Post what rest) old new told told' before before 0 × FailedOnce before after
-Stops part old new told told' before after Closed =
-    (call : Call) × (f : Answer → Doing) × Done part (Ask call f) old new told told' before after 0 × (new.found ≡ 2 ^ 63)
+abbrev pub Stops : (Call → Type 0) → Doing → Known Call → Known Call → Option Traffic → Option Traffic → ℕ → ℕ → TurnStop → Type 0
+Stops MayStarve part old new told told' before after Lost =
+    (what : Datagram) × (rest : Doing) × Done MayStarve part (Post what rest) old new told told' before before 0 × FailedOnce before after
+Stops MayStarve part old new told told' before after Closed =
+    (call : Call) × (f : Answer → Doing) × Done MayStarve part (Ask call f) old new told told' before after 0 × (new.found ≡ 2 ^ 63)
 
 -- A part of a turn is done and `next` is left, or it stopped.
-abbrev pub IsPart : {T : Type 0} → Doing → Doing → Known Call → Known Call → Option Traffic → Option Traffic → ℕ → ℕ → Result T TurnStop → Type 0
-IsPart part next old new told told' before after (Ok value) = Done part next old new told told' before after 0
-IsPart part next old new told told' before after (Err stop) = Stops part old new told told' before after stop
+abbrev pub IsPart : {T : Type 0} → (Call → Type 0) → Doing → Doing → Known Call → Known Call → Option Traffic → Option Traffic → ℕ → ℕ
+    → Result T TurnStop → Type 0
+IsPart MayStarve part next old new told told' before after (Ok value) = Done MayStarve part next old new told told' before after 0
+IsPart MayStarve part next old new told told' before after (Err stop) = Stops MayStarve part old new told told' before after stop
 
 -- How a session of `limit` turns ends, by where it stands then and after how many receives. `AllTurns`: it is over, that was after `limit`
 -- receives, and no call on its link failed. `LinkFault`: in this turn its receive failed, or a send, and no other call did. `Worn`: a call
@@ -65,8 +72,9 @@ MeetsEnd before after found limit (Ask call f) turns Worn = (after ≡ before) �
 MeetsEnd before after found limit rest turns end = ⊥
 
 -- What a session of `limit` turns makes of its seat and its link. Nothing of what is done failed: the first call on the link that fails ends it.
-pub record Keeps (whole : Doing) (limit : ℕ) (old new : Known Call) (told told' : Option Traffic) (before after : ℕ) (end : SessionEnd) : Type 0 where
+pub record Keeps (MayStarve : Call → Type 0) (whole : Doing) (limit : ℕ) (old new : Known Call) (told told' : Option Traffic)
+    (before after : ℕ) (end : SessionEnd) : Type 0 where
   pub rest : Doing
   pub turns : ℕ
-  pub done : Done whole rest old new told told' before before turns
+  pub done : Done MayStarve whole rest old new told told' before before turns
   pub ends : MeetsEnd before after new.found limit rest turns end

@@ -1,5 +1,5 @@
 -- What sessions that ran at once did together.
-use Rattle.std.specs.Prelude.{◌≡◌, ◌≢◌, ℕ, ◌+◌, ◌*◌, ◌<◌, ◌≤◌, List, [], ◌∷◌, ◌++◌, length, Option, None}
+use Rattle.std.specs.Prelude.{◌≡◌, ◌≢◌, IsTrue, ℕ, ◌+◌, ◌*◌, ◌<◌, ◌≤◌, List, [], ◌∷◌, ◌++◌, length, Option, None}
 use Rattle.sfu_base.specs.Links.{Traffic, with_more}
 use Rattle.sfu_base.specs.Answer.{Answer}
 use Rattle.sfu_base.specs.declared.call.Call.{Call}
@@ -69,8 +69,13 @@ AreSessions limit found history number (job ∷ jobs) (ended ∷ others) =
     × AreSessions limit found history (number + 1) jobs others
 AreSessions limit found history number _ _ = ⊥
 
+-- entries found no memory only where their calls may
+abbrev pub AllMayStarve : (Call → Type 0) → List (Entry Call) → Type 0
+AllMayStarve MayStarve [] = Unit {0}
+AllMayStarve MayStarve (e ∷ es) = (IsTrue e.starved → MayStarve e.call) × AllMayStarve MayStarve es
+
 -- The first seat has seen more of the history: entries of the jobs' seats alone, in which each job's session stands.
-pub record HaveRun (limit : ℕ) (old new : Known Call) (jobs : List Before) (ends : List After) : Type 0 where
+pub record HaveRun (MayStarve : Call → Type 0) (limit : ℕ) (old new : Known Call) (jobs : List Before) (ends : List After) : Type 0 where
   pub kept : (new.lock ≡ old.lock) × (new.first ≡ old.first) × (new.number ≡ 0)
   -- the first seat and one of each job were made, and no draw is forgotten
   pub count : new.count ≡ length jobs + 1
@@ -82,5 +87,7 @@ pub record HaveRun (limit : ℕ) (old new : Known Call) (jobs : List Before) (en
   pub seen : new.seen ≡ old.seen ++ added
   pub no_other : own_of 0 added ≡ []
   pub below : AllBelow (length jobs + 1) added
+  -- want of memory came only to calls that may find none
+  pub memory : AllMayStarve MayStarve added
   pub few : length added ≤ length jobs * (10000 * limit)
   pub each : AreSessions limit new.found new.seen 1 jobs ends

@@ -5,6 +5,7 @@ ghost use Rattle.turn_lock.specs.Known.{Fits};
 ghost use Rattle.sfu_serve.specs.Datagrams.{control_call, is_control};
 ghost use Rattle.sfu_serve.specs.Sessions.{Doing, answers, controls, control_deed};
 ghost use Rattle.sfu_serve.specs.Parts.{IsPart, Keeps};
+ghost use Rattle.sfu_serve.specs.Replies.{MayStarve};
 
 use crate::ends::{SessionEnd, TurnStop, end_at};
 use crate::shared_room::SharedRoom;
@@ -54,7 +55,7 @@ fn answer_line<R: Recorder, L: Link, W: Wait + Sync>(
 ) -> Result<(), TurnStop>
     requires lock { seat.old.lock ≡ turns.now }
     requires fits { Fits seat.old }
-    ensures part { (next : Doing) → IsPart (answers (control_call line.now) next) next
+    ensures part { (next : Doing) → IsPart (MayStarve R.may_refuse) (answers (control_call line.now) next) next
         seat.old seat.new (L.told link.old) (L.told link.new) (L.faults link.old) (L.faults link.new) result }
 {
     match read_control(line) {
@@ -86,7 +87,7 @@ fn control_turn<R: Recorder, L: Link, W: Wait + Sync>(
 ) -> Result<(), TurnStop>
     requires lock { seat.old.lock ≡ turns.now }
     requires fits { Fits seat.old }
-    ensures part { (next : Doing) → IsPart (controls (datagram came line.now) next) next
+    ensures part { (next : Doing) → IsPart (MayStarve R.may_refuse) (controls (datagram came line.now) next) next
         seat.old seat.new (L.told link.old) (L.told link.new) (L.faults link.old) (L.faults link.new) result }
     ensures bounded { length line.now ≤ 2048 }
 {
@@ -111,7 +112,8 @@ pub fn control_session<R: Recorder, L: Link, C: Clock, W: Wait + Sync>(
     scratch: &mut Scratch,
 ) -> SessionEnd
     requires lock { seat.old.lock ≡ turns.now }
-    ensures keeps { Keeps (control_deed limit) limit seat.old seat.new (L.told link.old) (L.told link.new) (L.faults link.old) (L.faults link.new) result }
+    ensures keeps { Keeps (MayStarve R.may_refuse) (control_deed limit) limit
+        seat.old seat.new (L.told link.old) (L.told link.new) (L.faults link.old) (L.faults link.new) result }
 {
     seat.lemma_fits();
     let mut line = PacketBuf::new();

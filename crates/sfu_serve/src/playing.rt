@@ -5,6 +5,7 @@ ghost use Rattle.turn_lock.specs.Known.{Fits};
 ghost use Rattle.sfu_serve.specs.Parts.{Keeps};
 ghost use Rattle.sfu_serve.specs.Runs.{CanBe, deed_of, job_after, job_before};
 ghost use Rattle.sfu_serve.specs.Playing.{ArePlayed, HaveJoined, counting, played_job, seated_from, seated_job};
+ghost use Rattle.sfu_serve.specs.Replies.{MayStarve};
 
 use crate::control::control_session;
 use crate::ends::SessionEnd;
@@ -84,7 +85,8 @@ fn session<R: Recorder, L: Link, C: Clock, W: Wait + Sync>(
 ) -> SessionEnd
     requires lock { seat.old.lock ≡ turns.now }
     requires role { CanBe role }
-    ensures keeps { Keeps (deed_of role limit) limit seat.old seat.new (L.told link.old) (L.told link.new) (L.faults link.old) (L.faults link.new) result }
+    ensures keeps { Keeps (MayStarve R.may_refuse) (deed_of role limit) limit
+        seat.old seat.new (L.told link.old) (L.told link.new) (L.faults link.old) (L.faults link.new) result }
 {
     match role {
         Role::Publisher { track, ssrc } => {
@@ -114,7 +116,7 @@ fn perform<R: Recorder, L: Link, C: Clock, W: Wait + Sync>(
 ) -> Played<R, L>
     requires lock { seated.seat.lock ≡ turns.now }
     requires role { CanBe seated.job.role }
-    ensures keeps { Keeps (deed_of seated.job.role limit) limit
+    ensures keeps { Keeps (MayStarve R.may_refuse) (deed_of seated.job.role limit) limit
         seated.seat result.seat (L.told seated.job.link) (L.told result.link) (L.faults seated.job.link) (L.faults result.link) result.end }
 {
     let mut scratch = Scratch {
@@ -145,7 +147,7 @@ pub fn play<R: Recorder + Send, L: Link + Send + Drop, C: Clock + Sync, W: Threa
     seated: Vec<Seated<R, L>>,
 ) -> Result<Vec<Played<R, L>>, NoMemory>
     requires ready { All (λ s. (s.seat.lock ≡ turns.now) × CanBe s.job.role) seated.items }
-    ensures { IfOk result (λ played. ArePlayed limit
+    ensures { IfOk result (λ played. ArePlayed (MayStarve R.may_refuse) limit
         (map (λ s. seated_job s.seat (job_before s.job.role (L.told s.job.link) (L.faults s.job.link))) seated.items)
         (map (λ p. played_job p.seat (job_after p.end (L.told p.link) (L.faults p.link))) played.items)) }
 {
@@ -154,7 +156,7 @@ pub fn play<R: Recorder + Send, L: Link + Send + Drop, C: Clock + Sync, W: Threa
         seated,
         &move |one: Seated<R, L>| -> Played<R, L>
             requires { (one.seat.lock ≡ turns.now) × CanBe one.job.role }
-            ensures { Keeps (deed_of one.job.role limit) limit
+            ensures { Keeps (MayStarve R.may_refuse) (deed_of one.job.role limit) limit
                 one.seat result.seat (L.told one.job.link) (L.told result.link) (L.faults one.job.link) (L.faults result.link) result.end }
         { perform(rt, turns, clock, limit, one) },
     ) else {

@@ -10,7 +10,8 @@ ghost use Rattle.rtcp_feedback.specs.Writing.{Rise};
 ghost use Rattle.deeds.specs.Deeds.{Ask};
 ghost use Rattle.sfu_serve.specs.Datagrams.{bytes_in};
 ghost use Rattle.sfu_serve.specs.Sessions.{Doing, asks, brings, is_due, nacks, pleads, publisher_deed};
-ghost use Rattle.sfu_serve.specs.Parts.{Done, IsPart, Keeps, Stops};
+ghost use Rattle.sfu_serve.specs.Parts.{Done, IsPart, Keeps, NoneMayStarve, Stops};
+ghost use Rattle.sfu_serve.specs.Replies.{MayStarve};
 
 use crate::ends::{SessionEnd, TurnStop, end_at};
 use crate::rtcp::is_rtcp;
@@ -86,7 +87,7 @@ fn bring<R: Recorder, W: Wait + Sync>(
     requires lock { seat.old.lock ≡ turns.now }
     requires fits { Fits seat.old }
     ensures part { (track moment : ℕ) (bytes : List ℕ) → packet.now ≡ call.Packet track moment bytes
-        → (next : Doing) (told : Option Traffic) (faults : ℕ) → IsPart (brings track moment (datagram came bytes) next) next
+        → (next : Doing) (told : Option Traffic) (faults : ℕ) → IsPart (MayStarve R.may_refuse) (brings track moment (datagram came bytes) next) next
         seat.old seat.new told told faults faults result }
     ensures bounded { length (bytes_in packet.now) ≤ 2048 }
 {
@@ -114,7 +115,7 @@ fn send_nack<L: Link>(
     out: &mut PacketBuf,
 ) -> Result<(), TurnStop>
     requires rise { 0 < length names.now → Rise 1023 names.now }
-    ensures part { (next : Doing) (seat : Known CallData) → Fits seat → IsPart (nacks ssrc (Named names.now) next) next
+    ensures part { (next : Doing) (seat : Known CallData) → Fits seat → IsPart NoneMayStarve (nacks ssrc (Named names.now) next) next
         seat seat (L.told link.old) (L.told link.new) (L.faults link.old) (L.faults link.new) result }
 {
     if names.numbers().is_empty() {
@@ -137,7 +138,7 @@ fn ask_for_packets<R: Recorder, L: Link, W: Wait + Sync>(
 ) -> Result<(), TurnStop>
     requires lock { seat.old.lock ≡ turns.now }
     requires fits { Fits seat.old }
-    ensures part { (next : Doing) → IsPart (Ask (call.Missing track) (λ names. nacks ssrc names next)) next
+    ensures part { (next : Doing) → IsPart (MayStarve R.may_refuse) (Ask (call.Missing track) (λ names. nacks ssrc names next)) next
         seat.old seat.new (L.told link.old) (L.told link.new) (L.faults link.old) (L.faults link.new) result }
 {
     match say(rt, turns, seat, &Call::Missing { track }, scratch) {
@@ -158,10 +159,10 @@ fn send_pli<L: Link>(
     link: &mut L,
     out: &mut PacketBuf,
 ) -> Result<Option<u64>, TurnStop>
-    ensures done { IfOk result (λ last. (next : Option ℕ → Doing) (seat : Known CallData) → Fits seat → Done
+    ensures done { IfOk result (λ last. (next : Option ℕ → Doing) (seat : Known CallData) → Fits seat → Done NoneMayStarve
         (pleads ssrc moment pleaded (KeyIs wanted) next) (next last)
         seat seat (L.told link.old) (L.told link.new) (L.faults link.old) (L.faults link.new) 0) }
-    ensures stopped { IfErr result (λ stop. (next : Option ℕ → Doing) (seat : Known CallData) → Fits seat → Stops
+    ensures stopped { IfErr result (λ stop. (next : Option ℕ → Doing) (seat : Known CallData) → Fits seat → Stops NoneMayStarve
         (pleads ssrc moment pleaded (KeyIs wanted) next)
         seat seat (L.told link.old) (L.told link.new) (L.faults link.old) (L.faults link.new) stop) }
 {
@@ -193,10 +194,10 @@ fn ask_for_key<R: Recorder, L: Link, W: Wait + Sync>(
 ) -> Result<Option<u64>, TurnStop>
     requires lock { seat.old.lock ≡ turns.now }
     requires fits { Fits seat.old }
-    ensures done { IfOk result (λ last. (next : Option ℕ → Doing) → Done
+    ensures done { IfOk result (λ last. (next : Option ℕ → Doing) → Done (MayStarve R.may_refuse)
         (Ask (call.KeyWanted track) (λ key. pleads ssrc moment pleaded key next)) (next last)
         seat.old seat.new (L.told link.old) (L.told link.new) (L.faults link.old) (L.faults link.new) 0) }
-    ensures stopped { IfErr result (λ stop. (next : Option ℕ → Doing) → Stops
+    ensures stopped { IfErr result (λ stop. (next : Option ℕ → Doing) → Stops (MayStarve R.may_refuse)
         (Ask (call.KeyWanted track) (λ key. pleads ssrc moment pleaded key next))
         seat.old seat.new (L.told link.old) (L.told link.new) (L.faults link.old) (L.faults link.new) stop) }
 {
@@ -225,9 +226,10 @@ fn ask<R: Recorder, L: Link, W: Wait + Sync>(
 ) -> Result<Last, TurnStop>
     requires lock { seat.old.lock ≡ turns.now }
     requires fits { Fits seat.old }
-    ensures done { IfOk result (λ now. (next : Option ℕ → Option ℕ → Doing) → Done (asks track ssrc moment last.asked last.pleaded next)
-        (next now.asked now.pleaded) seat.old seat.new (L.told link.old) (L.told link.new) (L.faults link.old) (L.faults link.new) 0) }
-    ensures stopped { IfErr result (λ stop. (next : Option ℕ → Option ℕ → Doing) → Stops
+    ensures done { IfOk result (λ now. (next : Option ℕ → Option ℕ → Doing) → Done (MayStarve R.may_refuse)
+        (asks track ssrc moment last.asked last.pleaded next) (next now.asked now.pleaded)
+        seat.old seat.new (L.told link.old) (L.told link.new) (L.faults link.old) (L.faults link.new) 0) }
+    ensures stopped { IfErr result (λ stop. (next : Option ℕ → Option ℕ → Doing) → Stops (MayStarve R.may_refuse)
         (asks track ssrc moment last.asked last.pleaded next)
         seat.old seat.new (L.told link.old) (L.told link.new) (L.faults link.old) (L.faults link.new) stop) }
 {
@@ -269,11 +271,11 @@ fn publisher_turn<R: Recorder, L: Link, W: Wait + Sync>(
     requires lock { seat.old.lock ≡ turns.now }
     requires fits { Fits seat.old }
     requires packet { packet.now ≡ call.Packet track moment (bytes_in packet.now) }
-    ensures done { IfOk result (λ now. (next : Option ℕ → Option ℕ → Doing) → Done
+    ensures done { IfOk result (λ now. (next : Option ℕ → Option ℕ → Doing) → Done (MayStarve R.may_refuse)
         (brings track moment (datagram came (bytes_in packet.now))
         (Ask (call.Tick track moment) (λ ticked. asks track ssrc moment last.asked last.pleaded next)))
         (next now.asked now.pleaded) seat.old seat.new (L.told link.old) (L.told link.new) (L.faults link.old) (L.faults link.new) 0) }
-    ensures stopped { IfErr result (λ stop. (next : Option ℕ → Option ℕ → Doing) → Stops
+    ensures stopped { IfErr result (λ stop. (next : Option ℕ → Option ℕ → Doing) → Stops (MayStarve R.may_refuse)
         (brings track moment (datagram came (bytes_in packet.now))
         (Ask (call.Tick track moment) (λ ticked. asks track ssrc moment last.asked last.pleaded next)))
         seat.old seat.new (L.told link.old) (L.told link.new) (L.faults link.old) (L.faults link.new) stop) }
@@ -307,7 +309,7 @@ pub fn publisher_session<R: Recorder, L: Link, C: Clock, W: Wait + Sync>(
     scratch: &mut Scratch,
 ) -> SessionEnd
     requires lock { seat.old.lock ≡ turns.now }
-    ensures keeps { Keeps (publisher_deed track ssrc limit None None) limit
+    ensures keeps { Keeps (MayStarve R.may_refuse) (publisher_deed track ssrc limit None None) limit
         seat.old seat.new (L.told link.old) (L.told link.new) (L.faults link.old) (L.faults link.new) result }
 {
     seat.lemma_fits();

@@ -6,7 +6,8 @@ ghost use Rattle.sfu_base.specs.declared.call.Call.{Call as CallData};
 ghost use Rattle.deeds.specs.Deeds.{Ask, Post};
 ghost use Rattle.sfu_serve.specs.Datagrams.{Wrapped};
 ghost use Rattle.sfu_serve.specs.Sessions.{Doing, resends, resent};
-ghost use Rattle.sfu_serve.specs.Parts.{IsPart};
+ghost use Rattle.sfu_serve.specs.Parts.{IsPart, NoneMayStarve};
+ghost use Rattle.sfu_serve.specs.Replies.{MayStarve};
 
 use crate::ends::TurnStop;
 use crate::shared_room::SharedRoom;
@@ -28,7 +29,7 @@ fn post_wrapped<L: Link>(
 ) -> Result<(), TurnStop>
     requires payload_type { rtx.payload_type < 128 }
     requires sendable { IsSendable packet.now }
-    ensures part { (next : Doing) (seat : Known CallData) → Fits seat → IsPart (Post (Wrapped rtx number packet.now) next)
+    ensures part { (next : Doing) (seat : Known CallData) → Fits seat → IsPart NoneMayStarve (Post (Wrapped rtx number packet.now) next)
         next seat seat (L.told link.old) (L.told link.new) (L.faults link.old) (L.faults link.new) result }
 {
     let mut wrapped = PacketBuf::new();
@@ -45,7 +46,7 @@ fn post_again<L: Link>(
 ) -> Result<(), TurnStop>
     requires payload_type { IfSome way (λ rtx. rtx.payload_type < 128) }
     requires sendable { IsSendable packet.now }
-    ensures part { (next : Doing) (seat : Known CallData) → Fits seat → IsPart (Post (resent way number packet.now) next)
+    ensures part { (next : Doing) (seat : Known CallData) → Fits seat → IsPart NoneMayStarve (Post (resent way number packet.now) next)
         next seat seat (L.told link.old) (L.told link.new) (L.faults link.old) (L.faults link.new) result }
 {
     match way {
@@ -69,7 +70,7 @@ pub fn resend<R: Recorder, L: Link, W: Wait + Sync>(
     requires lock { seat.old.lock ≡ turns.now }
     requires fits { Fits seat.old }
     requires payload_type { IfSome way (λ rtx. rtx.payload_type < 128) }
-    ensures part { (next : ℕ → Doing) → IsPart (Ask call.now (λ answer. resends way number.old answer next)) (next number.new)
+    ensures part { (next : ℕ → Doing) → IsPart (MayStarve R.may_refuse) (Ask call.now (λ answer. resends way number.old answer next)) (next number.new)
         seat.old seat.new (L.told link.old) (L.told link.new) (L.faults link.old) (L.faults link.new) result }
 {
     match say(rt, turns, seat, call, scratch) {

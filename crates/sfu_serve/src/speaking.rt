@@ -11,7 +11,8 @@ ghost use Rattle.room_core.specs.Sendable.{IsSendable};
 ghost use Rattle.deeds.specs.Deeds.{Ask, Post};
 ghost use Rattle.sfu_serve.specs.Datagrams.{Datagram, IsOne};
 ghost use Rattle.sfu_serve.specs.Sessions.{Doing};
-ghost use Rattle.sfu_serve.specs.Parts.{Done, IsPart, Stops};
+ghost use Rattle.sfu_serve.specs.Parts.{Done, IsPart, NoneMayStarve, Stops};
+ghost use Rattle.sfu_serve.specs.Replies.{MayStarve};
 
 use crate::ends::TurnStop;
 use crate::shared_room::SharedRoom;
@@ -30,9 +31,9 @@ pub fn say<R: Recorder, W: Wait + Sync>(
 ) -> Result<Reply, TurnStop>
     requires lock { seat.old.lock ≡ turns.now }
     requires fits { Fits seat.old }
-    ensures said { IfOk result (λ reply. (f : Answer → Doing) (told : Option Traffic) (faults : ℕ) → Done (Ask call.now f)
+    ensures said { IfOk result (λ reply. (f : Answer → Doing) (told : Option Traffic) (faults : ℕ) → Done (MayStarve R.may_refuse) (Ask call.now f)
         (f (answer_of reply scratch.new.packet scratch.new.names)) seat.old seat.new told told faults faults 0) }
-    ensures stopped { IfErr result (λ stop. (f : Answer → Doing) (told : Option Traffic) (faults : ℕ) → Stops (Ask call.now f)
+    ensures stopped { IfErr result (λ stop. (f : Answer → Doing) (told : Option Traffic) (faults : ℕ) → Stops (MayStarve R.may_refuse) (Ask call.now f)
         seat.old seat.new told told faults faults stop) }
     ensures replied { IfOk result (λ reply. is_starved reply ≡ false → (history : List Entry)
         × (answer_of reply scratch.new.packet scratch.new.names ≡ reply_of history call.now)) }
@@ -61,7 +62,7 @@ pub fn listen<L: Link, C: Clock>(
 
 /// Sends a datagram.
 pub fn post<L: Link>(link: &mut L, packet: &PacketBuf) -> Result<(), TurnStop>
-    ensures part { (what : Datagram) (next : Doing) (seat : Known CallData) → Fits seat → IsOne what packet.now → IsPart (Post what next)
+    ensures part { (what : Datagram) (next : Doing) (seat : Known CallData) → Fits seat → IsOne what packet.now → IsPart NoneMayStarve (Post what next)
         next seat seat (L.told link.old) (L.told link.new) (L.faults link.old) (L.faults link.new) result }
 {
     match link.send(packet) {

@@ -7,6 +7,7 @@ ghost use Rattle.deeds.specs.Deeds.{Ask};
 ghost use Rattle.sfu_serve.specs.Datagrams.{media_of, feedback_in};
 ghost use Rattle.sfu_serve.specs.Sessions.{Doing, call_for, sends_on, serves_one, serves, takes, hears_feedback, outgoing_deed, subscriber_deed, rtx_deed};
 ghost use Rattle.sfu_serve.specs.Parts.{Done, IsPart, Keeps, Stops};
+ghost use Rattle.sfu_serve.specs.Replies.{MayStarve};
 
 use crate::ends::{SessionEnd, TurnStop, end_at};
 use crate::resending::resend;
@@ -34,9 +35,9 @@ fn give<R: Recorder, L: Link, W: Wait + Sync>(
 ) -> Result<bool, TurnStop>
     requires lock { seat.old.lock ≡ turns.now }
     requires fits { Fits seat.old }
-    ensures given { IfOk result (λ gave. (more next : Doing) → Done (Ask call.now (λ answer. sends_on answer more next))
+    ensures given { IfOk result (λ gave. (more next : Doing) → Done (MayStarve R.may_refuse) (Ask call.now (λ answer. sends_on answer more next))
         (if gave then more else next) seat.old seat.new (L.told link.old) (L.told link.new) (L.faults link.old) (L.faults link.new) 0) }
-    ensures stopped { IfErr result (λ stop. (more next : Doing) → Stops (Ask call.now (λ answer. sends_on answer more next))
+    ensures stopped { IfErr result (λ stop. (more next : Doing) → Stops (MayStarve R.may_refuse) (Ask call.now (λ answer. sends_on answer more next))
         seat.old seat.new (L.told link.old) (L.told link.new) (L.faults link.old) (L.faults link.new) stop) }
 {
     match say(rt, turns, seat, call, scratch) {
@@ -63,7 +64,7 @@ fn take_all<R: Recorder, L: Link, W: Wait + Sync>(
 ) -> Result<(), TurnStop>
     requires lock { seat.old.lock ≡ turns.now }
     requires fits { Fits seat.old }
-    ensures part { (next : Doing) → IsPart (takes subscriber most next) next
+    ensures part { (next : Doing) → IsPart (MayStarve R.may_refuse) (takes subscriber most next) next
         seat.old seat.new (L.told link.old) (L.told link.new) (L.faults link.old) (L.faults link.new) result }
 {
     let call = Call::Take { subscriber };
@@ -117,8 +118,8 @@ fn serve_item<R: Recorder, L: Link, W: Wait + Sync>(
     requires lock { seat.old.lock ≡ turns.now }
     requires fits { Fits seat.old }
     requires payload_type { IfSome way (λ rtx. rtx.payload_type < 128) }
-    ensures part { (next : ℕ → Doing) → IsPart (serves_one subscriber ssrc way item number.old next) (next number.new)
-        seat.old seat.new (L.told link.old) (L.told link.new) (L.faults link.old) (L.faults link.new) result }
+    ensures part { (next : ℕ → Doing) → IsPart (MayStarve R.may_refuse) (serves_one subscriber ssrc way item number.old next)
+        (next number.new) seat.old seat.new (L.told link.old) (L.told link.new) (L.faults link.old) (L.faults link.new) result }
 {
     if media(item) != ssrc {
         return Ok(());
@@ -144,7 +145,7 @@ fn serve_items<R: Recorder, L: Link, W: Wait + Sync>(
     requires lock { seat.old.lock ≡ turns.now }
     requires fits { Fits seat.old }
     requires payload_type { IfSome way (λ rtx. rtx.payload_type < 128) }
-    ensures part { (next : ℕ → Doing) → IsPart (serves subscriber ssrc way items.entry number.old next) (next number.new)
+    ensures part { (next : ℕ → Doing) → IsPart (MayStarve R.may_refuse) (serves subscriber ssrc way items.entry number.old next) (next number.new)
         seat.old seat.new (L.told link.old) (L.told link.new) (L.faults link.old) (L.faults link.new) result }
 {
     let mut left = items;
@@ -175,8 +176,8 @@ fn serve_all<R: Recorder, L: Link, W: Wait + Sync>(
     requires lock { seat.old.lock ≡ turns.now }
     requires fits { Fits seat.old }
     requires payload_type { IfSome way (λ rtx. rtx.payload_type < 128) }
-    ensures part { (next : ℕ → Doing) → IsPart (serves subscriber ssrc way (feedback_in bytes.now) number.old next) (next number.new)
-        seat.old seat.new (L.told link.old) (L.told link.new) (L.faults link.old) (L.faults link.new) result }
+    ensures part { (next : ℕ → Doing) → IsPart (MayStarve R.may_refuse) (serves subscriber ssrc way (feedback_in bytes.now) number.old next)
+        (next number.new) seat.old seat.new (L.told link.old) (L.told link.new) (L.faults link.old) (L.faults link.new) result }
 {
     if !is_rtcp(bytes) {
         return Ok(());
@@ -207,8 +208,8 @@ fn hear_feedback<R: Recorder, L: Link, W: Wait + Sync>(
     requires lock { seat.old.lock ≡ turns.now }
     requires fits { Fits seat.old }
     requires payload_type { IfSome way (λ rtx. rtx.payload_type < 128) }
-    ensures part { (next : ℕ → Doing) → IsPart (hears_feedback subscriber ssrc way (datagram came bytes.now) number.old next) (next number.new)
-        seat.old seat.new (L.told link.old) (L.told link.new) (L.faults link.old) (L.faults link.new) result }
+    ensures part { (next : ℕ → Doing) → IsPart (MayStarve R.may_refuse) (hears_feedback subscriber ssrc way (datagram came bytes.now) number.old next)
+        (next number.new) seat.old seat.new (L.told link.old) (L.told link.new) (L.faults link.old) (L.faults link.new) result }
     ensures bounded { length bytes.now ≤ 2048 }
 {
     let bytes = bytes.bytes();
@@ -239,7 +240,7 @@ fn subscriber_turn<R: Recorder, L: Link, W: Wait + Sync>(
     requires lock { seat.old.lock ≡ turns.now }
     requires fits { Fits seat.old }
     requires payload_type { IfSome way (λ rtx. rtx.payload_type < 128) }
-    ensures part { (next : ℕ → Doing) → IsPart
+    ensures part { (next : ℕ → Doing) → IsPart (MayStarve R.may_refuse)
         (hears_feedback subscriber ssrc way (datagram came bytes.now) number.old (λ later. takes subscriber most (next later))) (next number.new)
         seat.old seat.new (L.told link.old) (L.told link.new) (L.faults link.old) (L.faults link.new) result }
     ensures bounded { length bytes.now ≤ 2048 }
@@ -267,7 +268,7 @@ fn outgoing_session<R: Recorder, L: Link, C: Clock, W: Wait + Sync>(
 ) -> SessionEnd
     requires lock { seat.old.lock ≡ turns.now }
     requires payload_type { IfSome way (λ rtx. rtx.payload_type < 128) }
-    ensures keeps { Keeps (outgoing_deed subscriber ssrc way limit 0) limit
+    ensures keeps { Keeps (MayStarve R.may_refuse) (outgoing_deed subscriber ssrc way limit 0) limit
         seat.old seat.new (L.told link.old) (L.told link.new) (L.faults link.old) (L.faults link.new) result }
 {
     seat.lemma_fits();
@@ -313,7 +314,7 @@ pub fn subscriber_session<R: Recorder, L: Link, C: Clock, W: Wait + Sync>(
     scratch: &mut Scratch,
 ) -> SessionEnd
     requires lock { seat.old.lock ≡ turns.now }
-    ensures keeps { Keeps (subscriber_deed subscriber ssrc limit) limit
+    ensures keeps { Keeps (MayStarve R.may_refuse) (subscriber_deed subscriber ssrc limit) limit
         seat.old seat.new (L.told link.old) (L.told link.new) (L.faults link.old) (L.faults link.new) result }
 {
     outgoing_session(
@@ -339,7 +340,7 @@ pub fn rtx_session<R: Recorder, L: Link, C: Clock, W: Wait + Sync>(
     requires lock { seat.old.lock ≡ turns.now }
     requires apart { rtx.now.ssrc ≢ ssrc }
     requires payload_type { rtx.now.payload_type < 128 }
-    ensures keeps { Keeps (rtx_deed subscriber ssrc rtx.now limit) limit
+    ensures keeps { Keeps (MayStarve R.may_refuse) (rtx_deed subscriber ssrc rtx.now limit) limit
         seat.old seat.new (L.told link.old) (L.told link.new) (L.faults link.old) (L.faults link.new) result }
 {
     outgoing_session(

@@ -5,8 +5,9 @@ use Rattle.deeds.specs.Deeds.{Ask, Post}
 use Rattle.sfu_serve.specs.Datagrams.{control_call, fault_line, text_for}
 use Rattle.sfu_serve.specs.Sessions.{Doing, answers}
 use Rattle.sfu_script.specs.ReadLines.{call_of}
+use Rattle.sfu_serve.specs.Replies.{MayStarve}
 use Rattle.sfu_serve.proofs.Texts.{has_text, controls_only}
-use Rattle.sfu_serve.proofs.Parting.{part_after, as_part, as_stops}
+use Rattle.sfu_serve.proofs.Parting.{part_silent, part_silently, as_part, as_stops}
 use Rattle.sfu_serve.proofs.control.answer_line.Goals as goal
 
 pub write_short-requires : goal.write_short-requires
@@ -20,10 +21,10 @@ returns-in-Ok g c = record {
       let answer : Answer = answer_of c.in-Ok.reply c.say.new.scratch.packet c.say.new.scratch.names in
       let f : Answer → Doing = λ (a : Answer). Post (text_for a) next in
       let d = c.in-Ok.ensures.said f (g.L.Link.told c.args.link.now) (g.L.Link.faults c.args.link.now) in
-      as_part (Ask call f) (answers (control_call c.args.line.now) next) next c.args.seat.now c.say.new.seat
+      as_part (MayStarve g.R.Recorder.may_refuse) (Ask call f) (answers (control_call c.args.line.now) next) next c.args.seat.now c.say.new.seat
       (g.L.Link.told c.args.link.now) (g.L.Link.told c.post.new.link) (g.L.Link.faults c.args.link.now) (g.L.Link.faults c.post.new.link) c.post.result
       (ap (λ (o : Option Call). answers o next) (sym c.in-Some.is ∙ c.read_control.ensures))
-      (part_after next c.say.new.seat (g.L.Link.told c.post.new.link) (g.L.Link.faults c.post.new.link) c.post.result d
+      (part_silently next c.say.new.seat (g.L.Link.told c.post.new.link) (g.L.Link.faults c.post.new.link) c.post.result d
       (c.post.ensures.part (text_for answer) next c.say.new.seat d.fits (c.write_short.ensures.text c.say.new.scratch.packet c.say.new.scratch.names)));
 }
 
@@ -32,7 +33,7 @@ returns-in-Err g c = record {
   part = λ next.
       let call : Call = c.in-Some.call in
       let f : Answer → Doing = λ (a : Answer). Post (text_for a) next in
-      as_stops (Ask call f) (answers (control_call c.args.line.now) next) c.args.seat.now c.say.new.seat
+      as_stops (MayStarve g.R.Recorder.may_refuse) (Ask call f) (answers (control_call c.args.line.now) next) c.args.seat.now c.say.new.seat
       (g.L.Link.told c.args.link.now) (g.L.Link.told c.args.link.now) (g.L.Link.faults c.args.link.now) (g.L.Link.faults c.args.link.now) c.in-Err.stop
       (ap (λ (o : Option Call). answers o next) (sym c.in-Some.is ∙ c.read_control.ensures))
       (c.in-Err.ensures.stopped f (g.L.Link.told c.args.link.now) (g.L.Link.faults c.args.link.now));
@@ -41,8 +42,10 @@ returns-in-Err g c = record {
 pub returns-in-None : goal.returns-in-None
 returns-in-None g c = record {
   part = λ next.
-      as_part (Post fault_line next) (answers (control_call c.args.line.now) next) next c.args.seat.now c.args.seat.now
+      as_part (MayStarve g.R.Recorder.may_refuse) (Post fault_line next) (answers (control_call c.args.line.now) next) next c.args.seat.now c.args.seat.now
       (g.L.Link.told c.args.link.now) (g.L.Link.told c.post-in-None.new.link) (g.L.Link.faults c.args.link.now) (g.L.Link.faults c.post-in-None.new.link) c.post-in-None.result
       (ap (λ (o : Option Call). answers o next) (sym c.in-None.is ∙ c.read_control.ensures))
-      (c.post-in-None.ensures.part fault_line next c.args.seat.now c.requires.fits c.fill.ensures);
+      (part_silent (MayStarve g.R.Recorder.may_refuse) (Post fault_line next) next c.args.seat.now c.args.seat.now
+      (g.L.Link.told c.args.link.now) (g.L.Link.told c.post-in-None.new.link) (g.L.Link.faults c.args.link.now) (g.L.Link.faults c.post-in-None.new.link) c.post-in-None.result
+      (c.post-in-None.ensures.part fault_line next c.args.seat.now c.requires.fits c.fill.ensures));
 }

@@ -1,6 +1,7 @@
 use Rattle.std.proofs.Common.{◌+◌, ◌-◌, ◌<◌, ℕ, List, Option, refl, arith}
 use Rattle.sfu_base.specs.Links.{datagram}
 use Rattle.sfu_serve.specs.Sessions.{Doing, controls, control_deed}
+use Rattle.sfu_serve.specs.Replies.{MayStarve}
 use Rattle.sfu_serve.proofs.Parting.{after}
 use Rattle.sfu_serve.proofs.Ending.{starts, heard, unheard, stopped, all_turns, part_done}
 use Rattle.sfu_serve.proofs.control.control_session.Goals as goal
@@ -44,7 +45,7 @@ loop-turn-preserved g c =
     c.in-Ok.came c.listen.new.into c.in-Ok._moment less refl c.loop-turn.invariant.1 c.control_turn-worked.ensures.bounded c.in-Ok.ensures.heard c.in-Ok.ensures.cause.counts in (
       omega (arith, less),
       after d
-          (part_done c.control_turn-worked.result (controls (datagram c.in-Ok.came c.listen.new.into) next) next c.loop-turn.seat c.control_turn-worked.new.seat
+          (part_done (MayStarve g.R.Recorder.may_refuse) c.control_turn-worked.result (controls (datagram c.in-Ok.came c.listen.new.into) next) next c.loop-turn.seat c.control_turn-worked.new.seat
           (g.L.Link.told c.listen.new.link) (g.L.Link.told c.control_turn-worked.new.link) (g.L.Link.faults c.listen.new.link) (g.L.Link.faults c.control_turn-worked.new.link)
           c.in_default-worked.not-Err (c.control_turn-worked.ensures.part next)),
     )

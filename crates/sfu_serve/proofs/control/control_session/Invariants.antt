@@ -1,9 +1,10 @@
 use Rattle.std.proofs.Common.{◌≤◌, ◌-◌}
 use Rattle.sfu_serve.specs.Sessions.{control_deed}
 use Rattle.sfu_serve.specs.Parts.{Done}
+use Rattle.sfu_serve.specs.Replies.{MayStarve}
 use Rattle.sfu_serve.proofs.control.control_session.Given as goal
 
 abbrev pub invariant-loop-turn : goal.invariant-loop-turn
 invariant-loop-turn g l =
     (l.turn ≤ l.limit)
-    × Done (control_deed l.limit) (control_deed (l.limit - l.turn)) l.fn.seat l.seat (g.L.Link.told l.fn.link) (g.L.Link.told l.link) (g.L.Link.faults l.fn.link) (g.L.Link.faults l.link) l.turn
+    × Done (MayStarve g.R.Recorder.may_refuse) (control_deed l.limit) (control_deed (l.limit - l.turn)) l.fn.seat l.seat (g.L.Link.told l.fn.link) (g.L.Link.told l.link) (g.L.Link.faults l.fn.link) (g.L.Link.faults l.link) l.turn

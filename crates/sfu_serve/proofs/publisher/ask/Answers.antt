@@ -4,6 +4,7 @@ use Rattle.sfu_base.specs.Answer.{Answer}
 use Rattle.sfu_base.specs.declared.call.Call.TheVariants.{Missing, KeyWanted}
 use Rattle.deeds.specs.Deeds.{Ask, Over}
 use Rattle.sfu_serve.specs.Sessions.{Doing, nacks, pleads, asks}
+use Rattle.sfu_serve.specs.Replies.{MayStarve}
 use Rattle.sfu_serve.proofs.Choosing.{asks_now}
 use Rattle.sfu_serve.proofs.Parting.{after, stops_after, as_done, as_stops}
 use Rattle.sfu_serve.proofs.publisher.ask.Goals as goal
@@ -28,7 +29,7 @@ pub returns-in-Err-ask_for_key-clause-stopped : goal.returns-in-Err-ask_for_key-
 returns-in-Err-ask_for_key-clause-stopped g c = λ next.
     let later : Option ℕ → Doing = next (Some c.args.moment) in
     let key : Doing = Ask (KeyWanted c.args.track) (λ (a : Answer). pleads c.args.ssrc c.args.moment c.args.last.pleaded a later) in
-    as_stops (Ask (Missing c.args.track) (λ (names : Answer). nacks c.args.ssrc names key)) (asks c.args.track c.args.ssrc c.args.moment c.args.last.asked c.args.last.pleaded next)
+    as_stops (MayStarve g.R.Recorder.may_refuse) (Ask (Missing c.args.track) (λ (names : Answer). nacks c.args.ssrc names key)) (asks c.args.track c.args.ssrc c.args.moment c.args.last.asked c.args.last.pleaded next)
     c.args.seat.now c.ask_for_key.new.seat
     (g.L.Link.told c.args.link.now) (g.L.Link.told c.ask_for_key.new.link) (g.L.Link.faults c.args.link.now) (g.L.Link.faults c.ask_for_key.new.link) c.in-Err-ask_for_key.stop
     (sym (asks_now c.args.track c.args.ssrc c.args.moment c.args.last.asked c.args.last.pleaded next (sym c.is_due.ensures ∙ c.if-not-is_due.false)))
@@ -39,7 +40,7 @@ pub returns-in-Err-clause-stopped : goal.returns-in-Err-clause-stopped
 returns-in-Err-clause-stopped g c = λ next.
     let later : Option ℕ → Doing = next (Some c.args.moment) in
     let key : Doing = Ask (KeyWanted c.args.track) (λ (a : Answer). pleads c.args.ssrc c.args.moment c.args.last.pleaded a later) in
-    as_stops (Ask (Missing c.args.track) (λ (names : Answer). nacks c.args.ssrc names key)) (asks c.args.track c.args.ssrc c.args.moment c.args.last.asked c.args.last.pleaded next)
+    as_stops (MayStarve g.R.Recorder.may_refuse) (Ask (Missing c.args.track) (λ (names : Answer). nacks c.args.ssrc names key)) (asks c.args.track c.args.ssrc c.args.moment c.args.last.asked c.args.last.pleaded next)
     c.args.seat.now c.ask_for_packets.new.seat
     (g.L.Link.told c.args.link.now) (g.L.Link.told c.ask_for_packets.new.link) (g.L.Link.faults c.args.link.now) (g.L.Link.faults c.ask_for_packets.new.link) c.in-Err.stop
     (sym (asks_now c.args.track c.args.ssrc c.args.moment c.args.last.asked c.args.last.pleaded next (sym c.is_due.ensures ∙ c.if-not-is_due.false)))

@@ -1,7 +1,7 @@
 use Rattle.sfu_base.specs.Answer.{Answer, KeyIs, answer_of}
 use Rattle.sfu_serve.specs.Sessions.{Doing, pleads}
 use Rattle.sfu_serve.proofs.Choosing.{pleads_key, pleads_other}
-use Rattle.sfu_serve.proofs.Parting.{after, stops_after, leaves, map_ok, map_err}
+use Rattle.sfu_serve.proofs.Parting.{silent_after, stops_silently, leaves, map_ok, map_err}
 use Rattle.sfu_serve.proofs.publisher.ask_for_key.Goals as goal
 
 pub returns-in-Key-clause-done : goal.returns-in-Key-clause-done
@@ -10,7 +10,7 @@ returns-in-Key-clause-done g c = map_ok c.send_pli.result _ _ (λ last p next.
     let e = leaves (pleads c.args.ssrc c.args.moment c.args.pleaded (answer_of c.in-Ok.reply c.say.new.scratch.packet c.say.new.scratch.names) next) (pleads c.args.ssrc c.args.moment c.args.pleaded (KeyIs c.in-Key.wanted) next)
     (pleads_key c.args.ssrc c.args.moment c.args.pleaded c.in-Ok.reply c.in-Key.wanted c.say.new.scratch.packet c.say.new.scratch.names next c.in-Key.is)
     (c.in-Ok.ensures.said f (g.L.Link.told c.args.link.now) (g.L.Link.faults c.args.link.now)) in
-    after e (p next c.say.new.seat e.fits)) c.send_pli.ensures.done
+    silent_after e (p next c.say.new.seat e.fits)) c.send_pli.ensures.done
 
 pub returns-in-Key-clause-stopped : goal.returns-in-Key-clause-stopped
 returns-in-Key-clause-stopped g c = map_err c.send_pli.result _ _ (λ stop p next.
@@ -18,7 +18,7 @@ returns-in-Key-clause-stopped g c = map_err c.send_pli.result _ _ (λ stop p nex
     let e = leaves (pleads c.args.ssrc c.args.moment c.args.pleaded (answer_of c.in-Ok.reply c.say.new.scratch.packet c.say.new.scratch.names) next) (pleads c.args.ssrc c.args.moment c.args.pleaded (KeyIs c.in-Key.wanted) next)
     (pleads_key c.args.ssrc c.args.moment c.args.pleaded c.in-Ok.reply c.in-Key.wanted c.say.new.scratch.packet c.say.new.scratch.names next c.in-Key.is)
     (c.in-Ok.ensures.said f (g.L.Link.told c.args.link.now) (g.L.Link.faults c.args.link.now)) in
-    stops_after c.say.new.seat (g.L.Link.told c.send_pli.new.link) (g.L.Link.faults c.send_pli.new.link) stop e (p next c.say.new.seat e.fits)) c.send_pli.ensures.stopped
+    stops_silently c.say.new.seat (g.L.Link.told c.send_pli.new.link) (g.L.Link.faults c.send_pli.new.link) stop e (p next c.say.new.seat e.fits)) c.send_pli.ensures.stopped
 
 pub returns-in_default : goal.returns-in_default
 returns-in_default g c = record {

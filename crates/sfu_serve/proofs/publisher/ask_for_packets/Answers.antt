@@ -3,7 +3,7 @@ use Rattle.sfu_base.specs.Answer.{Answer, Named, answer_of, is_starved}
 use Rattle.sfu_base.specs.declared.call.Reply.{Reply}
 use Rattle.sfu_serve.specs.Sessions.{Doing, nacks}
 use Rattle.sfu_serve.proofs.Choosing.{nacks_names, nacks_other}
-use Rattle.sfu_serve.proofs.Parting.{part_after, leaves}
+use Rattle.sfu_serve.proofs.Parting.{part_silently, leaves}
 use Rattle.sfu_serve.proofs.Rising.{named_rise}
 use Rattle.sfu_serve.proofs.publisher.ask_for_packets.Goals as goal
 
@@ -21,7 +21,7 @@ returns-in-Names g c = record {
       let f : Answer → Doing = λ (a : Answer). nacks c.args.ssrc a next in
       let e = leaves (nacks c.args.ssrc (answer_of c.in-Ok.reply c.say.new.scratch.packet c.say.new.scratch.names) next) (nacks c.args.ssrc (Named c.say.new.scratch.names) next) (nacks_names c.args.ssrc c.in-Ok.reply c.say.new.scratch.packet c.say.new.scratch.names next c.in-Names.is)
       (c.in-Ok.ensures.said f (g.L.Link.told c.args.link.now) (g.L.Link.faults c.args.link.now)) in
-      part_after next c.say.new.seat (g.L.Link.told c.send_nack.new.link) (g.L.Link.faults c.send_nack.new.link) c.send_nack.result e (c.send_nack.ensures.part next c.say.new.seat e.fits);
+      part_silently next c.say.new.seat (g.L.Link.told c.send_nack.new.link) (g.L.Link.faults c.send_nack.new.link) c.send_nack.result e (c.send_nack.ensures.part next c.say.new.seat e.fits);
 }
 
 pub returns-in_default : goal.returns-in_default

@@ -5,6 +5,7 @@ use Rattle.sfu_base.specs.declared.call.Call.{Call}
 use Rattle.deeds.specs.Deeds.{Ask}
 use Rattle.sfu_serve.specs.Datagrams.{bytes_in, is_rtcp}
 use Rattle.sfu_serve.specs.Sessions.{Doing, brings}
+use Rattle.sfu_serve.specs.Replies.{MayStarve}
 use Rattle.sfu_serve.proofs.Choosing.{brings_packet}
 use Rattle.sfu_serve.proofs.Parting.{as_done, as_stops}
 use Rattle.sfu_serve.proofs.publisher.bring.Goals as goal
@@ -22,7 +23,7 @@ pub returns-in-Err-clause-part : goal.returns-in-Err-clause-part
 returns-in-Err-clause-part g c = λ track moment bytes is next told faults.
     let f : Answer → Doing = λ (a : Answer). next in
     let same = sym c.bytes-bytes.ensures.bytes in
-    as_stops (Ask c.args.packet.now f) (brings track moment (datagram c.args.came bytes) next) c.args.seat.now c.say.new.seat told told faults faults c.in-Err.stop
+    as_stops (MayStarve g.R.Recorder.may_refuse) (Ask c.args.packet.now f) (brings track moment (datagram c.args.came bytes) next) c.args.seat.now c.say.new.seat told told faults faults c.in-Err.stop
     (ap (λ (k : Call). Ask k f) is
     ∙ sym (brings_packet track moment c.args.came bytes next c.if-not-came.false (ap is_rtcp (sym (ap bytes_in is) ∙ ap bytes_in c.in-Packet.is ∙ same) ∙ (sym c.is_rtcp.ensures ∙ c.if-is_rtcp.false))))
     (c.in-Err.ensures.stopped f told faults)

@@ -3,7 +3,7 @@ use Rattle.sfu_base.specs.Answer.{Answer}
 use Rattle.deeds.specs.Deeds.{Post}
 use Rattle.sfu_serve.specs.Sessions.{Doing, resends, resent}
 use Rattle.sfu_serve.proofs.Choosing.{resends_packet, resends_none}
-use Rattle.sfu_serve.proofs.Parting.{after, stops_after, leaves}
+use Rattle.sfu_serve.proofs.Parting.{silent_after, stops_silently, leaves}
 use Rattle.sfu_serve.proofs.resending.resend.Goals as goal
 
 pub returns-in-Ok-post_again : goal.returns-in-Ok-post_again
@@ -14,7 +14,7 @@ returns-in-Ok-post_again g c = record {
       let more : Doing = next ((n + 1) % 65536) in
       let d = c.in-Ok.ensures.said f (g.L.Link.told c.args.link.now) (g.L.Link.faults c.args.link.now) in
       let e = leaves (f _) (Post (resent c.args.way n c.say.new.scratch.packet) more) (resends_packet c.args.way n c.in-Ok.reply c.say.new.scratch.packet c.say.new.scratch.names next c.in-Packet.is) d in
-      after e (c.in-Ok-post_again.ensures.part more c.say.new.seat e.fits);
+      silent_after e (c.in-Ok-post_again.ensures.part more c.say.new.seat e.fits);
 }
 
 pub returns-in-Err-post_again : goal.returns-in-Err-post_again
@@ -25,7 +25,7 @@ returns-in-Err-post_again g c = record {
       let more : Doing = next ((n + 1) % 65536) in
       let d = c.in-Ok.ensures.said f (g.L.Link.told c.args.link.now) (g.L.Link.faults c.args.link.now) in
       let e = leaves (f _) (Post (resent c.args.way n c.say.new.scratch.packet) more) (resends_packet c.args.way n c.in-Ok.reply c.say.new.scratch.packet c.say.new.scratch.names next c.in-Packet.is) d in
-      stops_after c.say.new.seat (g.L.Link.told c.post_again.new.link) (g.L.Link.faults c.post_again.new.link) c.in-Err-post_again.stop e (c.in-Err-post_again.ensures.part more c.say.new.seat e.fits);
+      stops_silently c.say.new.seat (g.L.Link.told c.post_again.new.link) (g.L.Link.faults c.post_again.new.link) c.in-Err-post_again.stop e (c.in-Err-post_again.ensures.part more c.say.new.seat e.fits);
 }
 
 pub returns-in-Err : goal.returns-in-Err

@@ -1,6 +1,7 @@
 use Rattle.std.proofs.Common.{◌+◌, ◌-◌, ◌<◌, ℕ, List, Option, refl, arith}
 use Rattle.sfu_base.specs.Links.{datagram}
 use Rattle.sfu_serve.specs.Sessions.{Doing, hears_feedback, takes, outgoing_deed}
+use Rattle.sfu_serve.specs.Replies.{MayStarve}
 use Rattle.sfu_serve.proofs.Parting.{after}
 use Rattle.sfu_serve.proofs.Ending.{starts, heard, unheard, stopped, all_turns, part_done}
 use Rattle.sfu_serve.proofs.subscriber.outgoing_session.Goals as goal
@@ -53,7 +54,7 @@ loop-turn-preserved g c =
     c.in-Ok.came c.listen.new.into c.in-Ok._moment less refl c.loop-turn.invariant.1 c.subscriber_turn-worked.ensures.bounded c.in-Ok.ensures.heard c.in-Ok.ensures.cause.counts in (
       omega (arith, less),
       after d
-          (part_done c.subscriber_turn-worked.result
+          (part_done (MayStarve g.R.Recorder.may_refuse) c.subscriber_turn-worked.result
           (hears_feedback c.args.subscriber c.args.ssrc c.args.way (datagram c.in-Ok.came c.listen.new.into) number (λ (later : ℕ). takes c.args.subscriber 32 (next later))) (next c.subscriber_turn-worked.new.number)
           c.loop-turn.seat c.subscriber_turn-worked.new.seat
           (g.L.Link.told c.listen.new.link) (g.L.Link.told c.subscriber_turn-worked.new.link) (g.L.Link.faults c.listen.new.link) (g.L.Link.faults c.subscriber_turn-worked.new.link)
