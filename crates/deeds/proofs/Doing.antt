@@ -2,7 +2,9 @@
 use Rattle.std.proofs.Common.{◌≡◌, ◌⊎◌, inl, inr, ℕ, ◌+◌, ◌≤◌, Bool, if◌then◌else◌, List, [], ◌∷◌, ◌++◌, length, refl, ap, sym, subst, ◌∙◌, arith, append-nil, append_assoc, length-append, Option}
 use Rattle.sfu_base.specs.Links.{Traffic, with_more}
 use Rattle.turn_lock.specs.declared.history.Entry.{Entry}
+use mathlib.Core.List.{IsPrefix}
 use Rattle.turn_lock.specs.History.{own_of, entry}
+use Rattle.turn_lock.proofs.Lists.{prefix_more, prefix_self, prefix_trans}
 use Rattle.turn_lock.specs.Known.{Known, KeepsSeat, Fits, MakesTurn, FindsWorn}
 use Rattle.deeds.specs.Deeds.{Deed, Listen, Ask, Post, Heard, Said, Posted, Word, received_of, said_of, sent_of, word_at, words_of}
 use Rattle.deeds.specs.Doing.{AllFitBuffers, FitsBuffer, IsDone, StarveWhereTheyMay}
@@ -28,6 +30,7 @@ module _ {C A D : Type 0} (reply : List (Entry C) → C → A) (starved : A) (Ma
     leads = refl;
     words = sym (append-nil (words_of reply starved old.number old.seen));
     memory = tt;
+    grows = prefix_self old.seen;
     holds = inl refl;
     link = more_none told;
     short = tt;
@@ -46,6 +49,7 @@ module _ {C A D : Type 0} (reply : List (Entry C) → C → A) (starved : A) (Ma
     words = q.words ∙ (ap (λ (l : List (Word C A)). l ++ said_of q.steps) p.words ∙ (append_assoc (words_of reply starved a.number a.seen) (said_of p.steps) (said_of q.steps)
         ∙ ap (λ (l : List (Word C A)). words_of reply starved a.number a.seen ++ l) (sym (said_append p.steps q.steps))));
     memory = subst (StarveWhereTheyMay starved MayStarve) (sym (said_append p.steps q.steps)) (starve_append starved MayStarve (said_of p.steps) (said_of q.steps) p.memory q.memory);
+    grows = prefix_trans a.seen b.seen c.seen p.grows q.grows;
     holds = still_holds a.seen b.seen c.seen p.holds q.holds;
     link = q.link ∙ (ap (with_more (received_of q.steps) (sent_of q.steps)) p.link ∙ (more_twice (received_of p.steps) (received_of q.steps) (sent_of p.steps) (sent_of q.steps) told
         ∙ (λ i. with_more (sym (received_append p.steps q.steps) i) (sym (sent_append p.steps q.steps) i) told)));
@@ -64,6 +68,7 @@ module _ {C A D : Type 0} (reply : List (Entry C) → C → A) (starved : A) (Ma
     leads = leads_by IsOne (Listen f) (Heard got moment) (f got moment) refl;
     words = sym (append-nil (words_of reply starved now.number now.seen));
     memory = tt;
+    grows = prefix_self now.seen;
     holds = inl refl;
     link = link;
     short = (short, tt);
@@ -81,6 +86,7 @@ module _ {C A D : Type 0} (reply : List (Entry C) → C → A) (starved : A) (Ma
     leads = leads_by IsOne (Post what next) (Posted packet) next (is, refl);
     words = sym (append-nil (words_of reply starved now.number now.seen));
     memory = tt;
+    grows = prefix_self now.seen;
     holds = inl refl;
     link = link;
     short = tt;
@@ -109,6 +115,7 @@ module _ {C A D : Type 0} (reply : List (Entry C) → C → A) (starved : A) (Ma
         leads = leads_by IsOne (Ask call f) (Said call answer) (f answer) (refl, refl);
         words = ap (λ (m : ℕ). words_of reply starved m new.seen) t.0.2 ∙ all;
         memory = (starved_by h t.1.3, tt);
+        grows = subst (IsPrefix old.seen) (sym t.1.2) (prefix_more old.seen h (e ∷ []) t.1.1);
         holds = inr (subst Holds (sym t.1.2) (holds_by h t.1.3));
         link = more_none told;
         short = tt;
@@ -126,6 +133,7 @@ module _ {C A D : Type 0} (reply : List (Entry C) → C → A) (starved : A) (Ma
     leads = d.leads;
     words = d.words;
     memory = d.memory;
+    grows = d.grows;
     holds = d.holds;
     link = same ∙ d.link;
     short = d.short;
@@ -152,6 +160,7 @@ module _ {C A D : Type 0} (reply : List (Entry C) → C → A) (starved : A) (Ma
         leads = d.leads;
         words = ap (λ (k : Known C). words_of reply starved k.number k.seen) w.0 ∙ d.words;
         memory = d.memory;
+        grows = subst (IsPrefix old.seen) (sym (ap (λ (k : Known C). k.seen) w.0)) d.grows;
         holds = still_holds old.seen new.seen new'.seen d.holds (inl (ap (λ (k : Known C). k.seen) w.0));
         link = d.link;
         short = d.short;
@@ -170,6 +179,7 @@ module _ {C A D : Type 0} (reply : List (Entry C) → C → A) (starved : A) (Ma
     leads = d.leads;
     words = d.words;
     memory = starve_wider starved MayStarve Wider (said_of d.steps) wide d.memory;
+    grows = d.grows;
     holds = d.holds;
     link = d.link;
     short = d.short;

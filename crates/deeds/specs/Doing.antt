@@ -1,5 +1,6 @@
 -- How far a deed is done, by what a seat of a lock and a link tell.
 use Rattle.std.specs.Prelude.{◌≡◌, ◌⊎◌, ℕ, ◌≤◌, List, [], ◌∷◌, ◌++◌, length, Option, Some, None}
+use mathlib.Core.List.{IsPrefix}
 use Rattle.sfu_base.specs.Links.{Traffic, with_more}
 use Rattle.turn_lock.specs.declared.history.Entry.{Entry}
 use Rattle.turn_lock.specs.Known.{Known, KeepsSeat, Fits}
@@ -32,6 +33,8 @@ pub record IsDone {C A D : Type 0} (reply : List (Entry C) → C → A) (starved
   pub words : words_of reply starved new.number new.seen ≡ words_of reply starved old.number old.seen ++ said_of steps
   -- want of memory was answered only to calls that may find none
   pub memory : StarveWhereTheyMay starved MayStarve (said_of steps)
+  -- what the seat had seen is the beginning of what it has seen
+  pub grows : IsPrefix old.seen new.seen
   -- the seat has seen no more, since it made no call, or this is so of what it has seen
   pub holds : (new.seen ≡ old.seen) ⊎ Holds new.seen
   -- the link tells the receives and the datagrams of the steps more

@@ -1,5 +1,5 @@
 -- Sessions that ran behind the first calls: none found the lock worn, since the history is shorter than the tickets are many.
-use Rattle.std.proofs.Common.{◌≡◌, ◌+◌, ◌*◌, ◌<◌, ◌≤◌, ◌^◌, ℕ, false, List, [], ◌∷◌, ◌++◌, length, map, ap, ◌∙◌, arith, length-append}
+use Rattle.std.proofs.Common.{◌≡◌, ◌+◌, ◌*◌, ◌<◌, ◌≤◌, ◌^◌, ℕ, Bool, false, List, [], ◌∷◌, ◌++◌, length, map, ap, sym, subst, ◌∙◌, arith, length-append}
 use Rattle.std.proofs.Math.Nat.{mul-le-mul_left}
 use Rattle.std.proofs.lemmas.List.{length-map}
 use Rattle.sfu_base.specs.declared.call.Call.{Call}
@@ -8,6 +8,7 @@ use Rattle.turn_lock.specs.History.{entry}
 use Rattle.turn_lock.specs.Known.{Known}
 use Rattle.atomic_table.specs.Seated.{TableId}
 use Rattle.deeds.specs.Deeds.{Listen, Ask, Post, Over}
+use Rattle.room_core.specs.Content.{TakesMemory}
 use Rattle.room_core.specs.History.{accepted}
 use Rattle.room_core.specs.WellFormed.{AreWellFormed}
 use Rattle.room_core.proofs.Promising.{headline}
@@ -15,8 +16,10 @@ use Rattle.sfu_serve.specs.declared.ends.SessionEnd.{SessionEnd}
 use Rattle.sfu_serve.specs.declared.ends.SessionEnd.TheVariants.{AllTurns, LinkFault, Worn}
 use Rattle.sfu_serve.specs.History.{entries_of}
 use Rattle.sfu_serve.specs.Parts.{MeetsEnd}
-use Rattle.sfu_serve.specs.Runs.{After, AreSessions, Before, HaveRun}
+use Rattle.sfu_serve.specs.Runs.{After, AllMayStarve, AreSessions, Before, HaveRun}
+use Rattle.sfu_serve.specs.Replies.{MayStarve}
 use Rattle.sfu_serve.specs.Sessions.{Doing}
+use Rattle.sfu_serve.proofs.Starving.{takers_only}
 use Rattle.sfu_program.specs.Serve.{HaveServed}
 use Rattle.sfu_program.specs.ServeEnds.{AreUnworn, IsUnworn}
 use Rattle.sfu_program.specs.ServeOpening.{HasMade, made_first}
@@ -64,10 +67,15 @@ sessions_unworn limit found history number (j ∷ js) (e ∷ es) low all =
 few_entries : (jobs limit : ℕ) → jobs ≤ 64 → limit ≤ 1000000000000 → jobs * (10000 * limit) ≤ 640000000000000000
 few_entries jobs limit few short = let each : 10000 * limit ≤ 10000000000000000 = omega arith in let all = mul-le-mul_left jobs each in omega arith
 
-pub served : (lock : TableId) (calls : List Call) (limit : ℕ) (old new : Known Call) (jobs : List Before) (ended : List After) → HasMade lock calls old → length calls < 2 ^ 32
-    → length jobs ≤ 64 → limit ≤ 1000000000000 → HaveRun limit old new jobs ended → new.found ≤ new.first + length new.seen → AreWellFormed (accepted (entries_of new.seen))
+-- the first calls found memory
+made_may : (calls : List Call) (added : List (Entry Call)) → AllMayStarve TakesMemory added → AllMayStarve TakesMemory (made_first calls ++ added)
+made_may [] added all = all
+made_may (call ∷ calls) added all = (λ starved. absurd (cc starved), made_may calls added all)
+
+pub served : {R : Type 0} (may_refuse : R → Bool) (never : (recorder : R) → may_refuse recorder ≡ false) (lock : TableId) (calls : List Call) (limit : ℕ) (old new : Known Call) (jobs : List Before) (ended : List After) → HasMade lock calls old → length calls < 2 ^ 32
+    → length jobs ≤ 64 → limit ≤ 1000000000000 → HaveRun (MayStarve may_refuse) limit old new jobs ended → new.found ≤ new.first + length new.seen → AreWellFormed (accepted (entries_of new.seen))
     → HaveServed limit calls jobs ended
-served lock calls limit old new jobs ended made few many short run found well =
+served may_refuse never lock calls limit old new jobs ended made few many short run found well =
     let first : new.first ≡ 0 = run.kept.1 ∙ made.first_is in
     let begins : new.seen ≡ made_first calls ++ run.added = run.seen ∙ ap (λ (h : List (Entry Call)). h ++ run.added) made.seen_is in
     let count : length new.seen ≡ length (made_first calls) + length run.added = ap length begins ∙ length-append (made_first calls) run.added in
@@ -84,5 +92,6 @@ served lock calls limit old new jobs ended made few many short run found well =
       below = run.below;
       each = each.0;
       unworn = each.1;
+      memory = subst (AllMayStarve TakesMemory) (sym begins) (made_may calls run.added (takers_only may_refuse run.added never run.memory));
       headline = headline (entries_of new.seen) well;
     }

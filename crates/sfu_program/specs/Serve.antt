@@ -6,11 +6,12 @@ use Rattle.sfu_base.specs.Links.{Traffic}
 use Rattle.sfu_base.specs.declared.call.Call.{Call}
 use Rattle.turn_lock.specs.declared.history.Entry as turn
 use Rattle.turn_lock.specs.History.{AllBelow, own_of}
+use Rattle.room_core.specs.Content.{TakesMemory}
 use Rattle.room_core.specs.Headline.{Headline}
 use Rattle.room_core.specs.History.{accepted}
 use Rattle.sfu_serve.specs.declared.run.Ended.{Ended}
 use Rattle.sfu_serve.specs.History.{entries_of}
-use Rattle.sfu_serve.specs.Runs.{After, AreSessions, Before, job_after}
+use Rattle.sfu_serve.specs.Runs.{After, AllMayStarve, AreSessions, Before, job_after}
 use Rattle.sfu_driver.specs.Exchange.{Exchange}
 use Rattle.sfu_driver.specs.Drive.{WritesPart}
 use Rattle.sfu_driver.specs.Statuses.{FirstFault}
@@ -35,6 +36,8 @@ pub record HaveServed (limit : ℕ) (calls : List Call) (jobs : List Before) (en
   pub below : AllBelow (length jobs + 1) added
   pub each : AreSessions limit 0 history 1 jobs ended
   pub unworn : AreUnworn (map (λ after. after.end) ended)
+  -- want of memory came only to a publish or a join
+  pub memory : AllMayStarve TakesMemory history
   pub headline : Headline (accepted (entries_of history))
 
 -- All ports of these lines were bound, in their order, had their sessions, and came back in this order.

@@ -1,7 +1,7 @@
-use Rattle.std.proofs.Common.{◌∙◌, ◌+◌, ◌-◌, ◌<◌, ℕ, Bool, if◌then◌else◌, ap, arith}
+use Rattle.std.proofs.Common.{◌≡◌, ◌∙◌, ◌+◌, ◌-◌, ◌<◌, ℕ, Bool, if◌then◌else◌, ap, arith}
 use Rattle.deeds.specs.Deeds.{Over}
 use Rattle.sfu_serve.specs.Sessions.{Doing, takes}
-use Rattle.sfu_serve.proofs.Parting.{after, leaves, stops_after, take_next}
+use Rattle.sfu_serve.proofs.Parting.{after, begins, leaves, stops_after, take_next}
 use Rattle.sfu_serve.proofs.subscriber.take_all.Goals as goal
 
 pub give-requires-clause-lock : goal.give-requires-clause-lock
@@ -44,3 +44,12 @@ loop-made-preserved g c =
           (g.L.Link.told c.args.link.now) (g.L.Link.told c.loop-made.link) (g.L.Link.faults c.args.link.now) (g.L.Link.faults c.loop-made.link) 0 less (c.loop-made.invariant.1 next) in
           after d (leaves (if c.in-Ok.gave then more else next) more (ap (λ (b : Bool). if b then more else next) c.if-not-gave.false) (c.in-Ok.ensures.given more next)),
     )
+
+pub loop-made-init : goal.loop-made-init
+loop-made-init g c = (
+  omega arith,
+  λ next.
+      let same : c.args.most ≡ c.args.most - 0 = omega arith in
+      leaves (takes c.args.subscriber c.args.most next) (takes c.args.subscriber (c.args.most - 0) next) (ap (λ (n : ℕ). takes c.args.subscriber n next) same)
+      (begins (takes c.args.subscriber c.args.most next) c.args.seat.now (g.L.Link.told c.args.link.now) (g.L.Link.faults c.args.link.now) c.requires.fits),
+)

@@ -1,4 +1,4 @@
-use Rattle.std.proofs.Common.{◌≤◌, length, arith}
+use Rattle.std.proofs.Common.{◌≤◌, length, refl, arith}
 use Rattle.std.proofs.lemmas.List.{length-map}
 use Rattle.sfu_serve.specs.Runs.{job_before}
 use Rattle.sfu_program.specs.ServePorts.{befores}
@@ -11,5 +11,5 @@ returns g c = λ calls made few.
     let told = g.L.Link.told in
     let faults = g.L.Link.faults in
     let many : length (befores told faults c.args.jobs.items) ≤ 64 = (let k = length-map c.args.jobs.items (λ job. job_before job.role (told job.link) (faults job.link)) in let n = c.args.jobs.ok.0 in let m = c.requires.few in omega arith) in
-    served c.args.turns calls c.args.limit c.args.seat c.run_sessions.new.seat (befores told faults c.args.jobs.items) (afters told faults c.in_ok-ended.ended.items) made few many c.requires.limited
+    served _ (λ recorder. refl) c.args.turns calls c.args.limit c.args.seat c.run_sessions.new.seat (befores told faults c.args.jobs.items) (afters told faults c.in_ok-ended.ended.items) made few many c.requires.limited
     c.in_ok-ended.ensures.run c.close-room.ensures.found c.close-room.ensures.stands.well_formed
