@@ -3,6 +3,7 @@ mod bundling;
 mod calm;
 mod check;
 mod faults;
+mod forwarding;
 mod meeting;
 mod record;
 mod records;

@@ -3,7 +3,9 @@ ghost use Rattle.std.specs.Prelude.{◌≡◌, All, IfOk};
 ghost use Rattle.sfu_base.specs.Links.{IsFresh};
 
 use crate::sfu::sfu;
-use sfu_base::{CalmPorts, MemLink, MemPorts, MemSink, MemSource, PacketBuf, Ports, StepClock};
+use sfu_base::{
+    CalmPorts, Clock, MemLink, MemPorts, MemSink, MemSource, PacketBuf, Ports, StepClock,
+};
 use std::alloc::{AllocError, Global};
 use std::sync::Wait;
 use std::test::Fail;
@@ -13,21 +15,23 @@ use std::thread::Threads;
 pub const CONFIGURATION: &str =
     "publish 1 plain 11111111 100\njoin 1 1 22222222 7 0 0\nport 127.0.0.1:5000 127.0.0.1:6000 publisher 1 11111111\nport 127.0.0.1:5001 127.0.0.1:6001 subscriber 1 22222222\n";
 
-// The subscriber's resends go out on a stream of their own.
-const WITH_RTX: &str =
+/// The subscriber's resends go out on a stream of their own.
+pub const WITH_RTX: &str =
     "publish 1 plain 11111111 100\njoin 1 1 22222222 7 0 0\nport 127.0.0.1:5000 127.0.0.1:6000 publisher 1 11111111\nport 127.0.0.1:5001 127.0.0.1:6001 rtx 1 22222222 33333333 97\n";
 
 const REPLIES: &str = "ok\nok\n";
 
-const ALL: &str = "ok\nok\nsession 1 all\nsession 2 all\n";
+/// What is written where both sessions make all their turns.
+pub const ALL: &str = "ok\nok\nsession 1 all\nsession 2 all\n";
 
-/// The status and what was written, by a clock of 20 milliseconds a look.
-pub fn served<W: Threads + Wait + Sync, P: Ports>(
+/// The status and what was written, by this clock.
+pub fn served_by<W: Threads + Wait + Sync, P: Ports, C: Clock + Sync>(
     rt: &W,
     alloc: Global,
     turns: &str,
     configuration: &[u8],
     ports: &mut P,
+    clock: &C,
 ) -> Result<(u8, Vec<u8>), AllocError>
     requires unbound { P.bound ports.old ≡ 0 }
 {
@@ -37,13 +41,26 @@ pub fn served<W: Threads + Wait + Sync, P: Ports>(
     ];
     let mut source = MemSource::new(configuration.to_vec(alloc)?, Vec::new(alloc));
     let mut sink = MemSink::new(alloc, Vec::new(alloc));
-    let clock = StepClock::new(0, 20);
-    let status = sfu(rt, alloc, &words, &mut source, &mut sink, ports, &clock);
+    let status = sfu(rt, alloc, &words, &mut source, &mut sink, ports, clock);
     Ok((status, sink.written().to_vec(alloc)?))
 }
 
-// A link that brings these datagrams and fails at these receives and sends.
-fn link(
+/// The same by a clock of 20 milliseconds a look.
+pub fn served<W: Threads + Wait + Sync, P: Ports>(
+    rt: &W,
+    alloc: Global,
+    turns: &str,
+    configuration: &[u8],
+    ports: &mut P,
+) -> Result<(u8, Vec<u8>), AllocError>
+    requires unbound { P.bound ports.old ≡ 0 }
+{
+    let clock = StepClock::new(0, 20);
+    served_by(rt, alloc, turns, configuration, ports, &clock)
+}
+
+/// A link that brings these datagrams and fails at these receives and sends.
+pub fn link(
     alloc: Global,
     datagrams: &[&[u8]],
     receives: &[u64],
