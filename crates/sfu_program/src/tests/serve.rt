@@ -215,6 +215,38 @@ fn each_receive_and_each_send_of_a_session_fails_in_turn(rt: HostRuntime) -> Res
 }
 
 #[test]
+fn a_publisher_is_asked_by_the_clock_that_is_handed_in(rt: HostRuntime) -> Result<(), Fail> {
+    let alloc = rt.alloc();
+    // 1001 is missing from turn 1 on, at 12 milliseconds, and is held for until 112. Askings are 20 milliseconds apart at least: in the turns
+    // 0, 3 and 6, at 5, 26 and 47.
+    let rows: [(&str, usize); 4] = [("3", 0), ("4", 1), ("6", 1), ("7", 2)];
+    for (turns, nacks) in rows {
+        let link = link(alloc, &TWO, &[], &[])?;
+        let mut links = Vec::new(alloc);
+        links.push(link)?;
+        let mut ports = MemPorts::new(alloc, links, Vec::new(alloc))?;
+        let clock = StepClock::new(5, 7);
+        let (status, written) = served_by(
+            &rt,
+            alloc,
+            turns,
+            OF_PLAIN.as_bytes(),
+            &mut ports,
+            &clock,
+        )?;
+        assert_eq!(rt; written.as_slice(), b"ok\nsession 1 all\n".as_slice());
+        assert_eq!(rt; status, 0);
+        let back = ports.returned();
+        assert_eq!(rt; back.len(), 1);
+        assert_eq!(rt; back[0].sent().len(), nacks, "{turns} turns");
+        for datagram in back[0].sent() {
+            assert_eq!(rt; datagram.bytes(), NACK);
+        }
+    }
+    Ok(())
+}
+
+#[test]
 fn a_failed_bind_starts_no_session_and_gives_the_ports_back(rt: HostRuntime) -> Result<(), Fail> {
     let alloc = rt.alloc();
     for place in 0..3 {
