@@ -1,4 +1,5 @@
 // What the program does, by the words that it is given.
+mod addresses;
 mod bundling;
 mod calm;
 mod check;
