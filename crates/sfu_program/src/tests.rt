@@ -10,6 +10,7 @@ mod record;
 mod records;
 mod run;
 mod serve;
+mod sizes;
 mod together;
 mod trial;
 mod two_rooms;

@@ -6,8 +6,8 @@ use std::sync::Wait;
 use std::test::Fail;
 use std::thread::Threads;
 
-// The status and what was written for a script.
-fn played<W: Threads + Wait + Sync>(
+/// The status and what was written for a script.
+pub fn played<W: Threads + Wait + Sync>(
     rt: &W,
     alloc: Global,
     script: &[u8],
