@@ -1,3 +1,4 @@
+pub mod Entry
 pub mod Book
 pub mod Slots
 pub mod Kept

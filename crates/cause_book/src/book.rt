@@ -4,6 +4,7 @@ ghost use Rattle.forwarding_model.specs.forwarding.Causes.{is_ahead, newest_numb
 ghost use Rattle.cause_book.specs.Book.{AreFalling, IsAboveAll, IsAfter, Steps, judged, recent};
 ghost use Rattle.cause_book.specs.Slots.{IsNextAbove, IsNextBelow, step_at};
 
+use crate::entry::Entry;
 use sfu_base::{NoMemory, Refusal, Step, Verdict};
 use std::alloc::Global;
 use std::marker::Model;
@@ -11,15 +12,12 @@ use std::marker::Model;
 /// The numbers that are kept, up to the newest (own rule).
 const SPAN: u64 = 4096;
 
-/// As many places are filled at once: a fill of 2 KB or more costs an instruction a byte.
-const BLOCK: usize = 32;
-
 /// Why the frames of the last 4,096 numbers were or weren't passed on. Clauses see it as the list of their verdicts, the newest first.
 #[derive(Debug, Drop)]
 pub struct CauseBook {
     newest: Option<u64>,
     // A frame's verdict stands at its number modulo 4,096, and what stood there is forgotten.
-    steps: Vec<Option<Step>>,
+    steps: Vec<Entry>,
 }
 
 impl Model for CauseBook {
@@ -43,10 +41,8 @@ impl CauseBook {
         let Ok(mut steps) = Vec::with_capacity(alloc, SPAN as usize) else {
             return Err(NoMemory);
         };
-        for _ in 0..SPAN as usize / BLOCK {
-            let Ok(()) = steps.extend_from_slice(&[None; BLOCK]) else {
-                return Err(NoMemory);
-            };
+        for _ in 0..SPAN {
+            steps.push_reserved(Entry::nothing());
         }
         Ok(CauseBook {
             newest: None,
@@ -66,7 +62,7 @@ impl CauseBook {
                 return;
             }
         }
-        self.steps[(number % SPAN) as usize] = Some(Step { number, verdict });
+        self.steps[(number % SPAN) as usize] = Entry::new(number, verdict);
         self.newest = Some(number);
     }
 
@@ -101,19 +97,18 @@ impl CauseBook {
 }
 
 // The step with this number, if it is there.
-fn step_in(steps: &[Option<Step>], number: u64) -> Option<Step>
+fn step_in(steps: &[Entry], number: u64) -> Option<Step>
     requires { length steps.now ≡ 4096 }
     ensures { result ≡ step_at steps.now number }
 {
-    let step = steps[(number % SPAN) as usize];
-    match step {
+    match steps[(number % SPAN) as usize].step() {
         Some(step) if step.number == number => Some(step),
         _ => None,
     }
 }
 
 // The least number above this one that has a step; the newest has one.
-fn next_above(steps: &[Option<Step>], number: u64, newest: u64) -> u64
+fn next_above(steps: &[Entry], number: u64, newest: u64) -> u64
     requires places { length steps.now ≡ 4096 }
     requires lower { number < newest }
     requires newest { is_some (step_at steps.now newest) ≡ true }
@@ -128,7 +123,7 @@ fn next_above(steps: &[Option<Step>], number: u64, newest: u64) -> u64
 }
 
 // The greatest number below this one that has a step, from the lowest one on.
-fn next_below(steps: &[Option<Step>], lowest: u64, number: u64) -> Option<u64>
+fn next_below(steps: &[Entry], lowest: u64, number: u64) -> Option<u64>
     requires places { length steps.now ≡ 4096 }
     requires within { lowest ≤ number }
     ensures { IsNextBelow steps.now lowest number result }

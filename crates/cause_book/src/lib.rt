@@ -3,6 +3,7 @@
 #![tactic(auto)]
 
 mod book;
+mod entry;
 mod laws;
 mod path;
 

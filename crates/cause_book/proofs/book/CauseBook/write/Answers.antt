@@ -1,8 +1,9 @@
-use Rattle.std.proofs.Common.{◌≡◌, ◌∷◌, ℕ, List, Option, Some, None, refl, true, true≢false, sym, ap, ◌∙◌}
+use Rattle.std.proofs.Common.{◌≡◌, ◌%◌, set, ◌∷◌, ℕ, List, Option, Some, None, refl, true, true≢false, sym, ap, ◌∙◌}
 use Rattle.std.proofs.lemmas.Bool.{lt-ltb}
 use Rattle.sfu_base.specs.declared.frame.Step.{Step}
 use Rattle.forwarding_model.specs.forwarding.Causes.{is_ahead, newest_number}
 use Rattle.cause_book.specs.Book.{recent}
+use Rattle.cause_book.specs.Kept.{steps_to}
 use Rattle.cause_book.proofs.Recent.{recent_again}
 use Rattle.cause_book.proofs.Writing.{newest_seen, write_seen}
 use Rattle.cause_book.proofs.book.CauseBook.write.Goals as goal
@@ -22,7 +23,8 @@ ahead c = elim c.match-self.branch [
 pub returns-clause-written : goal.returns-clause-written
 returns-clause-written c above =
     let step : Step = record { number = c.args.number; verdict = c.args.verdict } in
-    write_seen c.self.inside.steps.items step c.self.invariant.places c.self.inside.newest c.self.invariant.newest (ahead c)
+    ap (λ (o : Option Step). steps_to (Some c.args.number) (set c.self.inside.steps.items (c.args.number % 4096) o)) c.new.ensures
+    ∙ write_seen c.self.inside.steps.items step c.self.invariant.places c.self.inside.newest c.self.invariant.newest (ahead c)
     ∙ ap (λ (l : List Step). recent (step ∷ l)) c.self.view_is
 
 pub returns-clause-unchanged : goal.returns-clause-unchanged
@@ -33,6 +35,7 @@ returns-clause-unchanged c low =
 pub returns-clause-stands : goal.returns-clause-stands
 returns-clause-stands c steps at above =
     let step : Step = record { number = c.args.number; verdict = c.args.verdict } in
-    write_seen c.self.inside.steps.items step c.self.invariant.places c.self.inside.newest c.self.invariant.newest (ahead c)
+    ap (λ (o : Option Step). steps_to (Some c.args.number) (set c.self.inside.steps.items (c.args.number % 4096) o)) c.new.ensures
+    ∙ write_seen c.self.inside.steps.items step c.self.invariant.places c.self.inside.newest c.self.invariant.newest (ahead c)
     ∙ ap (λ (l : List Step). recent (step ∷ l)) (c.self.view_is ∙ at)
     ∙ recent_again step steps above
