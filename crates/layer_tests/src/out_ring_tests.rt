@@ -1,5 +1,5 @@
 // Rows of packets in and out of a ring.
-use out_ring::OutRing;
+use out_ring::{OutRing, PacketStore, SharedPacket};
 use rtp_packet::read;
 use sfu_base::{PacketBuf, Refusal};
 use std::test::Fail;
@@ -145,5 +145,65 @@ fn packets_of_512_wait_in_order_and_nothing_is_kept_before_a_take(
 fn a_ring_is_made_where_there_is_memory(rt: HostRuntime) -> Result<(), Fail> {
     let ring = OutRing::new(rt.alloc(), 1, 0)?;
     assert_eq!(rt; ring.queued(), 0);
+    Ok(())
+}
+
+// Puts that packet into the store.
+fn put(store: &mut PacketStore, word: u32) -> Option<SharedPacket> {
+    let bytes = packet(word);
+    match read(&bytes) {
+        Ok(_) => store.put(&bytes),
+        Err(_) => None,
+    }
+}
+
+// Queues a packet that is shared, where fewer than 512 wait.
+fn push_shared(ring: &mut OutRing, packet: SharedPacket, marker: bool) {
+    if let 0..512 = ring.queued() {
+        ring.push_shared(packet, marker);
+    }
+}
+
+#[test]
+fn a_packet_that_rings_share_has_each_ones_fields_and_its_room_is_used_again(
+    rt: HostRuntime,
+) -> Result<(), Fail> {
+    let alloc = rt.alloc();
+    let mut store = PacketStore::new(alloc);
+    assert!(rt; put(&mut store, 0).is_none());
+    store.grow(alloc, 1)?;
+    let mut first = OutRing::new(alloc, 0x2222_2222, 65_535)?;
+    let mut second = OutRing::new(alloc, 0x2222_2222, 7)?;
+    let Some(shared) = put(&mut store, 1) else {
+        return Err(Fail::from("no room"));
+    };
+    let Some(another) = shared.another() else {
+        return Err(Fail::from("not counted"));
+    };
+    push_shared(&mut first, shared, true);
+    push_shared(&mut second, another, false);
+    assert_eq!(rt; store.room(), 0);
+    assert!(rt; put(&mut store, 2).is_none());
+    let mut out = PacketBuf::new();
+    assert_eq!(rt; first.take(&mut out), Ok(65_535));
+    assert_eq!(rt; out.bytes(), outgoing(1, 65_535, true).as_slice());
+    assert_eq!(rt; second.take(&mut out), Ok(7));
+    assert_eq!(rt; out.bytes(), outgoing(1, 7, false).as_slice());
+    // The first ring keeps it until it gave 1,024 more.
+    for word in 2..1026u32 {
+        assert!(rt; first.let_go().is_none());
+        push(&mut first, word, false);
+        assert!(rt; first.take(&mut out).is_ok());
+    }
+    let Some(left) = first.let_go() else {
+        return Err(Fail::from("it is kept too long"));
+    };
+    store.give_back(left);
+    assert_eq!(rt; store.room(), 0);
+    assert_eq!(rt; second.resend(7, &mut out), Ok(()));
+    assert_eq!(rt; out.bytes(), outgoing(1, 7, false).as_slice());
+    second.give_back(&mut store);
+    assert_eq!(rt; store.room(), 1);
+    assert!(rt; put(&mut store, 3).is_some());
     Ok(())
 }

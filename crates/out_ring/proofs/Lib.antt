@@ -5,3 +5,5 @@ pub mod Calls
 pub mod Histories
 pub mod Modelled
 pub mod Turning
+pub mod Slotted
+pub mod Queued

@@ -1,5 +1,5 @@
 -- The places of a ring, each of which names a slot of its own, when the front one goes to the back.
-use Rattle.std.proofs.Common.{◌≡◌, ◌<◌, zero, suc, false, ◌+◌, ◌-◌, ℕ, List, [], ◌∷◌, ◌++◌, length, drop, refl, sym, ap, ap₂, subst, ◌∙◌, arith, Option, Some, slice_get, length-append}
+use Rattle.std.proofs.Common.{◌≡◌, ◌≢◌, ◌<◌, zero, suc, false, ◌+◌, ◌-◌, ℕ, List, [], ◌∷◌, ◌++◌, length, drop, refl, sym, ap, ap₂, subst, ◌∙◌, arith, Option, Some, slice_get, length-append}
 use Rattle.std.specs.Prelude.{unwrap_or}
 use Rattle.std.specs.List.{AllByRecursion}
 use Rattle.std.specs.Option.{option_map}
@@ -77,3 +77,21 @@ turned slots slot p (n ∷ ns) first full below d =
       distinct = distinct_more slot ns other d.1;
       below = all-append (IsBelow 1536) ns slot below.1 less;
     }
+
+-- ---- another packet in one slot
+
+same_elsewhere : (old new : List Pushed) (slot : ℕ) → ((n : ℕ) → n ≢ slot → in_slot new n ≡ in_slot old n) → (ns : List ℕ) → AllByRecursion (λ m. m ≡ slot → ⊥) ns
+    → packets_in new ns ≡ packets_in old ns
+same_elsewhere old new slot others [] other = refl
+same_elsewhere old new slot others (n ∷ ns) other =
+    ap₂ (λ (x : Pushed) (xs : List Pushed). x ∷ xs) (others n other.0) (same_elsewhere old new slot others ns other.1)
+
+-- the packets behind its place are the same
+pub same_behind : (old new : List Pushed) (slot : ℕ) → ((n : ℕ) → n ≢ slot → in_slot new n ≡ in_slot old n) → (places : List ℕ) (i m : ℕ) → i < m
+    → slice_get places i ≡ Some slot → IsDistinct places → drop m (packets_in new places) ≡ drop m (packets_in old places)
+same_behind old new slot others places i zero lt at d = absurd (omega (arith, lt))
+same_behind old new slot others [] i (suc m) lt at d = absurd (cc at)
+same_behind old new slot others (n ∷ ns) zero (suc m) lt at d =
+    let same : n ≡ slot = cc at in
+    ap (drop m) (same_elsewhere old new slot others ns (subst (λ (k : ℕ). AllByRecursion (λ m. m ≡ k → ⊥) ns) same d.0))
+same_behind old new slot others (n ∷ ns) (suc i) (suc m) lt at d = same_behind old new slot others ns i m (omega (arith, lt)) at d.1

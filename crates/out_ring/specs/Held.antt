@@ -1,14 +1,26 @@
--- What the fields of a slot and of a ring stand for.
+-- What the fields of the slots and of a ring stand for.
 use Rattle.std.specs.Prelude.{◌≡◌, ◌≤◌, ◌<◌, ◌+◌, ◌-◌, List, length, map, take, drop}
 use Rattle.std.specs.List.{AllByRecursion}
+use Rattle.std.specs.Vec.{vec_capacity}
 use Rattle.out_ring.specs.declared.ring.OutRing.TheInside.{Inside}
+use Rattle.out_ring.specs.declared.slots.Slots.TheInside as slots
 use Rattle.out_ring.specs.Ring.{Pushed, Ring}
 use Rattle.out_ring.specs.History.{numbered}
 use Rattle.out_ring.specs.Places.{IsBelow, IsDistinct, packets_in}
+use Rattle.out_ring.specs.Slots.{packets_from}
+
+abbrev pub packets_of : slots.Inside → List Pushed
+packets_of a = packets_from 0 a.base a.heads.items a.own.items
+
+pub record AreSlots (a : slots.Inside) : Type 0 where
+  pub heads : length a.heads.items ≡ 1536
+  pub own : length a.own.items ≤ 1536
+  pub room : 1536 ≤ vec_capacity a.own
+  pub base : a.base < 1536
 
 -- the packets that are kept or queued, the oldest first
 abbrev pub held : Inside → List Pushed
-held a = drop (1536 - a.queued - a.kept) (packets_in a.slots.items a.places.items)
+held a = drop (1536 - a.queued - a.kept) (packets_in a.slots a.places.items)
 
 abbrev pub seen : Inside → Ring
 seen a = record {
@@ -19,7 +31,7 @@ seen a = record {
 }
 
 pub record IsFull (a : Inside) : Type 0 where
-  pub slots : length a.slots.items ≡ 1536
+  pub slots : length a.slots ≡ 1536
   pub places : length a.places.items ≡ 1536
   pub capacity : a.places.capacity ≡ 1536
   pub below : AllByRecursion (IsBelow 1536) a.places.items
@@ -27,3 +39,4 @@ pub record IsFull (a : Inside) : Type 0 where
   pub next : a.next < 65536
   pub queued : a.queued ≤ 512
   pub kept : a.kept ≤ 1024
+  pub spent : a.queued + a.kept + a.spent ≤ 1536

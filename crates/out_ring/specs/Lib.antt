@@ -1,6 +1,9 @@
 pub mod Ring
 pub mod History
-pub mod Slot
+pub mod Packet
+pub mod Store
+pub mod Room
+pub mod Slots
 pub mod Held
 pub mod Places
 pub mod Model

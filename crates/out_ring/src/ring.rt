@@ -1,12 +1,13 @@
 // The ring of one subscriber.
-ghost use Rattle.std.specs.Prelude.{◌≡◌, ◌<◌, ◌≤◌, ◌↔◌, Err, IfOk, None, OnErr, OnOk, length};
+ghost use Rattle.std.specs.Prelude.{◌≡◌, ◌<◌, ◌≤◌, ◌↔◌, ◌∷◌, ◌++◌, [], Err, IfOk, None, OnErr, OnOk, Some, drop, length, slice_get};
 ghost use Rattle.std.specs.List.{AllByRecursion};
 ghost use Rattle.rtp_packet.specs.Faults.{first_fault};
 ghost use Rattle.out_ring.specs.History.{Gives, GaveLately, GaveNoneLately, History, IsAfter, and_push, and_take, nothing_done};
 ghost use Rattle.out_ring.specs.Ring.{Resends, Takes, begun, pushed};
 ghost use Rattle.out_ring.specs.Places.{IsBelow, IsDistinct, SendsFrom, packets_in};
 
-use crate::slot::Slot;
+use crate::slots::{SLOTS, Slots};
+use crate::store::{PacketStore, SharedPacket};
 use circular_buffer::HeapCircularBuffer;
 use sfu_base::{NoMemory, PacketBuf, Refusal};
 use std::alloc::Global;
@@ -14,9 +15,6 @@ use std::marker::Model;
 
 /// The most packets that are kept after they were taken (own rule).
 const MOST_KEPT: u16 = 1024;
-
-/// The places of the ring: as many as are ever kept, and as many as are ever queued, at most 512.
-const PLACES: usize = 1536;
 
 /// The packets that go out to a subscriber. Clauses see it as its SSRC, the sequence number of the next take, the packets that are queued,
 /// and those that are kept with their numbers.
@@ -27,9 +25,11 @@ pub struct OutRing {
     next: u16,
     queued: u16,
     kept: u16,
+    // the places before those of the kept packets at which one may still be shared that was kept before
+    spent: u16,
     // Each place names a slot of its own. The last ones, as many as are queued, have the packets that are; before them stand those that are kept.
     places: HeapCircularBuffer<u16>,
-    slots: Vec<Slot>,
+    slots: Slots,
 }
 
 impl Model for OutRing {
@@ -56,8 +56,9 @@ impl OutRing {
             next: first,
             queued: 0,
             kept: 0,
+            spent: 0,
             places: all_places(alloc)?,
-            slots: all_slots(alloc)?,
+            slots: Slots::new(alloc)?,
         })
     }
 
@@ -78,13 +79,51 @@ impl OutRing {
         ensures pushed { self.new ≡ pushed packet.now marker self.old }
         ensures stands { (h : History) → IsAfter self.old h → IsAfter self.new (and_push h packet.now marker) }
     {
-        // All places have one, so that the front one is given up for that at the back.
-        let Some(slot) = self.places.front().copied() else {
+        let slot = turn(&mut self.places);
+        self.queued += 1;
+        self.spent = self
+            .spent
+            .min((SLOTS as u16).saturating_sub(self.queued + self.kept));
+        self.slots.fill(slot, packet, marker);
+    }
+
+    /// Queues a packet that is shared behind the others, as `push` does with a copy. No byte is copied.
+    pub fn push_shared(&mut self, packet: SharedPacket, marker: bool)
+        requires room { length self.old.queued < 512 }
+        ensures pushed { self.new ≡ pushed packet marker self.old }
+        ensures stands { (h : History) → IsAfter self.old h → IsAfter self.new (and_push h packet marker) }
+    {
+        let slot = turn(&mut self.places);
+        self.queued += 1;
+        self.spent = self
+            .spent
+            .min((SLOTS as u16).saturating_sub(self.queued + self.kept));
+        self.slots.share(slot, packet, marker);
+    }
+
+    /// Lets go of a packet that is shared and isn't kept any more: the oldest, if there may be one. To be called twice before each push, so that
+    /// none stays: a take leaves one behind at most.
+    pub fn let_go(&mut self) -> Option<SharedPacket>
+        ensures { self.new ≡ self.old }
+    {
+        if self.spent == 0 {
+            return None;
+        }
+        let place = SLOTS - usize::from(self.queued + self.kept + self.spent);
+        let Some(slot) = self.places.get(place).copied() else {
             unreachable!()
         };
-        self.slots[usize::from(slot)].fill(packet, marker);
-        let _ = self.places.push_back(slot);
-        self.queued += 1;
+        self.spent -= 1;
+        self.slots.let_go(slot)
+    }
+
+    /// Ends the ring: the packets that it shares go back to the store.
+    pub fn give_back(self, store: &mut PacketStore)
+        ensures all { store.new.all ≡ store.old.all }
+        ensures free { store.old.free ≤ store.new.free }
+    {
+        let OutRing { slots, .. } = self;
+        slots.give_back(store);
     }
 
     /// Hands out the oldest queued packet, and answers its sequence number. It is kept from then on, and the oldest of 1,025 kept ones is
@@ -106,13 +145,14 @@ impl OutRing {
         give(
             &self.places,
             &self.slots,
-            PLACES - usize::from(self.queued),
+            SLOTS - usize::from(self.queued),
             number,
             self.ssrc,
             out,
         );
         self.next = number.wrapping_add(1);
         self.queued -= 1;
+        self.spent += (self.kept + 1).saturating_sub(MOST_KEPT);
         self.kept = (self.kept + 1).min(MOST_KEPT);
         Ok(number)
     }
@@ -137,7 +177,7 @@ impl OutRing {
         give(
             &self.places,
             &self.slots,
-            PLACES - usize::from(self.queued + takes_ago),
+            SLOTS - usize::from(self.queued + takes_ago),
             seq,
             self.ssrc,
             out,
@@ -153,32 +193,37 @@ fn all_places(alloc: Global) -> Result<HeapCircularBuffer<u16>, NoMemory>
     ensures below { IfOk result (λ places. AllByRecursion (IsBelow 1536) places.items) }
     ensures distinct { IfOk result (λ places. IsDistinct places.items) }
 {
-    let Ok(mut places) = HeapCircularBuffer::with_capacity(alloc, PLACES) else {
+    let Ok(mut places) = HeapCircularBuffer::with_capacity(alloc, SLOTS) else {
         return Err(NoMemory);
     };
-    for slot in 0..PLACES as u16 {
+    for slot in 0..SLOTS as u16 {
         let _ = places.push_back(slot);
     }
     Ok(places)
 }
 
-// All slots, each with a packet.
-fn all_slots(alloc: Global) -> Result<Vec<Slot>, NoMemory>
-    ensures { IfOk result (λ slots. length slots.items ≡ 1536) }
+// The front place goes to the back: answers its slot.
+fn turn(places: &mut HeapCircularBuffer<u16>) -> u16
+    requires size { length places.old.items ≡ 1536 }
+    requires capacity { places.old.capacity ≡ 1536 }
+    requires below { AllByRecursion (IsBelow 1536) places.old.items }
+    ensures front { slice_get places.old.items 0 ≡ Some result }
+    ensures places { places.new.items ≡ drop 1 places.old.items ++ result ∷ [] }
+    ensures capacity { places.new.capacity ≡ 1536 }
+    ensures below { result < 1536 }
 {
-    let Ok(mut slots) = Vec::with_capacity(alloc, PLACES) else {
-        return Err(NoMemory);
+    // All places have a slot, so that the front one is given up for that at the back.
+    let Some(slot) = places.front().copied() else {
+        unreachable!()
     };
-    while slots.len() < PLACES {
-        slots.push_reserved(Slot::new());
-    }
-    Ok(slots)
+    let _ = places.push_back(slot);
+    slot
 }
 
 // Copies out the packet at this place, with this sequence number and SSRC.
 fn give(
     places: &HeapCircularBuffer<u16>,
-    slots: &[Slot],
+    slots: &Slots,
     place: usize,
     seq: u16,
     ssrc: u32,
@@ -186,12 +231,11 @@ fn give(
 )
     requires place { place < length places.now.items }
     requires below { AllByRecursion (IsBelow 1536) places.now.items }
-    requires slots { length slots.now ≡ 1536 }
     ensures sends { SendsFrom (packets_in slots.now places.now.items) place seq ssrc out.new }
     ensures reads { first_fault out.new ≡ None }
     ensures fits { length out.new ≤ 1536 }
 {
     if let Some(slot) = places.get(place) {
-        slots[usize::from(*slot)].send(seq, ssrc, out);
+        slots.send(*slot, seq, ssrc, out);
     }
 }

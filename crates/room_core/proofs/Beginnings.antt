@@ -32,7 +32,7 @@ use Rattle.room_core.specs.Follows.{Follows, Happened, IsFresh}
 use Rattle.room_core.specs.Passing.{Both}
 use Rattle.room_core.specs.Content.{Does, IsAfter, IsFeedReady, IsFreshOn, IsPipelineReady, IsSubscriberAfter, IsTrackAfter}
 use Rattle.room_core.specs.declared.live.Ready.{Ready}
-use Rattle.room_core.specs.declared.remask_cache.RemaskCache.{RemaskCache}
+use Rattle.room_core.specs.declared.frame_cache.FrameCache.{FrameCache}
 use Rattle.room_core.specs.declared.live.Ready.TheVariants.{Nothing, Pipeline as ReadyPipeline, Sent as ReadySent}
 use Rattle.room_core.proofs.TableSteps.{table_after, table_same}
 use Rattle.room_core.proofs.Stepping.{begun_at, kind_begun}
@@ -336,7 +336,7 @@ join_does old new subscriber track ssrc first wish live was small none tracks fr
 
 -- ---- what was ready
 
-pub ready_pipeline : (o : Option Refusal) (content : Content) (kind : Kind) (ssrc hold : ℕ) (ready : Ready) (pipeline : Box Track Global) (told : Box RemaskCache Global) → ready ≡ ReadyPipeline pipeline told
+pub ready_pipeline : (o : Option Refusal) (content : Content) (kind : Kind) (ssrc hold : ℕ) (ready : Ready) (pipeline : Box Track Global) (told : Box FrameCache Global) → ready ≡ ReadyPipeline pipeline told
     → IsPipelineReady o content kind ssrc hold ready → (o ≡ None) × IsBegun pipeline.value kind ssrc hold × (0 < spare content.tracks)
 ready_pipeline (Some why) content kind ssrc hold ready pipeline told e h = absurd (let none : ReadyPipeline pipeline told ≡ Nothing = sym e ∙ h in cc)
 ready_pipeline None content kind ssrc hold ready pipeline told e h =

@@ -2,6 +2,7 @@ pub mod Rings
 pub mod SentMarked
 pub mod Opened
 pub mod Pushing
+pub mod Sharing
 pub mod Feeding
 pub mod HandingOut
 pub mod Stepping

@@ -19,8 +19,9 @@ use Rattle.track_core.specs.declared.layers.Layers.{Layers}
 use Rattle.track_core.specs.Track.{id_of, structure_in}
 use Rattle.room_core.specs.Follows.{pushed_all, remasked_by, tells_by}
 use Rattle.room_core.specs.Sent.{remasked_first, tells_first}
-use Rattle.room_core.specs.RemaskCache.{TellsFirst, TellsOne}
-use Rattle.room_core.specs.declared.remask_cache.RemaskCache.{RemaskCache}
+use Rattle.room_core.specs.Sharing.{TellsOne}
+use Rattle.room_core.specs.FrameCache.{TellsFirst}
+use Rattle.room_core.specs.declared.frame_cache.FrameCache.{FrameCache}
 use Rattle.room_core.proofs.Rings.{length-pushed, pushed_both, pushed_is, pushed_more, pushed_none, take_next}
 use Rattle.room_core.proofs.SentMarked.{length-marked, marked_at}
 
@@ -189,25 +190,25 @@ filled_same id mask force bytes is = sym (ap (λ (o : Option (List ℕ)). or_sam
 
 -- ---- what is kept of the frame in hand
 
-pub keeps_nothing : (layers : Option Layers) (packets : List (List ℕ)) (told : RemaskCache) → told.mask ≡ None → TellsFirst layers packets told
+pub keeps_nothing : (layers : Option Layers) (packets : List (List ℕ)) (told : FrameCache) → told.mask ≡ None → TellsFirst layers packets told
 keeps_nothing None packets told none = tt
 keeps_nothing (Some l) [] told none = tt
 keeps_nothing (Some l) (b ∷ rest) told none = subst (λ (m : Option ℕ). TellsOne l.id l.table.structure b m told.packet) (sym none) tt
 
-pub keeps_one : (layers : Option Layers) (packets : List (List ℕ)) (bytes : List ℕ) (told : RemaskCache) → slice_get packets 0 ≡ Some bytes
+pub keeps_one : (layers : Option Layers) (packets : List (List ℕ)) (bytes : List ℕ) (told : FrameCache) → slice_get packets 0 ≡ Some bytes
     → TellsFirst layers packets told → TellsFirst layers (bytes ∷ []) told
 keeps_one None packets bytes told at kept = tt
 keeps_one (Some l) [] bytes told at kept = absurd cc
 keeps_one (Some l) (b ∷ rest) bytes told at kept = let same : b ≡ bytes = cc in subst (λ (x : List ℕ). TellsOne l.id l.table.structure x told.mask told.packet) same kept
 
-pub keeps_first : (layers : Option Layers) (packets : List (List ℕ)) (bytes : List ℕ) (told : RemaskCache) → slice_get packets 0 ≡ Some bytes
+pub keeps_first : (layers : Option Layers) (packets : List (List ℕ)) (bytes : List ℕ) (told : FrameCache) → slice_get packets 0 ≡ Some bytes
     → TellsFirst layers (bytes ∷ []) told → TellsFirst layers packets told
 keeps_first None packets bytes told at kept = tt
 keeps_first (Some l) [] bytes told at kept = tt
 keeps_first (Some l) (b ∷ rest) bytes told at kept = let same : bytes ≡ b = cc in subst (λ (x : List ℕ). TellsOne l.id l.table.structure x told.mask told.packet) same kept
 
 -- by the id and the structure in force
-pub keeps_by : (layers : Option Layers) (id : ℕ) (force : Option TemplateStructure) (bytes : List ℕ) (told : RemaskCache) → Some id ≡ option_map id_of layers → force ≡ structure_in layers
+pub keeps_by : (layers : Option Layers) (id : ℕ) (force : Option TemplateStructure) (bytes : List ℕ) (told : FrameCache) → Some id ≡ option_map id_of layers → force ≡ structure_in layers
     → TellsFirst layers (bytes ∷ []) told → TellsOne id force bytes told.mask told.packet
 keeps_by None id force bytes told is force_is kept = absurd cc
 keeps_by (Some l) id force bytes told is force_is kept =
@@ -215,7 +216,7 @@ keeps_by (Some l) id force bytes told is force_is kept =
     subst (λ (f : Option TemplateStructure). TellsOne id f bytes told.mask told.packet) (sym force_is)
     (subst (λ (n : ℕ). TellsOne n l.table.structure bytes told.mask told.packet) (sym same) kept)
 
-pub keeps_on : (layers : Option Layers) (id : ℕ) (force : Option TemplateStructure) (bytes : List ℕ) (told : RemaskCache) → Some id ≡ option_map id_of layers → force ≡ structure_in layers
+pub keeps_on : (layers : Option Layers) (id : ℕ) (force : Option TemplateStructure) (bytes : List ℕ) (told : FrameCache) → Some id ≡ option_map id_of layers → force ≡ structure_in layers
     → TellsOne id force bytes told.mask told.packet → TellsFirst layers (bytes ∷ []) told
 keeps_on None id force bytes told is force_is kept = tt
 keeps_on (Some l) id force bytes told is force_is kept =

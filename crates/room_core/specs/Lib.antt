@@ -19,7 +19,8 @@ pub mod Serves
 pub mod Silent
 pub mod Sendable
 pub mod Follows
-pub mod RemaskCache
+pub mod Sharing
+pub mod FrameCache
 pub mod Stepping
 pub mod Passing
 pub mod Tables

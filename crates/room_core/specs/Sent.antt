@@ -1,7 +1,7 @@
 -- What is sent of a frame of a track of this kind to a subscriber with a target, before it is numbered. Own rules, over AV1 RTP payload
 -- format, Appendix A (active_decode_targets_bitmask). This is the one place that says it: all that is told of a subscriber cites it, and so
 -- does the code that queues a frame. On a plain track there are no frames.
-use Rattle.std.specs.Prelude.{ℕ, ◌==◌, ◌||◌, Bool, false, if◌then◌else◌, List, [], ◌∷◌, Option, None, Some}
+use Rattle.std.specs.Prelude.{ℕ, ◌==◌, ◌||◌, Bool, false, if◌then◌else◌, List, [], ◌∷◌, Option, Some}
 use Rattle.sfu_base.specs.declared.call.Kind.{Kind}
 use Rattle.sfu_base.specs.declared.call.Kind.TheVariants.{Plain, Layered}
 use Rattle.sfu_base.specs.declared.frame.FrameMeaning.{FrameMeaning}

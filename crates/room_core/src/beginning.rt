@@ -10,8 +10,8 @@ ghost use Rattle.room_core.specs.WellFormed.{IsValue};
 
 use crate::content::Content;
 use crate::feed::Feed;
-use crate::live::{LiveSubscriber, LiveTrack, Ready};
-use crate::remask_cache::RemaskCache;
+use crate::frame_cache::FrameCache;
+use crate::live::{LiveSubscriber, LiveTrack, Ready, count_on};
 use indexmap::IndexMap;
 use sfu_base::{Call, Kind, NoMemory, Refusal, Reply, Wish};
 use std::alloc::Global;
@@ -79,7 +79,7 @@ impl Content {
         let Ok(pipeline) = Box::new(alloc, pipeline) else {
             return Err(NoMemory);
         };
-        let Ok(cache) = Box::new(alloc, RemaskCache::new()) else {
+        let Ok(cache) = Box::new(alloc, FrameCache::new(alloc)?) else {
             return Err(NoMemory);
         };
         match self.tracks.reserve(1) {
@@ -106,10 +106,12 @@ impl Content {
         if self.join_refusal(subscriber, track).is_some() {
             return Ok(Ready::Nothing);
         }
-        let Some(known) = self.tracks.get(&track) else {
+        let others = count_on(&self.subscribers, track);
+        let Some(known) = self.tracks.get_mut(&track) else {
             // A join of no track was refused.
             return Ok(Ready::Nothing);
         };
+        known.frame_cache.make_room(alloc, others + 1)?;
         let feed = Feed::new(alloc, known.kind, ssrc, first, wish)?;
         let Ok(feed) = Box::new(alloc, feed) else {
             return Err(NoMemory);
@@ -135,7 +137,7 @@ impl Content {
                     kind,
                     pleaded: false,
                     pipeline,
-                    remask_cache: cache,
+                    frame_cache: cache,
                 };
                 match self.tracks.insert(track, live) {
                     Ok(_) => {

@@ -1,12 +1,13 @@
 // What one subscriber is sent.
-ghost use Rattle.std.specs.Prelude.{◌≡◌, ◌≤◌, ◌||◌, false, true, IfOk, OnErr, OnOk, length};
+ghost use Rattle.std.specs.Prelude.{◌≡◌, ◌≤◌, ◌||◌, ◌∷◌, [], false, true, IfOk, OnErr, OnOk, length};
 ghost use Rattle.rtp_packet.specs.Faults.{first_fault};
 ghost use Rattle.sfu_base.specs.Frame.{IsValid};
 ghost use Rattle.room_core.specs.Follows.{FollowsAim, FollowsFrame, FollowsPacket, FollowsTake, HasNoTarget, IsFed, IsFresh, Resends, Tells, tells_by};
 ghost use Rattle.room_core.specs.Sendable.{IsSendable};
-ghost use Rattle.room_core.specs.RemaskCache.{TellsFirst};
+ghost use Rattle.room_core.specs.Sharing.{AreFirst};
+ghost use Rattle.room_core.specs.FrameCache.{IsOfFrame};
 
-use crate::remask_cache::RemaskCache;
+use crate::frame_cache::FrameCache;
 use crate::sending::{own_marker, push_from, push_remasked};
 use cause_book::CauseBook;
 use out_ring::OutRing;
@@ -51,32 +52,34 @@ impl Feed {
         self.selector.aim(wish);
     }
 
-    /// Offers the next packet of a plain track: it is queued where fewer than 512 are.
-    pub fn pass_packet(&mut self, packet: &[u8])
+    /// Offers the next packet of a plain track: it is queued where fewer than 512 are. `cache` shares it with the other subscribers.
+    pub fn pass_packet(&mut self, packet: &[u8], cache: &mut FrameCache)
         requires reads { first_fault packet.now ≡ None }
         requires fits { length packet.now ≤ 1500 }
+        requires shared { AreFirst cache.old.shared.items (packet.now ∷ []) }
         ensures follows { FollowsPacket self.old self.new packet.now }
+        ensures shared { AreFirst cache.new.shared.items (packet.now ∷ []) }
     {
         if self.ring.queued() < MOST_QUEUED {
-            self.ring.push(packet, own_marker(packet));
+            cache.queue(&mut self.ring, 0, packet, own_marker(packet));
         }
     }
 
     /// Offers a layered track's most recently completed frame. `tells` is whether its first packet carries a structure or a mask. Where it
-    /// does, or the frame opens the target, that packet goes out with the mask of the targets that the subscriber gets; `cache` keeps it for
-    /// the frame's next subscriber.
+    /// does, or the frame opens the target, that packet goes out with the mask of the targets that the subscriber gets; `cache` shares what
+    /// goes out with the frame's next subscribers.
     pub fn pass_frame(
         &mut self,
         track: &Track,
         frame: &FrameMeaning,
         tells: bool,
-        cache: &mut RemaskCache,
+        cache: &mut FrameCache,
     )
         requires valid { IsValid frame.now }
         requires tells { tells ≡ tells_by track.now.layers track.now.packets }
-        requires told { TellsFirst track.now.layers track.now.packets cache.old }
+        requires of_frame { IsOfFrame track.now.layers track.now.packets cache.old }
         ensures follows { FollowsFrame self.old self.new frame.now track.now }
-        ensures told { TellsFirst track.now.layers track.now.packets cache.new }
+        ensures of_frame { IsOfFrame track.now.layers track.now.packets cache.new }
     {
         let verdict = self
             .selector
@@ -88,7 +91,7 @@ impl Feed {
                 let mask = mask_for(frame, self.selector.target());
                 push_remasked(&mut self.ring, cache, track, mask, is_top);
             } else {
-                push_from(&mut self.ring, track, 0, is_top);
+                push_from(&mut self.ring, cache, track, 0, is_top);
             }
         }
     }
@@ -101,6 +104,14 @@ impl Feed {
         ensures sendable { result ≡ true → IsSendable out.new }
     {
         self.ring.take(out).is_ok()
+    }
+
+    /// Ends the subscriber: what it shares goes back to its track, where so many subscribers are left.
+    pub fn give_back(self, cache: &mut FrameCache, left: usize)
+        ensures { cache.new.store.all ≤ cache.old.store.all }
+    {
+        let Feed { ring, .. } = self;
+        cache.take_back(ring, left);
     }
 
     /// Whether there is no current target.

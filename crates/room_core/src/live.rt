@@ -1,8 +1,10 @@
 // What is live in a room.
-ghost use Rattle.std.specs.Prelude.{◌≡◌, []};
+ghost use Rattle.std.specs.Prelude.{◌≡◌, ◌≤◌, []};
+ghost use Rattle.indexmap.specs.IndexMap.{index_map_len};
 
 use crate::feed::Feed;
-use crate::remask_cache::RemaskCache;
+use crate::frame_cache::FrameCache;
+use indexmap::IndexMap;
 use sfu_base::Kind;
 use track_core::Track;
 
@@ -13,7 +15,7 @@ pub struct LiveTrack {
     pub kind: Kind,
     pub pleaded: bool,
     pub pipeline: Box<Track>,
-    pub remask_cache: Box<RemaskCache>,
+    pub frame_cache: Box<FrameCache>,
     ghost idle: { pipeline.value.window.waiting ≡ [] },
 }
 
@@ -30,6 +32,21 @@ pub struct LiveSubscriber {
 #[derive(Drop)]
 pub enum Ready {
     Nothing,
-    Pipeline(Box<Track>, Box<RemaskCache>),
+    Pipeline(Box<Track>, Box<FrameCache>),
     Sent(Box<Feed>),
+}
+
+/// How many of these subscribers are of this track.
+pub fn count_on(subscribers: &IndexMap<u32, LiveSubscriber>, track: u32) -> usize
+    ensures { result ≤ index_map_len subscribers.now }
+{
+    let mut count = 0;
+    for place in 0..subscribers.len() {
+        if let Some((_, known)) = subscribers.get_index(place) {
+            if known.track == track {
+                count += 1;
+            }
+        }
+    }
+    count
 }

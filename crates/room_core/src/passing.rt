@@ -1,5 +1,5 @@
 // What a track makes goes to each of its subscribers.
-ghost use Rattle.std.specs.Prelude.{◌≡◌, ◌≤◌, ◌&&◌, None, nat_eq, not, length};
+ghost use Rattle.std.specs.Prelude.{◌≡◌, ◌≤◌, ◌&&◌, ◌∷◌, [], None, nat_eq, not, length};
 ghost use Rattle.indexmap.specs.IndexMap.{get, index_map_len};
 ghost use Rattle.rtp_packet.specs.Faults.{first_fault};
 ghost use Rattle.sfu_base.specs.Frame.{IsValid};
@@ -7,10 +7,11 @@ ghost use Rattle.track_core.specs.Track.{told_with};
 ghost use Rattle.room_core.specs.Follows.{FollowsFrame, FollowsPacket, tells_by};
 ghost use Rattle.room_core.specs.Passing.{IsPassed, PassedTo, WaitsIn, WaitsOne, WorkedIf, WorkedOff};
 ghost use Rattle.room_core.specs.Stepping.{IsMadeValid, Steps};
-ghost use Rattle.room_core.specs.RemaskCache.{TellsFirst};
+ghost use Rattle.room_core.specs.Sharing.{AreFirst};
+ghost use Rattle.room_core.specs.FrameCache.{IsOfFrame};
 
+use crate::frame_cache::FrameCache;
 use crate::live::LiveSubscriber;
-use crate::remask_cache::RemaskCache;
 use crate::sending::first_tells;
 use indexmap::IndexMap;
 use sfu_base::FrameMeaning;
@@ -22,7 +23,7 @@ pub fn work_off(
     pleaded: &mut bool,
     number: u32,
     subscribers: &mut IndexMap<u32, LiveSubscriber>,
-    cache: &mut RemaskCache,
+    cache: &mut FrameCache,
 )
     ensures worked { WorkedOff pipeline.old pipeline.new number (get nat_eq subscribers.old) (get nat_eq subscribers.new) pleaded.old pleaded.new }
     ensures count { index_map_len subscribers.new ≡ index_map_len subscribers.old }
@@ -36,7 +37,7 @@ fn work_off_one(
     pleaded: &mut bool,
     number: u32,
     subscribers: &mut IndexMap<u32, LiveSubscriber>,
-    cache: &mut RemaskCache,
+    cache: &mut FrameCache,
 ) -> bool
     ensures worked { WorkedIf result pipeline.old pipeline.new number (get nat_eq subscribers.old) (get nat_eq subscribers.new) pleaded.old pleaded.new }
     ensures count { index_map_len subscribers.new ≡ index_map_len subscribers.old }
@@ -45,7 +46,7 @@ fn work_off_one(
         Advance::Idle => false,
         Advance::Nothing => true,
         Advance::Packet => {
-            pass_packet_to_all(subscribers, number, pipeline.packet(0));
+            pass_packet_to_all(subscribers, number, pipeline.packet(0), cache);
             true
         }
         Advance::Frame => {
@@ -73,28 +74,36 @@ fn still_pleaded(pleaded: bool, key: bool) -> bool
 }
 
 // The packet that a plain track made last goes to each of its subscribers.
-fn pass_packet_to_all(subscribers: &mut IndexMap<u32, LiveSubscriber>, number: u32, packet: &[u8])
+fn pass_packet_to_all(
+    subscribers: &mut IndexMap<u32, LiveSubscriber>,
+    number: u32,
+    packet: &[u8],
+    cache: &mut FrameCache,
+)
     requires reads { first_fault packet.now ≡ None }
     requires fits { length packet.now ≤ 1500 }
     ensures passed { PassedTo (λ old new. FollowsPacket old new packet.now) number (get nat_eq subscribers.old) (get nat_eq subscribers.new) }
     ensures count { index_map_len subscribers.new ≡ index_map_len subscribers.old }
 {
+    cache.forget();
     let count = subscribers.len();
     for place in 0..count {
         if let Some(subscriber) = subscribers.get_index_mut(place) {
-            pass_packet(subscriber, number, packet);
+            pass_packet(subscriber, number, packet, cache);
         }
     }
 }
 
 // One subscriber gets it, where it is the track's.
-fn pass_packet(subscriber: &mut LiveSubscriber, number: u32, packet: &[u8])
+fn pass_packet(subscriber: &mut LiveSubscriber, number: u32, packet: &[u8], cache: &mut FrameCache)
     requires reads { first_fault packet.now ≡ None }
     requires fits { length packet.now ≤ 1500 }
-    ensures { IsPassed (λ old new. FollowsPacket old new packet.now) number subscriber.old subscriber.new }
+    requires shared { AreFirst cache.old.shared.items (packet.now ∷ []) }
+    ensures passed { IsPassed (λ old new. FollowsPacket old new packet.now) number subscriber.old subscriber.new }
+    ensures shared { AreFirst cache.new.shared.items (packet.now ∷ []) }
 {
     if subscriber.track == number {
-        subscriber.feed.pass_packet(packet);
+        subscriber.feed.pass_packet(packet, cache);
     }
 }
 
@@ -105,7 +114,7 @@ fn pass_frame_to_all(
     number: u32,
     track: &Track,
     frame: &FrameMeaning,
-    cache: &mut RemaskCache,
+    cache: &mut FrameCache,
 )
     requires { IsValid frame.now }
     ensures passed { PassedTo (λ old new. FollowsFrame old new frame.now track.now) number (get nat_eq subscribers.old) (get nat_eq subscribers.new) }
@@ -128,13 +137,13 @@ fn pass_frame(
     track: &Track,
     frame: &FrameMeaning,
     tells: bool,
-    cache: &mut RemaskCache,
+    cache: &mut FrameCache,
 )
     requires valid { IsValid frame.now }
     requires tells { tells ≡ tells_by track.now.layers track.now.packets }
-    requires told { TellsFirst track.now.layers track.now.packets cache.old }
+    requires of_frame { IsOfFrame track.now.layers track.now.packets cache.old }
     ensures passed { IsPassed (λ old new. FollowsFrame old new frame.now track.now) number subscriber.old subscriber.new }
-    ensures told { TellsFirst track.now.layers track.now.packets cache.new }
+    ensures of_frame { IsOfFrame track.now.layers track.now.packets cache.new }
 {
     if subscriber.track == number {
         subscriber.feed.pass_frame(track, frame, tells, cache);

@@ -6,9 +6,10 @@ ghost use Rattle.rtp_packet.specs.Fields.{marker_of};
 ghost use Rattle.packet_format.specs.Packets.{packet_of};
 ghost use Rattle.packet_format.specs.Remasked.{remasked_packet};
 ghost use Rattle.room_core.specs.Follows.{PushesBehind, PushesFrame, pushed_all, remasked_by, tells_by};
-ghost use Rattle.room_core.specs.RemaskCache.{TellsFirst, TellsOne};
+ghost use Rattle.room_core.specs.Sharing.{IsShared, MayShare, TellsOne};
+ghost use Rattle.room_core.specs.FrameCache.{IsOfFrame, TellsFirst};
 
-use crate::remask_cache::RemaskCache;
+use crate::frame_cache::FrameCache;
 use dd_structure::Structure;
 use out_ring::OutRing;
 use packet_format::tells;
@@ -29,16 +30,18 @@ pub fn first_tells(track: &Track) -> bool
 
 /// Queues the packets of the frame that the track made last, from this place on. The last one's marker is set where the frame ends the
 /// target's layer.
-pub fn push_from(ring: &mut OutRing, track: &Track, from: u16, is_top: bool)
+pub fn push_from(ring: &mut OutRing, cache: &mut FrameCache, track: &Track, from: u16, is_top: bool)
     requires start { from ≤ length track.now.packets }
     requires room { length ring.old.queued + length track.now.packets ≤ 512 + from }
+    requires of_frame { IsOfFrame track.now.layers track.now.packets cache.old }
     ensures pushed { PushesBehind from ring.old ring.new track.now.packets is_top }
+    ensures of_frame { IsOfFrame track.now.layers track.now.packets cache.new }
 {
     let count = track.count();
     for place in from..count {
         let packet = track.packet(place);
         let marker = sent_marker(packet, is_top, place + 1 == count);
-        ring.push(packet, marker);
+        cache.queue(ring, place, packet, marker);
     }
 }
 
@@ -46,15 +49,15 @@ pub fn push_from(ring: &mut OutRing, track: &Track, from: u16, is_top: bool)
 #[inline(never)]
 pub fn push_remasked(
     ring: &mut OutRing,
-    cache: &mut RemaskCache,
+    cache: &mut FrameCache,
     track: &Track,
     mask: u32,
     is_top: bool,
 )
     requires room { length ring.old.queued + length track.now.packets ≤ 512 }
-    requires told { TellsFirst track.now.layers track.now.packets cache.old }
+    requires of_frame { IsOfFrame track.now.layers track.now.packets cache.old }
     ensures pushed { PushesFrame ring.old ring.new (remasked_by track.now.layers mask (map packet_of track.now.packets)) is_top }
-    ensures told { TellsFirst track.now.layers track.now.packets cache.new }
+    ensures of_frame { IsOfFrame track.now.layers track.now.packets cache.new }
 {
     let count = track.count();
     if count == 0 {
@@ -63,13 +66,13 @@ pub fn push_remasked(
     let packet = track.packet(0);
     let marker = sent_marker(packet, is_top, count == 1);
     push_first(ring, cache, track, packet, marker, mask);
-    push_from(ring, track, 1, is_top);
+    push_from(ring, cache, track, 1, is_top);
 }
 
 // Queues a packet as the first of the track's frame, with this mask.
 fn push_first(
     ring: &mut OutRing,
-    cache: &mut RemaskCache,
+    cache: &mut FrameCache,
     track: &Track,
     packet: &[u8],
     marker: bool,
@@ -79,19 +82,25 @@ fn push_first(
     requires reads { first_fault packet.now ≡ None }
     requires fits { length packet.now ≤ 1500 }
     requires told { TellsFirst track.now.layers (packet.now ∷ []) cache.old }
+    requires same { IsShared 0 packet.now cache.old.shared.items }
     ensures pushed { ring.new ≡ pushed_all (remasked_by track.now.layers mask (record (packet_of packet.now) { marker = marker } ∷ [])) ring.old }
     ensures told { TellsFirst track.now.layers (packet.now ∷ []) cache.new }
+    ensures shared { MayShare 0 packet.now cache.old.shared.items cache.new.shared.items }
 {
     match track.id() {
-        Some(id) => push_told(ring, cache, packet, marker, id, track.force(), mask),
-        None => ring.push(packet, marker),
+        Some(id) => {
+            // Those behind it are shared only where it is.
+            cache.share(0, packet);
+            push_told(ring, cache, packet, marker, id, track.force(), mask);
+        }
+        None => cache.queue(ring, 0, packet, marker),
     }
 }
 
 // Queues a packet with this mask, or as it is where it can't be remasked.
 fn push_told(
     ring: &mut OutRing,
-    cache: &mut RemaskCache,
+    cache: &mut FrameCache,
     packet: &[u8],
     marker: bool,
     id: u8,
@@ -105,9 +114,10 @@ fn push_told(
     ensures pushed { ring.new ≡ pushed_all (remasked_packet id (option_copied force.entry) mask (record (packet_of packet.now) { marker = marker })
         ∷ []) ring.old }
     ensures told { TellsOne id (option_copied force.entry) packet.now cache.new.mask cache.new.packet }
+    ensures shared { cache.new.shared ≡ cache.old.shared }
 {
     cache.tell(packet, id, force, mask);
-    ring.push(cache.packet.bytes(), marker);
+    cache.queue_told(ring, marker);
 }
 
 // The marker with which a packet of a frame is sent: that of the frame's last packet is set where the frame ends the target's layer.

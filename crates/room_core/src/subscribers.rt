@@ -10,6 +10,7 @@ ghost use Rattle.room_core.specs.Live.{joined};
 ghost use Rattle.room_core.specs.Sendable.{IsSendable};
 
 use crate::content::Content;
+use crate::live::{LiveSubscriber, count_on};
 use crate::table::place_of;
 use sfu_base::{Kind, PacketBuf, Refusal, Reply, Wish};
 
@@ -21,7 +22,13 @@ impl Content {
         ensures sends_none { result ≢ reply.Packet }
     {
         match self.subscribers.swap_remove(&subscriber) {
-            Some(_) => Reply::Done,
+            Some(LiveSubscriber { track, feed }) => {
+                let left = count_on(&self.subscribers, track);
+                if let Some(known) = self.tracks.get_mut(&track) {
+                    Box::into_inner(feed).give_back(&mut *known.frame_cache, left);
+                }
+                Reply::Done
+            }
             None => Reply::Refused(Refusal::NoSubscriber),
         }
     }

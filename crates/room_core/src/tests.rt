@@ -4,9 +4,11 @@ ghost use Rattle.std.specs.Prelude.{◌≤◌, length};
 
 mod current_target;
 mod masks;
+mod sharing;
 
 use crate::{KeepAll, KeepNone, Room};
 use sfu_base::{Call, Kind, PacketBuf, Refusal, Reply, Scratch, SeqList, Verdict, Wish};
+use std::mem::size_of;
 use std::process::Abort;
 use std::test::Fail;
 
@@ -434,4 +436,11 @@ fn a_full_queue_withholds_nothing_from_another(rt: HostRuntime) {
         1,
         &outgoing(&key_telling(15), 7, false),
     );
+}
+
+// A lock moves the room that it holds twice a turn.
+#[test]
+fn a_room_is_at_most_256_bytes(rt: HostRuntime) -> Result<(), Fail> {
+    assert!(rt; size_of::<Room<KeepNone>>() <= 256);
+    Ok(())
 }

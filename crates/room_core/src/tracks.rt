@@ -43,7 +43,7 @@ impl Content {
                         &mut known.pleaded,
                         track,
                         &mut self.subscribers,
-                        &mut *known.remask_cache,
+                        &mut *known.frame_cache,
                     );
                     Reply::Done
                 }
@@ -72,7 +72,7 @@ impl Content {
                     &mut known.pleaded,
                     track,
                     &mut self.subscribers,
-                    &mut *known.remask_cache,
+                    &mut *known.frame_cache,
                 );
                 Reply::Done
             }

@@ -3,15 +3,15 @@ use Rattle.indexmap.specs.IndexMap.{index_map_len}
 use Rattle.room_core.specs.Follows.{FollowsFrame}
 use Rattle.room_core.specs.Passing.{IsPassed}
 use Rattle.room_core.specs.Tables.{ChangedFirst}
-use Rattle.room_core.specs.RemaskCache.{TellsFirst}
-use Rattle.room_core.specs.declared.remask_cache.RemaskCache.{RemaskCache}
-use Rattle.room_core.proofs.Pushing.{keeps_nothing}
+use Rattle.room_core.specs.FrameCache.{IsOfFrame}
+use Rattle.room_core.specs.declared.frame_cache.FrameCache.{FrameCache}
+use Rattle.room_core.proofs.Sharing.{frame_begins}
 use Rattle.room_core.proofs.Changing.{changed_all, changed_length, changed_next}
 use Rattle.room_core.proofs.passing.pass_frame_to_all.Goals as goal
 use Rattle.room_core.proofs.passing.pass_frame_to_all.Goals.{in-Some, in_default}
 
 pub loop-place-init : goal.loop-place-init
-loop-place-init c = record { changed = refl; told = keeps_nothing c.args.track.now.layers c.args.track.now.packets c.forget.new.self c.forget.ensures }
+loop-place-init c = record { changed = refl; of_frame = frame_begins c.args.track.now.layers c.args.track.now.packets c.forget.new.self c.forget.ensures.mask c.forget.ensures.shared }
 
 pub loop-place-preserved : goal.loop-place-preserved
 loop-place-preserved c = elim c.match-get_index_mut.branch [
@@ -19,7 +19,7 @@ loop-place-preserved c = elim c.match-get_index_mut.branch [
     changed = subst (λ m. ChangedFirst (IsPassed (λ old new. FollowsFrame old new c.args.frame.now c.args.track.now) c.args.number) (c.loop-place.place + 1) c.args.subscribers.now.entries m.entries) (sym w.subscribers-is)
         (changed_next (IsPassed (λ old new. FollowsFrame old new c.args.frame.now c.args.track.now) c.args.number) c.loop-place.place c.args.subscribers.now.entries c.loop-place.subscribers.entries w.in-Some.subscriber.now w.pass_frame.new.subscriber
         c.loop-place.invariant.changed (sym w.in-Some.ensures.value) w.pass_frame.ensures.passed);
-    told = subst (λ (t : RemaskCache). TellsFirst c.args.track.now.layers c.args.track.now.packets t) (sym w.cache-is) w.pass_frame.ensures.told;
+    of_frame = subst (λ (t : FrameCache). IsOfFrame c.args.track.now.layers c.args.track.now.packets t) (sym w.cache-is) w.pass_frame.ensures.of_frame;
   }
   | in_default w ↦
       (let size : length c.loop-place.subscribers.entries ≡ length c.args.subscribers.now.entries =

@@ -10,12 +10,12 @@ use Rattle.out_ring.proofs.ring.OutRing.new.Goals as goal
 
 pub returns-clause-begun : goal.returns-clause-begun
 returns-clause-begun c =
-    let size = size_of_places c.in_ok-all_slots.field-0.items c.in_ok-all_places.field-0.items ∙ c.in_ok-all_places.ensures.size in
-    ap (ring_of c.args.ssrc c.args.first 0) (drop_all 1536 (packets_in c.in_ok-all_slots.field-0.items c.in_ok-all_places.field-0.items) (omega (arith, size)))
+    let size = size_of_places c.in_ok-new.field-0 c.in_ok-all_places.field-0.items ∙ c.in_ok-all_places.ensures.size in
+    ap (ring_of c.args.ssrc c.args.first 0) (drop_all 1536 (packets_in c.in_ok-new.field-0 c.in_ok-all_places.field-0.items) (omega (arith, size)))
 
 pub returns-clause-stands : goal.returns-clause-stands
 returns-clause-stands c =
-    let size = size_of_places c.in_ok-all_slots.field-0.items c.in_ok-all_places.field-0.items ∙ c.in_ok-all_places.ensures.size in
+    let size = size_of_places c.in_ok-new.field-0 c.in_ok-all_places.field-0.items ∙ c.in_ok-all_places.ensures.size in
     subst (λ (r : Ring). IsAfter r (nothing_done c.args.ssrc c.args.first))
-    (sym (ap (ring_of c.args.ssrc c.args.first 0) (drop_all 1536 (packets_in c.in_ok-all_slots.field-0.items c.in_ok-all_places.field-0.items) (omega (arith, size)))))
+    (sym (ap (ring_of c.args.ssrc c.args.first 0) (drop_all 1536 (packets_in c.in_ok-new.field-0 c.in_ok-all_places.field-0.items) (omega (arith, size)))))
     (nothing_stands c.args.ssrc c.args.first (omega arith))

@@ -8,12 +8,12 @@ use Rattle.out_ring.proofs.ring.OutRing.queued.Goals as goal
 pub returns-clause-queued : goal.returns-clause-queued
 returns-clause-queued c =
     let a = c.self.inside in
-    sym (size_of_queue a.ssrc a.next a.kept a.queued (held a) (size_of_held (packets_in a.slots.items a.places.items) a.queued a.kept (size_of_places a.slots.items a.places.items ∙ c.self.invariant.places) (omega arith)))
+    sym (size_of_queue a.ssrc a.next a.kept a.queued (held a) (size_of_held (packets_in a.slots a.places.items) a.queued a.kept (size_of_places a.slots a.places.items ∙ c.self.invariant.places) (omega arith)))
     ∙ ap (λ r. length r.queued) c.self.view_is
 
 pub returns-clause-few : goal.returns-clause-few
 returns-clause-few c =
     let a = c.self.inside in
-    let size = size_of_queue a.ssrc a.next a.kept a.queued (held a) (size_of_held (packets_in a.slots.items a.places.items) a.queued a.kept (size_of_places a.slots.items a.places.items ∙ c.self.invariant.places) (omega arith)) in
+    let size = size_of_queue a.ssrc a.next a.kept a.queued (held a) (size_of_held (packets_in a.slots a.places.items) a.queued a.kept (size_of_places a.slots a.places.items ∙ c.self.invariant.places) (omega arith)) in
     let same = ap (λ r. length r.queued) c.self.view_is in
     omega (arith, size, same)

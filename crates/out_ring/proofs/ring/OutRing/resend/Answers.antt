@@ -1,9 +1,9 @@
-use Rattle.std.proofs.Common.{◌≡◌, ◌<◌, ◌⊎◌, inl, inr, ◌+◌, ◌-◌, ◌%◌, ℕ, List, Err, Some, sym, ap, subst, arith, ◌∙◌}
+use Rattle.std.proofs.Common.{◌≡◌, ◌<◌, ◌⊎◌, inl, inr, ◌+◌, ◌-◌, ◌%◌, ℕ, Err, Some, sym, ap, subst, arith, ◌∙◌}
 use Rattle.std.specs.Prelude.{◌==◌}
 use Rattle.std.specs.List.{find}
 use Rattle.sfu_base.specs.declared.call.Refusal.TheVariants.{NotKept}
 use Rattle.out_ring.specs.Places.{SendsFrom, packets_in}
-use Rattle.out_ring.specs.Ring.{Pushed, Resends, Ring}
+use Rattle.out_ring.specs.Ring.{Resends, Ring}
 use Rattle.out_ring.proofs.Calls.{IsNotKept, resend_found, resend_refused, resends_none, resends_one}
 use Rattle.out_ring.proofs.Histories.{refusal_stands, resend_stands}
 use Rattle.out_ring.proofs.Turning.{size_of_places}
@@ -23,7 +23,7 @@ not_kept c =
     let a = c.self.inside in
     let i = c.self.invariant in
     subst (λ (r : Ring). IsNotKept r c.args.seq ((a.next + (65536 - a.kept)) % 65536)) c.self.view_is
-    (resend_refused (packets_in a.slots.items a.places.items) a.ssrc a.next a.queued a.kept (size_of_places a.slots.items a.places.items ∙ i.places) i.next i.queued i.kept c.args.seq (omega arith) (far c))
+    (resend_refused (packets_in a.slots a.places.items) a.ssrc a.next a.queued a.kept (size_of_places a.slots a.places.items ∙ i.places) i.next i.queued i.kept c.args.seq (omega arith) (far c))
 
 pub returns-then-takes_ago-eq0-clause-resends : goal.returns-then-takes_ago-eq0-clause-resends
 returns-then-takes_ago-eq0-clause-resends c =
@@ -39,11 +39,11 @@ found : (c : goal.After-give) → find (λ p. p.number == c.args.seq) c.args.sel
 found c =
     let a = c.self.inside in
     let i = c.self.invariant in
-    let sends : SendsFrom (packets_in a.slots.items a.places.items) (1536 - (a.queued + (a.next + (65536 - c.args.seq)) % 65536)) c.args.seq a.ssrc c.give.new.out =
-    subst (λ (n : ℕ). SendsFrom (packets_in a.slots.items a.places.items) (1536 - n) c.args.seq a.ssrc c.give.new.out) c.from.ensures
-    (subst (λ (slots : List Pushed). SendsFrom (packets_in slots a.places.items) (1536 - c.from.result) c.args.seq a.ssrc c.give.new.out) c.deref.ensures.value c.give.ensures.sends) in
+    let sends : SendsFrom (packets_in a.slots a.places.items) (1536 - (a.queued + (a.next + (65536 - c.args.seq)) % 65536)) c.args.seq a.ssrc c.give.new.out =
+    subst (λ (n : ℕ). SendsFrom (packets_in a.slots a.places.items) (1536 - n) c.args.seq a.ssrc c.give.new.out) c.from.ensures
+    c.give.ensures.sends in
     subst (λ (r : Ring). find (λ p. p.number == c.args.seq) r.kept ≡ Some (record { number = c.args.seq; bytes = c.give.new.out })) c.self.view_is
-    (resend_found (packets_in a.slots.items a.places.items) a.ssrc a.next a.queued a.kept (size_of_places a.slots.items a.places.items ∙ i.places) i.next i.queued i.kept c.args.seq c.give.new.out (omega arith)
+    (resend_found (packets_in a.slots a.places.items) a.ssrc a.next a.queued a.kept (size_of_places a.slots a.places.items ∙ i.places) i.next i.queued i.kept c.args.seq c.give.new.out (omega arith)
     c.if-takes_ago-eq0.false c.if-takes_ago-self.false sends)
 
 pub returns-clause-resends : goal.returns-clause-resends

@@ -1,0 +1,61 @@
+// One packet, in room for the longest that goes out.
+ghost use Rattle.std.specs.Prelude.{◌≡◌, ◌≤◌, None, length};
+ghost use Rattle.rtp_packet.specs.Faults.{first_fault};
+ghost use Rattle.out_ring.specs.Packet.{least_packet};
+
+use rtp_packet::plain_packets_read;
+use std::marker::Model;
+
+/// The most bytes that a packet has which goes out (own rule).
+const MOST_BYTES: usize = 1536;
+
+/// An RTP packet of at most 1,536 bytes, as it was handed in. Clauses see it as its bytes. No call takes memory.
+#[derive(Debug, Drop)]
+pub struct StoredPacket {
+    room: [u8; MOST_BYTES],
+    count: usize,
+}
+
+impl Model for StoredPacket {
+    ghost use Rattle.std.specs.Prelude.{List, ℕ};
+
+    ghost Value = { List ℕ };
+
+    ghost use Rattle.out_ring.specs.Packet.{HasPacket, bytes_in};
+
+    ghost view = { bytes_in };
+
+    ghost invariant = { HasPacket };
+}
+
+impl StoredPacket {
+    /// The least packet: a fixed header of version 2, and nothing else.
+    pub fn new() -> StoredPacket
+        ensures { result ≡ least_packet }
+    {
+        plain_packets_read();
+        let mut room = [0; MOST_BYTES];
+        room[0] = 0x80;
+        StoredPacket { room, count: 12 }
+    }
+
+    /// Puts a packet in, over what was there.
+    pub fn fill(&mut self, packet: &[u8])
+        requires reads { first_fault packet.now ≡ None }
+        requires fits { length packet.now ≤ 1536 }
+        ensures { self.new ≡ packet.now }
+    {
+        let count = packet.len();
+        self.room[..count].copy_from_slice(packet);
+        self.count = count;
+    }
+
+    /// Its bytes.
+    pub fn bytes(&self) -> &[u8]
+        ensures bytes { result.now ≡ self.now }
+        ensures reads { first_fault self.now ≡ None }
+        ensures fits { length self.now ≤ 1536 }
+    {
+        &self.room[..self.count]
+    }
+}

@@ -1,0 +1,70 @@
+// What subscribers share of a track, and when its room is free again.
+
+use super::{HIGHEST, KEY, LAYERED, LOWEST, PLAIN, join, outgoing, packet, publish, scratch, take};
+use crate::{KeepNone, Room};
+use sfu_base::{Call, Kind, Reply};
+use std::test::Fail;
+
+// For how many packets a track's store has room now.
+fn free(room: &Room<KeepNone>, track: u32) -> usize {
+    match room.content.tracks.get(&track) {
+        Some(known) => known.frame_cache.store.room(),
+        None => 0,
+    }
+}
+
+#[test]
+fn subscribers_share_a_packet_and_its_room_is_free_when_none_has_it(
+    rt: HostRuntime,
+) -> Result<(), Fail> {
+    let mut room = Room::new(rt.alloc(), KeepNone);
+    let mut out = scratch();
+    let mut next = PLAIN;
+    next[3] = 2;
+    for call in [
+        publish(1, Kind::Plain),
+        join(1, 1, LOWEST),
+        join(2, 1, LOWEST),
+        packet(1, &PLAIN),
+    ] {
+        assert_eq!(rt; room.serve(0, &call, &mut out), Reply::Done);
+    }
+    assert_eq!(rt; free(&room, 1), 512 + 2 * 1024 + 2 * 12 - 1);
+    for subscriber in 1..3u32 {
+        assert_eq!(rt; room.serve(0, &take(subscriber), &mut out), Reply::Packet);
+        assert_eq!(rt; out.packet.bytes(), outgoing(&PLAIN, 7, false).bytes());
+    }
+    // The other one keeps it, and the store gives up the room that one subscriber doesn't need.
+    assert_eq!(rt;
+        room.serve(0, &Call::Leave { subscriber: 2 }, &mut out),
+        Reply::Done
+    );
+    assert_eq!(rt; free(&room, 1), 512 + 1024 + 12 - 1);
+    // What waits when the track ends is still handed out.
+    assert_eq!(rt; room.serve(0, &packet(1, &next), &mut out), Reply::Done);
+    assert_eq!(rt;
+        room.serve(0, &Call::Unpublish { track: 1 }, &mut out),
+        Reply::Done
+    );
+    assert_eq!(rt; room.serve(0, &take(1), &mut out), Reply::Packet);
+    assert_eq!(rt; out.packet.bytes(), outgoing(&next, 8, false).bytes());
+    Ok(())
+}
+
+#[test]
+fn a_first_packet_is_stored_once_for_each_mask(rt: HostRuntime) -> Result<(), Fail> {
+    let mut room = Room::new(rt.alloc(), KeepNone);
+    let mut out = scratch();
+    for call in [
+        publish(1, LAYERED),
+        join(1, 1, HIGHEST),
+        join(2, 1, HIGHEST),
+        join(3, 1, LOWEST),
+        packet(1, &KEY),
+    ] {
+        assert_eq!(rt; room.serve(0, &call, &mut out), Reply::Done);
+    }
+    // As it came, and with two masks.
+    assert_eq!(rt; free(&room, 1), 512 + 3 * 1024 + 3 * 12 - 3);
+    Ok(())
+}
