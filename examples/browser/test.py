@@ -318,10 +318,12 @@ class Run:
         time.sleep(self.seconds)
         lose(0)
         time.sleep(2)
-        shown = pictures(self.q, begin)
+        shown, brought = pictures(self.q, begin), self.q.run(f'brought.filter(at => at >= {begin})')
+        pause = max((b - a for a, b in zip(brought, brought[1:])), default=60000)
         if longest_gap(shown) > TORN or shown[-1][1] != int(MODES[self.mode][0].split('x')[0]):
-            complain(f'{self.mode}, 2 % lost for good: a freeze of {longest_gap(shown)} ms, and then pictures of {shown[-1][1:3] if shown else "no size"}')
-        return [f'2 % lost for good {longest_gap(shown)}']
+            complain(f'{self.mode}, 2 % lost for good: a freeze of {longest_gap(shown)} ms, and then pictures of {shown[-1][1:3] if shown else "no size"}; '
+                     f'for up to {pause} ms no frame came into the room')
+        return [f'2 % lost for good {longest_gap(shown)} (into the room {pause})']
 
     def late(self):
         q = self.browser.open(f'http://127.0.0.1:{PROXY}/play.html?wait=1')
