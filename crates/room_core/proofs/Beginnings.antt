@@ -32,7 +32,7 @@ use Rattle.room_core.specs.Follows.{Follows, Happened, IsFresh}
 use Rattle.room_core.specs.Passing.{Both}
 use Rattle.room_core.specs.Content.{Does, IsAfter, IsFeedReady, IsFreshOn, IsPipelineReady, IsSubscriberAfter, IsTrackAfter}
 use Rattle.room_core.specs.declared.live.Ready.{Ready}
-use Rattle.room_core.specs.declared.frame_cache.FrameCache.{FrameCache}
+use Rattle.frame_cache.specs.declared.cache.FrameCache.{FrameCache}
 use Rattle.room_core.specs.declared.live.Ready.TheVariants.{Nothing, Pipeline as ReadyPipeline, Sent as ReadySent}
 use Rattle.room_core.proofs.TableSteps.{table_after, table_same}
 use Rattle.room_core.proofs.Stepping.{begun_at, kind_begun}

@@ -19,9 +19,9 @@ use Rattle.track_core.specs.declared.layers.Layers.{Layers}
 use Rattle.track_core.specs.Track.{id_of, structure_in}
 use Rattle.room_core.specs.Follows.{pushed_all, remasked_by, tells_by}
 use Rattle.room_core.specs.Sent.{remasked_first, tells_first}
-use Rattle.room_core.specs.Sharing.{TellsOne}
+use Rattle.frame_cache.specs.Sharing.{TellsOne}
 use Rattle.room_core.specs.FrameCache.{TellsFirst}
-use Rattle.room_core.specs.declared.frame_cache.FrameCache.{FrameCache}
+use Rattle.frame_cache.specs.declared.cache.FrameCache.{FrameCache}
 use Rattle.room_core.proofs.Rings.{length-pushed, pushed_both, pushed_is, pushed_more, pushed_none, take_next}
 use Rattle.room_core.proofs.SentMarked.{length-marked, marked_at}
 
@@ -180,13 +180,6 @@ pub telling_pushed : (id mask : ℕ) (force : Option TemplateStructure) (bytes :
 telling_pushed id mask force bytes marker ring ring' reads now =
     now ∙ pushed_is (remasked_bytes id force mask bytes) marker ring (header_there (remasked_bytes id force mask bytes) (telling_reads id mask force bytes reads))
     ∙ ap (λ (p : Packet). pushed_all (record p { marker = marker } ∷ []) ring) (rests_remasked id mask force bytes (header_there bytes reads))
-
--- what is filled in
-pub filled_new : (id mask : ℕ) (force : Option TemplateStructure) (bytes new : List ℕ) → remasked id force mask bytes ≡ Some new → new ≡ remasked_bytes id force mask bytes
-filled_new id mask force bytes new is = sym (ap (λ (o : Option (List ℕ)). or_same o bytes) is)
-
-pub filled_same : (id mask : ℕ) (force : Option TemplateStructure) (bytes : List ℕ) → remasked id force mask bytes ≡ None → bytes ≡ remasked_bytes id force mask bytes
-filled_same id mask force bytes is = sym (ap (λ (o : Option (List ℕ)). or_same o bytes) is)
 
 -- ---- what is kept of the frame in hand
 

@@ -3,8 +3,8 @@ use Rattle.std.proofs.Common.{◌≡◌, ◌<◌, inl, inr, ℕ, suc, List, [], 
 use Rattle.std.proofs.lemmas.Option.{slice_get_within}
 use Rattle.out_ring.proofs.Lists.{item_before_end, take_one_more}
 use Rattle.track_core.specs.declared.layers.Layers.{Layers}
-use Rattle.room_core.specs.declared.frame_cache.FrameCache.{FrameCache}
-use Rattle.room_core.specs.Sharing.{AreFirst, IsShared, MayShare, TellsOne}
+use Rattle.frame_cache.specs.declared.cache.FrameCache.{FrameCache}
+use Rattle.frame_cache.specs.Sharing.{AreFirst, IsShared, MayShare, TellsOne}
 use Rattle.room_core.specs.FrameCache.{IsOfFrame, TellsFirst}
 use Rattle.room_core.proofs.Pushing.{keeps_nothing}
 

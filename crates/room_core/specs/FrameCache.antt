@@ -1,8 +1,8 @@
 -- What is kept of the frame in hand for its subscribers.
 use Rattle.std.specs.Prelude.{ℕ, List, [], ◌∷◌, Option, None, Some}
 use Rattle.track_core.specs.declared.layers.Layers.{Layers}
-use Rattle.room_core.specs.declared.frame_cache.FrameCache.{FrameCache}
-use Rattle.room_core.specs.Sharing.{AreFirst, TellsOne}
+use Rattle.frame_cache.specs.declared.cache.FrameCache.{FrameCache}
+use Rattle.frame_cache.specs.Sharing.{AreFirst, TellsOne}
 
 -- the first packet with a mask is that of the first of these packets, by what a layered track keeps
 abbrev pub TellsFirst : Option Layers → List (List ℕ) → FrameCache → Type 0

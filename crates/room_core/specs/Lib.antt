@@ -19,7 +19,6 @@ pub mod Serves
 pub mod Silent
 pub mod Sendable
 pub mod Follows
-pub mod Sharing
 pub mod FrameCache
 pub mod Stepping
 pub mod Passing

@@ -10,8 +10,8 @@ ghost use Rattle.room_core.specs.WellFormed.{IsValue};
 
 use crate::content::Content;
 use crate::feed::Feed;
-use crate::frame_cache::FrameCache;
 use crate::live::{LiveSubscriber, LiveTrack, Ready, count_on};
+use frame_cache::FrameCache;
 use indexmap::IndexMap;
 use sfu_base::{Call, Kind, NoMemory, Refusal, Reply, Wish};
 use std::alloc::Global;

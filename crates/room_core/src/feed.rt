@@ -4,12 +4,12 @@ ghost use Rattle.rtp_packet.specs.Faults.{first_fault};
 ghost use Rattle.sfu_base.specs.Frame.{IsValid};
 ghost use Rattle.room_core.specs.Follows.{FollowsAim, FollowsFrame, FollowsPacket, FollowsTake, HasNoTarget, IsFed, IsFresh, Resends, Tells, tells_by};
 ghost use Rattle.room_core.specs.Sendable.{IsSendable};
-ghost use Rattle.room_core.specs.Sharing.{AreFirst};
+ghost use Rattle.frame_cache.specs.Sharing.{AreFirst};
 ghost use Rattle.room_core.specs.FrameCache.{IsOfFrame};
 
-use crate::frame_cache::FrameCache;
 use crate::sending::{own_marker, push_from, push_remasked};
 use cause_book::CauseBook;
+use frame_cache::FrameCache;
 use out_ring::OutRing;
 use sfu_base::{FrameMeaning, Kind, NoMemory, PacketBuf, Refusal, Verdict, Wish};
 use std::alloc::Global;

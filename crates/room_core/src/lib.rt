@@ -6,7 +6,6 @@ mod beginning;
 mod content;
 mod current_target;
 mod feed;
-mod frame_cache;
 mod keep_all;
 mod laws;
 mod live;

@@ -3,7 +3,7 @@ ghost use Rattle.std.specs.Prelude.{◌≡◌, ◌≤◌, []};
 ghost use Rattle.indexmap.specs.IndexMap.{index_map_len};
 
 use crate::feed::Feed;
-use crate::frame_cache::FrameCache;
+use frame_cache::FrameCache;
 use indexmap::IndexMap;
 use sfu_base::Kind;
 use track_core::Track;

@@ -7,12 +7,12 @@ ghost use Rattle.track_core.specs.Track.{told_with};
 ghost use Rattle.room_core.specs.Follows.{FollowsFrame, FollowsPacket, tells_by};
 ghost use Rattle.room_core.specs.Passing.{IsPassed, PassedTo, WaitsIn, WaitsOne, WorkedIf, WorkedOff};
 ghost use Rattle.room_core.specs.Stepping.{IsMadeValid, Steps};
-ghost use Rattle.room_core.specs.Sharing.{AreFirst};
+ghost use Rattle.frame_cache.specs.Sharing.{AreFirst};
 ghost use Rattle.room_core.specs.FrameCache.{IsOfFrame};
 
-use crate::frame_cache::FrameCache;
 use crate::live::LiveSubscriber;
 use crate::sending::first_tells;
+use frame_cache::FrameCache;
 use indexmap::IndexMap;
 use sfu_base::FrameMeaning;
 use track_core::{Advance, Track};

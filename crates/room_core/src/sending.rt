@@ -6,11 +6,11 @@ ghost use Rattle.rtp_packet.specs.Fields.{marker_of};
 ghost use Rattle.packet_format.specs.Packets.{packet_of};
 ghost use Rattle.packet_format.specs.Remasked.{remasked_packet};
 ghost use Rattle.room_core.specs.Follows.{PushesBehind, PushesFrame, pushed_all, remasked_by, tells_by};
-ghost use Rattle.room_core.specs.Sharing.{IsShared, MayShare, TellsOne};
+ghost use Rattle.frame_cache.specs.Sharing.{IsShared, MayShare, TellsOne};
 ghost use Rattle.room_core.specs.FrameCache.{IsOfFrame, TellsFirst};
 
-use crate::frame_cache::FrameCache;
 use dd_structure::Structure;
+use frame_cache::FrameCache;
 use out_ring::OutRing;
 use packet_format::tells;
 use track_core::Track;

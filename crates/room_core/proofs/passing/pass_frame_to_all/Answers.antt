@@ -4,7 +4,7 @@ use Rattle.room_core.specs.Follows.{FollowsFrame}
 use Rattle.room_core.specs.Passing.{IsPassed}
 use Rattle.room_core.specs.Tables.{ChangedFirst}
 use Rattle.room_core.specs.FrameCache.{IsOfFrame}
-use Rattle.room_core.specs.declared.frame_cache.FrameCache.{FrameCache}
+use Rattle.frame_cache.specs.declared.cache.FrameCache.{FrameCache}
 use Rattle.room_core.proofs.Sharing.{frame_begins}
 use Rattle.room_core.proofs.Changing.{changed_all, changed_length, changed_next}
 use Rattle.room_core.proofs.passing.pass_frame_to_all.Goals as goal

@@ -1,8 +1,8 @@
 use Rattle.std.proofs.Common.{◌≡◌, ◌<◌, ◌+◌, ◌∷◌, [], List, ℕ, sym, subst, arith, length, refl, true≢false}
 use Rattle.indexmap.specs.IndexMap.{index_map_len}
 use Rattle.room_core.specs.Follows.{FollowsPacket}
-use Rattle.room_core.specs.declared.frame_cache.FrameCache.{FrameCache}
-use Rattle.room_core.specs.Sharing.{AreFirst}
+use Rattle.frame_cache.specs.declared.cache.FrameCache.{FrameCache}
+use Rattle.frame_cache.specs.Sharing.{AreFirst}
 use Rattle.room_core.specs.Passing.{IsPassed}
 use Rattle.room_core.specs.Tables.{ChangedFirst}
 use Rattle.room_core.proofs.Changing.{changed_all, changed_length, changed_next}

@@ -1,5 +1,5 @@
 use Rattle.std.proofs.Common.{◌≡◌, None}
-use Rattle.room_core.proofs.frame_cache.FrameCache.forget.Given as goal
+use Rattle.frame_cache.proofs.cache.FrameCache.forget.Given as goal
 
 abbrev pub invariant-loop-packet : goal.invariant-loop-packet
 invariant-loop-packet l = l.self.mask ≡ None

@@ -5,7 +5,7 @@ ghost use Rattle.std.proofs.Props.{props};
 ghost use Rattle.rtp_packet.specs.Faults.{first_fault};
 ghost use Rattle.out_ring.specs.Ring.{pushed};
 ghost use Rattle.packet_format.specs.Remasked.{remasked_bytes};
-ghost use Rattle.room_core.specs.Sharing.{IsShared, MayShare, TellsOne};
+ghost use Rattle.frame_cache.specs.Sharing.{IsShared, MayShare, TellsOne};
 
 use dd_structure::Structure;
 use out_ring::{OutRing, PacketStore, SharedPacket};
