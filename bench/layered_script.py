@@ -2,7 +2,9 @@
 """Writes a script of one layered track (two spatial and two temporal layers, one key frame in 50 temporal units) and its subscribers: so many
 packets of some 220 bytes, after each temporal unit a tick, and a take of each subscriber for each of the unit's packets.
 
-usage: bench/layered_script.py [PACKETS [SUBSCRIBERS]]      10,000 packets and one subscriber if left out
+usage: bench/layered_script.py [PACKETS [SUBSCRIBERS [mixed]]]      10,000 packets and one subscriber if left out
+
+Each subscriber wishes for all layers, or, mixed, for one of the four pairs of a spatial and a temporal layer in turn.
 """
 import sys
 
@@ -12,6 +14,7 @@ STRUCTURE = bytes.fromhex('80' '03187FAFAC4A0A0404D14109A115800864222226' '40')
 
 packets = int(sys.argv[1]) if len(sys.argv) > 1 else 10_000
 subscribers = int(sys.argv[2]) if len(sys.argv) > 2 else 1
+mixed = len(sys.argv) > 3
 
 
 def shape(unit, spatial):
@@ -42,7 +45,9 @@ def packet(sequence, unit, spatial, template, first, last):
 
 
 lines = ['publish 1 layered 11111111 50 4']
-lines += [f'join {number} 1 {0x22222200 + number:08x} 0 1 1' for number in range(1, subscribers + 1)]
+for number in range(1, subscribers + 1):
+    wish = f'{number % 2} {number // 2 % 2}' if mixed else '1 1'
+    lines.append(f'join {number} 1 {0x22222200 + number:08x} 0 {wish}')
 sequence = unit = 0
 while sequence < packets:
     before = sequence
