@@ -1,10 +1,11 @@
 // What the subscribers of the current frame share.
-ghost use Rattle.std.specs.Prelude.{◌≡◌, ◌<◌, ◌≤◌, [], IfOk, IfSome, None, Some, length, true};
+ghost use Rattle.std.specs.Prelude.{◌≡◌, ◌<◌, ◌≤◌, [], IfOk, IfSome, None, OnOk, Some, length, true};
 ghost use Rattle.std.specs.Option.{option_copied};
 ghost use Rattle.std.proofs.Props.{props};
 ghost use Rattle.rtp_packet.specs.Faults.{first_fault};
 ghost use Rattle.out_ring.specs.Ring.{pushed};
 ghost use Rattle.packet_format.specs.Remasked.{remasked_bytes};
+ghost use Rattle.frame_cache.specs.Room.{room_for};
 ghost use Rattle.frame_cache.specs.Sharing.{IsShared, MayShare, TellsOne};
 
 use dd_structure::Structure;
@@ -61,14 +62,16 @@ impl FrameCache {
     /// Takes room for the packets of so many subscribers, if there is less yet: for what waits, for what is kept for those with different wishes, and
     /// for some of each one's own. `NoMemory`: some of it may have been taken.
     pub fn make_room(&mut self, alloc: Global, subscribers: usize) -> Result<(), NoMemory>
-        ensures { self.old.store.free ≤ self.new.store.free }
+        ensures free { self.old.store.free ≤ self.new.store.free }
+        ensures enough { OnOk result (room_for subscribers ≤ self.new.store.all) }
     {
         self.store.grow(alloc, room_for(subscribers))
     }
 
     /// Takes back the packets of a ring that ends, where so many subscribers are left, and gives up the room that they don't need.
     pub fn take_back(&mut self, ring: OutRing, left: usize)
-        ensures { self.new.store.all ≤ self.old.store.all }
+        ensures all { self.new.store.all ≤ self.old.store.all }
+        ensures kept { room_for left ≤ self.old.store.all → room_for left ≤ self.new.store.all }
     {
         ring.give_back(&mut self.store);
         self.store.shrink(room_for(left));
@@ -122,7 +125,7 @@ impl FrameCache {
             self.share(place, packet);
         }
         match another(self.shared.get(usize::from(place))) {
-            Some(shared) => ring.push_shared(shared, marker),
+            Some(shared) => push_shared(&mut self.store, ring, shared, marker),
             None => ring.push(packet, marker),
         }
     }
@@ -142,7 +145,7 @@ impl FrameCache {
             self.told = self.store.put(self.packet.bytes());
         }
         match another(self.told.as_ref()) {
-            Some(shared) => ring.push_shared(shared, marker),
+            Some(shared) => push_shared(&mut self.store, ring, shared, marker),
             None => ring.push(self.packet.bytes(), marker),
         }
     }
@@ -202,21 +205,28 @@ fn another(shared: Option<&SharedPacket>) -> Option<SharedPacket>
     shared?.another()
 }
 
-// What the ring doesn't keep any more goes back to the store. Two, since a take leaves one behind at most, so that none stays for long.
+// What the ring doesn't keep any more goes back to the store: one packet before each push, since a take leaves one behind at most.
 fn let_go(store: &mut PacketStore, ring: &mut OutRing)
     ensures { ring.new ≡ ring.old }
 {
     if let Some(packet) = ring.let_go() {
         store.give_back(packet);
-        if let Some(packet) = ring.let_go() {
-            store.give_back(packet);
-        }
+    }
+}
+
+// Queues a packet that is shared. One that its slot still has goes back to the store.
+fn push_shared(store: &mut PacketStore, ring: &mut OutRing, packet: SharedPacket, marker: bool)
+    requires { length ring.old.queued < 512 }
+    ensures { ring.new ≡ pushed packet marker ring.old }
+{
+    if let Some(gone) = ring.push_shared(packet, marker) {
+        store.give_back(gone);
     }
 }
 
 // How many packets a store has room for that so many subscribers share.
 fn room_for(subscribers: usize) -> usize
-    ensures { result ≤ 6656 }
+    ensures { result ≡ room_for subscribers }
 {
     if subscribers == 0 {
         return 0;

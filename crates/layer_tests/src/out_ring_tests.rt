@@ -157,10 +157,11 @@ fn put(store: &mut PacketStore, word: u32) -> Option<SharedPacket> {
     }
 }
 
-// Queues a packet that is shared, where fewer than 512 wait.
-fn push_shared(ring: &mut OutRing, packet: SharedPacket, marker: bool) {
-    if let 0..512 = ring.queued() {
-        ring.push_shared(packet, marker);
+// Queues a packet that is shared, where fewer than 512 wait. Answers what the ring shared before.
+fn push_shared(ring: &mut OutRing, packet: SharedPacket, marker: bool) -> Option<SharedPacket> {
+    match ring.queued() {
+        0..512 => ring.push_shared(packet, marker),
+        _ => None,
     }
 }
 
@@ -180,8 +181,8 @@ fn a_packet_that_rings_share_has_each_ones_fields_and_its_room_is_used_again(
     let Some(another) = shared.another() else {
         return Err(Fail::from("not counted"));
     };
-    push_shared(&mut first, shared, true);
-    push_shared(&mut second, another, false);
+    assert!(rt; push_shared(&mut first, shared, true).is_none());
+    assert!(rt; push_shared(&mut second, another, false).is_none());
     assert_eq!(rt; store.room(), 0);
     assert!(rt; put(&mut store, 2).is_none());
     let mut out = PacketBuf::new();
@@ -204,6 +205,19 @@ fn a_packet_that_rings_share_has_each_ones_fields_and_its_room_is_used_again(
     assert_eq!(rt; out.bytes(), outgoing(1, 7, false).as_slice());
     second.give_back(&mut store);
     assert_eq!(rt; store.room(), 1);
-    assert!(rt; put(&mut store, 3).is_some());
+    // Where a ring isn't asked to let go of it, the push that takes its slot answers it.
+    let Some(shared) = put(&mut store, 3) else {
+        return Err(Fail::from("its room isn't used again"));
+    };
+    assert!(rt; push_shared(&mut first, shared, false).is_none());
+    for word in 4..1539u32 {
+        push(&mut first, word, false);
+        assert!(rt; first.take(&mut out).is_ok());
+    }
+    store.grow(alloc, 2)?;
+    let Some(last) = put(&mut store, 1539) else {
+        return Err(Fail::from("no more room"));
+    };
+    assert!(rt; push_shared(&mut first, last, false).is_some());
     Ok(())
 }

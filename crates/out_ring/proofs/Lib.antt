@@ -4,6 +4,5 @@ pub mod Steps
 pub mod Calls
 pub mod Histories
 pub mod Modelled
-pub mod Turning
 pub mod Slotted
 pub mod Queued

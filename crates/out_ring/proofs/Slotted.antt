@@ -1,16 +1,26 @@
 -- Packets slot by slot: shared ones, and copies.
-use Rattle.std.proofs.Common.{◌≡◌, ◌≢◌, ◌<◌, ◌≤◌, ℕ, zero, suc, ◌+◌, Bool, false, List, [], ◌∷◌, ◌++◌, length, refl, sym, ap, ap₂, subst, ◌∙◌, arith, Option, Some, None, slice_get}
-use Rattle.std.specs.Prelude.{set, unwrap_or}
+use Rattle.std.proofs.Common.{◌≡◌, ◌≢◌, ◌<◌, ◌≤◌, ℕ, zero, suc, ◌+◌, ◌-◌, ◌%◌, Bool, List, [], ◌∷◌, ◌++◌, length, drop, refl, sym, ap, ap₂, ◌∙◌, arith, Option, Some, None, slice_get, length-append, length-drop}
+use Rattle.std.specs.Prelude.{set}
+use Rattle.std.proofs.lemmas.List.{drop-append-le}
+use Rattle.circular_buffer.specs.Buffer.{keep_last}
 use Rattle.circular_buffer.proofs.Places.{slice_get-set_other, slice_get-set_same}
 use Rattle.out_ring.specs.declared.slots.Head.{Head}
 use Rattle.out_ring.specs.Packet.{least_packet}
-use Rattle.out_ring.specs.Places.{in_slot}
 use Rattle.out_ring.specs.Ring.{Pushed}
-use Rattle.out_ring.specs.Slots.{AreAlike, bytes_by, packet_by, packets_from, turned}
+use Rattle.out_ring.specs.Slots.{AreAlike, bytes_by, packet_by, packets_from}
 
-pub size_of_packets : (slot base : ℕ) (heads : List Head) (own : List (List ℕ)) → length (packets_from slot base heads own) ≡ length heads
-size_of_packets slot base [] own = refl
-size_of_packets slot base (head ∷ heads) own = ap suc (size_of_packets (suc slot) base heads own)
+pub size_of_packets : (place : ℕ) (heads : List Head) (own : List (List ℕ)) → length (packets_from place heads own) ≡ length heads
+size_of_packets place [] own = refl
+size_of_packets place (head ∷ heads) own = ap suc (size_of_packets (suc place) heads own)
+
+-- a full ring gives up its front for what is pushed
+pub one_less : {X : Type 0} (xs : List X) (x : X) → length xs ≡ 1536 → keep_last 1536 (xs ++ x ∷ []) ≡ drop 1 xs ++ x ∷ []
+one_less xs x full =
+    ap (λ (k : ℕ). drop k (xs ++ x ∷ [])) (let e : length (xs ++ x ∷ []) - 1536 ≡ 1 = omega (arith, length-append xs (x ∷ []), full) in e)
+    ∙ drop-append-le 1 xs (x ∷ []) (omega (arith, full))
+
+pub size_pushed : {X : Type 0} (xs : List X) (x : X) → length xs ≡ 1536 → length (drop 1 xs ++ x ∷ []) ≡ 1536
+size_pushed xs x full = omega (arith, length-append (drop 1 xs) (x ∷ []), length-drop 1 xs, full)
 
 -- ---- the copies
 
@@ -25,91 +35,116 @@ one_more_copy [] shared (suc place) = refl
 one_more_copy (copy ∷ own) shared zero = refl
 one_more_copy (copy ∷ own) shared (suc place) = one_more_copy own shared place
 
-pub packets_alike : (slot base : ℕ) (heads : List Head) (own new : List (List ℕ)) → AreAlike own new → packets_from slot base heads new ≡ packets_from slot base heads own
-packets_alike slot base [] own new alike = refl
-packets_alike slot base (head ∷ heads) own new alike =
-    ap₂ (λ (bytes : List ℕ) (packets : List Pushed). record { bytes = bytes; marker = head.marker } ∷ packets) (alike head.shared (turned base slot))
-    (packets_alike (suc slot) base heads own new alike)
+pub packets_alike : (place : ℕ) (heads : List Head) (own new : List (List ℕ)) → AreAlike own new → packets_from place heads new ≡ packets_from place heads own
+packets_alike place [] own new alike = refl
+packets_alike place (head ∷ heads) own new alike =
+    ap₂ (λ (bytes : List ℕ) (packets : List Pushed). record { bytes = bytes; marker = head.marker } ∷ packets) (alike head.shared (place % 1536))
+    (packets_alike (suc place) heads own new alike)
 
 -- before the first copy it is all one where copies stand
-pub packets_rebased : (slot base other : ℕ) (heads : List Head) → packets_from slot base heads [] ≡ packets_from slot other heads []
-packets_rebased slot base other [] = refl
-packets_rebased slot base other (head ∷ heads) = ap (λ (packets : List Pushed). packet_by head None ∷ packets) (packets_rebased (suc slot) base other heads)
+packets_rebased : (place other : ℕ) (heads : List Head) → packets_from place heads [] ≡ packets_from other heads []
+packets_rebased place other [] = refl
+packets_rebased place other (head ∷ heads) = ap (λ (packets : List Pushed). packet_by head None ∷ packets) (packets_rebased (suc place) (suc other) heads)
 
-pub packets_based : (slot base other : ℕ) (heads : List Head) (own : List (List ℕ)) → (own ≢ [] → base ≡ other)
-    → packets_from slot base heads own ≡ packets_from slot other heads own
-packets_based slot base other heads [] same = packets_rebased slot base other heads
-packets_based slot base other heads (copy ∷ own) same =
-    ap (λ (b : ℕ). packets_from slot b heads (copy ∷ own)) (same (λ (e : copy ∷ own ≡ []). cc e))
+pub packets_based : (place other : ℕ) (heads : List Head) (own : List (List ℕ)) → (own ≢ [] → place ≡ other) → packets_from place heads own ≡ packets_from other heads own
+packets_based place other heads [] same = packets_rebased place other heads
+packets_based place other heads (copy ∷ own) same =
+    ap (λ (k : ℕ). packets_from k heads (copy ∷ own)) (same (λ (e : copy ∷ own ≡ []). cc e))
 
--- two slots' copies stand at two places
-apart : (base i j : ℕ) → base < 1536 → i < 1536 → j < 1536 → i ≢ j → turned base j ≢ turned base i
-apart base i j b less_i less_j other same = other (omega (arith, b, less_i, less_j, same))
+packets_wrapped : (place other : ℕ) (heads : List Head) (own : List (List ℕ)) → place % 1536 ≡ other % 1536 → packets_from place heads own ≡ packets_from other heads own
+packets_wrapped place other [] own same = refl
+packets_wrapped place other (head ∷ heads) own same =
+    ap₂ (λ (copy : Option (List ℕ)) (packets : List Pushed). packet_by head copy ∷ packets) (ap (slice_get own) same)
+    (packets_wrapped (suc place) (suc other) heads own (omega (arith, same)))
 
--- ---- a copy is put in
-
-copied_elsewhere : (slot base place : ℕ) (heads : List Head) (own : List (List ℕ)) (packet : List ℕ)
-    → ((j : ℕ) → slot ≤ j → j < slot + length heads → turned base j ≢ place)
-    → packets_from slot base heads (set own place packet) ≡ packets_from slot base heads own
-copied_elsewhere slot base place [] own packet others = refl
-copied_elsewhere slot base place (head ∷ heads) own packet others =
+-- a copy at another place
+copied_elsewhere : (place at : ℕ) (heads : List Head) (own : List (List ℕ)) (packet : List ℕ)
+    → ((j : ℕ) → place ≤ j → j < place + length heads → j % 1536 ≢ at)
+    → packets_from place heads (set own at packet) ≡ packets_from place heads own
+copied_elsewhere place at [] own packet others = refl
+copied_elsewhere place at (head ∷ heads) own packet others =
     ap₂ (λ (copy : Option (List ℕ)) (packets : List Pushed). packet_by head copy ∷ packets)
-    (slice_get-set_other own place (turned base slot) packet (others slot (omega arith) (omega arith)))
-    (copied_elsewhere (suc slot) base place heads own packet (λ j above below. others j (omega (arith, above)) (omega (arith, below))))
+    (slice_get-set_other own at (place % 1536) packet (others place (omega arith) (omega arith)))
+    (copied_elsewhere (suc place) at heads own packet (λ j above below. others j (omega (arith, above)) (omega (arith, below))))
 
-pub copied : (slot base i : ℕ) (heads : List Head) (own : List (List ℕ)) (packet : List ℕ) (marker : Bool) → base < 1536 → slot + length heads ≤ 1536
-    → i < length heads → turned base (slot + i) < length own
-    → packets_from slot base (set heads i (record { shared = None; marker = marker })) (set own (turned base (slot + i)) packet)
-    ≡ set (packets_from slot base heads own) i (record { bytes = packet; marker = marker })
-copied slot base i [] own packet marker b fit lt there = absurd (omega (arith, lt))
-copied slot base zero (head ∷ heads) own packet marker b fit lt there =
-    let same : slot + 0 ≡ slot = omega arith in
-    let place : ℕ = turned base (slot + 0) in
-    ap₂ (λ (copy : Option (List ℕ)) (packets : List Pushed). packet_by (record { shared = None; marker = marker }) copy ∷ packets)
-    (ap (λ (k : ℕ). slice_get (set own place packet) (turned base k)) (sym same) ∙ slice_get-set_same own place packet there)
-    (copied_elsewhere (suc slot) base place heads own packet (λ j above below. apart base (slot + 0) j b (omega (arith, fit)) (omega (arith, below, fit)) (λ e. omega (arith, e, above))))
-copied slot base (suc i) (head ∷ heads) own packet marker b fit lt there =
-    let same : slot + suc i ≡ suc slot + i = omega arith in
-    ap₂ (λ (copy : Option (List ℕ)) (packets : List Pushed). packet_by head copy ∷ packets)
-    (slice_get-set_other own (turned base (slot + suc i)) (turned base slot) packet
-    (apart base (slot + suc i) slot b (omega (arith, fit, lt)) (omega (arith, fit)) (λ e. omega (arith, e))))
-    (ap (λ (k : ℕ). packets_from (suc slot) base (set heads i (record { shared = None; marker = marker })) (set own (turned base k) packet)) same
-    ∙ copied (suc slot) base i heads own packet marker b (omega (arith, fit)) (omega (arith, lt)) (subst (λ (k : ℕ). turned base k < length own) same there))
+-- ---- a head is put in as the last one, and the first is gone
 
--- ---- a packet is shared, or let go of
+packets_after : (count place : ℕ) (heads : List Head) (own : List (List ℕ)) → packets_from (place + count) (drop count heads) own ≡ drop count (packets_from place heads own)
+packets_after zero place heads own = ap (λ (k : ℕ). packets_from k heads own) (let e : place + 0 ≡ place = omega arith in e)
+packets_after (suc count) place [] own = refl
+packets_after (suc count) place (head ∷ heads) own =
+    ap (λ (k : ℕ). packets_from k (drop count heads) own) (let e : place + suc count ≡ suc place + count = omega arith in e)
+    ∙ packets_after count (suc place) heads own
 
-pub shared_at : (slot base i : ℕ) (heads : List Head) (own : List (List ℕ)) (packet : List ℕ) (marker : Bool)
-    → packets_from slot base (set heads i (record { shared = Some packet; marker = marker })) own
-    ≡ set (packets_from slot base heads own) i (record { bytes = packet; marker = marker })
-shared_at slot base i [] own packet marker = refl
-shared_at slot base zero (head ∷ heads) own packet marker = refl
-shared_at slot base (suc i) (head ∷ heads) own packet marker =
-    ap (λ (packets : List Pushed). packet_by head (slice_get own (turned base slot)) ∷ packets) (shared_at (suc slot) base i heads own packet marker)
+packets_less : (place : ℕ) (heads : List Head) (own : List (List ℕ)) → packets_from (suc place) (drop 1 heads) own ≡ drop 1 (packets_from place heads own)
+packets_less place [] own = refl
+packets_less place (head ∷ heads) own = refl
 
--- another packet is in that slot alone
-cleared : (slot base i : ℕ) (heads : List Head) (own : List (List ℕ)) (head : Head)
-    → (p : Pushed) × (packets_from slot base (set heads i head) own ≡ set (packets_from slot base heads own) i p)
-cleared slot base i [] own head = (packet_by head None, refl)
-cleared slot base zero (h ∷ heads) own head = (packet_by head (slice_get own (turned base slot)), refl)
-cleared slot base (suc i) (h ∷ heads) own head =
-    let rest = cleared (suc slot) base i heads own head in
-    (rest.0, ap (λ (packets : List Pushed). packet_by h (slice_get own (turned base slot)) ∷ packets) rest.1)
+packets_more : (place : ℕ) (heads : List Head) (own : List (List ℕ)) (head : Head)
+    → packets_from place (heads ++ head ∷ []) own ≡ packets_from place heads own ++ packet_by head (slice_get own ((place + length heads) % 1536)) ∷ []
+packets_more place [] own head =
+    ap (λ (k : ℕ). packet_by head (slice_get own (k % 1536)) ∷ []) (let e : place ≡ place + 0 = omega arith in e)
+packets_more place (h ∷ heads) own head =
+    ap (λ (packets : List Pushed). packet_by h (slice_get own (place % 1536)) ∷ packets)
+    (packets_more (suc place) heads own head
+    ∙ ap (λ (k : ℕ). packets_from (suc place) heads own ++ packet_by head (slice_get own (k % 1536)) ∷ [])
+    (let e : suc place + length heads ≡ place + suc (length heads) = omega arith in e))
 
-pub others_there : (base i : ℕ) (heads : List Head) (own : List (List ℕ)) (head : Head) (n : ℕ) → n ≢ i
-    → in_slot (packets_from 0 base (set heads i head) own) n ≡ in_slot (packets_from 0 base heads own) n
-others_there base i heads own head n other =
-    let one = cleared 0 base i heads own head in
-    ap (λ (packets : List Pushed). in_slot packets n) one.1
-    ∙ ap (λ (o : Option Pushed). unwrap_or o (record { bytes = []; marker = false })) (slice_get-set_other (packets_from 0 base heads own) i n one.0 other)
+pushed_last : (first : ℕ) (heads : List Head) (own : List (List ℕ)) (head : Head) → length heads ≡ 1536
+    → packets_from ((first + 1) % 1536) (drop 1 heads ++ head ∷ []) own
+    ≡ packets_from (suc first) (drop 1 heads) own ++ packet_by head (slice_get own (first % 1536)) ∷ []
+pushed_last first heads own head full =
+    packets_wrapped ((first + 1) % 1536) (suc first) (drop 1 heads ++ head ∷ []) own (omega arith)
+    ∙ packets_more (suc first) (drop 1 heads) own head
+    ∙ ap (λ (k : ℕ). packets_from (suc first) (drop 1 heads) own ++ packet_by head (slice_get own k) ∷ [])
+    (let e : (suc first + length (drop 1 heads)) % 1536 ≡ first % 1536 = omega (arith, length-drop 1 heads, full) in e)
 
--- ---- the packet of a slot
+-- one that is shared, where there are copies, and some more of them
+pub shared_last : (first : ℕ) (heads : List Head) (own new : List (List ℕ)) (packet : List ℕ) (marker : Bool) → length heads ≡ 1536 → AreAlike own new
+    → packets_from ((first + 1) % 1536) (drop 1 heads ++ record { shared = Some packet; marker = marker } ∷ []) new
+    ≡ drop 1 (packets_from first heads own) ++ record { bytes = packet; marker = marker } ∷ []
+shared_last first heads own new packet marker full alike =
+    pushed_last first heads new (record { shared = Some packet; marker = marker }) full
+    ∙ ap (λ (packets : List Pushed). packets ++ record { bytes = packet; marker = marker } ∷ [])
+    (packets_alike (suc first) (drop 1 heads) own new alike ∙ packets_less first heads own)
 
-pub packet_there : (slot base i : ℕ) (heads : List Head) (own : List (List ℕ)) (head : Head) → slice_get heads i ≡ Some head
-    → in_slot (packets_from slot base heads own) i ≡ packet_by head (slice_get own (turned base (slot + i)))
-packet_there slot base i [] own head e = absurd (cc e)
-packet_there slot base zero (h ∷ heads) own head e =
-    ap (λ (x : Head). packet_by x (slice_get own (turned base slot))) (let same : h ≡ head = cc e in same)
-    ∙ ap (λ (k : ℕ). packet_by head (slice_get own (turned base k))) (let same : slot ≡ slot + 0 = omega arith in same)
-packet_there slot base (suc i) (h ∷ heads) own head e =
-    packet_there (suc slot) base i heads own head e
-    ∙ ap (λ (k : ℕ). packet_by head (slice_get own (turned base k))) (let same : suc slot + i ≡ slot + suc i = omega arith in same)
+-- a copy
+pub copied_last : (first : ℕ) (heads : List Head) (own new : List (List ℕ)) (packet : List ℕ) (marker : Bool) → length heads ≡ 1536 → first < 1536
+    → AreAlike own new → first < length new
+    → packets_from ((first + 1) % 1536) (drop 1 heads ++ record { shared = None; marker = marker } ∷ []) (set new first packet)
+    ≡ drop 1 (packets_from first heads own) ++ record { bytes = packet; marker = marker } ∷ []
+copied_last first heads own new packet marker full below alike there =
+    pushed_last first heads (set new first packet) (record { shared = None; marker = marker }) full
+    ∙ ap₂ (λ (packets : List Pushed) (copy : Option (List ℕ)). packets ++ packet_by (record { shared = None; marker = marker }) copy ∷ [])
+    (copied_elsewhere (suc first) first (drop 1 heads) new packet (λ j above under. apart j above under)
+    ∙ packets_alike (suc first) (drop 1 heads) own new alike ∙ packets_less first heads own)
+    (ap (slice_get (set new first packet)) (let e : first % 1536 ≡ first = omega (arith, below) in e) ∙ slice_get-set_same new first packet there)
+  where
+    apart : (j : ℕ) → suc first ≤ j → j < suc first + length (drop 1 heads) → j % 1536 ≢ first
+    apart j above under same = omega (arith, above, under, same, below, length-drop 1 heads, full)
+
+-- ---- one lets go of its packet
+
+behind : {X : Type 0} (xs : List X) (i from : ℕ) (x : X) → i < from → drop from (set xs i x) ≡ drop from xs
+behind xs i zero x lt = absurd (omega (arith, lt))
+behind [] i (suc from) x lt = refl
+behind (y ∷ xs) zero (suc from) x lt = refl
+behind (y ∷ xs) (suc i) (suc from) x lt = behind xs i from x (omega (arith, lt))
+
+pub others_stay : (first i from : ℕ) (heads : List Head) (own : List (List ℕ)) (head : Head) → i < from
+    → drop from (packets_from first (set heads i head) own) ≡ drop from (packets_from first heads own)
+others_stay first i from heads own head lt =
+    sym (packets_after from first (set heads i head) own) ∙ ap (λ (hs : List Head). packets_from (first + from) hs own) (behind heads i from head lt)
+    ∙ packets_after from first heads own
+
+-- ---- the packet at a place
+
+pub packet_there : (first i : ℕ) (heads : List Head) (own : List (List ℕ)) (head : Head) → slice_get heads i ≡ Some head
+    → slice_get (packets_from first heads own) i ≡ Some (packet_by head (slice_get own ((first + i) % 1536)))
+packet_there first i [] own head e = absurd (cc e)
+packet_there first zero (h ∷ heads) own head e =
+    ap (λ (x : Head). Some (packet_by x (slice_get own (first % 1536)))) (let same : h ≡ head = cc e in same)
+    ∙ ap (λ (k : ℕ). Some (packet_by head (slice_get own (k % 1536)))) (let same : first ≡ first + 0 = omega arith in same)
+packet_there first (suc i) (h ∷ heads) own head e =
+    packet_there (suc first) i heads own head e
+    ∙ ap (λ (k : ℕ). Some (packet_by head (slice_get own (k % 1536)))) (let same : suc first + i ≡ first + suc i = omega arith in same)

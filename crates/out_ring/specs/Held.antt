@@ -1,26 +1,25 @@
 -- What the fields of the slots and of a ring stand for.
 use Rattle.std.specs.Prelude.{◌≡◌, ◌≤◌, ◌<◌, ◌+◌, ◌-◌, List, length, map, take, drop}
-use Rattle.std.specs.List.{AllByRecursion}
 use Rattle.std.specs.Vec.{vec_capacity}
 use Rattle.out_ring.specs.declared.ring.OutRing.TheInside.{Inside}
 use Rattle.out_ring.specs.declared.slots.Slots.TheInside as slots
 use Rattle.out_ring.specs.Ring.{Pushed, Ring}
 use Rattle.out_ring.specs.History.{numbered}
-use Rattle.out_ring.specs.Places.{IsBelow, IsDistinct, packets_in}
 use Rattle.out_ring.specs.Slots.{packets_from}
 
 abbrev pub packets_of : slots.Inside → List Pushed
-packets_of a = packets_from 0 a.base a.heads.items a.own.items
+packets_of a = packets_from a.first a.heads.items a.own.items
 
 pub record AreSlots (a : slots.Inside) : Type 0 where
   pub heads : length a.heads.items ≡ 1536
+  pub capacity : a.heads.capacity ≡ 1536
   pub own : length a.own.items ≤ 1536
   pub room : 1536 ≤ vec_capacity a.own
-  pub base : a.base < 1536
+  pub first : a.first < 1536
 
 -- the packets that are kept or queued, the oldest first
 abbrev pub held : Inside → List Pushed
-held a = drop (1536 - a.queued - a.kept) (packets_in a.slots a.places.items)
+held a = drop (1536 - a.queued - a.kept) a.slots
 
 abbrev pub seen : Inside → Ring
 seen a = record {
@@ -32,10 +31,6 @@ seen a = record {
 
 pub record IsFull (a : Inside) : Type 0 where
   pub slots : length a.slots ≡ 1536
-  pub places : length a.places.items ≡ 1536
-  pub capacity : a.places.capacity ≡ 1536
-  pub below : AllByRecursion (IsBelow 1536) a.places.items
-  pub distinct : IsDistinct a.places.items
   pub next : a.next < 65536
   pub queued : a.queued ≤ 512
   pub kept : a.kept ≤ 1024

@@ -1,5 +1,5 @@
 -- Which packet is in a slot: one that is shared, or a copy of the slot's own.
-use Rattle.std.specs.Prelude.{◌≡◌, ℕ, suc, ◌+◌, ◌-◌, ◌%◌, List, [], ◌∷◌, Option, None, Some, slice_get}
+use Rattle.std.specs.Prelude.{◌≡◌, ℕ, suc, ◌%◌, List, [], ◌∷◌, Option, None, Some, slice_get}
 use Rattle.out_ring.specs.declared.slots.Head.{Head}
 use Rattle.out_ring.specs.Packet.{least_packet}
 use Rattle.out_ring.specs.Ring.{Pushed}
@@ -13,14 +13,10 @@ bytes_by None None = least_packet
 abbrev pub packet_by : Head → Option (List ℕ) → Pushed
 packet_by head own = record { bytes = bytes_by head.shared own; marker = head.marker }
 
--- where the copy of a slot stands: copies stand in turn, from that of the slot `base` on
-abbrev pub turned : ℕ → ℕ → ℕ
-turned base slot = (slot + (1536 - base)) % 1536
-
--- the packets of the slots from this one on
-abbrev pub packets_from : ℕ → ℕ → List Head → List (List ℕ) → List Pushed
-packets_from slot base [] own = []
-packets_from slot base (head ∷ heads) own = packet_by head (slice_get own (turned base slot)) ∷ packets_from (suc slot) base heads own
+-- the packets of these slots, the first of which has its copy at this place; copies stand in turn
+abbrev pub packets_from : ℕ → List Head → List (List ℕ) → List Pushed
+packets_from place [] own = []
+packets_from place (head ∷ heads) own = packet_by head (slice_get own (place % 1536)) ∷ packets_from (suc place) heads own
 
 -- no slot has another packet
 abbrev pub AreAlike : List (List ℕ) → List (List ℕ) → Type 0

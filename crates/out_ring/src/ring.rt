@@ -1,14 +1,11 @@
 // The ring of one subscriber.
-ghost use Rattle.std.specs.Prelude.{◌≡◌, ◌<◌, ◌≤◌, ◌↔◌, ◌∷◌, ◌++◌, [], Err, IfOk, None, OnErr, OnOk, Some, drop, length, slice_get};
-ghost use Rattle.std.specs.List.{AllByRecursion};
+ghost use Rattle.std.specs.Prelude.{◌≡◌, ◌<◌, ◌≤◌, ◌+◌, ◌↔◌, Err, IfOk, None, OnErr, OnOk, length};
 ghost use Rattle.rtp_packet.specs.Faults.{first_fault};
 ghost use Rattle.out_ring.specs.History.{Gives, GaveLately, GaveNoneLately, History, IsAfter, and_push, and_take, nothing_done};
 ghost use Rattle.out_ring.specs.Ring.{Resends, Takes, begun, pushed};
-ghost use Rattle.out_ring.specs.Places.{IsBelow, IsDistinct, SendsFrom, packets_in};
 
 use crate::slots::{SLOTS, Slots};
 use crate::store::{PacketStore, SharedPacket};
-use circular_buffer::HeapCircularBuffer;
 use sfu_base::{NoMemory, PacketBuf, Refusal};
 use std::alloc::Global;
 use std::marker::Model;
@@ -25,10 +22,9 @@ pub struct OutRing {
     next: u16,
     queued: u16,
     kept: u16,
-    // the places before those of the kept packets at which one may still be shared that was kept before
+    // the slots before those of the kept packets of which one may still share a packet that was kept before
     spent: u16,
-    // Each place names a slot of its own. The last ones, as many as are queued, have the packets that are; before them stand those that are kept.
-    places: HeapCircularBuffer<u16>,
+    // The last ones, as many as are queued, have the packets that are; before them stand those that are kept.
     slots: Slots,
 }
 
@@ -57,7 +53,6 @@ impl OutRing {
             queued: 0,
             kept: 0,
             spent: 0,
-            places: all_places(alloc)?,
             slots: Slots::new(alloc)?,
         })
     }
@@ -79,30 +74,25 @@ impl OutRing {
         ensures pushed { self.new ≡ pushed packet.now marker self.old }
         ensures stands { (h : History) → IsAfter self.old h → IsAfter self.new (and_push h packet.now marker) }
     {
-        let slot = turn(&mut self.places);
         self.queued += 1;
-        self.spent = self
-            .spent
-            .min((SLOTS as u16).saturating_sub(self.queued + self.kept));
-        self.slots.fill(slot, packet, marker);
+        self.spent = spent_in(self.spent, self.queued, self.kept);
+        let _ = self.slots.fill(packet, marker);
     }
 
-    /// Queues a packet that is shared behind the others, as `push` does with a copy. No byte is copied.
-    pub fn push_shared(&mut self, packet: SharedPacket, marker: bool)
+    /// Queues a packet that is shared behind the others, as `push` does with a copy. No byte is copied. Answers one that it shared before and
+    /// doesn't keep any more, where the slot that it takes still has one.
+    pub fn push_shared(&mut self, packet: SharedPacket, marker: bool) -> Option<SharedPacket>
         requires room { length self.old.queued < 512 }
         ensures pushed { self.new ≡ pushed packet marker self.old }
         ensures stands { (h : History) → IsAfter self.old h → IsAfter self.new (and_push h packet marker) }
     {
-        let slot = turn(&mut self.places);
         self.queued += 1;
-        self.spent = self
-            .spent
-            .min((SLOTS as u16).saturating_sub(self.queued + self.kept));
-        self.slots.share(slot, packet, marker);
+        self.spent = spent_in(self.spent, self.queued, self.kept);
+        self.slots.share(packet, marker)
     }
 
-    /// Lets go of a packet that is shared and isn't kept any more: the oldest, if there may be one. To be called twice before each push, so that
-    /// none stays: a take leaves one behind at most.
+    /// Lets go of a packet that is shared and isn't kept any more: the oldest, if there may be one. To be called before each push, so that none stays
+    /// for long: a take leaves one behind at most.
     pub fn let_go(&mut self) -> Option<SharedPacket>
         ensures { self.new ≡ self.old }
     {
@@ -110,11 +100,8 @@ impl OutRing {
             return None;
         }
         let place = SLOTS - usize::from(self.queued + self.kept + self.spent);
-        let Some(slot) = self.places.get(place).copied() else {
-            unreachable!()
-        };
         self.spent -= 1;
-        self.slots.let_go(slot)
+        self.slots.let_go(place)
     }
 
     /// Ends the ring: the packets that it shares go back to the store.
@@ -142,14 +129,8 @@ impl OutRing {
             return Err(Refusal::Empty);
         }
         let number = self.next;
-        give(
-            &self.places,
-            &self.slots,
-            SLOTS - usize::from(self.queued),
-            number,
-            self.ssrc,
-            out,
-        );
+        self.slots
+            .send(SLOTS - usize::from(self.queued), number, self.ssrc, out);
         self.next = number.wrapping_add(1);
         self.queued -= 1;
         self.spent += (self.kept + 1).saturating_sub(MOST_KEPT);
@@ -174,68 +155,17 @@ impl OutRing {
                 next: self.next,
             });
         }
-        give(
-            &self.places,
-            &self.slots,
-            SLOTS - usize::from(self.queued + takes_ago),
-            seq,
-            self.ssrc,
-            out,
-        );
+        let place = SLOTS - usize::from(self.queued + takes_ago);
+        self.slots.send(place, seq, self.ssrc, out);
         Ok(())
     }
 }
 
-// Each place names the slot of its own number.
-fn all_places(alloc: Global) -> Result<HeapCircularBuffer<u16>, NoMemory>
-    ensures size { IfOk result (λ places. length places.items ≡ 1536) }
-    ensures capacity { IfOk result (λ places. places.capacity ≡ 1536) }
-    ensures below { IfOk result (λ places. AllByRecursion (IsBelow 1536) places.items) }
-    ensures distinct { IfOk result (λ places. IsDistinct places.items) }
+// How many slots before those of so many queued and kept packets may still share a packet, of those that did.
+fn spent_in(spent: u16, queued: u16, kept: u16) -> u16
+    requires queued { queued ≤ 512 }
+    requires kept { kept ≤ 1024 }
+    ensures { queued + kept + result ≤ 1536 }
 {
-    let Ok(mut places) = HeapCircularBuffer::with_capacity(alloc, SLOTS) else {
-        return Err(NoMemory);
-    };
-    for slot in 0..SLOTS as u16 {
-        let _ = places.push_back(slot);
-    }
-    Ok(places)
-}
-
-// The front place goes to the back: answers its slot.
-fn turn(places: &mut HeapCircularBuffer<u16>) -> u16
-    requires size { length places.old.items ≡ 1536 }
-    requires capacity { places.old.capacity ≡ 1536 }
-    requires below { AllByRecursion (IsBelow 1536) places.old.items }
-    ensures front { slice_get places.old.items 0 ≡ Some result }
-    ensures places { places.new.items ≡ drop 1 places.old.items ++ result ∷ [] }
-    ensures capacity { places.new.capacity ≡ 1536 }
-    ensures below { result < 1536 }
-{
-    // All places have a slot, so that the front one is given up for that at the back.
-    let Some(slot) = places.front().copied() else {
-        unreachable!()
-    };
-    let _ = places.push_back(slot);
-    slot
-}
-
-// Copies out the packet at this place, with this sequence number and SSRC.
-fn give(
-    places: &HeapCircularBuffer<u16>,
-    slots: &Slots,
-    place: usize,
-    seq: u16,
-    ssrc: u32,
-    out: &mut PacketBuf,
-)
-    requires place { place < length places.now.items }
-    requires below { AllByRecursion (IsBelow 1536) places.now.items }
-    ensures sends { SendsFrom (packets_in slots.now places.now.items) place seq ssrc out.new }
-    ensures reads { first_fault out.new ≡ None }
-    ensures fits { length out.new ≤ 1536 }
-{
-    if let Some(slot) = places.get(place) {
-        slots.send(*slot, seq, ssrc, out);
-    }
+    spent.min(SLOTS as u16 - (queued + kept))
 }

@@ -1,20 +1,18 @@
 // The slots of a ring.
-ghost use Rattle.std.specs.Prelude.{◌≡◌, ◌≢◌, ◌<◌, ◌≤◌, IfOk, None, [], length, slice_get, vec_len, ℕ};
+ghost use Rattle.std.specs.Prelude.{◌≡◌, ◌≢◌, ◌<◌, ◌≤◌, ◌+◌, ◌%◌, ◌∷◌, ◌++◌, IfOk, None, [], drop, length, slice_get, vec_len, ℕ};
 ghost use Rattle.std.specs.Option.{option_copied};
 ghost use Rattle.std.specs.Vec.{vec_capacity};
-ghost use Rattle.std.proofs.Math.ListN.{set};
 ghost use Rattle.rtp_packet.specs.Faults.{first_fault};
-ghost use Rattle.out_ring.specs.Places.{in_slot};
-ghost use Rattle.out_ring.specs.Ring.{sent};
-ghost use Rattle.out_ring.specs.Slots.{AreAlike, bytes_by, turned};
+ghost use Rattle.out_ring.specs.Places.{SendsFrom};
+ghost use Rattle.out_ring.specs.Slots.{AreAlike, bytes_by};
 
 use crate::packet::StoredPacket;
 use crate::store::{PacketStore, SharedPacket};
+use circular_buffer::HeapCircularBuffer;
 use rtp_packet::rewrite;
 use sfu_base::{NoMemory, PacketBuf};
 use std::alloc::Global;
 use std::marker::Model;
-use std::mem::replace;
 
 /// The slots of a ring: as many packets as are ever kept, and as many as are ever queued (own rule).
 pub const SLOTS: usize = 1536;
@@ -26,15 +24,16 @@ pub struct Head {
     pub marker: bool,
 }
 
-/// The packets in 1,536 slots, each with its marker: shared, or a copy of the slot's own. Memory for the copies is taken at the beginning, and
-/// is touched from the first copy on, one packet's at each push: slots are filled in turn. Clauses see the packets, slot by slot; one into which
-/// none was put has the least packet.
+/// The last 1,536 packets that were put in, each with its marker: shared, or a copy of the slots' own. Memory for the copies is taken at the
+/// beginning, and is touched from the first copy on, one packet's at each push. Clauses see the packets, the oldest first; before 1,536 were put
+/// in, least packets stand before them.
 #[derive(Debug, Drop)]
 pub struct Slots {
-    heads: Vec<Head>,
-    // the copies of the slots from `base` on, in turn, as far as slots were filled since
+    // the oldest first, and always 1,536
+    heads: HeapCircularBuffer<Head>,
+    // copies in turn, as far as there was one since: that of the oldest slot stands at `first`, that of the one behind the last at the front
     own: Vec<StoredPacket>,
-    base: usize,
+    first: usize,
 }
 
 impl Model for Slots {
@@ -61,42 +60,38 @@ impl Slots {
         Ok(Slots {
             heads: all_heads(alloc)?,
             own,
-            base: 0,
+            first: 0,
         })
     }
 
-    /// Puts a copy of a packet into a slot, with this marker.
-    pub fn fill(&mut self, slot: u16, packet: &[u8], marker: bool)
-        requires slot { slot < 1536 }
+    /// Puts a copy of a packet in as the newest, with this marker. The oldest is gone: answers what it shared.
+    pub fn fill(&mut self, packet: &[u8], marker: bool) -> Option<SharedPacket>
         requires reads { first_fault packet.now ≡ None }
         requires fits { length packet.now ≤ 1536 }
-        ensures { self.new ≡ set self.old slot (record { bytes = packet.now; marker = marker }) }
+        ensures { self.new ≡ drop 1 self.old ++ record { bytes = packet.now; marker = marker } ∷ [] }
     {
-        let slot = usize::from(slot);
-        self.base = base_for(&self.own, self.base, slot);
-        let place = place_of(self.base, slot);
+        let place = place_for(&self.own, self.first);
         make_own(&mut self.own, place);
         self.own[place].fill(packet);
-        put_head(&mut self.heads, slot, None, marker);
+        self.first = next_place(place);
+        put_last(&mut self.heads, None, marker)
     }
 
-    /// Puts a packet that is shared into a slot, with this marker.
-    pub fn share(&mut self, slot: u16, packet: SharedPacket, marker: bool)
-        requires slot { slot < 1536 }
-        ensures { self.new ≡ set self.old slot (record { bytes = packet; marker = marker }) }
+    /// Puts a packet that is shared in as the newest, with this marker. The oldest is gone: answers what it shared.
+    pub fn share(&mut self, packet: SharedPacket, marker: bool) -> Option<SharedPacket>
+        ensures { self.new ≡ drop 1 self.old ++ record { bytes = packet; marker = marker } ∷ [] }
     {
-        let slot = usize::from(slot);
-        go_on(&mut self.own, place_of(self.base, slot));
-        put_head(&mut self.heads, slot, Some(packet), marker);
+        go_on(&mut self.own, self.first);
+        self.first = next_place(self.first);
+        put_last(&mut self.heads, Some(packet), marker)
     }
 
-    /// Lets go of what a slot shares. Another packet is in the slot then, and all others are as they were.
-    pub fn let_go(&mut self, slot: u16) -> Option<SharedPacket>
-        requires slot { slot < 1536 }
+    /// Lets go of what the slot at this place shares, the oldest's being 0. Another packet is in that slot then, and all behind it are as they were.
+    pub fn let_go(&mut self, place: usize) -> Option<SharedPacket>
         ensures size { length self.new ≡ length self.old }
-        ensures others { (n : ℕ) → n ≢ slot → in_slot self.new n ≡ in_slot self.old n }
+        ensures others { (from : ℕ) → place < from → drop from self.new ≡ drop from self.old }
     {
-        put_head(&mut self.heads, usize::from(slot), None, false)
+        self.heads.get_mut(place)?.shared.take()
     }
 
     /// What is shared goes back to the store.
@@ -105,7 +100,7 @@ impl Slots {
         ensures free { store.old.free ≤ store.new.free }
     {
         let Slots { mut heads, .. } = self;
-        while let Some(head) = heads.pop() {
+        while let Some(head) = heads.pop_back() {
             let Head { shared, marker: _ } = head;
             if let Some(packet) = shared {
                 store.give_back(packet);
@@ -113,30 +108,36 @@ impl Slots {
         }
     }
 
-    /// Copies a slot's packet out and gives it this sequence number and SSRC, and its marker. RTP still reads it, and it is as long.
-    pub fn send(&self, slot: u16, seq: u16, ssrc: u32, out: &mut PacketBuf)
-        requires slot { slot < 1536 }
-        ensures sent { out.new ≡ (sent seq ssrc (in_slot self.now slot)).bytes }
+    /// Copies the packet at this place out, the oldest's being 0, and gives it this sequence number and SSRC, and its marker. RTP still reads it,
+    /// and it is as long.
+    pub fn send(&self, place: usize, seq: u16, ssrc: u32, out: &mut PacketBuf)
+        requires place { place < 1536 }
+        ensures sends { SendsFrom self.now place seq ssrc out.new }
         ensures reads { first_fault out.new ≡ None }
         ensures fits { length out.new ≤ 1536 }
     {
-        let slot = usize::from(slot);
-        let head = &self.heads[slot];
-        let own = own_in(&self.own, place_of(self.base, slot));
-        fill_out(&head.shared, own, out);
+        let Some(head) = self.heads.get(place) else {
+            unreachable!()
+        };
+        fill_out(
+            &head.shared,
+            own_in(&self.own, place_from(self.first, place)),
+            out,
+        );
         rewrite(out, seq, ssrc, head.marker);
     }
 }
 
 // Heads of slots into which nothing was put.
-fn all_heads(alloc: Global) -> Result<Vec<Head>, NoMemory>
-    ensures { IfOk result (λ heads. length heads.items ≡ 1536) }
+fn all_heads(alloc: Global) -> Result<HeapCircularBuffer<Head>, NoMemory>
+    ensures size { IfOk result (λ heads. length heads.items ≡ 1536) }
+    ensures capacity { IfOk result (λ heads. heads.capacity ≡ 1536) }
 {
-    let Ok(mut heads) = Vec::with_capacity(alloc, SLOTS) else {
+    let Ok(mut heads) = HeapCircularBuffer::with_capacity(alloc, SLOTS) else {
         return Err(NoMemory);
     };
     while heads.len() < SLOTS {
-        heads.push_reserved(Head {
+        let _ = heads.push_back(Head {
             shared: None,
             marker: false,
         });
@@ -144,24 +145,33 @@ fn all_heads(alloc: Global) -> Result<Vec<Head>, NoMemory>
     Ok(heads)
 }
 
-// The slot from which on copies stand: this one, if it has the first.
-fn base_for(own: &[StoredPacket], base: usize, slot: usize) -> usize
-    requires base { base < 1536 }
-    requires slot { slot < 1536 }
+// Where the next copy is put: at the front, if it is the first one.
+fn place_for(own: &[StoredPacket], first: usize) -> usize
+    requires { first < 1536 }
     ensures below { result < 1536 }
-    ensures same { own.now ≢ [] → result ≡ base }
+    ensures same { own.now ≢ [] → result ≡ first }
 {
-    if own.is_empty() { slot } else { base }
+    if own.is_empty() { 0 } else { first }
 }
 
-// Where the copy of a slot stands.
-fn place_of(base: usize, slot: usize) -> usize
-    requires base { base < 1536 }
-    requires slot { slot < 1536 }
-    ensures place { result ≡ turned base slot }
+// Where the copy of the slot behind the one with this place stands.
+fn next_place(place: usize) -> usize
+    requires { place < 1536 }
+    ensures place { result ≡ (place + 1) % 1536 }
     ensures below { result < 1536 }
 {
-    (slot + (SLOTS - base)) % SLOTS
+    place_from(place, 1)
+}
+
+// Where a copy stands so many places behind this one.
+fn place_from(place: usize, count: usize) -> usize
+    requires place { place < 1536 }
+    requires count { count < 1536 }
+    ensures place { result ≡ (place + count) % 1536 }
+    ensures below { result < 1536 }
+{
+    let there = place + count;
+    if there < SLOTS { there } else { there - SLOTS }
 }
 
 // Makes the copy at this place, and those before it, where there are none yet: no slot has another packet then.
@@ -193,20 +203,21 @@ fn go_on(own: &mut Vec<StoredPacket>, place: usize)
     }
 }
 
-// Writes a slot's head, and answers what it shared before.
-fn put_head(
-    heads: &mut Vec<Head>,
-    slot: usize,
+// Puts a head last in place of the first one, and answers what that shared.
+fn put_last(
+    heads: &mut HeapCircularBuffer<Head>,
     shared: Option<SharedPacket>,
     marker: bool,
 ) -> Option<SharedPacket>
-    requires { slot < length heads.old.items }
-    ensures { heads.new.items ≡ set heads.old.items slot (record { shared = shared; marker = marker }) }
+    requires size { length heads.old.items ≡ 1536 }
+    requires capacity { heads.old.capacity ≡ 1536 }
+    ensures items { heads.new.items ≡ drop 1 heads.old.items ++ record { shared = shared; marker = marker } ∷ [] }
+    ensures capacity { heads.new.capacity ≡ 1536 }
 {
     let Head {
         shared: before,
         marker: _,
-    } = replace(&mut heads[slot], Head { shared, marker });
+    } = heads.push_back(Head { shared, marker })?;
     before
 }
 

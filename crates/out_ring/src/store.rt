@@ -105,11 +105,12 @@ impl PacketStore {
         Ok(())
     }
 
-    /// Gives up free room until there is room for so many packets in all, or none is free.
+    /// Gives up free room until there is room for so many packets in all, or none is free. Where there is less already nothing changes.
     pub fn shrink(&mut self, all: usize)
         ensures all { self.new.all ≤ self.old.all }
         ensures free { self.new.free ≤ self.old.free }
         ensures done { self.new.all ≤ all ⊎ (self.new.free ≡ 0) }
+        ensures kept { all ≤ self.old.all → all ≤ self.new.all }
     {
         while all < self.all && self.free.pop().is_some() {
             self.all -= 1;

@@ -1,12 +1,11 @@
-use Rattle.std.proofs.Common.{◌≡◌, ◌<◌, ◌⊎◌, inl, inr, ◌+◌, ◌-◌, ◌%◌, ℕ, Err, Some, sym, ap, subst, arith, ◌∙◌}
+use Rattle.std.proofs.Common.{◌≡◌, ◌<◌, ◌⊎◌, inl, inr, ◌+◌, ◌-◌, ◌%◌, ℕ, Err, Some, sym, ap, subst, arith}
 use Rattle.std.specs.Prelude.{◌==◌}
 use Rattle.std.specs.List.{find}
 use Rattle.sfu_base.specs.declared.call.Refusal.TheVariants.{NotKept}
-use Rattle.out_ring.specs.Places.{SendsFrom, packets_in}
+use Rattle.out_ring.specs.Places.{SendsFrom}
 use Rattle.out_ring.specs.Ring.{Resends, Ring}
 use Rattle.out_ring.proofs.Calls.{IsNotKept, resend_found, resend_refused, resends_none, resends_one}
 use Rattle.out_ring.proofs.Histories.{refusal_stands, resend_stands}
-use Rattle.out_ring.proofs.Turning.{size_of_places}
 use Rattle.out_ring.proofs.ring.OutRing.resend.Goals as goal
 use Rattle.out_ring.proofs.ring.OutRing.resend.Goals.{then-takes_ago-eq0-via-then-takes_ago-eq0, then-takes_ago-eq0-via-else-takes_ago-eq0+then-takes_ago-self}
 
@@ -23,7 +22,7 @@ not_kept c =
     let a = c.self.inside in
     let i = c.self.invariant in
     subst (λ (r : Ring). IsNotKept r c.args.seq ((a.next + (65536 - a.kept)) % 65536)) c.self.view_is
-    (resend_refused (packets_in a.slots a.places.items) a.ssrc a.next a.queued a.kept (size_of_places a.slots a.places.items ∙ i.places) i.next i.queued i.kept c.args.seq (omega arith) (far c))
+    (resend_refused a.slots a.ssrc a.next a.queued a.kept i.slots i.next i.queued i.kept c.args.seq (omega arith) (far c))
 
 pub returns-then-takes_ago-eq0-clause-resends : goal.returns-then-takes_ago-eq0-clause-resends
 returns-then-takes_ago-eq0-clause-resends c =
@@ -35,20 +34,20 @@ returns-then-takes_ago-eq0-clause-resends c =
 pub returns-then-takes_ago-eq0-clause-not_kept : goal.returns-then-takes_ago-eq0-clause-not_kept
 returns-then-takes_ago-eq0-clause-not_kept c h at = refusal_stands c.args.self.now h c.args.seq at (not_kept c).none
 
-found : (c : goal.After-give) → find (λ p. p.number == c.args.seq) c.args.self.now.kept ≡ Some (record { number = c.args.seq; bytes = c.give.new.out })
+found : (c : goal.After-send) → find (λ p. p.number == c.args.seq) c.args.self.now.kept ≡ Some (record { number = c.args.seq; bytes = c.send.new.out })
 found c =
     let a = c.self.inside in
     let i = c.self.invariant in
-    let sends : SendsFrom (packets_in a.slots a.places.items) (1536 - (a.queued + (a.next + (65536 - c.args.seq)) % 65536)) c.args.seq a.ssrc c.give.new.out =
-    subst (λ (n : ℕ). SendsFrom (packets_in a.slots a.places.items) (1536 - n) c.args.seq a.ssrc c.give.new.out) c.from.ensures
-    c.give.ensures.sends in
-    subst (λ (r : Ring). find (λ p. p.number == c.args.seq) r.kept ≡ Some (record { number = c.args.seq; bytes = c.give.new.out })) c.self.view_is
-    (resend_found (packets_in a.slots a.places.items) a.ssrc a.next a.queued a.kept (size_of_places a.slots a.places.items ∙ i.places) i.next i.queued i.kept c.args.seq c.give.new.out (omega arith)
+    let sends : SendsFrom a.slots (1536 - (a.queued + (a.next + (65536 - c.args.seq)) % 65536)) c.args.seq a.ssrc c.send.new.out =
+    subst (λ (n : ℕ). SendsFrom a.slots (1536 - n) c.args.seq a.ssrc c.send.new.out) c.from-place.ensures
+    c.send.ensures.sends in
+    subst (λ (r : Ring). find (λ p. p.number == c.args.seq) r.kept ≡ Some (record { number = c.args.seq; bytes = c.send.new.out })) c.self.view_is
+    (resend_found a.slots a.ssrc a.next a.queued a.kept i.slots i.next i.queued i.kept c.args.seq c.send.new.out (omega arith)
     c.if-takes_ago-eq0.false c.if-takes_ago-self.false sends)
 
 pub returns-clause-resends : goal.returns-clause-resends
-returns-clause-resends c = resends_one c.args.self.now c.args.seq c.args.out.now c.give.new.out (found c)
+returns-clause-resends c = resends_one c.args.self.now c.args.seq c.args.out.now c.send.new.out (found c)
 
 pub returns-clause-first_bytes : goal.returns-clause-first_bytes
 returns-clause-first_bytes c h at =
-    resend_stands c.args.self.now h c.args.seq (record { number = c.args.seq; bytes = c.give.new.out }) at (found c)
+    resend_stands c.args.self.now h c.args.seq (record { number = c.args.seq; bytes = c.send.new.out }) at (found c)
