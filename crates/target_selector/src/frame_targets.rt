@@ -44,6 +44,15 @@ impl FrameTargets {
         }
     }
 
+    /// The targets become the frame's.
+    pub fn set(&mut self, frame: &FrameMeaning)
+        ensures { self.new ≡ targets_of frame.now }
+    {
+        self.count = frame.target_count;
+        self.mask = frame.mask;
+        self.pairs = frame.pairs;
+    }
+
     /// The layers of a target, where a template of the frame is present in it.
     pub fn layers(&self, target: u8) -> Option<Wish>
         requires { target < 32 }

@@ -171,7 +171,7 @@ impl Selector {
         ensures stands { (s : Standing) → StandsFor self.old s → StandsAt self.new s frame.now }
         ensures newest { self.new.newest ≡ Some (targets_of frame.now) }
     {
-        self.newest = Some(FrameTargets::of(frame));
+        keep_targets(&mut self.newest, frame);
         if self.epoch == Some(frame.epoch) {
             return;
         }
@@ -210,6 +210,17 @@ impl Selector {
         self.target = decision.kept;
         self.top = false;
         self.opened = false;
+    }
+}
+
+// The targets of the last frame become this one's. They are written in place.
+fn keep_targets(newest: &mut Option<FrameTargets>, frame: &FrameMeaning)
+    ensures { newest.new ≡ Some (targets_of frame.now) }
+{
+    if let Some(targets) = newest {
+        targets.set(frame);
+    } else {
+        *newest = Some(FrameTargets::of(frame));
     }
 }
 
