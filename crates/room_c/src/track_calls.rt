@@ -124,7 +124,14 @@ pub extern "C" fn zoftemar_tick(
 ) -> PlainReply
     ensures does { Does room.old.held.home room.new.held.home seat (call.Tick track moment) result }
 {
-    room.serve(alloc, seat, &Call::Tick { track, moment })
+    match room.take(alloc) {
+        None => PlainReply::bare(Code::NoRoom),
+        Some(mut home) => {
+            let told = PlainReply::of(&home.room.tick(seat, track, moment));
+            room.put(home);
+            told
+        }
+    }
 }
 
 /// Hands out the sequence numbers that a track waits for, as `Room::missing` does: `Names`. `NoTrack`. `NoSpace`: the buffer has fewer than
