@@ -8,15 +8,16 @@ use std::net::{Ipv4Addr, Net, SocketAddr, SocketAddrV4, UdpSocket};
 use std::time::Duration;
 use std::{io, thread, time};
 
-/// How long a receive of a port in use waits for a datagram, in microseconds. A packet waits for its subscriber's receive as for its publisher's,
-/// so twice this stays below a millisecond.
-const RECEIVE_WAIT: u64 = 400;
+/// How long a receive of a port in use waits for a datagram, in microseconds. A packet waits for its subscriber's receive as for its publisher's, half
+/// of this each on average and with what the system adds to a sleep, so that half of all packets are through within a millisecond. The longer a
+/// wait, the fewer looks at ports where nothing is, which cost as much as a packet.
+const RECEIVE_WAIT: u64 = 650;
 
 /// How long a receive of a quiet port waits, in microseconds: no more than 5 milliseconds with what the system adds to a sleep.
 const QUIET_WAIT: u64 = 4500;
 
 /// After how many receives in a row that brought nothing, with nothing sent between them, a port is quiet: some second.
-const QUIET_AFTER: u32 = 2000;
+const QUIET_AFTER: u32 = 1250;
 
 /// How long a send waits for room in the system's buffer before it tries again, in milliseconds.
 const SEND_WAIT: u64 = 1;
@@ -40,6 +41,8 @@ pub struct UdpLink<'a, R> {
     is_connected: bool,
     // how many receives in a row brought nothing, with nothing sent between them
     idle: u32,
+    // whether the receive before brought something, so that more may be there
+    brought: bool,
     room: [u8; DATAGRAM_ROOM],
     faults: u64,
 }
@@ -61,25 +64,30 @@ impl<'a, R: Net + time::Clock> UdpLink<'a, R> {
             peer,
             is_connected,
             idle: 0,
+            brought: true,
             room: [0; DATAGRAM_ROOM],
             faults: 0,
         })
     }
 
-    // The length of the peer's next datagram, which then stands at the front of the room; none where none came, after a wait.
+    // The length of the peer's next datagram, which then stands at the front of the room; none where none came, after a wait. Where the receive
+    // before brought nothing, this one looks only behind its wait.
     fn wait(&mut self) -> io::Result<Option<usize>>
         ensures room { IfOk result (λ found. IfSome found (λ count. count ≤ 2048)) }
         ensures faults { self.new.faults ≡ self.old.faults }
     {
-        if let Some(count) = poll(&self.socket, self.peer, &mut self.room)? {
-            self.idle = 0;
-            return Ok(Some(count));
+        if self.brought {
+            if let Some(count) = poll(&self.socket, self.peer, &mut self.room)? {
+                self.idle = 0;
+                return Ok(Some(count));
+            }
         }
         let is_quiet = self.idle >= QUIET_AFTER;
         let wait = if is_quiet { QUIET_WAIT } else { RECEIVE_WAIT };
         thread::sleep(self.system, Duration::from_micros(wait));
         let found = poll(&self.socket, self.peer, &mut self.room)?;
-        self.idle = if found.is_some() {
+        self.brought = found.is_some();
+        self.idle = if self.brought {
             0
         } else {
             self.idle.saturating_add(1)
@@ -166,7 +174,7 @@ impl<'a, R: Net + time::Clock> Link for UdpLink<'a, R> {
 
     ghost faults = { λ s. s.faults };
 
-    /// Waits about half a millisecond, and at most 5 where nothing came or went for a second, while no datagram of the peer's is there.
+    /// Waits less than a millisecond, and at most 5 where nothing came or went for a second, while no datagram of the peer's is there.
     fn receive(&mut self, buf: &mut PacketBuf) -> Result<bool, Failed> {
         match self.wait() {
             Ok(Some(count)) => {
