@@ -1,7 +1,9 @@
 // A packet's bytes, written in hex digits.
-ghost use Rattle.std.specs.Prelude.{◌≡◌, ◌++◌, ◌*◌, ◌≤◌, length, OnOk};
+ghost use Rattle.std.specs.Prelude.{◌≡◌, ◌+◌, ◌++◌, ◌∷◌, ◌*◌, ◌≤◌, [], codes, length, OnErr, OnOk, true};
 ghost use Rattle.std.specs.List.{range_with_len};
 ghost use Rattle.hex.specs.Hex.{encode_lower};
+ghost use Rattle.sfu_base.specs.Answer.{Sent};
+ghost use Rattle.script_texts.specs.Replies.{answer_text};
 ghost use Rattle.script_texts.specs.Texts.{GoesOn};
 
 use sfu_base::{Blob, NoMemory};
@@ -32,17 +34,23 @@ fn write_digits(bytes: &[u8], pairs: &[u8; 512], digits: &mut [u8])
     }
 }
 
-/// Room for the digits of some bytes, which may be kept from one text to the next: then it is cleared once, not for each.
+// What a packet's line has before the digits, and behind them.
+const HEAD: &[u8; 7] = b"packet ";
+
+const END: &[u8; 1] = b"\n";
+
+/// Room for the digits of some bytes, or for the line of a short packet, which may be kept from one text to the next: then it is cleared once, not
+/// for each.
 #[derive(Drop)]
 pub struct DigitBuf {
-    bytes: [u8; 2 * CHUNK],
+    bytes: [u8; 2 * CHUNK + 8],
 }
 
 impl DigitBuf {
     /// Room for digits.
     pub fn new() -> DigitBuf {
         DigitBuf {
-            bytes: [0; 2 * CHUNK],
+            bytes: [0; 2 * CHUNK + 8],
         }
     }
 }
@@ -82,4 +90,35 @@ pub fn append_hex(bytes: &[u8], digits: &mut DigitBuf, out: &mut Blob) -> Result
         return append_chunk(bytes, digits, out);
     }
     append_chunks(bytes, digits, out)
+}
+
+/// Whether the line of a packet with these bytes fits the room for digits.
+pub fn fits_line(bytes: &[u8]) -> bool
+    ensures { result ≡ true → length bytes.now ≤ CHUNK }
+{
+    bytes.len() <= CHUNK
+}
+
+// Writes the line of a packet over a room of its size.
+fn write_line(bytes: &[u8], line: &mut [u8])
+    requires { length line.old ≡ 2 * length bytes.now + 8 }
+    ensures { line.new ≡ codes "packet " ++ (encode_lower bytes.now ++ 10 ∷ []) }
+{
+    let (head, rest) = line.split_at_mut(7);
+    head.copy_from_slice(HEAD);
+    let (digits, end) = rest.split_at_mut(2 * bytes.len());
+    write_digits(bytes, PAIRS, digits);
+    end.copy_from_slice(END);
+}
+
+/// Appends the line of a packet that fits the room, with its line end. It is put together there, so that it is appended at once. After `NoMemory`
+/// all is as before.
+pub fn append_line(bytes: &[u8], digits: &mut DigitBuf, out: &mut Blob) -> Result<(), NoMemory>
+    requires { length bytes.now ≤ CHUNK }
+    ensures ok { OnOk result (out.new ≡ out.old ++ (answer_text (Sent bytes.now) ++ 10 ∷ [])) }
+    ensures err { OnErr result (out.new ≡ out.old) }
+{
+    let line = &mut digits.bytes[..2 * bytes.len() + 8];
+    write_line(bytes, line);
+    out.append(line)
 }

@@ -4,6 +4,7 @@ ghost use Rattle.sfu_base.specs.Answer.{answer_of, is_starved};
 ghost use Rattle.script_texts.specs.Replies.{answer_text};
 ghost use Rattle.script_texts.specs.WholeLines.{fault_line, record_fault_line};
 
+use crate::hex_text::{append_line, fits_line};
 use crate::{DigitBuf, write_line_fault, write_record_fault, write_reply_in};
 use sfu_base::{Blob, NoMemory, Refusal, Reply, Scratch};
 
@@ -36,6 +37,13 @@ pub fn add_reply(
     ensures ok { OnOk result (ready.new ≡ ready.old ++ (answer_text (answer_of reply.now scratch.now.packet scratch.now.names) ++ 10 ∷ [])) }
     ensures err { OnErr result (ready.new ≡ ready.old) }
 {
+    // Most replies of a script are short packets.
+    if let Reply::Packet = reply {
+        let bytes = scratch.packet.bytes();
+        if fits_line(bytes) {
+            return append_line(bytes, digits, ready);
+        }
+    }
     let start = ready.bytes().len();
     write_reply_in(reply, scratch, digits, ready)?;
     end_line(start, ready)

@@ -10,7 +10,7 @@ use crate::fields::Field::{Number32, Number64};
 use crate::fields::read_fields;
 use crate::hex_text::{MOST_BYTES, decode};
 use crate::lines::packet;
-use crate::words::{number32, split};
+use crate::words::number32;
 use crate::{NoLine, read_call};
 use sfu_base::{Call, PacketBuf};
 
@@ -110,17 +110,16 @@ impl LineReader {
     fn lend(&mut self, line: &[u8]) -> Result<&Call, NoLine>
         ensures { MatchResult result (λ said. call_of line.now ≡ Some said.now) (λ _. call_of line.now ≡ None) }
     {
-        let (word, rest) = split(line)?;
-        match word {
-            b"packet" => {
+        match line {
+            [b'p', b'a', b'c', b'k', b'e', b't', b' ', rest @ ..] => {
                 self.read_packet(rest)?;
                 Ok(&self.packet)
             }
-            b"take" => {
+            [b't', b'a', b'k', b'e', b' ', rest @ ..] => {
                 self.read_take(rest)?;
                 Ok(&self.take)
             }
-            b"tick" => {
+            [b't', b'i', b'c', b'k', b' ', rest @ ..] => {
                 self.read_tick(rest)?;
                 Ok(&self.tick)
             }

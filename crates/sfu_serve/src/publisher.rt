@@ -75,6 +75,15 @@ fn hear<L: Link, C: Clock>(
     Ok((came, moment))
 }
 
+/// Puts a moment into the call of a tick, which is kept from turn to turn: a call has room for a packet, and making one clears it.
+fn put_moment(tick: &mut Call, now: u64)
+    ensures { (track before : ℕ) → tick.old ≡ call.Tick track before → tick.new ≡ call.Tick track now }
+{
+    if let Call::Tick { moment, .. } = tick {
+        *moment = now;
+    }
+}
+
 /// Makes the call of the packet that came, unless it is RTCP.
 fn bring<R: Recorder, W: Wait + Sync>(
     rt: &W,
@@ -264,6 +273,7 @@ fn publisher_turn<R: Recorder, L: Link, W: Wait + Sync>(
     last: Last,
     came: bool,
     packet: &Call,
+    tick: &Call,
     link: &mut L,
     out: &mut PacketBuf,
     scratch: &mut Scratch,
@@ -271,6 +281,7 @@ fn publisher_turn<R: Recorder, L: Link, W: Wait + Sync>(
     requires lock { seat.old.lock ≡ turns.now }
     requires fits { Fits seat.old }
     requires packet { packet.now ≡ call.Packet track moment (bytes_in packet.now) }
+    requires tick { tick.now ≡ call.Tick track moment }
     ensures done { IfOk result (λ now. (next : Option ℕ → Option ℕ → Doing) → Done (MayStarve R.may_refuse)
         (brings track moment (datagram came (bytes_in packet.now))
         (Ask (call.Tick track moment) (λ ticked. asks track ssrc moment last.asked last.pleaded next)))
@@ -281,9 +292,8 @@ fn publisher_turn<R: Recorder, L: Link, W: Wait + Sync>(
         seat.old seat.new (L.told link.old) (L.told link.new) (L.faults link.old) (L.faults link.new) stop) }
     ensures bounded { length (bytes_in packet.now) ≤ 2048 }
 {
-    let tick = Call::Tick { track, moment };
     match bring(rt, turns, seat, came, packet, scratch) {
-        Ok(()) => match say(rt, turns, seat, &tick, scratch) {
+        Ok(()) => match say(rt, turns, seat, tick, scratch) {
             Ok(_reply) => ask(
                 rt, turns, seat, track, ssrc, moment, last, link, out, scratch,
             ),
@@ -318,6 +328,7 @@ pub fn publisher_session<R: Recorder, L: Link, C: Clock, W: Wait + Sync>(
         moment: 0,
         bytes: PacketBuf::new(),
     };
+    let mut tick = Call::Tick { track, moment: 0 };
     let mut out = PacketBuf::new();
     let mut last = Last {
         asked: None,
@@ -327,8 +338,10 @@ pub fn publisher_session<R: Recorder, L: Link, C: Clock, W: Wait + Sync>(
         let Ok((came, moment)) = hear(link, clock, &mut packet) else {
             return SessionEnd::LinkFault { turn };
         };
+        put_moment(&mut tick, moment);
         match publisher_turn(
-            rt, turns, seat, track, ssrc, moment, last, came, &packet, link, &mut out, scratch,
+            rt, turns, seat, track, ssrc, moment, last, came, &packet, &tick, link, &mut out,
+            scratch,
         ) {
             Ok(now) => last = now,
             Err(stop) => return end_at(turn, stop),

@@ -1,6 +1,7 @@
 // The sessions of subscribers: resent packets go out as they were sent, or on a stream of their own.
 ghost use Rattle.std.specs.Prelude.{◌≡◌, ◌≢◌, ℕ, ◌<◌, ◌≤◌, length, if◌then◌else◌, IfOk, IfErr, IfSome};
 ghost use Rattle.sfu_base.specs.Links.{datagram};
+ghost use Rattle.sfu_base.specs.declared.call.Call.TheVariants as call;
 ghost use Rattle.turn_lock.specs.Known.{Fits};
 ghost use Rattle.rtcp_feedback.specs.declared.feedback.Feedback.{Feedback as FeedbackData};
 ghost use Rattle.deeds.specs.Deeds.{Ask};
@@ -52,24 +53,26 @@ fn give<R: Recorder, L: Link, W: Wait + Sync>(
     }
 }
 
-/// Takes packets and sends them, until none is given or so many takes were made.
+/// Takes packets and sends them, until none is given or so many takes were made. The call is kept from turn to turn: a call has room for a
+/// packet, and making one clears it.
 fn take_all<R: Recorder, L: Link, W: Wait + Sync>(
     rt: &W,
     turns: &Turns<SharedRoom<R>>,
     seat: &mut Seat<SharedRoom<R>>,
     subscriber: u32,
+    take: &Call,
     most: u32,
     link: &mut L,
     scratch: &mut Scratch,
 ) -> Result<(), TurnStop>
     requires lock { seat.old.lock ≡ turns.now }
     requires fits { Fits seat.old }
+    requires take { take.now ≡ call.Take subscriber }
     ensures part { (next : Doing) → IsPart (MayStarve R.may_refuse) (takes subscriber most next) next
         seat.old seat.new (L.told link.old) (L.told link.new) (L.faults link.old) (L.faults link.new) result }
 {
-    let call = Call::Take { subscriber };
     for made in 0..most {
-        match give(rt, turns, seat, &call, link, scratch) {
+        match give(rt, turns, seat, take, link, scratch) {
             Ok(gave) => {
                 if !gave {
                     return Ok(());
@@ -230,6 +233,7 @@ fn subscriber_turn<R: Recorder, L: Link, W: Wait + Sync>(
     subscriber: u32,
     ssrc: u32,
     way: Option<Rtx>,
+    take: &Call,
     most: u32,
     came: bool,
     bytes: &PacketBuf,
@@ -240,6 +244,7 @@ fn subscriber_turn<R: Recorder, L: Link, W: Wait + Sync>(
     requires lock { seat.old.lock ≡ turns.now }
     requires fits { Fits seat.old }
     requires payload_type { IfSome way (λ rtx. rtx.payload_type < 128) }
+    requires take { take.now ≡ call.Take subscriber }
     ensures part { (next : ℕ → Doing) → IsPart (MayStarve R.may_refuse)
         (hears_feedback subscriber ssrc way (datagram came bytes.now) number.old (λ later. takes subscriber most (next later))) (next number.new)
         seat.old seat.new (L.told link.old) (L.told link.new) (L.faults link.old) (L.faults link.new) result }
@@ -248,7 +253,7 @@ fn subscriber_turn<R: Recorder, L: Link, W: Wait + Sync>(
     match hear_feedback(
         rt, turns, seat, subscriber, ssrc, way, came, bytes, number, link, scratch,
     ) {
-        Ok(()) => take_all(rt, turns, seat, subscriber, most, link, scratch),
+        Ok(()) => take_all(rt, turns, seat, subscriber, take, most, link, scratch),
         Err(stop) => Err(stop),
     }
 }
@@ -274,6 +279,7 @@ fn outgoing_session<R: Recorder, L: Link, C: Clock, W: Wait + Sync>(
     seat.lemma_fits();
     let mut bytes = PacketBuf::new();
     let mut number = 0u16;
+    let take = Call::Take { subscriber };
     for turn in 0..limit {
         let Ok((came, _moment)) = listen(link, clock, &mut bytes) else {
             return SessionEnd::LinkFault { turn };
@@ -285,6 +291,7 @@ fn outgoing_session<R: Recorder, L: Link, C: Clock, W: Wait + Sync>(
             subscriber,
             ssrc,
             way,
+            &take,
             MOST_TAKES,
             came,
             &bytes,

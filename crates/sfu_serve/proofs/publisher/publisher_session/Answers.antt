@@ -14,6 +14,7 @@ loop-turn-init g c = record {
   turns = omega arith;
   done = starts (λ (n : ℕ). publisher_deed c.args.track c.args.ssrc n None None) c.args.limit c.args.seat.now (g.L.Link.told c.args.link.now) (g.L.Link.faults c.args.link.now) c.lemma_fits.ensures;
   packet = (0, c.new.result, refl);
+  tick = (0, refl);
 }
 
 pub returns-in_default : goal.returns-in_default
@@ -72,4 +73,5 @@ loop-turn-preserved g c =
       turns = omega (arith, less);
       done = after d (c.in-Ok-publisher_turn.ensures.done (publisher_deed c.args.track c.args.ssrc left));
       packet = (c.in-Ok.moment, bytes_in c.hear.new.packet, came.0);
+      tick = (c.in-Ok.moment, c.put_moment.ensures c.args.track c.loop-turn.invariant.tick.0 c.loop-turn.invariant.tick.1);
     }
