@@ -12,9 +12,9 @@ usage: bench/serve/run.py [--program FILE] [--seconds N] [--rate N] [PART...]   
   hostile   a track before and while others send rubbish: strangers at each port, a publisher and a controller that send random bytes, a
             subscriber that sends RTCP that doesn't read or asks for what never was, peers that aren't there or go away
   control   what a control port answers
-  ports     64 ports for 60 seconds
+  ports     64 ports for 65 seconds
   idle      64 ports at which nothing comes: the processors that they take
-  burst     the longest burst, sent back to back, of which the system drops nothing: at one publisher's port of 2, 16 and 64, and at all at once
+  burst     the longest burst, sent back to back, of which the system drops nothing: at one publisher's port of 4, 16 and 64, and at all at once
   strangers a track before and while strangers send 200,000 datagrams a second to its publisher's port
   calls     how often the system is called for a packet that goes out; it needs perf, and leave to count (root)
 """
