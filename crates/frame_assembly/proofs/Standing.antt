@@ -1,11 +1,12 @@
 -- What is seen after one mark more is what the longer list of marks says.
-use Rattle.std.proofs.Common.{◌≡◌, ◌+◌, ℕ, arith, Bool, true, false, ◌&&◌, List, [], ◌∷◌, ◌++◌, map, length, cond, Option, Some, None, refl, sym, ap, ◌∙◌}
+use Rattle.std.proofs.Common.{◌≡◌, ◌+◌, ℕ, arith, Bool, true, false, ◌&&◌, List, [], ◌∷◌, ◌++◌, map, length, cond, Option, Some, None, refl, sym, ap, ◌∙◌, subst}
 use Rattle.std.specs.Prelude.{◌==◌, nat_lt}
 use Rattle.std.specs.Bool.{beq}
 use Rattle.std.proofs.lemmas.List.{length-map}
 use Rattle.std.proofs.lemmas.Bool.{eqb-true, eq-eqb, and_parts}
 use Rattle.forwarding_model.specs.frames.Cuts.{Part, Mark as CutMark, Run, is_next, begun as cut_begun, continued as cut_continued, extended, run_of, whole, outcome, run_outcome}
 use Rattle.forwarding_model.specs.frames.Cuts.Mark.{Gone, Padding, Unreadable, Read}
+use Rattle.frame_assembly.specs.declared.mark.Outcome.{Outcome}
 use Rattle.frame_assembly.specs.Assembled.{IsAfter, Seen, Unfinished, answer, frame_of, packets_of, unfinished_of}
 use Rattle.frame_assembly.specs.Steps.{answered, ended, made_of, pushed, with_part}
 
@@ -102,7 +103,7 @@ ends part (Some run) is = by run.newest.end run.newest.carries refl refl (ap (λ
     by true false e c same = record { unfinished = rw (same, e, c) refl; frame = rw (same, e, c) refl; made = rw (same, e, c) refl }
     by false carries e c same = record { unfinished = rw (same, e) refl; frame = rw (same, e) refl; made = rw (same, e) refl }
 
-pub after : (a : Seen) (past : List (CutMark (List ℕ))) (mark : CutMark (List ℕ)) → IsAfter a past → IsAfter (pushed a mark) (mark ∷ past)
+after : (a : Seen) (past : List (CutMark (List ℕ))) (mark : CutMark (List ℕ)) → IsAfter a past → IsAfter (pushed a mark) (mark ∷ past)
 after a past Gone is = record { unfinished = refl; frame = refl }
 after a past Padding is = record { unfinished = is.unfinished; frame = refl }
 after a past Unreadable is = record { unfinished = refl; frame = refl }
@@ -114,7 +115,7 @@ after a past (Read part) is =
       frame = ap (λ (u : Option Unfinished). (ended part.end u).frame) same ∙ h.frame;
     }
 
-pub made : (a : Seen) (past : List (CutMark (List ℕ))) (mark : CutMark (List ℕ)) → IsAfter a past → made_of a mark ≡ answer (outcome (run_of past) mark)
+made : (a : Seen) (past : List (CutMark (List ℕ))) (mark : CutMark (List ℕ)) → IsAfter a past → made_of a mark ≡ answer (outcome (run_of past) mark)
 made a past Gone is = refl
 made a past Padding is = refl
 made a past Unreadable is = refl
@@ -122,3 +123,12 @@ made a past (Read part) is =
     let same = ap (λ (u : Option Unfinished). with_part u part) is.unfinished ∙ step (run_of past) part in
     let h = ends part (extended (run_of past) (Read part)) (newest (run_of past) part) in
     ap (answered part.end) same ∙ h.made
+
+-- ---- what a call leaves and answers
+
+pub stands : (a b : Seen) (past : List (CutMark (List ℕ))) (mark : CutMark (List ℕ)) → IsAfter a past → b ≡ pushed a mark → IsAfter b (mark ∷ past)
+stands a b past mark is e = subst (λ x. IsAfter x (mark ∷ past)) (sym e) (after a past mark is)
+
+pub replies : (a : Seen) (past : List (CutMark (List ℕ))) (mark : CutMark (List ℕ)) (reply : Outcome) → IsAfter a past → reply ≡ made_of a mark
+    → reply ≡ answer (outcome (run_of past) mark)
+replies a past mark reply is e = e ∙ made a past mark is

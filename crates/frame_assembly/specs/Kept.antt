@@ -1,8 +1,8 @@
--- What the fields of an assembly stand for.
+-- What the fields of a frame stand for.
 use Rattle.std.specs.Prelude.{[], ℕ, List, Option, None, Some}
-use Rattle.frame_assembly.specs.declared.assembly.Assembly.TheInside.{Inside}
-use Rattle.frame_assembly.specs.declared.assembly.Progress.{Progress}
-use Rattle.frame_assembly.specs.declared.assembly.Progress.TheVariants as progress
+use Rattle.frame_assembly.specs.declared.frame.Frame.TheInside.{Inside}
+use Rattle.frame_assembly.specs.declared.frame.Progress.{Progress}
+use Rattle.frame_assembly.specs.declared.frame.Progress.TheVariants as progress
 use Rattle.frame_assembly.specs.Assembled.{Seen, Unfinished}
 
 abbrev pub unfinished_in : Progress → Unfinished → Option Unfinished
@@ -16,7 +16,7 @@ frame_in progress.Unfinished packets = []
 frame_in progress.Whole packets = packets
 
 abbrev pub seen : Inside → Seen
-seen a = record {
-  unfinished = unfinished_in a.progress (record { number = a.number; open_element = a.joiner; packets = a.packets });
-  frame = frame_in a.progress a.packets;
+seen f = record {
+  unfinished = unfinished_in f.progress (record { number = f.number; open_element = f.joiner; packets = f.packets });
+  frame = frame_in f.progress f.packets;
 }

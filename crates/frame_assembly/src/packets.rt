@@ -5,14 +5,15 @@ use packet_slot::PacketSlot;
 use sfu_base::NoMemory;
 use std::alloc::Global;
 use std::marker::Model;
+use std::mem;
 
 /// How many packets a frame has at most (own rule).
 pub const MOST_PACKETS: usize = 512;
 
-/// Up to 512 packets, seen as the list of their bytes, in slots that are made once.
+/// Up to 512 packets, seen as the list of their bytes, in slots that are made once and change places with others.
 #[derive(Drop)]
 pub struct Packets {
-    slots: Vec<PacketSlot>,
+    slots: Vec<Box<PacketSlot>>,
     count: usize,
 }
 
@@ -32,11 +33,9 @@ impl Packets {
     pub fn new(alloc: Global) -> Result<Packets, NoMemory>
         ensures { IfOk result (λ packets. packets ≡ []) }
     {
-        let Ok(mut slots) = Vec::with_capacity(alloc, MOST_PACKETS) else {
-            return Err(NoMemory);
-        };
+        let mut slots = Vec::with_capacity(alloc, MOST_PACKETS).map_err(|_| NoMemory)?;
         while slots.len() < MOST_PACKETS {
-            slots.push_reserved(PacketSlot::new());
+            slots.push_reserved(empty_slot(alloc)?);
         }
         Ok(Packets { slots, count: 0 })
     }
@@ -56,13 +55,12 @@ impl Packets {
         self.count = 0;
     }
 
-    /// One packet more; its bytes are copied.
-    pub fn push(&mut self, bytes: &[u8])
-        requires room { length self.old < 512 }
-        requires length { length bytes.now ≤ 1500 }
-        ensures { self.new ≡ self.old ++ bytes.now ∷ [] }
+    /// One packet more. Its slot changes places with one of these.
+    pub fn push(&mut self, slot: &mut Box<PacketSlot>)
+        requires { length self.old < 512 }
+        ensures { self.new ≡ self.old ++ slot.old.value ∷ [] }
     {
-        self.slots[self.count].fill(bytes);
+        mem::swap(&mut self.slots[self.count], slot);
         self.count += 1;
     }
 
@@ -73,4 +71,11 @@ impl Packets {
     {
         self.slots[place].bytes()
     }
+}
+
+/// A slot without bytes.
+pub fn empty_slot(alloc: Global) -> Result<Box<PacketSlot>, NoMemory>
+    ensures { IfOk result (λ slot. slot.value ≡ []) }
+{
+    Box::new(alloc, PacketSlot::new()).map_err(|_| NoMemory)
 }

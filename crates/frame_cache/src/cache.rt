@@ -1,6 +1,7 @@
 // What the subscribers of the current frame share.
-ghost use Rattle.std.specs.Prelude.{◌≡◌, ◌<◌, ◌≤◌, [], IfOk, IfSome, None, OnOk, Some, length, true};
+ghost use Rattle.std.specs.Prelude.{◌≡◌, ◌<◌, ◌≤◌, ◌+◌, [], IfOk, IfSome, None, OnOk, Some, length, true};
 ghost use Rattle.std.specs.Option.{option_copied};
+ghost use Rattle.std.specs.Vec.{vec_capacity};
 ghost use Rattle.std.proofs.Props.{props};
 ghost use Rattle.rtp_packet.specs.Faults.{first_fault};
 ghost use Rattle.out_ring.specs.Ring.{pushed};
@@ -44,7 +45,8 @@ pub struct FrameCache {
 impl FrameCache {
     /// An empty cache, with no room in its store.
     pub fn new(alloc: Global) -> Result<FrameCache, NoMemory>
-        ensures { IfOk result (λ cache. cache.mask ≡ None) }
+        ensures mask { IfOk result (λ cache. cache.mask ≡ None) }
+        ensures room { IfOk result (λ cache. 512 ≤ vec_capacity cache.shared) }
     {
         let Ok(shared) = Vec::with_capacity(alloc, MOST_SHARED) else {
             return Err(NoMemory);
@@ -63,6 +65,7 @@ impl FrameCache {
     /// for some of each one's own. `NoMemory`: some of it may have been taken.
     pub fn make_room(&mut self, alloc: Global, subscribers: usize) -> Result<(), NoMemory>
         ensures free { self.old.store.free ≤ self.new.store.free }
+        ensures grown { self.new.store.free + self.old.store.all ≡ self.old.store.free + self.new.store.all }
         ensures enough { OnOk result (room_for subscribers ≤ self.new.store.all) }
     {
         self.store.grow(alloc, room_for(subscribers))
@@ -109,6 +112,7 @@ impl FrameCache {
     }
 
     /// Queues the packet at this place of the frame: it is shared, or copied where it can't be.
+    #[inline(always)]
     pub fn queue(&mut self, ring: &mut OutRing, place: u16, packet: &[u8], marker: bool)
         requires room { length ring.old.queued < 512 }
         requires reads { first_fault packet.now ≡ None }
@@ -157,6 +161,7 @@ impl FrameCache {
         requires fits { length packet.now ≤ 1500 }
         requires told { TellsOne id (option_copied force) packet.now self.old.mask self.old.packet }
         ensures packet { self.new.packet ≡ remasked_bytes id (option_copied force.entry) mask packet.now }
+        ensures mask { self.new.mask ≡ Some mask }
         ensures told { TellsOne id (option_copied force.entry) packet.now self.new.mask self.new.packet }
         ensures shared { self.new.shared ≡ self.old.shared }
     {
@@ -199,6 +204,7 @@ impl FrameCache {
 }
 
 // The packet for one more, if it can be counted.
+#[inline(always)]
 fn another(shared: Option<&SharedPacket>) -> Option<SharedPacket>
     ensures { IfSome result (λ packet. option_copied shared.entry ≡ Some packet) }
 {
@@ -206,6 +212,7 @@ fn another(shared: Option<&SharedPacket>) -> Option<SharedPacket>
 }
 
 // What the ring doesn't keep any more goes back to the store: one packet before each push, since a take leaves one behind at most.
+#[inline(always)]
 fn let_go(store: &mut PacketStore, ring: &mut OutRing)
     ensures { ring.new ≡ ring.old }
 {
@@ -215,6 +222,7 @@ fn let_go(store: &mut PacketStore, ring: &mut OutRing)
 }
 
 // Queues a packet that is shared. One that its slot still has goes back to the store.
+#[inline(always)]
 fn push_shared(store: &mut PacketStore, ring: &mut OutRing, packet: SharedPacket, marker: bool)
     requires { length ring.old.queued < 512 }
     ensures { ring.new ≡ pushed packet marker ring.old }

@@ -1,6 +1,7 @@
 // Rows of marks, and the frames that they make.
 
 use frame_assembly::{Assembly, Mark, Outcome};
+use packet_slot::PacketSlot;
 use std::process::Abort;
 use std::test::Fail;
 
@@ -259,5 +260,80 @@ fn a_frame_has_at_most_512_packets(rt: HostRuntime) -> Result<(), Fail> {
     assert_eq!(rt; assembly.push(&MIDDLE, &[]), Outcome::Torn);
     assert_eq!(rt; assembly.push(&LAST, &[]), Outcome::Torn);
     assert_eq!(rt; assembly.count(), 0);
+    Ok(())
+}
+
+fn check_frame(rt: &impl Abort, assembly: &Assembly, frame: &[&[u8]]) {
+    assert_eq!(rt; assembly.count() as usize, frame.len());
+    for place in 0..assembly.count() {
+        assert_eq!(rt; Some(&assembly.packet(place)), frame.get(place as usize));
+    }
+}
+
+// One slot brings all packets, so it has what the assembly gave for the packet before.
+#[test]
+fn packets_in_slots_make_the_same_frames_as_their_bytes(rt: HostRuntime) -> Result<(), Fail> {
+    let mut bytes = Assembly::new(rt.alloc())?;
+    assert_eq!(rt; bytes.push(&FIRST, b"one"), Outcome::Partial);
+    assert_eq!(rt; bytes.push(&MIDDLE, b""), Outcome::Partial);
+    assert_eq!(rt; bytes.push(&LAST, b"three"), Outcome::Whole);
+    check_frame(&rt, &bytes, &[b"one", b"", b"three"]);
+
+    let mut slots = Assembly::new(rt.alloc())?;
+    let mut slot = Box::new(rt.alloc(), PacketSlot::new())?;
+    slot.fill(b"one");
+    assert_eq!(rt; slots.push_slot(&FIRST, &mut slot), Outcome::Partial);
+    slot.fill(b"");
+    assert_eq!(rt; slots.push_slot(&MIDDLE, &mut slot), Outcome::Partial);
+    slot.fill(b"three");
+    assert_eq!(rt; slots.push_slot(&LAST, &mut slot), Outcome::Whole);
+    check_frame(&rt, &slots, &[b"one", b"", b"three"]);
+
+    slot.fill(b"4");
+    assert_eq!(rt; slots.push_slot(&OPEN_FIRST, &mut slot), Outcome::Partial);
+    assert_eq!(rt; slots.push(&JOINED_LAST, b"five"), Outcome::Whole);
+    check_frame(&rt, &slots, &[b"4", b"five"]);
+    Ok(())
+}
+
+#[test]
+fn padding_and_torn_packets_in_slots_are_in_no_frame(rt: HostRuntime) -> Result<(), Fail> {
+    let mut assembly = Assembly::new(rt.alloc())?;
+    let mut slot = Box::new(rt.alloc(), PacketSlot::new())?;
+    slot.fill(b"first");
+    assert_eq!(rt; assembly.push_slot(&FIRST, &mut slot), Outcome::Partial);
+    slot.fill(b"padding");
+    assert_eq!(rt; assembly.push_slot(&Mark::Pad, &mut slot), Outcome::Pad);
+    slot.fill(b"last");
+    assert_eq!(rt; assembly.push_slot(&LAST, &mut slot), Outcome::Whole);
+    check_frame(&rt, &assembly, &[b"first", b"last"]);
+    slot.fill(b"unread");
+    assert_eq!(rt; assembly.push_slot(&Mark::Unread, &mut slot), Outcome::Torn);
+    check_frame(&rt, &assembly, &[]);
+    slot.fill(b"behind");
+    assert_eq!(rt; assembly.push_slot(&LAST, &mut slot), Outcome::Torn);
+    check_frame(&rt, &assembly, &[]);
+    slot.fill(b"alone");
+    assert_eq!(rt; assembly.push_slot(&ALONE, &mut slot), Outcome::Whole);
+    check_frame(&rt, &assembly, &[b"alone"]);
+    Ok(())
+}
+
+#[test]
+fn the_513th_slot_tears_a_frame(rt: HostRuntime) -> Result<(), Fail> {
+    let mut assembly = Assembly::new(rt.alloc())?;
+    let mut slot = Box::new(rt.alloc(), PacketSlot::new())?;
+    slot.fill(b"first");
+    assert_eq!(rt; assembly.push_slot(&FIRST, &mut slot), Outcome::Partial);
+    for _ in 0..511 {
+        slot.fill(b"middle");
+        assert_eq!(rt; assembly.push_slot(&MIDDLE, &mut slot), Outcome::Partial);
+    }
+    slot.fill(b"last");
+    assert_eq!(rt; assembly.push_slot(&LAST, &mut slot), Outcome::Torn);
+    check_frame(&rt, &assembly, &[]);
+    slot.fill(b"alone");
+    assert_eq!(rt; assembly.push_slot(&ALONE, &mut slot), Outcome::Whole);
+    check_frame(&rt, &assembly, &[b"alone"]);
     Ok(())
 }

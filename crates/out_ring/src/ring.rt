@@ -81,6 +81,7 @@ impl OutRing {
 
     /// Queues a packet that is shared behind the others, as `push` does with a copy. No byte is copied. Answers one that it shared before and
     /// doesn't keep any more, where the slot that it takes still has one.
+    #[inline(always)]
     pub fn push_shared(&mut self, packet: SharedPacket, marker: bool) -> Option<SharedPacket>
         requires room { length self.old.queued < 512 }
         ensures pushed { self.new ≡ pushed packet marker self.old }
@@ -93,6 +94,7 @@ impl OutRing {
 
     /// Lets go of a packet that is shared and isn't kept any more: the oldest, if there may be one. To be called before each push, so that none stays
     /// for long: a take leaves one behind at most.
+    #[inline(always)]
     pub fn let_go(&mut self) -> Option<SharedPacket>
         ensures { self.new ≡ self.old }
     {
@@ -162,6 +164,7 @@ impl OutRing {
 }
 
 // How many slots before those of so many queued and kept packets may still share a packet, of those that did.
+#[inline(always)]
 fn spent_in(spent: u16, queued: u16, kept: u16) -> u16
     requires queued { queued ≤ 512 }
     requires kept { kept ≤ 1024 }

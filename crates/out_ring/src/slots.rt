@@ -78,6 +78,7 @@ impl Slots {
     }
 
     /// Puts a packet that is shared in as the newest, with this marker. The oldest is gone: answers what it shared.
+    #[inline(always)]
     pub fn share(&mut self, packet: SharedPacket, marker: bool) -> Option<SharedPacket>
         ensures { self.new ≡ drop 1 self.old ++ record { bytes = packet; marker = marker } ∷ [] }
     {
@@ -87,6 +88,7 @@ impl Slots {
     }
 
     /// Lets go of what the slot at this place shares, the oldest's being 0. Another packet is in that slot then, and all behind it are as they were.
+    #[inline(always)]
     pub fn let_go(&mut self, place: usize) -> Option<SharedPacket>
         ensures size { length self.new ≡ length self.old }
         ensures others { (from : ℕ) → place < from → drop from self.new ≡ drop from self.old }
@@ -155,6 +157,7 @@ fn place_for(own: &[StoredPacket], first: usize) -> usize
 }
 
 // Where the copy of the slot behind the one with this place stands.
+#[inline(always)]
 fn next_place(place: usize) -> usize
     requires { place < 1536 }
     ensures place { result ≡ (place + 1) % 1536 }
@@ -164,6 +167,7 @@ fn next_place(place: usize) -> usize
 }
 
 // Where a copy stands so many places behind this one.
+#[inline(always)]
 fn place_from(place: usize, count: usize) -> usize
     requires place { place < 1536 }
     requires count { count < 1536 }
@@ -190,6 +194,7 @@ fn make_own(own: &mut Vec<StoredPacket>, place: usize)
 }
 
 // The same where there are copies.
+#[inline(always)]
 fn go_on(own: &mut Vec<StoredPacket>, place: usize)
     requires place { place < 1536 }
     requires few { vec_len own.old ≤ 1536 }
@@ -204,6 +209,7 @@ fn go_on(own: &mut Vec<StoredPacket>, place: usize)
 }
 
 // Puts a head last in place of the first one, and answers what that shared.
+#[inline(always)]
 fn put_last(
     heads: &mut HeapCircularBuffer<Head>,
     shared: Option<SharedPacket>,

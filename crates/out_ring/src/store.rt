@@ -1,5 +1,5 @@
 // Packets that rings share.
-ghost use Rattle.std.specs.Prelude.{◌≡◌, ◌≤◌, ◌+◌, ◌⊎◌, IfSome, None, OnOk, length};
+ghost use Rattle.std.specs.Prelude.{◌≡◌, ◌≤◌, ◌+◌, ◌-◌, IfSome, None, OnOk, length, min};
 ghost use Rattle.rtp_packet.specs.Faults.{first_fault};
 
 use crate::packet::StoredPacket;
@@ -27,6 +27,7 @@ impl Model for SharedPacket {
 
 impl SharedPacket {
     /// The same packet for one more; none where so many have it that they can't be counted. It takes no memory.
+    #[inline(always)]
     pub fn another(&self) -> Option<SharedPacket>
         ensures { IfSome result (λ shared. shared ≡ self.now) }
     {
@@ -86,6 +87,7 @@ impl PacketStore {
     pub fn grow(&mut self, alloc: Global, all: usize) -> Result<(), NoMemory>
         ensures enough { OnOk result (all ≤ self.new.all) }
         ensures free { self.old.free ≤ self.new.free }
+        ensures grown { self.new.free + self.old.all ≡ self.old.free + self.new.all }
     {
         if all <= self.all {
             return Ok(());
@@ -107,10 +109,8 @@ impl PacketStore {
 
     /// Gives up free room until there is room for so many packets in all, or none is free. Where there is less already nothing changes.
     pub fn shrink(&mut self, all: usize)
-        ensures all { self.new.all ≤ self.old.all }
-        ensures free { self.new.free ≤ self.old.free }
-        ensures done { self.new.all ≤ all ⊎ (self.new.free ≡ 0) }
-        ensures kept { all ≤ self.old.all → all ≤ self.new.all }
+        ensures all { self.new.all ≡ self.old.all - min self.old.free (self.old.all - all) }
+        ensures free { self.new.free ≡ self.old.free - min self.old.free (self.old.all - all) }
     {
         while all < self.all && self.free.pop().is_some() {
             self.all -= 1;
@@ -123,7 +123,7 @@ impl PacketStore {
         requires fits { length packet.now ≤ 1536 }
         ensures packet { IfSome result (λ shared. shared ≡ packet.now) }
         ensures all { self.new.all ≡ self.old.all }
-        ensures free { self.old.free ≤ self.new.free + 1 }
+        ensures free { self.new.free ≡ self.old.free - 1 }
     {
         let mut room = self.free.pop()?;
         match Arc::get_mut(&mut room) {
@@ -135,6 +135,7 @@ impl PacketStore {
 
     /// Takes back a packet from one that had it: the last one's room is free again. It takes no memory. A shared packet that is dropped in place
     /// of that takes its room along.
+    #[inline(always)]
     pub fn give_back(&mut self, packet: SharedPacket)
         ensures all { self.new.all ≡ self.old.all }
         ensures more { self.old.free ≤ self.new.free }

@@ -9,6 +9,7 @@ ghost use Rattle.reorder_window.specs.Window.{IsAfter, filled, item_of, refusal}
 
 use crate::arrival::{Arrival, Item};
 use crate::ring::{Ring, SPAN};
+use packet_slot::PacketSlot;
 use sfu_base::{NoMemory, PacketBuf, SeqList};
 use std::alloc::Global;
 use std::marker::Model;
@@ -121,10 +122,31 @@ impl Window {
                 moment,
             });
         }
-        // Behind the newest packet before the last one, at most SPAN numbers on, nothing waits.
-        let near = self.next.min(from + SPAN + 1);
-        let found = self.ring.first_waiting(from + 1, near);
-        let end = if found < near { found } else { self.next };
+        let end = self.ring.gap_end(from, self.next);
+        self.given = end;
+        Some(Item::Gone { from, to: end - 1 })
+    }
+
+    /// The next item that waits, or none, as [`Window::next_item`] hands it out; but a packet's slot changes places with this one, so that
+    /// no byte is copied. Else the slot stays as it was.
+    pub fn next_slot(&mut self, slot: &mut Box<PacketSlot>) -> Option<Item>
+        ensures none { IsNone result ↔ (self.old.waiting ≡ []) }
+        ensures item { result ≡ option_map item_of (slice_get self.old.waiting 0) }
+        ensures bytes { slot.new.value ≡ filled (slice_get self.old.waiting 0) slot.old.value }
+        ensures rest { self.new ≡ record self.old { waiting = drop 1 self.old.waiting } }
+    {
+        let from = self.given;
+        if from == self.next {
+            return None;
+        }
+        if let Some(moment) = self.ring.hand_over(from, slot) {
+            self.given = from + 1;
+            return Some(Item::Got {
+                number: from,
+                moment,
+            });
+        }
+        let end = self.ring.gap_end(from, self.next);
         self.given = end;
         Some(Item::Gone { from, to: end - 1 })
     }

@@ -1,5 +1,5 @@
 -- Packets of a frame that are shared.
-use Rattle.std.proofs.Common.{◌≡◌, ◌<◌, inl, inr, ℕ, suc, List, [], ◌∷◌, ◌++◌, length, take, refl, sym, ap, subst, ◌∙◌, arith, Option, None, Some, slice_get, length-append}
+use Rattle.std.proofs.Common.{◌≡◌, ◌<◌, ◌≤◌, inl, inr, ℕ, suc, List, [], ◌∷◌, ◌++◌, length, take, refl, sym, ap, subst, ◌∙◌, arith, Option, None, Some, slice_get, length-append}
 use Rattle.std.proofs.lemmas.Option.{slice_get_within}
 use Rattle.out_ring.proofs.Lists.{item_before_end, take_one_more}
 use Rattle.track_core.specs.declared.layers.Layers.{Layers}
@@ -26,6 +26,11 @@ more_shared old new packets place packet first at (inr one) =
     (ap (λ (l : List (List ℕ)). l ++ packet ∷ []) (first ∙ ap (λ (n : ℕ). take n packets) one.0)
     ∙ sym (take_one_more packets place packet at)
     ∙ ap (λ (n : ℕ). take n packets) (let e : suc place ≡ length (old ++ packet ∷ []) = omega (arith, length-append old (packet ∷ []), one.0) in e))
+
+pub shared_grows : (place : ℕ) (packet : List ℕ) (old new : List (List ℕ)) → MayShare place packet old new → length old ≤ length new
+shared_grows place packet old new (inl same) = subst (λ (l : List (List ℕ)). length old ≤ length l) (sym same) (omega arith)
+shared_grows place packet old new (inr one) =
+    subst (λ (l : List (List ℕ)). length old ≤ length l) (sym one.1) (omega (arith, length-append old (packet ∷ [])))
 
 -- ---- what is kept of the frame
 

@@ -36,6 +36,8 @@ pub fn push_from(ring: &mut OutRing, cache: &mut FrameCache, track: &Track, from
     requires of_frame { IsOfFrame track.now.layers track.now.packets cache.old }
     ensures pushed { PushesBehind from ring.old ring.new track.now.packets is_top }
     ensures of_frame { IsOfFrame track.now.layers track.now.packets cache.new }
+    ensures mask { cache.new.mask ≡ cache.old.mask }
+    ensures grown { length cache.old.shared.items ≤ length cache.new.shared.items }
 {
     let count = track.count();
     for place in from..count {

@@ -174,7 +174,8 @@ impl<'a, R: Net + time::Clock> Link for UdpLink<'a, R> {
 
     ghost faults = { λ s. s.faults };
 
-    /// Waits less than a millisecond, and at most 5 where nothing came or went for a second, while no datagram of the peer's is there.
+    /// Where no datagram of the peer's is there it waits less than a millisecond, or at most 5 where nothing came or went for a second, and looks once
+    /// more. Behind a receive that brought nothing it waits before it looks.
     fn receive(&mut self, buf: &mut PacketBuf) -> Result<bool, Failed> {
         match self.wait() {
             Ok(Some(count)) => {

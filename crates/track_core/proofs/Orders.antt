@@ -209,6 +209,19 @@ module _ (worked : List Piece) (piece : Piece) (item : OrderItem) (before buffer
       let id : m.id ≡ l.id = cc in
       frame_given l.id m given (subst (λ (n : ℕ). IsAfterAs n m (item_of piece ∷ items_of worked)) id after) e
 
+-- a track that is plain was so before
+pub plain_before : (old new : Option Layers) → option_map id_of new ≡ option_map id_of old → new ≡ None → old ≡ None
+plain_before None new same plain = refl
+plain_before (Some l) None same plain = absurd (cc)
+plain_before (Some l) (Some m) same plain = absurd (cc)
+
+-- what else is in the buffer of a layered track is none of its packets
+pub packets_same : (old new : Option Layers) (buffer now : List ℕ) → option_map id_of new ≡ option_map id_of old → (old ≡ None → now ≡ buffer)
+    → packets_in new now ≡ packets_in new buffer
+packets_same None None buffer now same plain = ap (λ (xs : List ℕ). xs ∷ []) (plain refl)
+packets_same (Some l) None buffer now same plain = absurd (cc)
+packets_same old (Some m) buffer now same plain = refl
+
 -- ---- what is in force
 
 pub structure_stands : (o : Option Layers) (worked : List Piece) → IfSome o (λ l. IsAfter l (items_of worked)) → structure_in o ≡ structure_after o worked

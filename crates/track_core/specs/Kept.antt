@@ -16,7 +16,7 @@ seen t = record {
   ssrc = t.ssrc;
   window = t.window;
   layers = t.layers;
-  packets = if t.given then packets_in t.layers t.buffer else [];
+  packets = if t.given then packets_in t.layers t.buffer.value else [];
   meaning = t.meaning;
 }
 
@@ -26,7 +26,7 @@ pub record HasStood (track : Seen) : Type 0 where
   pub worked : List Piece
   pub stands : StandsFor track events worked
 
--- and where a packet or a frame was made, the buffer has a packet that was taken in
+-- and where a plain packet was made, the buffer has a packet that was taken in
 pub record IsKept (t : Inside) : Type 0 where
   pub stood : HasStood (seen t)
-  pub buffer : t.given ≡ true → IsTaken t.buffer
+  pub buffer : t.given ≡ true → t.layers ≡ None → IsTaken t.buffer.value

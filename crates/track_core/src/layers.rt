@@ -1,6 +1,6 @@
 // The packets of a layered track, once they are in order.
 
-ghost use Rattle.std.specs.Prelude.{◌≡◌, ◌≤◌, ◌<◌, ◌+◌, ◌-◌, ◌^◌, ◌∷◌, [], true, false, IfOk, IfSome, List, ℕ, is_some, length};
+ghost use Rattle.std.specs.Prelude.{◌≡◌, ◌≤◌, ◌<◌, ◌+◌, ◌-◌, ◌^◌, ◌∷◌, [], true, false, IfOk, IfSome, List, ℕ, is_some};
 ghost use Rattle.sfu_base.specs.Frame.{IsValid};
 ghost use Rattle.forwarding_model.specs.frames.Cuts.{Mark as CutMark, Part};
 ghost use Rattle.forwarding_model.specs.frames.Frames.{Item, ReadPacket};
@@ -18,6 +18,7 @@ use dd_descriptor::{Descriptor, NewestDescriptor};
 use frame_assembly::{Assembly, Mark, Outcome};
 use frame_table::{FrameHead, FrameTable, Reading};
 use packet_format::{PayloadFlags, descriptor_bytes, payload_flags};
+use packet_slot::PacketSlot;
 use rtp_packet::Rtp;
 use sfu_base::{Dti, FrameMeaning, NoMemory};
 use std::alloc::Global;
@@ -69,20 +70,39 @@ impl Layers {
         let _ = self.assembly.push(&Mark::Gone, &[]);
     }
 
-    /// The next packet, with its bytes. Answers whether it made a frame whole, whose meaning is written then.
-    pub fn take(&mut self, packet: &Rtp<'_>, bytes: &[u8], meaning: &mut FrameMeaning) -> bool
-        requires length { length bytes.now ≤ 1500 }
-        requires packet { IsOf bytes.now packet.now }
+    /// The next packet, in a slot, which changes places with another where the packet is a frame's. Answers whether it made a frame whole, whose
+    /// meaning is written then.
+    pub fn take(&mut self, slot: &mut Box<PacketSlot>, meaning: &mut FrameMeaning) -> bool
+        requires taken { IsTaken slot.old.value }
         requires stood { HasStood self.old }
         requires bound { self.old.table.newest ≤ 2 ^ 63 - 131072 }
         ensures id { self.new.id ≡ self.old.id }
-        ensures stands { (past : List Item) → IsAfter self.old past → IsAfter self.new (Arrived (packet_of bytes.now) ∷ past) }
+        ensures stands { (past : List Item) → IsAfter self.old past → IsAfter self.new (Arrived (packet_of slot.old.value) ∷ past) }
         ensures near { self.new.table.newest ≤ self.old.table.newest + 131072 }
-        ensures made { (past : List Item) → IsAfter self.old past → written result meaning.new ≡ meaning_made self.old.id past (Arrived (packet_of bytes.now)) }
+        ensures made { (past : List Item) → IsAfter self.old past
+            → written result meaning.new ≡ meaning_made self.old.id past (Arrived (packet_of slot.old.value)) }
         ensures valid { IfSome (written result meaning.new) IsValid }
     {
-        let mark = self.look(packet, bytes);
-        self.push(&mark, bytes, meaning)
+        let mark = self.read(slot);
+        self.push(&mark, slot, meaning)
+    }
+
+    // What a packet that was taken in is to the frame under assembly.
+    fn read(&mut self, slot: &Box<PacketSlot>) -> Mark
+        requires taken { IsTaken slot.now.value }
+        requires bound { self.old.table.newest ≤ 2 ^ 63 - 131072 }
+        ensures looked { Looked self.old.id self.old.table self.new.table self.new.newest result slot.now.value }
+        ensures near { self.new.table.newest ≤ self.old.table.newest + 65536 }
+        ensures id { self.new.id ≡ self.old.id }
+        ensures assembly { self.new.assembly ≡ self.old.assembly }
+        ensures head { self.new.head ≡ self.old.head }
+    {
+        let bytes = slot.bytes();
+        match rtp_packet::read(bytes) {
+            Ok(packet) => self.look(&packet, bytes),
+            // It was taken in, so RTP reads it.
+            Err(_) => Mark::Unread,
+        }
     }
 
     // What a packet is to the frame under assembly. Its descriptor, where it has one that is read, acts on what is in force.
@@ -122,19 +142,18 @@ impl Layers {
     }
 
     // The mark goes to the frame under assembly, with its packet.
-    fn push(&mut self, mark: &Mark, bytes: &[u8], meaning: &mut FrameMeaning) -> bool
-        requires length { length bytes.now ≤ 1500 }
+    fn push(&mut self, mark: &Mark, slot: &mut Box<PacketSlot>, meaning: &mut FrameMeaning) -> bool
         requires bound { self.old.table.newest < 2 ^ 63 }
-        requires pushable { IsPushable self.old mark.now bytes.now }
+        requires pushable { IsPushable self.old mark.now slot.old.value }
         ensures id { self.new.id ≡ self.old.id }
         ensures near { self.new.table.newest ≤ self.old.table.newest + 65536 }
         ensures pushed { (marks : List (CutMark (ReadPacket TemplateStructure))) (m : CutMark (ReadPacket TemplateStructure)) → IsRunning self.old marks
-            → marked mark.now bytes.now ≡ mark_with sent_of m → StartsAs self.old.table self.old.newest m
+            → marked mark.now slot.old.value ≡ mark_with sent_of m → StartsAs self.old.table self.old.newest m
             → Pushed self.old self.new (written result meaning.new) marks m }
         ensures valid { IfSome (written result meaning.new) IsValid }
     {
         keep_head(mark, &self.table, self.newest.get(), &mut self.head);
-        match self.assembly.push(mark, bytes) {
+        match self.assembly.push_slot(mark, slot) {
             Outcome::Whole => self.table.whole_into(&self.head, meaning),
             _ => false,
         }
@@ -152,16 +171,22 @@ fn keep_head(mark: &Mark, table: &FrameTable, newest: &Descriptor, head: &mut Fr
     }
 }
 
-/// Works off one item of a layered track: the packet with these bytes, or numbers that were given up. Answers whether it made a frame whole,
-/// whose meaning is written then.
-pub fn work_off(layers: &mut Layers, came: bool, bytes: &[u8], meaning: &mut FrameMeaning) -> bool
-    requires taken { came ≡ true → IsTaken bytes.now }
+/// Works off one item of a layered track: the packet in this slot, or numbers that were given up. Answers whether it made a frame whole, whose
+/// meaning is written then.
+pub fn work_off(
+    layers: &mut Layers,
+    came: bool,
+    slot: &mut Box<PacketSlot>,
+    meaning: &mut FrameMeaning,
+) -> bool
+    requires taken { came ≡ true → IsTaken slot.old.value }
     requires stood { HasStood layers.old }
     requires bound { layers.old.table.newest ≤ 2 ^ 63 - 131072 }
     ensures id { layers.new.id ≡ layers.old.id }
     ensures near { layers.new.table.newest ≤ layers.old.table.newest + 131072 }
-    ensures stands { (past : List Item) → IsAfter layers.old past → IsAfter layers.new (item_by came bytes.now ∷ past) }
-    ensures made { (past : List Item) → IsAfter layers.old past → written result meaning.new ≡ meaning_made layers.old.id past (item_by came bytes.now) }
+    ensures stands { (past : List Item) → IsAfter layers.old past → IsAfter layers.new (item_by came slot.old.value ∷ past) }
+    ensures made { (past : List Item) → IsAfter layers.old past
+        → written result meaning.new ≡ meaning_made layers.old.id past (item_by came slot.old.value) }
     ensures valid { IfSome (written result meaning.new) IsValid }
     ensures came { result ≡ true → came ≡ true }
 {
@@ -169,11 +194,7 @@ pub fn work_off(layers: &mut Layers, came: bool, bytes: &[u8], meaning: &mut Fra
         layers.give_up();
         return false;
     }
-    match rtp_packet::read(bytes) {
-        Ok(packet) => layers.take(&packet, bytes, meaning),
-        // It was taken in, so RTP reads it.
-        Err(_) => false,
-    }
+    layers.take(slot, meaning)
 }
 
 // Whether a mark begins a frame.

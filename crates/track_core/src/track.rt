@@ -15,9 +15,9 @@ ghost use Rattle.std.specs.Option.{option_map};
 
 use crate::layers::{Layers, work_off};
 use dd_structure::Structure;
-use packet_slot::PACKET_BYTES;
+use packet_slot::{PACKET_BYTES, PacketSlot};
 use reorder_window::{Arrival, Item as OrderItem, Window};
-use sfu_base::{Dti, FrameMeaning, Kind, NoMemory, PacketBuf, Refusal, SeqList};
+use sfu_base::{Dti, FrameMeaning, Kind, NoMemory, Refusal, SeqList};
 use std::alloc::Global;
 use std::marker::Model;
 
@@ -53,8 +53,8 @@ pub enum Advance {
 pub struct Track {
     ssrc: u32,
     window: Window,
-    // The packet that is worked off.
-    buffer: PacketBuf,
+    // The packet that is worked off; its slot came from the window. On a layered track the frame under assembly has it then.
+    buffer: Box<PacketSlot>,
     layers: Option<Layers>,
     // Whether the last step made a packet or a frame.
     given: bool,
@@ -103,10 +103,14 @@ impl Track {
         ensures nothing { IfOk result (λ track. track.packets ≡ []) }
     {
         let layers = layers_of(alloc, kind)?;
+        let window = Window::new(alloc, hold)?;
+        let Ok(buffer) = Box::new(alloc, PacketSlot::new()) else {
+            return Err(NoMemory);
+        };
         Ok(Track {
             ssrc,
-            window: Window::new(alloc, hold)?,
-            buffer: PacketBuf::new(),
+            window,
+            buffer,
             layers,
             given: false,
             meaning: NO_MEANING,
@@ -220,13 +224,13 @@ impl Track {
         ensures stays { Stays self.old self.new }
     {
         self.given = false;
-        let Some(item) = self.window.next_item(&mut self.buffer) else {
+        let Some(item) = self.window.next_slot(&mut self.buffer) else {
             return Advance::Idle;
         };
         let made = worked(
             &mut self.layers,
             is_packet(&item),
-            self.buffer.bytes(),
+            &mut self.buffer,
             &mut self.meaning,
         );
         self.given = is_given(made);
@@ -317,20 +321,21 @@ fn told(advance: Advance, meaning: &FrameMeaning) -> Made
     }
 }
 
-// Works off one item: the packet with these bytes, or numbers that were given up.
+// Works off one item: the packet in this slot, or numbers that were given up. On a plain track the packet stays there.
 fn worked(
     layers: &mut Option<Layers>,
     came: bool,
-    bytes: &[u8],
+    slot: &mut Box<PacketSlot>,
     meaning: &mut FrameMeaning,
 ) -> Advance
-    requires taken { came ≡ true → IsTaken bytes.now }
+    requires taken { came ≡ true → IsTaken slot.old.value }
     requires stood { IfSome layers.old HasStood }
     requires bound { IfSome layers.old (λ l. l.table.newest ≤ 2 ^ 63 - 131072) }
     ensures kind { option_map id_of layers.new ≡ option_map id_of layers.old }
+    ensures plain { layers.old ≡ None → slot.new.value ≡ slot.old.value }
     ensures near { (n : ℕ) → IfSome layers.old (λ l. l.table.newest ≤ n) → IfSome layers.new (λ l. l.table.newest ≤ n + 131072) }
-    ensures stands { (past : List Item) → IfSome layers.old (λ l. IsAfter l past) → IfSome layers.new (λ l. IsAfter l (item_by came bytes.now ∷ past)) }
-    ensures made { (past : List Item) → IfSome layers.old (λ l. IsAfter l past) → told_with meaning.new result ≡ made_by layers.old past came bytes.now }
+    ensures stands { (past : List Item) → IfSome layers.old (λ l. IsAfter l past) → IfSome layers.new (λ l. IsAfter l (item_by came slot.old.value ∷ past)) }
+    ensures made { (past : List Item) → IfSome layers.old (λ l. IsAfter l past) → told_with meaning.new result ≡ made_by layers.old past came slot.old.value }
     ensures some { result ≡ Advance.Idle → ⊥ }
     ensures came { has_given result ≡ true → came ≡ true }
     ensures valid { IsMadeValid (told_with meaning.new result) }
@@ -344,7 +349,7 @@ fn worked(
             }
         }
         Some(layers) => {
-            if work_off(layers, came, bytes, meaning) {
+            if work_off(layers, came, slot, meaning) {
                 Advance::Frame
             } else {
                 Advance::Nothing

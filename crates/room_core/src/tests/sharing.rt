@@ -1,6 +1,8 @@
 // What subscribers share of a track, and when its room is free again.
 
-use super::{HIGHEST, KEY, LAYERED, LOWEST, PLAIN, join, outgoing, packet, publish, scratch, take};
+use super::{
+    HIGHEST, KEY, LAYERED, LOWEST, PLAIN, frame, join, outgoing, packet, publish, scratch, take,
+};
 use crate::{KeepNone, Room};
 use sfu_base::{Call, Kind, Reply};
 use std::test::Fail;
@@ -66,5 +68,23 @@ fn a_first_packet_is_stored_once_for_each_mask(rt: HostRuntime) -> Result<(), Fa
     }
     // As it came, and with two masks.
     assert_eq!(rt; free(&room, 1), 512 + 3 * 1024 + 3 * 12 - 3);
+    Ok(())
+}
+
+#[test]
+fn a_packet_that_tells_nothing_is_stored_once(rt: HostRuntime) -> Result<(), Fail> {
+    let mut room = Room::new(rt.alloc(), KeepNone);
+    let mut out = scratch();
+    for call in [
+        publish(1, LAYERED),
+        join(1, 1, HIGHEST),
+        join(2, 1, HIGHEST),
+        packet(1, &KEY),
+        packet(1, &frame(1, 1, 3)),
+    ] {
+        assert_eq!(rt; room.serve(0, &call, &mut out), Reply::Done);
+    }
+    // The key frame's with its mask, which both have to take yet, and this one.
+    assert_eq!(rt; free(&room, 1), 512 + 2 * 1024 + 2 * 12 - 2);
     Ok(())
 }

@@ -7,16 +7,16 @@ pub whole_into-requires-clause-references : goal.whole_into-requires-clause-refe
 whole_into-requires-clause-references c =
     let started = rw c.get.ensures at c.keep_head.ensures.started in
     let p = c.requires.pushable in
-    (whole_head c.args.self.now (record c.args.self.now { assembly = c.push.new.self; head = c.keep_head.new.head }) c.args.mark.now c.args.bytes.now c.push.result
-    c.push.ensures.outcome c.push.ensures.stands started c.keep_head.ensures.kept
+    (whole_head c.args.self.now (record c.args.self.now { assembly = c.push_slot.new.self; head = c.keep_head.new.head }) c.args.mark.now c.args.slot.now.value c.push_slot.result
+    c.push_slot.ensures.outcome c.push_slot.ensures.stands started c.keep_head.ensures.kept
     p.marks p.next p.running p.same p.first refl c.in-Whole.is).references
 
 pub returns-in-Whole-clause-pushed : goal.returns-in-Whole-clause-pushed
 returns-in-Whole-clause-pushed c marks m running same first =
     let started = rw c.get.ensures at c.keep_head.ensures.started in
-    let p = pushed_whole c.args.self.now (record { id = c.args.self.now.id; table = c.whole_into.new.self; assembly = c.push.new.self; head = c.keep_head.new.head; newest = c.args.self.now.newest })
-    c.args.mark.now c.args.bytes.now c.push.result
-    c.push.ensures.outcome c.push.ensures.stands started c.keep_head.ensures.kept
+    let p = pushed_whole c.args.self.now (record { id = c.args.self.now.id; table = c.whole_into.new.self; assembly = c.push_slot.new.self; head = c.keep_head.new.head; newest = c.args.self.now.newest })
+    c.args.mark.now c.args.slot.now.value c.push_slot.result
+    c.push_slot.ensures.outcome c.push_slot.ensures.stands started c.keep_head.ensures.kept
     marks m running same first (written_or_stale c.whole_into.result c.whole_into.new.out c.args.self.now.table.newest) c.in-Whole.is c.whole_into.ensures.meaning c.whole_into.ensures.force in
     record { running = p.running; force = p.force; made = written_ok c.whole_into.result c.whole_into.new.out c.args.self.now.table.newest ∙ p.made }
 
@@ -29,9 +29,9 @@ returns-in_default c = record {
   near = omega arith;
   pushed = λ marks m running same first.
       let started = rw c.get.ensures at c.keep_head.ensures.started in
-      pushed_other c.args.self.now (record { id = c.args.self.now.id; table = c.args.self.now.table; assembly = c.push.new.self; head = c.keep_head.new.head; newest = c.args.self.now.newest })
-      c.args.mark.now c.args.bytes.now c.push.result
-      c.push.ensures.outcome c.push.ensures.stands started c.keep_head.ensures.kept
+      pushed_other c.args.self.now (record { id = c.args.self.now.id; table = c.args.self.now.table; assembly = c.push_slot.new.self; head = c.keep_head.new.head; newest = c.args.self.now.newest })
+      c.args.mark.now c.args.slot.now.value c.push_slot.result
+      c.push_slot.ensures.outcome c.push_slot.ensures.stands started c.keep_head.ensures.kept
       marks m running same first c.in_default.not-Whole refl;
   valid = tt;
 }

@@ -1,0 +1,171 @@
+// The frame under assembly, and what a packet in a slot makes of it.
+ghost use Rattle.std.specs.Prelude.{◌≡◌, ◌<◌, ◌≤◌, [], IfOk, None, Some, is_some, length, slice_get, true};
+ghost use Rattle.frame_assembly.specs.Assembled.{marked};
+ghost use Rattle.frame_assembly.specs.Steps.{answered, begun, continued, ended, made_of, nothing, pushed};
+
+use crate::mark::{Mark, Outcome};
+use crate::packets::{MOST_PACKETS, Packets};
+use obu_element::Joiner;
+use packet_slot::PacketSlot;
+use sfu_base::NoMemory;
+use std::alloc::Global;
+use std::marker::Model;
+
+/// How far the frame is whose packets are kept.
+#[derive(Clone, Copy, Debug)]
+enum Progress {
+    /// There is none.
+    Nothing,
+    /// It goes on.
+    Unfinished,
+    /// It is whole, since the last call.
+    Whole,
+}
+
+/// The frame under assembly, if there is one, and the packets of the frame that the last call made whole, or none.
+#[derive(Drop)]
+pub struct Frame {
+    progress: Progress,
+    number: u16,
+    joiner: Joiner,
+    packets: Packets,
+}
+
+impl Model for Frame {
+    ghost use Rattle.frame_assembly.specs.Assembled.{Seen};
+    ghost use Rattle.frame_assembly.specs.Kept.{seen};
+
+    ghost Value = { Seen };
+
+    ghost view = { seen };
+}
+
+impl Frame {
+    /// No packet yet, and room for all that there will be.
+    pub fn new(alloc: Global) -> Result<Frame, NoMemory>
+        ensures { IfOk result (λ frame. frame ≡ nothing) }
+    {
+        Ok(Frame {
+            progress: Progress::Nothing,
+            number: 0,
+            joiner: Joiner::new(),
+            packets: Packets::new(alloc)?,
+        })
+    }
+
+    /// What the mark makes of the frame so far. Where its packet, in the slot, is added, the slot changes places with one of the frame's.
+    pub fn take_mark(&mut self, mark: &Mark, slot: &mut Box<PacketSlot>) -> Outcome
+        ensures seen { self.new ≡ pushed self.old (marked mark.now slot.old.value) }
+        ensures made { result ≡ made_of self.old (marked mark.now slot.old.value) }
+    {
+        match *mark {
+            Mark::Gone | Mark::Unread => self.tear(),
+            Mark::Pad => {
+                self.forget_whole();
+                Outcome::Pad
+            }
+            Mark::Part {
+                start,
+                end,
+                number,
+                continues,
+                carries,
+            } => {
+                if start {
+                    self.begin(number);
+                }
+                if !self.extend(number, continues, carries, slot) {
+                    return self.tear();
+                }
+                if end {
+                    return self.finish();
+                }
+                Outcome::Partial
+            }
+        }
+    }
+
+    // Drops the frame so far.
+    fn tear(&mut self) -> Outcome
+        ensures seen { self.new ≡ nothing }
+        ensures made { result ≡ Outcome.Torn }
+    {
+        self.progress = Progress::Nothing;
+        Outcome::Torn
+    }
+
+    // A whole frame stays only until the next packet.
+    fn forget_whole(&mut self)
+        ensures { self.new ≡ record { unfinished = self.old.unfinished; frame = [] } }
+    {
+        if let Progress::Whole = self.progress {
+            self.progress = Progress::Nothing;
+        }
+    }
+
+    // Begins a frame without packets.
+    fn begin(&mut self, number: u16)
+        ensures { self.new ≡ record { unfinished = Some (begun number); frame = [] } }
+    {
+        self.progress = Progress::Unfinished;
+        self.number = number;
+        self.joiner = Joiner::new();
+        self.packets.clear();
+    }
+
+    // Adds a packet, if the frame so far goes on with it.
+    fn extend(
+        &mut self,
+        number: u16,
+        continues: bool,
+        carries: bool,
+        slot: &mut Box<PacketSlot>,
+    ) -> bool
+        ensures goes_on { result ≡ is_some (continued self.old.unfinished number continues carries slot.old.value) }
+        ensures seen { result ≡ true → self.new ≡ record { unfinished = continued self.old.unfinished number continues carries slot.old.value; frame = [] } }
+    {
+        let Progress::Unfinished = self.progress else {
+            return false;
+        };
+        if number != self.number || self.packets.len() >= MOST_PACKETS {
+            return false;
+        }
+        if self.joiner.feed(continues, carries).is_err() {
+            return false;
+        }
+        self.packets.push(slot);
+        true
+    }
+
+    // The frame so far has its end: it is whole, or torn where an element is open.
+    fn finish(&mut self) -> Outcome
+        requires { is_some self.old.unfinished ≡ true }
+        ensures seen { self.new ≡ ended true self.old.unfinished }
+        ensures made { result ≡ answered true self.old.unfinished }
+    {
+        if !self.joiner.is_closed() {
+            return self.tear();
+        }
+        self.progress = Progress::Whole;
+        Outcome::Whole
+    }
+
+    /// How many packets the whole frame has; 0 where there is none.
+    pub fn count(&self) -> u16
+        ensures count { result ≡ length self.now.frame }
+        ensures few { length self.now.frame ≤ 512 }
+    {
+        match self.progress {
+            Progress::Whole => self.packets.len() as u16,
+            _ => 0,
+        }
+    }
+
+    /// The bytes of a packet of the whole frame.
+    pub fn packet(&self, place: u16) -> &[u8]
+        requires { place < length self.now.frame }
+        ensures { slice_get self.now.frame place ≡ Some result.now }
+    {
+        self.packets.at(place as usize)
+    }
+}
