@@ -1,31 +1,16 @@
--- Hex digits of bytes in parts.
-use Rattle.std.proofs.Common.{◌≡◌, ◌<◌, ℕ, zero, suc, ◌+◌, ◌*◌, ◌/◌, ◌%◌, List, [], ◌∷◌, ◌++◌, length, take, drop, slice_index, slice_set, arith, refl, ap, sym, ◌∙◌, append_assoc}
+-- Hex digits of bytes, and the line of a packet.
+use Rattle.std.proofs.Common.{◌≡◌, ◌<◌, ℕ, zero, suc, ◌+◌, ◌*◌, ◌/◌, ◌%◌, List, [], ◌∷◌, ◌++◌, length, take, drop, slice_index, slice_set, arith, refl, ap, ◌∙◌}
 use Rattle.std.specs.List.{range_with_len}
 use Rattle.std.proofs.lemmas.List.FromFn.{length-range_with_len, get_or-range_with_len}
+use Rattle.hex.proofs.HexLemmas.{length-encode_with}
 use Rattle.hex.proofs.Pairs.{encode_step}
-use Rattle.std.proofs.lemmas.List.{append-nil}
+use Rattle.std.specs.Prelude.{codes}
+use Rattle.std.proofs.lemmas.List.{length-append}
 use Rattle.hex.specs.Hex.{encode_with, encode_lower, lower_digits}
-use Rattle.script_texts.specs.Texts.{GoesOn}
 
--- the digits of bytes behind others stand behind the digits of those
-pub encode_with-append : (t xs ys : List ℕ) → encode_with t (xs ++ ys) ≡ encode_with t xs ++ encode_with t ys
-unfolding encode_with
-encode_with-append t [] ys = refl
-encode_with-append t (x ∷ xs) ys = ap (λ (more : List ℕ). slice_index t (x / 16) ∷ slice_index t (x % 16) ∷ more) (encode_with-append t xs ys)
-
--- one more chunk is written
-pub chunk_written : (out chunk after rest all : List ℕ) → out ++ encode_lower rest ≡ all → rest ≡ chunk ++ after
-    → (out ++ encode_lower chunk) ++ encode_lower after ≡ all
-chunk_written out chunk after rest all e parts =
-    append_assoc out (encode_lower chunk) (encode_lower after)
-    ∙ ap (λ (more : List ℕ). out ++ more) (sym (encode_with-append lower_digits chunk after))
-    ∙ ap (λ (bytes : List ℕ). out ++ encode_lower bytes) (sym parts) ∙ e
-
--- nothing is left to write
-pub all_written : (out rest all : List ℕ) → out ++ encode_lower rest ≡ all → length rest ≡ 0 → out ≡ all
-unfolding encode_with
-all_written out [] all e none = sym (append-nil out) ∙ e
-all_written out (b ∷ rest) all e none = absurd (omega arith)
+-- how long the line of a packet is
+pub length_line : (bytes : List ℕ) → length (codes "packet " ++ (encode_lower bytes ++ 10 ∷ [])) ≡ 2 * length bytes + 8
+length_line bytes = omega (arith, length-append (encode_lower bytes) (10 ∷ []), length-encode_with lower_digits bytes)
 
 -- ---- a table of the digits of each byte
 
@@ -59,12 +44,3 @@ pair_written n table bytes digits i b is lt byte small fits so_far =
     encode_step lower_digits bytes digits i (slice_index table (2 * b)) (slice_index table (2 * b + 1)) lt (omega arith)
     (ap (λ (x : List ℕ). slice_index x (2 * b)) is ∙ at.0 ∙ ap (λ (x : ℕ). slice_index lower_digits (x / 16)) byte)
     (ap (λ (x : List ℕ). slice_index x (2 * b + 1)) is ∙ at.1 ∙ ap (λ (x : ℕ). slice_index lower_digits (x % 16)) byte) so_far
-
--- ---- texts that go on
-
-pub goes_on_itself : (text : List ℕ) → GoesOn text text
-goes_on_itself text = record { more = []; is = sym (append-nil text) }
-
-pub goes_on_further : (before now more : List ℕ) → GoesOn before now → GoesOn before (now ++ more)
-goes_on_further before now more h =
-    record { more = h.more ++ more; is = ap (λ (text : List ℕ). text ++ more) h.is ∙ append_assoc before h.more more }

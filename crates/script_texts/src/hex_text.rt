@@ -1,15 +1,11 @@
-// A packet's bytes, written in hex digits.
-ghost use Rattle.std.specs.Prelude.{◌≡◌, ◌+◌, ◌++◌, ◌∷◌, ◌*◌, ◌≤◌, [], codes, length, OnErr, OnOk, true};
+// Bytes in hex digits, and the line of a packet: each is written where it goes.
+ghost use Rattle.std.specs.Prelude.{◌≡◌, ◌+◌, ◌++◌, ◌∷◌, ◌*◌, ◌≤◌, [], codes, length, OnErr, OnOk};
 ghost use Rattle.std.specs.List.{range_with_len};
 ghost use Rattle.hex.specs.Hex.{encode_lower};
 ghost use Rattle.sfu_base.specs.Answer.{Sent};
 ghost use Rattle.script_texts.specs.Replies.{answer_text};
-ghost use Rattle.script_texts.specs.Texts.{GoesOn};
 
-use sfu_base::{Blob, NoMemory};
-
-// How many bytes are written at once: few enough that room for their digits is small.
-const CHUNK: usize = 256;
+use sfu_base::{Blob, NoMemory, PacketBuf, Text};
 
 // The two digits of each byte: one look-up writes both, where two would cost twice as much for each byte that is sent on.
 const PAIRS: &[u8; 512] = b"000102030405060708090a0b0c0d0e0f101112131415161718191a1b1c1d1e1f\
@@ -34,70 +30,18 @@ fn write_digits(bytes: &[u8], pairs: &[u8; 512], digits: &mut [u8])
     }
 }
 
+// Writes the bytes in hex digits over a room of that size.
+fn write_hex(bytes: &[u8], digits: &mut [u8])
+    requires { length digits.old ≡ 2 * length bytes.now }
+    ensures { digits.new ≡ encode_lower bytes.now }
+{
+    write_digits(bytes, PAIRS, digits);
+}
+
 // What a packet's line has before the digits, and behind them.
 const HEAD: &[u8; 7] = b"packet ";
 
 const END: &[u8; 1] = b"\n";
-
-/// Room for the digits of some bytes, or for the line of a short packet, which may be kept from one text to the next: then it is cleared once, not
-/// for each.
-#[derive(Drop)]
-pub struct DigitBuf {
-    bytes: [u8; 2 * CHUNK + 8],
-}
-
-impl DigitBuf {
-    /// Room for digits.
-    pub fn new() -> DigitBuf {
-        DigitBuf {
-            bytes: [0; 2 * CHUNK + 8],
-        }
-    }
-}
-
-// Appends the bytes of one chunk in hex digits.
-fn append_chunk(chunk: &[u8], digits: &mut DigitBuf, out: &mut Blob) -> Result<(), NoMemory>
-    requires { length chunk.now ≤ CHUNK }
-    ensures ok { OnOk result (out.new ≡ out.old ++ encode_lower chunk.now) }
-    ensures begun { GoesOn out.old out.new }
-{
-    let text = &mut digits.bytes[..2 * chunk.len()];
-    write_digits(chunk, PAIRS, text);
-    out.append(text)
-}
-
-// Appends the bytes of several chunks in hex digits. Apart, so that what fits one chunk, as short packets do, keeps no count of what is left.
-#[inline(never)]
-fn append_chunks(bytes: &[u8], digits: &mut DigitBuf, out: &mut Blob) -> Result<(), NoMemory>
-    ensures ok { OnOk result (out.new ≡ out.old ++ encode_lower bytes.now) }
-    ensures begun { GoesOn out.old out.new }
-{
-    let mut rest = bytes;
-    'chunks: while !rest.is_empty() {
-        let (chunk, after) = rest.split_at(rest.len().min(CHUNK));
-        append_chunk(chunk, digits, out)?;
-        rest = after;
-    }
-    Ok(())
-}
-
-/// Appends the bytes in hex digits. What stood in their room before counts for nothing. After `NoMemory` a front of them may stand there.
-pub fn append_hex(bytes: &[u8], digits: &mut DigitBuf, out: &mut Blob) -> Result<(), NoMemory>
-    ensures ok { OnOk result (out.new ≡ out.old ++ encode_lower bytes.now) }
-    ensures begun { GoesOn out.old out.new }
-{
-    if bytes.len() <= CHUNK {
-        return append_chunk(bytes, digits, out);
-    }
-    append_chunks(bytes, digits, out)
-}
-
-/// Whether the line of a packet with these bytes fits the room for digits.
-pub fn fits_line(bytes: &[u8]) -> bool
-    ensures { result ≡ true → length bytes.now ≤ CHUNK }
-{
-    bytes.len() <= CHUNK
-}
 
 // Writes the line of a packet over a room of its size.
 fn write_line(bytes: &[u8], line: &mut [u8])
@@ -107,18 +51,62 @@ fn write_line(bytes: &[u8], line: &mut [u8])
     let (head, rest) = line.split_at_mut(7);
     head.copy_from_slice(HEAD);
     let (digits, end) = rest.split_at_mut(2 * bytes.len());
-    write_digits(bytes, PAIRS, digits);
+    write_hex(bytes, digits);
     end.copy_from_slice(END);
 }
 
-/// Appends the line of a packet that fits the room, with its line end. It is put together there, so that it is appended at once. After `NoMemory`
-/// all is as before.
-pub fn append_line(bytes: &[u8], digits: &mut DigitBuf, out: &mut Blob) -> Result<(), NoMemory>
-    requires { length bytes.now ≤ CHUNK }
-    ensures ok { OnOk result (out.new ≡ out.old ++ (answer_text (Sent bytes.now) ++ 10 ∷ [])) }
+// Bytes in hex digits: no more than a packet has, so that the digits can be counted.
+#[derive(Drop)]
+struct HexDigits<'a> {
+    bytes: &'a [u8],
+    ghost bounded: { length bytes.now ≤ 2048 },
+}
+
+impl<'a> Text for HexDigits<'a> {
+    ghost text = { λ digits. encode_lower digits.bytes.now };
+
+    fn size(&self) -> usize {
+        2 * self.bytes.len()
+    }
+
+    fn write(&self, room: &mut [u8]) {
+        write_hex(self.bytes, room);
+    }
+}
+
+// The line of a packet with its line end.
+#[derive(Drop)]
+struct PacketLine<'a> {
+    bytes: &'a [u8],
+    ghost bounded: { length bytes.now ≤ 2048 },
+}
+
+impl<'a> Text for PacketLine<'a> {
+    ghost text = { λ line. codes "packet " ++ (encode_lower line.bytes.now ++ 10 ∷ []) };
+
+    fn size(&self) -> usize {
+        2 * self.bytes.len() + 8
+    }
+
+    fn write(&self, room: &mut [u8]) {
+        write_line(self.bytes, room);
+    }
+}
+
+/// Appends the bytes, no more than a packet has, in hex digits. After `NoMemory` all is as before.
+pub fn append_hex(bytes: &[u8], out: &mut Blob) -> Result<(), NoMemory>
+    requires { length bytes.now ≤ 2048 }
+    ensures ok { OnOk result (out.new ≡ out.old ++ encode_lower bytes.now) }
     ensures err { OnErr result (out.new ≡ out.old) }
 {
-    let line = &mut digits.bytes[..2 * bytes.len() + 8];
-    write_line(bytes, line);
-    out.append(line)
+    out.write(&HexDigits { bytes })
+}
+
+/// Appends the line of a packet with its line end. After `NoMemory` all is as before.
+pub fn append_line(packet: &PacketBuf, out: &mut Blob) -> Result<(), NoMemory>
+    ensures ok { OnOk result (out.new ≡ out.old ++ (answer_text (Sent packet.now) ++ 10 ∷ [])) }
+    ensures err { OnErr result (out.new ≡ out.old) }
+{
+    let bytes = packet.bytes();
+    out.write(&PacketLine { bytes })
 }

@@ -3,7 +3,7 @@ ghost use Rattle.std.specs.Prelude.{◌≡◌, ◌≤◌, ◌++◌, length, OnOk
 ghost use Rattle.script_texts.specs.Pieces.{piece_word, pieces_text};
 ghost use Rattle.script_texts.specs.Texts.{GoesOn};
 
-use crate::hex_text::{DigitBuf, append_hex};
+use crate::hex_text::append_hex;
 use crate::number_text::append_number;
 use sfu_base::{Blob, NoMemory};
 use std::marker::Model;
@@ -68,7 +68,7 @@ fn append_piece(piece: &Piece, out: &mut Blob) -> Result<(), NoMemory>
     match piece {
         Piece::Text(text) => out.append(text),
         Piece::Number(number) => append_number(*number, out),
-        Piece::Ssrc(ssrc) => append_hex(&ssrc.to_be_bytes(), &mut DigitBuf::new(), out),
+        Piece::Ssrc(ssrc) => append_hex(&ssrc.to_be_bytes(), out),
     }
 }
 

@@ -6,22 +6,23 @@ ghost use Rattle.script_texts.specs.Replies.{answer_text, HasText};
 ghost use Rattle.script_texts.specs.Texts.{GoesOn};
 
 use crate::byte_ranges::are_bytes;
-use crate::hex_text::{DigitBuf, append_hex};
+use crate::hex_text::append_hex;
 use crate::number_text::append_number;
 use crate::pieces::append_pieces;
 use crate::refusals::refusal_pieces;
 use crate::undo::whole_or_nothing;
 use crate::verdicts::verdict_pieces;
-use sfu_base::{Blob, NoMemory, Refusal, Reply, Scratch, Verdict};
+use sfu_base::{Blob, NoMemory, PacketBuf, Refusal, Reply, Scratch, Verdict};
 
-fn append_packet(bytes: &[u8], digits: &mut DigitBuf, out: &mut Blob) -> Result<(), NoMemory>
-    ensures ok { OnOk result (out.new ≡ out.old ++ answer_text (Sent bytes.now)) }
-    ensures says { HasText (Sent bytes.now) }
+fn append_packet(packet: &PacketBuf, out: &mut Blob) -> Result<(), NoMemory>
+    ensures ok { OnOk result (out.new ≡ out.old ++ answer_text (Sent packet.now)) }
+    ensures says { HasText (Sent packet.now) }
     ensures begun { GoesOn out.old out.new }
 {
+    let bytes = packet.bytes();
     are_bytes(bytes);
     out.append(b"packet ")?;
-    append_hex(bytes, digits, out)
+    append_hex(bytes, out)
 }
 
 fn append_names(numbers: &[u16], out: &mut Blob) -> Result<(), NoMemory>
@@ -56,19 +57,14 @@ fn append_refusal(why: &Refusal, out: &mut Blob) -> Result<(), NoMemory>
     append_pieces(refusal_pieces(why).words(), out)
 }
 
-fn append_reply(
-    reply: &Reply,
-    scratch: &Scratch,
-    digits: &mut DigitBuf,
-    out: &mut Blob,
-) -> Result<(), NoMemory>
+fn append_reply(reply: &Reply, scratch: &Scratch, out: &mut Blob) -> Result<(), NoMemory>
     ensures ok { OnOk result (out.new ≡ out.old ++ answer_text (answer_of reply.now scratch.now.packet scratch.now.names)) }
     ensures says { OnOk result (HasText (answer_of reply.now scratch.now.packet scratch.now.names)) }
     ensures begun { GoesOn out.old out.new }
 {
     match reply {
         Reply::Done => out.append(b"ok"),
-        Reply::Packet => append_packet(scratch.packet.bytes(), digits, out),
+        Reply::Packet => append_packet(&scratch.packet, out),
         Reply::Names => append_names(scratch.names.numbers(), out),
         Reply::Key { wanted: true } => out.append(b"key yes"),
         Reply::Key { wanted: false } => out.append(b"key no"),
@@ -83,21 +79,7 @@ pub fn write_reply(reply: &Reply, scratch: &Scratch, out: &mut Blob) -> Result<(
     ensures says { OnOk result (HasText (answer_of reply.now scratch.now.packet scratch.now.names)) }
     ensures err { OnErr result (out.new ≡ out.old) }
 {
-    write_reply_in(reply, scratch, &mut DigitBuf::new(), out)
-}
-
-/// Does the same in room for digits that the caller keeps for the next reply.
-pub fn write_reply_in(
-    reply: &Reply,
-    scratch: &Scratch,
-    digits: &mut DigitBuf,
-    out: &mut Blob,
-) -> Result<(), NoMemory>
-    ensures ok { OnOk result (out.new ≡ out.old ++ answer_text (answer_of reply.now scratch.now.packet scratch.now.names)) }
-    ensures says { OnOk result (HasText (answer_of reply.now scratch.now.packet scratch.now.names)) }
-    ensures err { OnErr result (out.new ≡ out.old) }
-{
     let start = out.bytes().len();
-    let written = append_reply(reply, scratch, digits, out);
+    let written = append_reply(reply, scratch, out);
     whole_or_nothing(written, start, out)
 }

@@ -4,8 +4,8 @@ ghost use Rattle.sfu_base.specs.Answer.{answer_of, is_starved};
 ghost use Rattle.script_texts.specs.Replies.{answer_text};
 ghost use Rattle.script_texts.specs.WholeLines.{fault_line, record_fault_line};
 
-use crate::hex_text::{append_line, fits_line};
-use crate::{DigitBuf, write_line_fault, write_record_fault, write_reply_in};
+use crate::hex_text::append_line;
+use crate::{write_line_fault, write_record_fault, write_reply};
 use sfu_base::{Blob, NoMemory, Refusal, Reply, Scratch};
 
 /// Whether a reply is want of memory: a command ends there, and writes no line of it.
@@ -28,24 +28,26 @@ pub fn end_line(start: usize, ready: &mut Blob) -> Result<(), NoMemory>
 }
 
 /// Puts the line of a reply behind the texts that are ready. After `NoMemory` all is as before.
-pub fn add_reply(
-    reply: &Reply,
-    scratch: &Scratch,
-    digits: &mut DigitBuf,
-    ready: &mut Blob,
-) -> Result<(), NoMemory>
+pub fn add_reply(reply: &Reply, scratch: &Scratch, ready: &mut Blob) -> Result<(), NoMemory>
     ensures ok { OnOk result (ready.new ≡ ready.old ++ (answer_text (answer_of reply.now scratch.now.packet scratch.now.names) ++ 10 ∷ [])) }
     ensures err { OnErr result (ready.new ≡ ready.old) }
 {
-    // Most replies of a script are short packets.
-    if let Reply::Packet = reply {
-        let bytes = scratch.packet.bytes();
-        if fits_line(bytes) {
-            return append_line(bytes, digits, ready);
-        }
+    match reply {
+        // Most replies of a script are packets, and the others nothing but that the call was done.
+        Reply::Packet => append_line(&scratch.packet, ready),
+        Reply::Done => ready.append(b"ok\n"),
+        _ => add_other_reply(reply, scratch, ready),
     }
+}
+
+// The same of a reply of any kind.
+#[inline(never)]
+fn add_other_reply(reply: &Reply, scratch: &Scratch, ready: &mut Blob) -> Result<(), NoMemory>
+    ensures ok { OnOk result (ready.new ≡ ready.old ++ (answer_text (answer_of reply.now scratch.now.packet scratch.now.names) ++ 10 ∷ [])) }
+    ensures err { OnErr result (ready.new ≡ ready.old) }
+{
     let start = ready.bytes().len();
-    write_reply_in(reply, scratch, digits, ready)?;
+    write_reply(reply, scratch, ready)?;
     end_line(start, ready)
 }
 

@@ -5,7 +5,7 @@ ghost use Rattle.script_texts.specs.Lines.{HasBytes, HasLine, IsLine, line_of};
 ghost use Rattle.script_texts.specs.Texts.{GoesOn};
 
 use crate::byte_ranges::are_bytes;
-use crate::hex_text::{DigitBuf, append_hex};
+use crate::hex_text::append_hex;
 use crate::pieces::Piece::{Number, Ssrc, Text};
 use crate::pieces::append_pieces;
 use crate::undo::whole_or_nothing;
@@ -65,7 +65,7 @@ fn append_packet(track: u32, moment: u64, bytes: &PacketBuf, out: &mut Blob) -> 
         out,
     )?;
     out.append(b" ")?;
-    append_hex(bytes, &mut DigitBuf::new(), out)
+    append_hex(bytes, out)
 }
 
 fn append_join(

@@ -18,7 +18,7 @@ use crate::call_reader::CallReader;
 use crate::form::Form;
 use crate::texts::add_unit_fault;
 use room_core::{KeepNone, Room};
-use script_texts::{DigitBuf, add_fault, add_record_fault, add_reply, wants_memory};
+use script_texts::{add_fault, add_record_fault, add_reply, wants_memory};
 use sfu_base::{Blob, Call, NoMemory, PacketBuf, Reply, Scratch, SeqList};
 use sfu_driver::{Ending, Halt, Judge};
 use sfu_script::is_skipped;
@@ -30,17 +30,11 @@ pub struct CallServer {
     pub reader: CallReader,
     pub room: Room<KeepNone>,
     pub scratch: Scratch,
-    pub digits: DigitBuf,
 }
 
 // Puts the line of a reply behind the texts that are ready.
 #[inline(always)]
-fn answer(
-    reply: &Reply,
-    scratch: &Scratch,
-    digits: &mut DigitBuf,
-    ready: &mut Blob,
-) -> Result<(), Halt>
+fn answer(reply: &Reply, scratch: &Scratch, ready: &mut Blob) -> Result<(), Halt>
     ensures starved { is_starved reply.now ≡ true → result ≡ Err Starved }
     ensures ok { OnOk result (ready.new ≡ ready.old ++ (answer_text (answer_of reply.now scratch.now.packet scratch.now.names) ++ 10 ∷ [])) }
     ensures err { OnErr result (ready.new ≡ ready.old) }
@@ -49,7 +43,7 @@ fn answer(
     if wants_memory(reply) {
         return Err(Halt::Starved);
     }
-    add_reply(reply, scratch, digits, ready)?;
+    add_reply(reply, scratch, ready)?;
     Ok(())
 }
 
@@ -59,7 +53,6 @@ fn serve_any(
     room: &mut Room<KeepNone>,
     call: &Call,
     scratch: &mut Scratch,
-    digits: &mut DigitBuf,
     ready: &mut Blob,
 ) -> Result<(), Halt>
     ensures judges { (history : List Entry) → Stands untold room.old history
@@ -68,7 +61,7 @@ fn serve_any(
     ensures grows { length ready.old ≤ length ready.new }
 {
     let reply = room.serve(0, call, scratch);
-    answer(&reply, scratch, digits, ready)
+    answer(&reply, scratch, ready)
 }
 
 impl CallServer {
@@ -83,7 +76,6 @@ impl CallServer {
                 packet: PacketBuf::new(),
                 names: SeqList::new(),
             },
-            digits: DigitBuf::new(),
         }
     }
 
@@ -106,17 +98,10 @@ impl CallServer {
             return answer(
                 &self.room.take(0, subscriber, &mut self.scratch),
                 &self.scratch,
-                &mut self.digits,
                 ready,
             );
         }
-        serve_any(
-            &mut self.room,
-            call,
-            &mut self.scratch,
-            &mut self.digits,
-            ready,
-        )
+        serve_any(&mut self.room, call, &mut self.scratch, ready)
     }
 }
 

@@ -26,9 +26,9 @@ pub use lines::{NoLine, read_call};
 pub use packet_line::read_packet;
 pub use ports::{PortLine, PortRole, read_port};
 pub use script_texts::{
-    Actors, Calls, DigitBuf, Entry, Journal, add_fault, add_record_fault, add_reply, wants_memory,
+    Actors, Calls, Entry, Journal, add_fault, add_record_fault, add_reply, wants_memory,
     write_call, write_complaint, write_end, write_entry, write_line_fault, write_obu,
-    write_record_fault, write_reply, write_reply_in, write_short,
+    write_record_fault, write_reply, write_short,
 };
 pub use skipped::is_skipped;
 pub use words::split;

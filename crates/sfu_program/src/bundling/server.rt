@@ -16,7 +16,7 @@ ghost use Rattle.sfu_program.specs.SimulcastTexts.{done_text, fault_text, line_t
 
 use bundle_lines::{BundleLine, BundleReply, add_bundle_reply, read_bundle_line};
 use room_core::{KeepNone, Room};
-use script_texts::{DigitBuf, add_fault, add_reply, wants_memory};
+use script_texts::{add_fault, add_reply, wants_memory};
 use sfu_base::{Blob, Call, NoMemory, PacketBuf, Refusal, Reply, Scratch, SeqList};
 use sfu_driver::{Ending, Halt, Judge};
 use sfu_script::is_skipped;
@@ -28,7 +28,6 @@ use std::alloc::Global;
 pub struct BundleServer {
     pub bundles: Bundles<KeepNone>,
     pub scratch: Scratch,
-    pub digits: DigitBuf,
 }
 
 impl BundleServer {
@@ -42,7 +41,6 @@ impl BundleServer {
                 packet: PacketBuf::new(),
                 names: SeqList::new(),
             },
-            digits: DigitBuf::new(),
         }
     }
 
@@ -57,7 +55,7 @@ impl BundleServer {
         if wants_memory(reply) {
             return Err(Halt::Starved);
         }
-        add_reply(reply, &self.scratch, &mut self.digits, ready)?;
+        add_reply(reply, &self.scratch, ready)?;
         Ok(())
     }
 

@@ -6,7 +6,7 @@ ghost use Rattle.sfu_program.specs.ServeOpening.{HasMade, IsWornOut, first_text,
 ghost use Rattle.sfu_program.specs.declared.serve.opening.Unmade.TheVariants.{Worn};
 
 use room_core::KeepNone;
-use script_texts::{DigitBuf, add_reply, wants_memory};
+use script_texts::{add_reply, wants_memory};
 use sfu_base::{Blob, Call, NoMemory, PacketBuf, Scratch, SeqList};
 use sfu_serve::SharedRoom;
 use std::sync::Wait;
@@ -44,7 +44,7 @@ fn make_call<W: Wait + Sync>(
     if wants_memory(&turn.reply) {
         return Err(Unmade::Starved);
     }
-    match add_reply(&turn.reply, scratch, &mut DigitBuf::new(), ready) {
+    match add_reply(&turn.reply, scratch, ready) {
         Ok(()) => Ok(()),
         Err(NoMemory) => Err(Unmade::Starved),
     }
