@@ -5,4 +5,5 @@ pub mod Calls
 pub mod Histories
 pub mod Modelled
 pub mod Slotted
+pub mod Turned
 pub mod Queued

@@ -1,5 +1,5 @@
 -- Items of a list at their places.
-use Rattle.std.proofs.Common.{◌≡◌, ◌<◌, ℕ, zero, suc, ◌+◌, ◌-◌, Bool, true, false, cond, List, [], ◌∷◌, ◌++◌, length, take, drop, refl, sym, ap, subst, ◌∙◌, arith, Some, None, slice_get, drop-cons, length-append, length-drop}
+use Rattle.std.proofs.Common.{◌≡◌, ◌≢◌, ◌<◌, ℕ, zero, suc, ◌+◌, ◌-◌, Bool, true, false, cond, List, [], ◌∷◌, ◌++◌, length, take, drop, set, refl, sym, ap, subst, ◌∙◌, arith, Some, None, slice_get, drop-cons, length-append, length-drop}
 use Rattle.std.specs.List.{find}
 use Rattle.std.proofs.lemmas.Option.{get_or_from_slice_get, slice_get_within}
 use Rattle.std.proofs.lemmas.List.{drop-append-le, drop-drop}
@@ -29,6 +29,18 @@ module _ {X : Type 0} where
   pub first_item : (xs : List X) (i : ℕ) (x : X) (rest : List X) → drop i xs ≡ x ∷ rest → slice_get xs i ≡ Some x
   first_item xs i x rest e =
       ap (slice_get xs) (let same : i ≡ i + 0 = omega arith in same) ∙ sym (item_after_drop xs i 0) ∙ ap (λ (l : List X). slice_get l 0) e
+
+  pub item_put_in : (xs : List X) (i : ℕ) (x : X) → i < length xs → slice_get (set xs i x) i ≡ Some x
+  item_put_in [] i x lt = absurd (omega (arith, lt))
+  item_put_in (y ∷ xs) zero x lt = refl
+  item_put_in (y ∷ xs) (suc i) x lt = item_put_in xs i x (omega (arith, lt))
+
+  pub item_elsewhere : (xs : List X) (i j : ℕ) (x : X) → j ≢ i → slice_get (set xs i x) j ≡ slice_get xs j
+  item_elsewhere [] i j x other = refl
+  item_elsewhere (y ∷ xs) zero zero x other = absurd (other refl)
+  item_elsewhere (y ∷ xs) zero (suc j) x other = refl
+  item_elsewhere (y ∷ xs) (suc i) zero x other = refl
+  item_elsewhere (y ∷ xs) (suc i) (suc j) x other = item_elsewhere xs i j x (λ e. other (ap suc e))
 
   -- the last n of a list's last n and more are those of the list and more
   pub last_part_again : (n : ℕ) (xs : List X) (x : X) → last_part n (last_part n xs ++ x ∷ []) ≡ last_part n (xs ++ x ∷ [])

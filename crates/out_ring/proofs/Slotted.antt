@@ -1,23 +1,15 @@
 -- Packets slot by slot: shared ones, and copies.
-use Rattle.std.proofs.Common.{◌≡◌, ◌≢◌, ◌<◌, ◌≤◌, ℕ, zero, suc, ◌+◌, ◌-◌, ◌%◌, Bool, List, [], ◌∷◌, ◌++◌, length, drop, refl, sym, ap, ap₂, ◌∙◌, arith, Option, Some, None, slice_get, length-append, length-drop}
+use Rattle.std.proofs.Common.{◌≡◌, ◌≢◌, ◌<◌, ◌≤◌, ℕ, zero, suc, ◌+◌, ◌%◌, Bool, List, [], ◌∷◌, ◌++◌, length, drop, refl, sym, ap, ap₂, ◌∙◌, arith, Option, Some, None, slice_get, length-append, length-drop}
 use Rattle.std.specs.Prelude.{set}
-use Rattle.std.proofs.lemmas.List.{drop-append-le}
-use Rattle.circular_buffer.specs.Buffer.{keep_last}
-use Rattle.circular_buffer.proofs.Places.{slice_get-set_other, slice_get-set_same}
-use Rattle.out_ring.specs.declared.slots.Head.{Head}
+use Rattle.out_ring.specs.declared.heads.Head.{Head}
 use Rattle.out_ring.specs.Packet.{least_packet}
 use Rattle.out_ring.specs.Ring.{Pushed}
-use Rattle.out_ring.specs.Slots.{AreAlike, bytes_by, packet_by, packets_from}
+use Rattle.out_ring.specs.Slots.{AreAlike, bytes_by, let_go, packet_by, packets_from, shared_at}
+use Rattle.out_ring.proofs.Lists.{item_elsewhere, item_put_in}
 
 pub size_of_packets : (place : ℕ) (heads : List Head) (own : List (List ℕ)) → length (packets_from place heads own) ≡ length heads
 size_of_packets place [] own = refl
 size_of_packets place (head ∷ heads) own = ap suc (size_of_packets (suc place) heads own)
-
--- a full ring gives up its front for what is pushed
-pub one_less : {X : Type 0} (xs : List X) (x : X) → length xs ≡ 1536 → keep_last 1536 (xs ++ x ∷ []) ≡ drop 1 xs ++ x ∷ []
-one_less xs x full =
-    ap (λ (k : ℕ). drop k (xs ++ x ∷ [])) (let e : length (xs ++ x ∷ []) - 1536 ≡ 1 = omega (arith, length-append xs (x ∷ []), full) in e)
-    ∙ drop-append-le 1 xs (x ∷ []) (omega (arith, full))
 
 pub size_pushed : {X : Type 0} (xs : List X) (x : X) → length xs ≡ 1536 → length (drop 1 xs ++ x ∷ []) ≡ 1536
 size_pushed xs x full = omega (arith, length-append (drop 1 xs) (x ∷ []), length-drop 1 xs, full)
@@ -64,7 +56,7 @@ copied_elsewhere : (place at : ℕ) (heads : List Head) (own : List (List ℕ)) 
 copied_elsewhere place at [] own packet others = refl
 copied_elsewhere place at (head ∷ heads) own packet others =
     ap₂ (λ (copy : Option (List ℕ)) (packets : List Pushed). packet_by head copy ∷ packets)
-    (slice_get-set_other own at (place % 1536) packet (others place (omega arith) (omega arith)))
+    (item_elsewhere own at (place % 1536) packet (others place (omega arith) (omega arith)))
     (copied_elsewhere (suc place) at heads own packet (λ j above below. others j (omega (arith, above)) (omega (arith, below))))
 
 -- ---- a head is put in as the last one, and the first is gone
@@ -118,23 +110,49 @@ copied_last first heads own new packet marker full below alike there =
     ∙ ap₂ (λ (packets : List Pushed) (copy : Option (List ℕ)). packets ++ packet_by (record { shared = None; marker = marker }) copy ∷ [])
     (copied_elsewhere (suc first) first (drop 1 heads) new packet (λ j above under. apart j above under)
     ∙ packets_alike (suc first) (drop 1 heads) own new alike ∙ packets_less first heads own)
-    (ap (slice_get (set new first packet)) (let e : first % 1536 ≡ first = omega (arith, below) in e) ∙ slice_get-set_same new first packet there)
+    (ap (slice_get (set new first packet)) (let e : first % 1536 ≡ first = omega (arith, below) in e) ∙ item_put_in new first packet there)
   where
     apart : (j : ℕ) → suc first ≤ j → j < suc first + length (drop 1 heads) → j % 1536 ≢ first
     apart j above under same = omega (arith, above, under, same, below, length-drop 1 heads, full)
 
 -- ---- one lets go of its packet
 
-behind : {X : Type 0} (xs : List X) (i from : ℕ) (x : X) → i < from → drop from (set xs i x) ≡ drop from xs
-behind xs i zero x lt = absurd (omega (arith, lt))
-behind [] i (suc from) x lt = refl
-behind (y ∷ xs) zero (suc from) x lt = refl
-behind (y ∷ xs) (suc i) (suc from) x lt = behind xs i from x (omega (arith, lt))
+pub shared_there : (heads : List Head) (i : ℕ) (head : Head) → slice_get heads i ≡ Some head → shared_at heads i ≡ head.shared
+shared_there [] i head e = absurd (cc e)
+shared_there (h ∷ heads) zero head e = ap (λ (x : Head). x.shared) (let same : h ≡ head = cc e in same)
+shared_there (h ∷ heads) (suc i) head e = shared_there heads i head e
 
-pub others_stay : (first i from : ℕ) (heads : List Head) (own : List (List ℕ)) (head : Head) → i < from
-    → drop from (packets_from first (set heads i head) own) ≡ drop from (packets_from first heads own)
-others_stay first i from heads own head lt =
-    sym (packets_after from first (set heads i head) own) ∙ ap (λ (hs : List Head). packets_from (first + from) hs own) (behind heads i from head lt)
+pub let_go_there : (heads : List Head) (i : ℕ) (head : Head) → slice_get heads i ≡ Some head
+    → let_go heads i ≡ set heads i (record { shared = None; marker = head.marker })
+let_go_there [] i head e = refl
+let_go_there (h ∷ heads) zero head e = ap (λ (x : Head). record { shared = None; marker = x.marker } ∷ heads) (let same : h ≡ head = cc e in same)
+let_go_there (h ∷ heads) (suc i) head e = ap (λ (hs : List Head). h ∷ hs) (let_go_there heads i head e)
+
+pub none_shared_past : (heads : List Head) (i : ℕ) → length heads ≤ i → shared_at heads i ≡ None
+none_shared_past [] i past = refl
+none_shared_past (h ∷ heads) zero past = absurd (omega (arith, past))
+none_shared_past (h ∷ heads) (suc i) past = none_shared_past heads i (omega (arith, past))
+
+pub let_go_past : (heads : List Head) (i : ℕ) → length heads ≤ i → let_go heads i ≡ heads
+let_go_past [] i past = refl
+let_go_past (h ∷ heads) zero past = absurd (omega (arith, past))
+let_go_past (h ∷ heads) (suc i) past = ap (λ (hs : List Head). h ∷ hs) (let_go_past heads i (omega (arith, past)))
+
+pub size_let_go : (heads : List Head) (i : ℕ) → length (let_go heads i) ≡ length heads
+size_let_go [] i = refl
+size_let_go (h ∷ heads) zero = refl
+size_let_go (h ∷ heads) (suc i) = ap suc (size_let_go heads i)
+
+behind : (heads : List Head) (i from : ℕ) → i < from → drop from (let_go heads i) ≡ drop from heads
+behind heads i zero lt = absurd (omega (arith, lt))
+behind [] i (suc from) lt = refl
+behind (h ∷ heads) zero (suc from) lt = refl
+behind (h ∷ heads) (suc i) (suc from) lt = behind heads i from (omega (arith, lt))
+
+pub others_stay : (first i from : ℕ) (heads : List Head) (own : List (List ℕ)) → i < from
+    → drop from (packets_from first (let_go heads i) own) ≡ drop from (packets_from first heads own)
+others_stay first i from heads own lt =
+    sym (packets_after from first (let_go heads i) own) ∙ ap (λ (hs : List Head). packets_from (first + from) hs own) (behind heads i from lt)
     ∙ packets_after from first heads own
 
 -- ---- the packet at a place

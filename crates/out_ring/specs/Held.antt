@@ -1,18 +1,30 @@
--- What the fields of the slots and of a ring stand for.
-use Rattle.std.specs.Prelude.{◌≡◌, ◌≤◌, ◌<◌, ◌+◌, ◌-◌, List, length, map, take, drop}
+-- What the fields of the heads, of the slots and of a ring stand for.
+use Rattle.std.specs.Prelude.{◌≡◌, ◌≤◌, ◌<◌, ◌+◌, ◌-◌, ◌++◌, ℕ, List, length, map, take, drop}
 use Rattle.std.specs.Vec.{vec_capacity}
+use Rattle.out_ring.specs.declared.heads.Head.{Head}
+use Rattle.out_ring.specs.declared.heads.Heads.TheInside as heads
 use Rattle.out_ring.specs.declared.ring.OutRing.TheInside.{Inside}
 use Rattle.out_ring.specs.declared.slots.Slots.TheInside as slots
 use Rattle.out_ring.specs.Ring.{Pushed, Ring}
 use Rattle.out_ring.specs.History.{numbered}
 use Rattle.out_ring.specs.Slots.{packets_from}
 
+-- the items from this place on, and then those before it
+abbrev pub turned : {X : Type 0} → ℕ → List X → List X
+turned place xs = drop place xs ++ take place xs
+
+abbrev pub heads_of : heads.Inside → List Head
+heads_of a = turned a.oldest a.ring.items
+
+pub record AreHeads (a : heads.Inside) : Type 0 where
+  pub all : length a.ring.items ≡ 1536
+  pub oldest : a.oldest < 1536
+
 abbrev pub packets_of : slots.Inside → List Pushed
-packets_of a = packets_from a.first a.heads.items a.own.items
+packets_of a = packets_from a.first a.heads a.own.items
 
 pub record AreSlots (a : slots.Inside) : Type 0 where
-  pub heads : length a.heads.items ≡ 1536
-  pub capacity : a.heads.capacity ≡ 1536
+  pub heads : length a.heads ≡ 1536
   pub own : length a.own.items ≤ 1536
   pub room : 1536 ≤ vec_capacity a.own
   pub first : a.first < 1536

@@ -1,6 +1,6 @@
 -- Which packet is in a slot: one that is shared, or a copy of the slot's own.
-use Rattle.std.specs.Prelude.{◌≡◌, ℕ, suc, ◌%◌, List, [], ◌∷◌, Option, None, Some, slice_get}
-use Rattle.out_ring.specs.declared.slots.Head.{Head}
+use Rattle.std.specs.Prelude.{◌≡◌, ℕ, zero, suc, ◌%◌, List, [], ◌∷◌, Option, None, Some, slice_get}
+use Rattle.out_ring.specs.declared.heads.Head.{Head}
 use Rattle.out_ring.specs.Packet.{least_packet}
 use Rattle.out_ring.specs.Ring.{Pushed}
 
@@ -17,6 +17,18 @@ packet_by head own = record { bytes = bytes_by head.shared own; marker = head.ma
 abbrev pub packets_from : ℕ → List Head → List (List ℕ) → List Pushed
 packets_from place [] own = []
 packets_from place (head ∷ heads) own = packet_by head (slice_get own (place % 1536)) ∷ packets_from (suc place) heads own
+
+-- what the head at this place shares, if there is one
+abbrev pub shared_at : List Head → ℕ → Option (List ℕ)
+shared_at [] place = None
+shared_at (head ∷ heads) zero = head.shared
+shared_at (head ∷ heads) (suc place) = shared_at heads place
+
+-- the head at this place, if there is one, shares nothing any more
+abbrev pub let_go : List Head → ℕ → List Head
+let_go [] place = []
+let_go (head ∷ heads) zero = record { shared = None; marker = head.marker } ∷ heads
+let_go (head ∷ heads) (suc place) = head ∷ let_go heads place
 
 -- no slot has another packet
 abbrev pub AreAlike : List (List ℕ) → List (List ℕ) → Type 0

@@ -2,8 +2,10 @@
 //! A packet that goes out to many is kept once, where there is a store for it. Only constructors take memory, and what says so.
 #![tactic(auto)]
 
+mod heads;
 mod laws;
 mod packet;
+mod places;
 mod ring;
 mod slots;
 mod store;

@@ -4,7 +4,8 @@ ghost use Rattle.rtp_packet.specs.Faults.{first_fault};
 ghost use Rattle.out_ring.specs.History.{Gives, GaveLately, GaveNoneLately, History, IsAfter, and_push, and_take, nothing_done};
 ghost use Rattle.out_ring.specs.Ring.{Resends, Takes, begun, pushed};
 
-use crate::slots::{SLOTS, Slots};
+use crate::places::SLOTS;
+use crate::slots::Slots;
 use crate::store::{PacketStore, SharedPacket};
 use sfu_base::{NoMemory, PacketBuf, Refusal};
 use std::alloc::Global;
@@ -117,6 +118,7 @@ impl OutRing {
 
     /// Hands out the oldest queued packet, and answers its sequence number. It is kept from then on, and the oldest of 1,025 kept ones is
     /// forgotten. `Empty`: none is queued; nothing changes then. The bytes are copied once.
+    #[inline(always)]
     pub fn take(&mut self, out: &mut PacketBuf) -> Result<u16, Refusal>
         ensures takes { Takes self.old self.new result out.old out.new }
         ensures stands { (h : History) → IsAfter self.old h → OnOk result (IsAfter self.new (and_take h)) }

@@ -1,5 +1,5 @@
 // Packets that rings share.
-ghost use Rattle.std.specs.Prelude.{◌≡◌, ◌≤◌, ◌+◌, ◌-◌, IfSome, None, OnOk, length, min};
+ghost use Rattle.std.specs.Prelude.{◌≡◌, ◌≤◌, ◌+◌, ◌-◌, IfSome, None, OnOk, length, max, min};
 ghost use Rattle.rtp_packet.specs.Faults.{first_fault};
 
 use crate::packet::StoredPacket;
@@ -88,6 +88,7 @@ impl PacketStore {
         ensures enough { OnOk result (all ≤ self.new.all) }
         ensures free { self.old.free ≤ self.new.free }
         ensures grown { self.new.free + self.old.all ≡ self.old.free + self.new.all }
+        ensures most { self.new.all ≤ max self.old.all all }
     {
         if all <= self.all {
             return Ok(());
@@ -124,6 +125,8 @@ impl PacketStore {
         ensures packet { IfSome result (λ shared. shared ≡ packet.now) }
         ensures all { self.new.all ≡ self.old.all }
         ensures free { self.new.free ≡ self.old.free - 1 }
+        ensures none { self.old.free ≡ 0 → result ≡ None }
+        ensures used { IfSome result (λ _. self.old.free ≡ self.new.free + 1) }
     {
         let mut room = self.free.pop()?;
         match Arc::get_mut(&mut room) {

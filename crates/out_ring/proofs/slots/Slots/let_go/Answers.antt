@@ -1,16 +1,29 @@
-use Rattle.std.proofs.Common.{◌∙◌, ap, drop, length, sym}
-use Rattle.std.proofs.lemmas.List.{length-set}
-use Rattle.out_ring.proofs.Slotted.{others_stay, size_of_packets}
+use Rattle.std.proofs.Common.{◌∙◌, List, ap, drop, length, sym}
+use Rattle.out_ring.specs.declared.heads.Head.{Head}
+use Rattle.out_ring.specs.Slots.{let_go, packets_from}
+use Rattle.out_ring.proofs.Slotted.{others_stay, size_let_go, size_of_packets}
 use Rattle.out_ring.proofs.slots.Slots.let_go.Goals as goal
+
+pub invariant_of-self : goal.invariant_of-self
+invariant_of-self c =
+    let i = c.self.invariant in
+    record {
+      heads = ap length c.let_go.ensures.heads ∙ size_let_go c.self.inside.heads c.args.place ∙ i.heads;
+      own = i.own;
+      room = i.room;
+      first = i.first;
+    }
 
 pub returns-clause-size : goal.returns-clause-size
 returns-clause-size c =
     let a = c.self.inside in
-    size_of_packets a.first _ a.own.items
-    ∙ length-set a.heads.items c.args.place _
-    ∙ sym (size_of_packets a.first a.heads.items a.own.items) ∙ ap length c.self.view_is
+    ap (λ (heads : List Head). length (packets_from a.first heads a.own.items)) c.let_go.ensures.heads
+    ∙ size_of_packets a.first (let_go a.heads c.args.place) a.own.items
+    ∙ size_let_go a.heads c.args.place
+    ∙ sym (size_of_packets a.first a.heads a.own.items) ∙ ap length c.self.view_is
 
 pub returns-clause-others : goal.returns-clause-others
 returns-clause-others c from lt =
     let a = c.self.inside in
-    others_stay a.first c.args.place from a.heads.items a.own.items _ lt ∙ ap (drop from) c.self.view_is
+    ap (λ (heads : List Head). drop from (packets_from a.first heads a.own.items)) c.let_go.ensures.heads
+    ∙ others_stay a.first c.args.place from a.heads a.own.items lt ∙ ap (drop from) c.self.view_is

@@ -3,4 +3,4 @@ use Rattle.out_ring.proofs.Slotted.{size_of_packets}
 use Rattle.out_ring.proofs.slots.Slots.new.Goals as goal
 
 pub returns : goal.returns
-returns c = size_of_packets 0 c.in_ok-all_heads.field-0.items c.in-Ok.own.items ∙ c.in_ok-all_heads.ensures.size
+returns c = size_of_packets 0 c.in_ok-new.field-0 c.in-Ok.own.items ∙ c.in_ok-new.ensures.size

@@ -1,0 +1,108 @@
+// The heads of the slots.
+ghost use Rattle.std.specs.Prelude.{◌≡◌, ◌<◌, ◌≤◌, ◌∷◌, ◌++◌, All, IfOk, None, Some, [], drop, length, slice_get};
+ghost use Rattle.out_ring.specs.Slots.{let_go, shared_at};
+
+use crate::places::{SLOTS, next_place, place_from};
+use crate::store::{PacketStore, SharedPacket};
+use sfu_base::NoMemory;
+use std::alloc::Global;
+use std::marker::Model;
+use std::mem;
+
+/// A slot's packet where it is shared, and the marker that it goes out with.
+#[derive(Debug, Drop)]
+pub struct Head {
+    pub shared: Option<SharedPacket>,
+    pub marker: bool,
+}
+
+/// The heads of 1,536 slots. Clauses see them as a list, the oldest first.
+#[derive(Debug, Drop)]
+pub struct Heads {
+    ring: Vec<Head>,
+    // where the oldest stands; the others stand behind it in turn, around the end
+    oldest: usize,
+}
+
+impl Model for Heads {
+    ghost use Rattle.std.specs.Prelude.{List};
+    ghost use Rattle.out_ring.specs.declared.heads.Head.{Head};
+
+    ghost Value = { List Head };
+
+    ghost use Rattle.out_ring.specs.Held.{AreHeads, heads_of};
+
+    ghost view = { heads_of };
+
+    ghost invariant = { AreHeads };
+}
+
+impl Heads {
+    /// Heads that share nothing. All memory that they need is taken here.
+    pub fn new(alloc: Global) -> Result<Heads, NoMemory>
+        ensures size { IfOk result (λ heads. length heads ≡ 1536) }
+        ensures unshared { IfOk result (λ heads. All (λ head. head.shared ≡ None) heads) }
+    {
+        let Ok(mut ring) = Vec::with_capacity(alloc, SLOTS) else {
+            return Err(NoMemory);
+        };
+        while ring.len() < SLOTS {
+            ring.push_reserved(Head {
+                shared: None,
+                marker: false,
+            });
+        }
+        Ok(Heads { ring, oldest: 0 })
+    }
+
+    /// The head at this place, the oldest's being 0.
+    #[inline(always)]
+    pub fn get(&self, place: usize) -> &Head
+        requires { place < 1536 }
+        ensures { slice_get self.now place ≡ Some result.now }
+    {
+        &self.ring[place_from(self.oldest, place)]
+    }
+
+    /// Takes what the head at this place shares, the oldest's being 0; none where there is no head.
+    #[inline(always)]
+    pub fn let_go(&mut self, place: usize) -> Option<SharedPacket>
+        ensures shared { result ≡ shared_at self.old place }
+        ensures heads { self.new ≡ let_go self.old place }
+    {
+        let oldest = self.oldest;
+        if place >= SLOTS {
+            return None;
+        }
+        self.ring[place_from(oldest, place)].shared.take()
+    }
+
+    /// Puts a head in as the newest. The oldest is gone: answers what it shared.
+    #[inline(always)]
+    pub fn put_last(&mut self, shared: Option<SharedPacket>, marker: bool) -> Option<SharedPacket>
+        ensures shared { result ≡ shared_at self.old 0 }
+        ensures heads { self.new ≡ drop 1 self.old ++ record { shared = shared; marker = marker } ∷ [] }
+    {
+        let head = Head { shared, marker };
+        let Head {
+            shared: before,
+            marker: _,
+        } = mem::replace(&mut self.ring[self.oldest], head);
+        self.oldest = next_place(self.oldest);
+        before
+    }
+
+    /// What is shared goes back to the store.
+    pub fn give_back(self, store: &mut PacketStore)
+        ensures all { store.new.all ≡ store.old.all }
+        ensures free { store.old.free ≤ store.new.free }
+    {
+        let Heads { mut ring, .. } = self;
+        while let Some(head) = ring.pop() {
+            let Head { shared, marker: _ } = head;
+            if let Some(packet) = shared {
+                store.give_back(packet);
+            }
+        }
+    }
+}
