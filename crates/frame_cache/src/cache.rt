@@ -1,5 +1,5 @@
 // What the subscribers of the current frame share.
-ghost use Rattle.std.specs.Prelude.{◌≡◌, ◌<◌, ◌≤◌, ◌+◌, [], IfOk, IfSome, None, OnOk, Some, length, true};
+ghost use Rattle.std.specs.Prelude.{◌≡◌, ◌<◌, ◌≤◌, ◌+◌, [], IfOk, IfSome, None, OnOk, Some, length, max, true};
 ghost use Rattle.std.specs.Option.{option_copied};
 ghost use Rattle.std.specs.Vec.{vec_capacity};
 ghost use Rattle.std.proofs.Props.{props};
@@ -46,6 +46,8 @@ impl FrameCache {
     /// An empty cache, with no room in its store.
     pub fn new(alloc: Global) -> Result<FrameCache, NoMemory>
         ensures mask { IfOk result (λ cache. cache.mask ≡ None) }
+        ensures shared { IfOk result (λ cache. cache.shared.items ≡ []) }
+        ensures store { IfOk result (λ cache. cache.store ≡ record { all = 0; free = 0 }) }
         ensures room { IfOk result (λ cache. 512 ≤ vec_capacity cache.shared) }
     {
         let Ok(shared) = Vec::with_capacity(alloc, MOST_SHARED) else {
@@ -62,11 +64,13 @@ impl FrameCache {
     }
 
     /// Takes room for the packets of so many subscribers, if there is less yet: for what waits, for what is kept for those with different wishes, and
-    /// for some of each one's own. `NoMemory`: some of it may have been taken.
+    /// for some of each one's own. One alone takes none: sharing is for two or more, and its packets are copied into its ring. `NoMemory`: some of the
+    /// room may have been taken.
     pub fn make_room(&mut self, alloc: Global, subscribers: usize) -> Result<(), NoMemory>
         ensures free { self.old.store.free ≤ self.new.store.free }
         ensures grown { self.new.store.free + self.old.store.all ≡ self.old.store.free + self.new.store.all }
         ensures enough { OnOk result (room_for subscribers ≤ self.new.store.all) }
+        ensures most { self.new.store.all ≤ max self.old.store.all (room_for subscribers) }
     {
         self.store.grow(alloc, room_for(subscribers))
     }
@@ -84,6 +88,7 @@ impl FrameCache {
     pub fn forget(&mut self)
         ensures mask { self.new.mask ≡ None }
         ensures shared { self.new.shared.items ≡ [] }
+        ensures all { self.new.store.all ≡ self.old.store.all }
     {
         self.mask = None;
         if let Some(packet) = self.told.take() {
@@ -103,6 +108,7 @@ impl FrameCache {
         ensures shared { MayShare place packet.now self.old.shared.items self.new.shared.items }
         ensures mask { self.new.mask ≡ self.old.mask }
         ensures packet { self.new.packet ≡ self.old.packet }
+        ensures all { self.new.store.all ≡ self.old.store.all }
     {
         if self.shared.len() == usize::from(place) && self.shared.len() < self.shared.capacity() {
             if let Some(packet) = self.store.put(packet) {
@@ -122,6 +128,7 @@ impl FrameCache {
         ensures shared { MayShare place packet.now self.old.shared.items self.new.shared.items }
         ensures mask { self.new.mask ≡ self.old.mask }
         ensures packet { self.new.packet ≡ self.old.packet }
+        ensures all { self.new.store.all ≡ self.old.store.all }
     {
         let_go(&mut self.store, ring);
         // What is shared already is asked for first, since that is so for all subscribers but one.
@@ -143,6 +150,7 @@ impl FrameCache {
         ensures shared { self.new.shared ≡ self.old.shared }
         ensures mask { self.new.mask ≡ self.old.mask }
         ensures packet { self.new.packet ≡ self.old.packet }
+        ensures all { self.new.store.all ≡ self.old.store.all }
     {
         let_go(&mut self.store, ring);
         if self.told.is_none() {
@@ -158,12 +166,13 @@ impl FrameCache {
     /// its descriptor is read by this structure.
     pub fn tell(&mut self, packet: &[u8], id: u8, force: Option<&Structure>, mask: u32)
         requires reads { first_fault packet.now ≡ None }
-        requires fits { length packet.now ≤ 1500 }
+        requires fits { length packet.now ≤ 1536 }
         requires told { TellsOne id (option_copied force) packet.now self.old.mask self.old.packet }
         ensures packet { self.new.packet ≡ remasked_bytes id (option_copied force.entry) mask packet.now }
         ensures mask { self.new.mask ≡ Some mask }
         ensures told { TellsOne id (option_copied force.entry) packet.now self.new.mask self.new.packet }
         ensures shared { self.new.shared ≡ self.old.shared }
+        ensures all { self.new.store.all ≡ self.old.store.all }
     {
         if !self.has(mask) {
             self.make(packet, id, force, mask);
@@ -184,10 +193,11 @@ impl FrameCache {
     #[inline(never)]
     fn make(&mut self, packet: &[u8], id: u8, force: Option<&Structure>, mask: u32)
         requires reads { first_fault packet.now ≡ None }
-        requires fits { length packet.now ≤ 1500 }
+        requires fits { length packet.now ≤ 1536 }
         ensures mask { self.new.mask ≡ Some mask }
         ensures packet { self.new.packet ≡ remasked_bytes id (option_copied force.entry) mask packet.now }
         ensures shared { self.new.shared ≡ self.old.shared }
+        ensures all { self.new.store.all ≡ self.old.store.all }
     {
         if let Some(packet) = self.told.take() {
             self.store.give_back(packet);
@@ -214,7 +224,8 @@ fn another(shared: Option<&SharedPacket>) -> Option<SharedPacket>
 // What the ring doesn't keep any more goes back to the store: one packet before each push, since a take leaves one behind at most.
 #[inline(always)]
 fn let_go(store: &mut PacketStore, ring: &mut OutRing)
-    ensures { ring.new ≡ ring.old }
+    ensures ring { ring.new ≡ ring.old }
+    ensures all { store.new.all ≡ store.old.all }
 {
     if let Some(packet) = ring.let_go() {
         store.give_back(packet);
@@ -225,18 +236,19 @@ fn let_go(store: &mut PacketStore, ring: &mut OutRing)
 #[inline(always)]
 fn push_shared(store: &mut PacketStore, ring: &mut OutRing, packet: SharedPacket, marker: bool)
     requires { length ring.old.queued < 512 }
-    ensures { ring.new ≡ pushed packet marker ring.old }
+    ensures pushed { ring.new ≡ pushed packet marker ring.old }
+    ensures all { store.new.all ≡ store.old.all }
 {
     if let Some(gone) = ring.push_shared(packet, marker) {
         store.give_back(gone);
     }
 }
 
-// How many packets a store has room for that so many subscribers share.
+// How many packets a store has room for that so many subscribers share: none where there is no other to share with.
 fn room_for(subscribers: usize) -> usize
     ensures { result ≡ room_for subscribers }
 {
-    if subscribers == 0 {
+    if subscribers < 2 {
         return 0;
     }
     MOST_SHARED + KEPT * subscribers.min(MOST_APART) + OWN * subscribers.min(256)

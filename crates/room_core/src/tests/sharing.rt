@@ -36,12 +36,12 @@ fn subscribers_share_a_packet_and_its_room_is_free_when_none_has_it(
         assert_eq!(rt; room.serve(0, &take(subscriber), &mut out), Reply::Packet);
         assert_eq!(rt; out.packet.bytes(), outgoing(&PLAIN, 7, false).bytes());
     }
-    // The other one keeps it, and the store gives up the room that one subscriber doesn't need.
+    // The other one keeps it, and the store gives up all room that is free: one subscriber shares with nobody.
     assert_eq!(rt;
         room.serve(0, &Call::Leave { subscriber: 2 }, &mut out),
         Reply::Done
     );
-    assert_eq!(rt; free(&room, 1), 512 + 1024 + 12 - 1);
+    assert_eq!(rt; free(&room, 1), 0);
     // What waits when the track ends is still handed out.
     assert_eq!(rt; room.serve(0, &packet(1, &next), &mut out), Reply::Done);
     assert_eq!(rt;
