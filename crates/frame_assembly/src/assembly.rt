@@ -64,7 +64,6 @@ impl Assembly {
         ensures frame { (result ≡ Outcome.Whole → ⊥) → self.new.frame ≡ [] }
     {
         self.spare.fill(packet);
-        // What is made of what is seen is proved there, and here what that says of whole lists of marks.
         self.frame.take_mark(mark, &mut self.spare)
     }
 

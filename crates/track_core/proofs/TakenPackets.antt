@@ -70,10 +70,10 @@ worked_taken t events worked stands =
 pub packets_taken : (t : Inside) → IsKept t → AllByRecursion IsTaken (seen t).packets
 packets_taken t kept = go t.given refl
   where
-    some : t.given ≡ true → (o : Option Layers) → t.layers ≡ o → IfSome o (λ l. IsAfter l (items_of kept.stood.worked)) → AllByRecursion IsTaken (packets_in o t.buffer.value)
-    some given None plain after = (kept.buffer given plain, tt)
+    some : t.given ≡ true → (o : Option Layers) → t.layers ≡ o → IfSome o (λ l. IsAfter l (items_of kept.stood.worked)) → AllByRecursion IsTaken (packets_in o t.slot.value)
+    some given None plain after = (kept.slot given plain, tt)
     some given (Some l) layered after = assembly_taken l.id l (items_of kept.stood.worked) (worked_taken (seen t) kept.stood.events kept.stood.worked kept.stood.stands) after
 
-    go : (b : Bool) → t.given ≡ b → AllByRecursion IsTaken (cond b (packets_in t.layers t.buffer.value) [])
+    go : (b : Bool) → t.given ≡ b → AllByRecursion IsTaken (cond b (packets_in t.layers t.slot.value) [])
     go true given = some given t.layers refl kept.stood.stands.layers
     go false given = tt

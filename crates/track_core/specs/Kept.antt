@@ -6,17 +6,17 @@ use Rattle.track_core.specs.declared.layers.Layers.{Layers}
 use Rattle.track_core.specs.Pieces.{IsTaken}
 use Rattle.track_core.specs.Track.{Seen, StandsFor}
 
--- the packets of what was made: a plain one in the buffer, or those of a whole frame
+-- the packets of what was made: a plain one in the slot, or those of a whole frame
 abbrev pub packets_in : Option Layers → List ℕ → List (List ℕ)
-packets_in None buffer = buffer ∷ []
-packets_in (Some l) buffer = l.assembly.frame
+packets_in None slot = slot ∷ []
+packets_in (Some l) slot = l.assembly.frame
 
 abbrev pub seen : Inside → Seen
 seen t = record {
   ssrc = t.ssrc;
   window = t.window;
   layers = t.layers;
-  packets = if t.given then packets_in t.layers t.buffer.value else [];
+  packets = if t.given then packets_in t.layers t.slot.value else [];
   meaning = t.meaning;
 }
 
@@ -26,7 +26,7 @@ pub record HasStood (track : Seen) : Type 0 where
   pub worked : List Piece
   pub stands : StandsFor track events worked
 
--- and where a plain packet was made, the buffer has a packet that was taken in
+-- and where a plain packet was made, the slot has a packet that was taken in
 pub record IsKept (t : Inside) : Type 0 where
   pub stood : HasStood (seen t)
-  pub buffer : t.given ≡ true → t.layers ≡ None → IsTaken t.buffer.value
+  pub slot : t.given ≡ true → t.layers ≡ None → IsTaken t.slot.value

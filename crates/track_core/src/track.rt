@@ -53,8 +53,9 @@ pub enum Advance {
 pub struct Track {
     ssrc: u32,
     window: Window,
-    // The packet that is worked off; its slot came from the window. On a layered track the frame under assembly has it then.
-    buffer: Box<PacketSlot>,
+    // The slot of the packet that is worked off, which came from the window. On a layered track the frame under assembly takes it where it is a
+    // frame's, and leaves one of its own; after padding or a torn packet it still holds that packet.
+    slot: Box<PacketSlot>,
     layers: Option<Layers>,
     // Whether the last step made a packet or a frame.
     given: bool,
@@ -104,13 +105,13 @@ impl Track {
     {
         let layers = layers_of(alloc, kind)?;
         let window = Window::new(alloc, hold)?;
-        let Ok(buffer) = Box::new(alloc, PacketSlot::new()) else {
+        let Ok(slot) = Box::new(alloc, PacketSlot::new()) else {
             return Err(NoMemory);
         };
         Ok(Track {
             ssrc,
             window,
-            buffer,
+            slot,
             layers,
             given: false,
             meaning: NO_MEANING,
@@ -224,13 +225,13 @@ impl Track {
         ensures stays { Stays self.old self.new }
     {
         self.given = false;
-        let Some(item) = self.window.next_slot(&mut self.buffer) else {
+        let Some(item) = self.window.next_slot(&mut self.slot) else {
             return Advance::Idle;
         };
         let made = worked(
             &mut self.layers,
             is_packet(&item),
-            &mut self.buffer,
+            &mut self.slot,
             &mut self.meaning,
         );
         self.given = is_given(made);
@@ -281,7 +282,7 @@ impl Track {
         ensures { slice_get self.now.packets place ≡ Some result.now }
     {
         match &self.layers {
-            None => self.buffer.bytes(),
+            None => self.slot.bytes(),
             Some(layers) => layers.assembly.packet(place),
         }
     }

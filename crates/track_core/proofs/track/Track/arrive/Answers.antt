@@ -23,7 +23,7 @@ invariant_of-self c =
         stands = event_stands (seen c.self.inside) _ (Arrives c.in-Ok.packet.seq c.args.moment c.args.bytes.now) h.events h.worked h.stands
             (ap (λ (t : Seen). t.window.waiting) c.self.view_is ∙ c.requires.idle) (c.arrive.ensures.stands h.events h.stands.window) c.arrive.ensures.items c.arrive.ensures.hold taken refl;
       };
-      buffer = c.self.invariant.buffer;
+      slot = c.self.invariant.slot;
     }
 
 pub returns-clause-refusal : goal.returns-clause-refusal
