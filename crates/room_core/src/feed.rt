@@ -6,6 +6,7 @@ ghost use Rattle.room_core.specs.Follows.{FollowsAim, FollowsFrame, FollowsPacke
 ghost use Rattle.room_core.specs.Sendable.{IsSendable};
 ghost use Rattle.frame_cache.specs.Sharing.{AreFirst};
 ghost use Rattle.room_core.specs.FrameCache.{IsOfFrame};
+ghost use Rattle.target_selector.specs.Shared.{IsSharedOn};
 
 use crate::sending::{own_marker, push_from, push_remasked};
 use cause_book::CauseBook;
@@ -13,7 +14,7 @@ use frame_cache::FrameCache;
 use out_ring::OutRing;
 use sfu_base::{FrameMeaning, Kind, NoMemory, PacketBuf, Refusal, Verdict, Wish};
 use std::alloc::Global;
-use target_selector::{MOST_QUEUED, Selector, mask_for};
+use target_selector::{MOST_QUEUED, Selector, SharedDecision, mask_for};
 use track_core::Track;
 
 /// The kind of the subscriber's track, the selection of frames, the packets that wait or are kept, and the verdicts on frames. All its
@@ -67,25 +68,29 @@ impl Feed {
 
     /// Offers a layered track's most recently completed frame. `tells` is whether its first packet carries a structure or a mask. Where it
     /// does, or the frame opens the target, that packet goes out with the mask of the targets that the subscriber gets; `cache` shares what
-    /// goes out with the frame's next subscribers.
+    /// goes out, and `shared` what was found about the frame, with its next subscribers.
     pub fn pass_frame(
         &mut self,
         track: &Track,
         frame: &FrameMeaning,
         tells: bool,
         cache: &mut FrameCache,
+        shared: &mut SharedDecision,
     )
         requires valid { IsValid frame.now }
         requires tells { tells ≡ tells_by track.now.layers track.now.packets }
         requires of_frame { IsOfFrame track.now.layers track.now.packets cache.old }
+        requires shared { IsSharedOn frame.now shared.old }
         ensures follows { FollowsFrame self.old self.new frame.now track.now }
         ensures of_frame { IsOfFrame track.now.layers track.now.packets cache.new }
+        ensures shared { IsSharedOn frame.now shared.new }
     {
         let verdict = self
             .selector
-            .admit(frame, track.count(), self.ring.queued());
-        self.causes.write(frame.number, verdict);
+            .admit_shared(frame, track.count(), self.ring.queued(), shared);
         if let Verdict::Passed = verdict {
+            // Written by its name, so that no look is had at which it is.
+            self.causes.write(frame.number, Verdict::Passed);
             let is_top = self.selector.marks_last();
             if is_told(self.selector.opened(), tells) {
                 let mask = mask_for(frame, self.selector.target());
@@ -93,6 +98,8 @@ impl Feed {
             } else {
                 push_from(&mut self.ring, cache, track, 0, is_top);
             }
+        } else {
+            self.causes.write(frame.number, verdict);
         }
     }
 

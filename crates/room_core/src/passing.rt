@@ -9,12 +9,14 @@ ghost use Rattle.room_core.specs.Passing.{IsPassed, PassedTo, WaitsIn, WaitsOne,
 ghost use Rattle.room_core.specs.Stepping.{IsMadeValid, Steps};
 ghost use Rattle.frame_cache.specs.Sharing.{AreFirst};
 ghost use Rattle.room_core.specs.FrameCache.{IsOfFrame};
+ghost use Rattle.target_selector.specs.Shared.{IsSharedOn};
 
 use crate::live::LiveSubscriber;
 use crate::sending::first_tells;
 use frame_cache::FrameCache;
 use indexmap::IndexMap;
 use sfu_base::FrameMeaning;
+use target_selector::SharedDecision;
 use track_core::{Advance, Track};
 
 /// Works off all items of a track that wait: what they make goes to each of its subscribers, and a key frame ends a plea.
@@ -122,10 +124,11 @@ fn pass_frame_to_all(
 {
     let tells = first_tells(track);
     cache.forget();
+    let mut shared = SharedDecision::new();
     let count = subscribers.len();
     for place in 0..count {
         if let Some(subscriber) = subscribers.get_index_mut(place) {
-            pass_frame(subscriber, number, track, frame, tells, cache);
+            pass_frame(subscriber, number, track, frame, tells, cache, &mut shared);
         }
     }
 }
@@ -138,15 +141,20 @@ fn pass_frame(
     frame: &FrameMeaning,
     tells: bool,
     cache: &mut FrameCache,
+    shared: &mut SharedDecision,
 )
     requires valid { IsValid frame.now }
     requires tells { tells ≡ tells_by track.now.layers track.now.packets }
     requires of_frame { IsOfFrame track.now.layers track.now.packets cache.old }
+    requires shared { IsSharedOn frame.now shared.old }
     ensures passed { IsPassed (λ old new. FollowsFrame old new frame.now track.now) number subscriber.old subscriber.new }
     ensures of_frame { IsOfFrame track.now.layers track.now.packets cache.new }
+    ensures shared { IsSharedOn frame.now shared.new }
 {
     if subscriber.track == number {
-        subscriber.feed.pass_frame(track, frame, tells, cache);
+        subscriber
+            .feed
+            .pass_frame(track, frame, tells, cache, shared);
     }
 }
 

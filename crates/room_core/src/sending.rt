@@ -60,6 +60,7 @@ pub fn push_remasked(
     requires of_frame { IsOfFrame track.now.layers track.now.packets cache.old }
     ensures pushed { PushesFrame ring.old ring.new (remasked_by track.now.layers mask (map packet_of track.now.packets)) is_top }
     ensures of_frame { IsOfFrame track.now.layers track.now.packets cache.new }
+    ensures grown { length cache.old.shared.items ≤ length cache.new.shared.items }
 {
     let count = track.count();
     if count == 0 {

@@ -49,6 +49,7 @@ impl Content {
     }
 
     /// Hands out the oldest packet that waits for the subscriber.
+    #[inline(always)]
     pub fn take(&mut self, subscriber: u32, out: &mut PacketBuf) -> Reply
         ensures does { (numbers : List ℕ) → Does self.old self.new (call.Take subscriber) result out.new numbers }
         ensures fed { is_starved result ≡ false }

@@ -1,18 +1,32 @@
 // Where the entry of a number stands in a table.
-ghost use Rattle.std.specs.Prelude.{nat_eq};
+ghost use Rattle.std.specs.Prelude.{◌≡◌, Some, nat_eq, true};
 ghost use Rattle.indexmap.specs.IndexMap.{get};
 ghost use Rattle.room_core.specs.Tables.{IsPlace};
 
 use indexmap::IndexMap;
 
-/// The place of the number's entry in the table, if it has one. `likely` is tried first.
+/// The place of the number's entry in the table, if it has one. `likely` is tried first, and then the place behind it, since those that are asked for
+/// in turn stand there.
 pub fn place_of<V>(table: &IndexMap<u32, V>, likely: usize, number: u32) -> Option<usize>
     ensures { IsPlace number table.now.entries (get nat_eq table.now number) result }
 {
-    if let Some((found, _)) = table.get_index(likely) {
-        if *found == number {
-            return Some(likely);
-        }
+    if is_at(table, likely, number) {
+        return Some(likely);
+    }
+    let next = likely.saturating_add(1);
+    if is_at(table, next, number) {
+        return Some(next);
     }
     table.get_index_of(&number)
+}
+
+// Whether the number's entry stands at this place.
+#[inline(always)]
+fn is_at<V>(table: &IndexMap<u32, V>, place: usize, number: u32) -> bool
+    ensures { result ≡ true → IsPlace number table.now.entries (get nat_eq table.now number) (Some place) }
+{
+    match table.get_index(place) {
+        Some((found, _)) => *found == number,
+        None => false,
+    }
 }

@@ -1,4 +1,5 @@
 pub mod Bests
+pub mod Going
 pub mod Stepping
 pub mod Validity
 pub mod Verdicts

@@ -3,3 +3,4 @@ pub mod Seen
 pub mod Stands
 pub mod Masks
 pub mod Reaching
+pub mod Shared

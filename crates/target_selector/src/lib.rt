@@ -8,6 +8,7 @@ mod laws;
 mod masks;
 mod opening;
 mod selector;
+mod shared_decision;
 mod targets;
 #[cfg(test)]
 mod tests;
@@ -16,5 +17,6 @@ mod verdict;
 pub use laws::masks_have_the_bits_that_are_got;
 pub use masks::mask_for;
 pub use selector::Selector;
+pub use shared_decision::SharedDecision;
 pub use targets::is_allowed;
 pub use verdict::MOST_QUEUED;

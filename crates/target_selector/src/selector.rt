@@ -10,12 +10,14 @@ ghost use Rattle.forwarding_model.specs.forwarding.Standing.{Standing, after_fra
 ghost use Rattle.ref_window.specs.Numbers.{IsAboveAll as IsAboveAllNumbers, held_of};
 ghost use Rattle.target_selector.specs.Reaching.{is_aimed, reaches, target_layers, targets_of};
 ghost use Rattle.target_selector.specs.Seen.{begun};
+ghost use Rattle.target_selector.specs.Shared.{IsSharedOn};
 ghost use Rattle.target_selector.specs.Stands.{IsAboveAll, StandsAt, StandsFor, is_opening_at};
 ghost use Rattle.target_selector.specs.Targets.{IsBelow, IsIndexBelow};
 
-use crate::decision::{Decision, decide};
+use crate::decision::{Decision, decide, goes_on};
 use crate::frame_targets::FrameTargets;
 use crate::opening::aim;
+use crate::shared_decision::SharedDecision;
 use crate::targets::is_top_layer;
 use forwarding_model::{CurrentTarget, Reason};
 use ref_window::RefWindow;
@@ -133,7 +135,47 @@ impl Selector {
         ensures not_opened { (result ≡ Passed → ⊥) → self.new.opened ≡ false }
         ensures newest { self.new.newest ≡ Some (targets_of frame.now) }
     {
+        self.admit_shared(frame, packets, queued, &mut SharedDecision::new())
+    }
+
+    /// The same, where `shared` is what was found at this frame for other subscribers, and is left to the next.
+    #[inline(always)]
+    pub fn admit_shared(
+        &mut self,
+        frame: &FrameMeaning,
+        packets: u16,
+        queued: u16,
+        shared: &mut SharedDecision,
+    ) -> Verdict
+        requires valid { IsValid frame.now }
+        requires shared { IsSharedOn frame.now shared.old }
+        ensures verdict { (s : Standing) → StandsFor self.old s → IsAboveAll frame.now s → s.queued ≡ queued → result ≡ verdict_at s frame.now packets }
+        ensures stands { (s : Standing) → StandsFor self.old s → IsAboveAll frame.now s → s.queued ≡ queued
+            → StandsFor self.new (after_frame s frame.now packets) }
+        ensures room { result ≡ Passed → queued + packets ≤ 512 }
+        ensures top { (s : Standing) → StandsFor self.old s → IsAboveAll frame.now s → s.queued ≡ queued → result ≡ Passed
+            → self.new.top ≡ is_top_layer frame.now (candidate_at s frame.now) }
+        ensures opened { (s : Standing) → StandsFor self.old s → IsAboveAll frame.now s → s.queued ≡ queued → result ≡ Passed
+            → self.new.opened ≡ is_opening_at s frame.now }
+        ensures not_top { (result ≡ Passed → ⊥) → self.new.top ≡ false }
+        ensures not_opened { (result ≡ Passed → ⊥) → self.new.opened ≡ false }
+        ensures newest { self.new.newest ≡ Some (targets_of frame.now) }
+        ensures shared { IsSharedOn frame.now shared.new }
+    {
         self.begin_epoch(frame);
+        if let Some(top) = goes_on(
+            self.wish,
+            self.target,
+            self.key_passed,
+            &self.passed,
+            frame,
+            packets,
+            queued,
+            shared,
+        ) {
+            self.go_on(frame, top);
+            return Verdict::Passed;
+        }
         let decision = decide(
             self.wish,
             self.target,
@@ -142,6 +184,7 @@ impl Selector {
             frame,
             packets,
             queued,
+            shared,
         );
         match decision.verdict {
             Verdict::Passed => self.pass(frame, &decision),
@@ -183,6 +226,24 @@ impl Selector {
         };
         self.key_passed = false;
         self.passed.reset();
+    }
+
+    // The frame passes, and the target stays open.
+    #[inline(always)]
+    fn go_on(&mut self, frame: &FrameMeaning, top: bool)
+        ensures wish { self.new.wish ≡ self.old.wish }
+        ensures epoch { self.new.epoch ≡ self.old.epoch }
+        ensures target { self.new.target ≡ self.old.target }
+        ensures key_passed { self.new.key_passed ≡ (frame.now.key || self.old.key_passed) }
+        ensures numbers { IsAboveAllNumbers frame.now.number self.old.numbers → self.new.numbers ≡ held_of (frame.now.number ∷ self.old.numbers) }
+        ensures top { self.new.top ≡ top }
+        ensures opened { self.new.opened ≡ false }
+        ensures newest { self.new.newest ≡ self.old.newest }
+    {
+        self.key_passed |= frame.key;
+        self.passed.insert(frame.number);
+        self.top = top;
+        self.opened = false;
     }
 
     fn pass(&mut self, frame: &FrameMeaning, decision: &Decision)

@@ -118,6 +118,40 @@ fn admit(selector: &mut Selector, row: Row) -> Verdict
     selector.admit(&frame(row), row.packets, row.queued)
 }
 
+// Hands a frame to five selectors that share what is found, and to five others each alone: the verdicts, where both stand alike after it.
+fn admit_to_five(
+    together: &mut [Selector; 5],
+    alone: &mut [Selector; 5],
+    row: Row,
+    queued: [u16; 5],
+) -> Option<[Verdict; 5]>
+    requires start { row.start ≤ row.number }
+    requires mask { row.mask < 4 }
+    requires refs { row.refs ≤ 2 }
+    requires fdiff { (1 ≤ row.fdiff) × (row.fdiff ≤ 4096) }
+    requires other { (1 ≤ row.other) × (row.other ≤ 4096) }
+{
+    let frame = frame(row);
+    let mut shared = SharedDecision::new();
+    let mut verdicts = [Verdict::Passed; 5];
+    for place in 0..5usize {
+        let one = &mut together[place];
+        let other = &mut alone[place];
+        let verdict = one.admit_shared(&frame, row.packets, queued[place], &mut shared);
+        if other.admit(&frame, row.packets, queued[place]) != verdict || !are_alike(one, other) {
+            return None;
+        }
+        verdicts[place] = verdict;
+    }
+    Some(verdicts)
+}
+
+fn are_alike(one: &Selector, other: &Selector) -> bool {
+    one.target() == other.target()
+        && one.opened() == other.opened()
+        && one.marks_last() == other.marks_last()
+}
+
 // Thirty-two targets with these layers, all of which a key frame begins.
 fn wide(pairs: [Option<Wish>; 32]) -> FrameMeaning
     ensures { IsValid result }
@@ -509,4 +543,92 @@ fn of_many_targets_the_greatest_pair_and_then_the_lowest_index_is_best(rt: HostR
     });
     assert_eq!(rt; selector.admit(&wide(pairs), 1, 0), Verdict::Passed);
     assert_eq!(rt; selector.target(), Some(31));
+}
+
+// The first two stand alike throughout, the third wishes for less, the fourth's queue is full at frame 3, and the fifth isn't sent frame 2.
+#[test]
+fn what_subscribers_share_of_a_frame_changes_no_verdict(rt: HostRuntime) {
+    let mut together = [
+        Selector::new(HIGH),
+        Selector::new(HIGH),
+        Selector::new(LOW),
+        Selector::new(HIGH),
+        Selector::new(HIGH),
+    ];
+    let mut alone = [
+        Selector::new(HIGH),
+        Selector::new(HIGH),
+        Selector::new(LOW),
+        Selector::new(HIGH),
+        Selector::new(HIGH),
+    ];
+    let passed = Verdict::Passed;
+    let full = Verdict::Full {
+        queued: 512,
+        needed: 1,
+    };
+    assert_eq!(rt;
+        admit_to_five(&mut together, &mut alone, KEY, [0; 5]),
+        Some([passed; 5])
+    );
+    let row = Row {
+        number: 2,
+        refs: 1,
+        ..UPPER
+    };
+    let low = Verdict::NotOfTarget { target: Some(1) };
+    assert_eq!(rt;
+        admit_to_five(&mut together, &mut alone, row, [0, 0, 0, 0, 512]),
+        Some([passed, passed, low, passed, full])
+    );
+    let middle = Row {
+        number: 3,
+        dtis: [Dti::Required, Dti::Required],
+        links: [2, 0],
+        fdiff: 1,
+        ..LOWER
+    };
+    let missing = Verdict::Reference { number: 2 };
+    assert_eq!(rt;
+        admit_to_five(&mut together, &mut alone, middle, [0, 0, 0, 512, 0]),
+        Some([passed, passed, missing, full, missing])
+    );
+    let row = Row {
+        number: 4,
+        links: [0, 0],
+        fdiff: 3,
+        ..middle
+    };
+    assert_eq!(rt;
+        admit_to_five(&mut together, &mut alone, row, [0, 0, 511, 0, 0]),
+        Some([passed; 5])
+    );
+    // A wish is raised, and its target opened by a later frame than for the others.
+    together[2].aim(HIGH);
+    alone[2].aim(HIGH);
+    let row = Row {
+        number: 5,
+        dtis: [Dti::Switch, Dti::Switch],
+        links: [0, 0],
+        fdiff: 4,
+        ..middle
+    };
+    assert_eq!(rt;
+        admit_to_five(&mut together, &mut alone, row, [0; 5]),
+        Some([passed; 5])
+    );
+    assert!(rt; together[2].opened() && !together[1].opened());
+    // A link to a frame before that, which the fifth wasn't sent.
+    let row = Row {
+        number: 6,
+        links: [0, 4],
+        fdiff: 5,
+        ..middle
+    };
+    let broken = Verdict::Link { at: 6, number: 2 };
+    assert_eq!(rt;
+        admit_to_five(&mut together, &mut alone, row, [0; 5]),
+        Some([passed, passed, passed, passed, broken])
+    );
+    assert_eq!(rt; together[4].target(), None);
 }

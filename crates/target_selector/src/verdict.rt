@@ -116,7 +116,8 @@ fn candidate_verdict(candidate: CurrentTarget, packets: u16, queued: u16) -> Ver
     }
 }
 
-fn has_room(packets: u16, queued: u16) -> bool
+/// Whether a frame of so many packets has room in the queue.
+pub fn has_room(packets: u16, queued: u16) -> bool
     ensures { result ≡ has_room queued packets }
 {
     u32::from(queued) + u32::from(packets) <= u32::from(MOST_QUEUED)
