@@ -1,19 +1,53 @@
-// The arrays of a frame's meaning.
+// The arrays of a frame's meaning. `select_unpredictable` has each item read, whether it counts or not: at an `if` the compiler would branch at
+// each place.
 
-ghost use Rattle.std.specs.Prelude.{◌≡◌, ◌≤◌, length, None};
+ghost use Rattle.std.specs.Prelude.{◌≡◌, ◌≤◌, length, take, None};
 ghost use Rattle.sfu_base.specs.declared.frame.Dti.TheVariants.{NotPresent};
 ghost use Rattle.dd_layout.specs.Layouts.{filled_up, pairs_below};
 
 use dd_structure::Structure;
 use sfu_base::{Dti, Wish};
+use std::hint::select_unpredictable;
 
-/// The indications, and `NotPresent` behind them.
-pub fn filled_indications(row: &[Dti]) -> [Dti; 32]
-    requires { length row.now ≤ 32 }
-    ensures { result ≡ filled_up 32 NotPresent row.now }
+/// The first so many indications, and `NotPresent` behind them. All places are written, so that the compiler writes many at once.
+pub fn front_indications(row: &[Dti; 32], count: u8) -> [Dti; 32]
+    requires { count ≤ 32 }
+    ensures { result ≡ filled_up 32 NotPresent (take count row.now) }
 {
     let mut out = [Dti::NotPresent; 32];
-    out[..row.len()].copy_from_slice(row);
+    for place in 0..32u8 {
+        let index = usize::from(place);
+        out[index] = select_unpredictable(place < count, row[index], Dti::NotPresent);
+    }
+    out
+}
+
+/// The first so many numbers, and 0 behind them. All places are written, so that the compiler writes many at once.
+pub fn front_numbers(row: &[u8; 32], count: u8) -> [u8; 32]
+    requires { count ≤ 32 }
+    ensures { result ≡ filled_up 32 0 (take count row.now) }
+{
+    let mut out = [0; 32];
+    for place in 0..32u8 {
+        let index = usize::from(place);
+        out[index] = select_unpredictable(place < count, row[index], 0);
+    }
+    out
+}
+
+/// The first so many distances, and 0 behind them. All places are written, so that the compiler writes many at once. No more are told than
+/// the row has.
+pub fn front_distances(row: &[u16; 16], count: u8) -> [u16; 16]
+    requires { count ≤ 16 }
+    ensures filled { result ≡ filled_up 16 0 (take count row.now) }
+    ensures counted { length (take count row.now) ≡ count }
+{
+    let count = u16::from(count);
+    let mut out = [0; 16];
+    for place in 0..16u16 {
+        let index = usize::from(place);
+        out[index] = select_unpredictable(place < count, row[index], 0);
+    }
     out
 }
 
@@ -23,16 +57,6 @@ pub fn filled_numbers(row: &[u8]) -> [u8; 32]
     ensures { result ≡ filled_up 32 0 row.now }
 {
     let mut out = [0; 32];
-    out[..row.len()].copy_from_slice(row);
-    out
-}
-
-/// The distances, and 0 behind them.
-pub fn filled_distances(row: &[u16]) -> [u16; 16]
-    requires { length row.now ≤ 16 }
-    ensures { result ≡ filled_up 16 0 row.now }
-{
-    let mut out = [0; 16];
     out[..row.len()].copy_from_slice(row);
     out
 }

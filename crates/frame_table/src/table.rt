@@ -10,7 +10,9 @@ ghost use Rattle.dd_layout.specs.Layouts.{layout_of, structures_alone};
 ghost use Rattle.frame_table.specs.Seen.{IsFirst, IsReadBy, IsMaskOf, answer, begun, masked, meant, numbered, said_of, seen_by};
 ghost use Rattle.frame_table.specs.Heads.{HasReferences, head_of, meaning_at, meant_at, number_or_stale, numbered_at, written_or_stale};
 
-use crate::fill::{filled_distances, filled_indications, filled_numbers, filled_pairs};
+use crate::fill::{
+    filled_numbers, filled_pairs, front_distances, front_indications, front_numbers,
+};
 use dd_descriptor::Descriptor;
 use dd_structure::Structure;
 use sfu_base::{Dti, FrameMeaning, Wish};
@@ -215,10 +217,10 @@ impl FrameTable {
             number: first.number,
             spatial: first.spatial,
             temporal: first.temporal,
-            dtis: filled_indications(&first.dtis[..self.target_count as usize]),
-            links: filled_numbers(&first.links[..self.chain_count as usize]),
+            dtis: front_indications(&first.dtis, self.target_count),
+            links: front_numbers(&first.links, self.chain_count),
             ref_count: first.ref_count,
-            refs: filled_distances(&first.refs[..first.ref_count as usize]),
+            refs: front_distances(&first.refs, first.ref_count),
         }
     }
 

@@ -1,0 +1,44 @@
+-- An array whose places are written one by one: in front the items of a row that count, and one value behind them.
+use Rattle.std.proofs.Common.{◌≡◌, inl, inr, ℕ, ◌+◌, ◌-◌, ◌<◌, ◌≤◌, [], ◌∷◌, ◌++◌, List, length, get_or, set, take, drop, replicate}
+use Rattle.std.proofs.Common.{sym, ap, ◌∙◌, arith, length-append}
+use Rattle.std.proofs.lemmas.List.{drop-replicate, get_or-append_right, get_or-replicate, get_or-take, length-drop, length-replicate}
+use Rattle.std.proofs.lemmas.List.{length-take-le, take_more, take_more_set}
+use Rattle.std.specs.Prelude.{nat_lt, if◌then◌else◌}
+use Rattle.std.proofs.lemmas.Bool.{cases_lt, le-ltb, lt-ltb}
+use Rattle.dd_layout.specs.Layouts.{filled_up}
+use Rattle.dd_layout.proofs.Layouts.{at_front}
+
+-- the first so many places of a row, filled up
+abbrev pub front : {A : Type 0} → ℕ → A → ℕ → List A → List A
+front n d count row = filled_up n d (take count row)
+
+front_length : {A : Type 0} (n : ℕ) (d : A) (count : ℕ) (row : List A) → length row ≡ n → count ≤ n → length (front n d count row) ≡ n
+front_length n d count row len few =
+    let xs = take count row in
+    let behind = drop (length xs) (replicate n d) in
+    let taken : length xs ≡ count = length-take-le count row (omega (arith, len)) in
+    omega (arith, length-append xs behind, length-drop (length xs) (replicate n d), length-replicate n d, taken)
+
+-- what is written at a place is what the filled row has there
+placed_item : {A : Type 0} (n : ℕ) (d : A) (count : ℕ) (row : List A) (k : ℕ) (x : A) → length row ≡ n → count ≤ n → k < n
+    → x ≡ (if nat_lt k count then get_or row k d else d) → x ≡ get_or (front n d count row) k d
+placed_item {A = A} n d count row k x len few lt is =
+    let xs = take count row in
+    let taken : length xs ≡ count = length-take-le count row (omega (arith, len)) in
+    elim (cases_lt k count) [
+      | inl own ↦ (rw (lt-ltb k count own) at is) ∙ sym (at_front n d d xs k (omega (arith, own, taken)) ∙ get_or-take count row k d own)
+      | inr over ↦ (rw (le-ltb k count over) at is)
+          ∙ sym (get_or-append_right xs (drop (length xs) (replicate n d)) count k d taken over
+          ∙ (ap (λ (ys : List A). get_or ys (k - count) d) (drop-replicate (length xs) n d)
+          ∙ get_or-replicate (n - length xs) (k - count) d d (omega (arith, taken, over))))
+    ]
+
+-- one place more
+pub front_more : {A : Type 0} (n : ℕ) (d : A) (count : ℕ) (row out : List A) (k : ℕ) (x : A) → length row ≡ n → count ≤ n → length out ≡ n → k < n
+    → take k out ≡ take k (front n d count row) → x ≡ (if nat_lt k count then get_or row k d else d)
+    → take (k + 1) (set out k x) ≡ take (k + 1) (front n d count row)
+front_more {A = A} n d count row out k x len few long lt done is =
+    take_more_set out k x (omega (arith, long))
+    ∙ (ap (λ (ys : List A). ys ++ x ∷ []) done
+    ∙ (ap (λ (y : A). take k (front n d count row) ++ y ∷ []) (placed_item n d count row k x len few lt is)
+    ∙ sym (take_more (front n d count row) k d (omega (arith, front_length n d count row len few)))))
