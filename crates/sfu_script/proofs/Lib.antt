@@ -4,6 +4,7 @@ pub mod Cutting
 pub mod FieldLaws
 pub mod FieldSteps
 pub mod Filled
+pub mod LeadingNumber
 pub mod LineLaws
 pub mod Options
 pub mod Outcomes

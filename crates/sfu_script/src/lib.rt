@@ -23,7 +23,7 @@ pub use laws::{
 };
 pub use line_reader::LineReader;
 pub use lines::{NoLine, read_call};
-pub use packet_line::read_packet;
+pub use packet_line::{PacketReader, read_packet};
 pub use ports::{PortLine, PortRole, read_port};
 pub use script_texts::{
     Actors, Calls, Entry, Journal, add_fault, add_record_fault, add_reply, wants_memory,

@@ -6,11 +6,9 @@ ghost use Rattle.script_texts.specs.Lines.{IsLine};
 ghost use Rattle.sfu_script.specs.ReadLines.{call_of, packet_of, subscriber_call_of, track_call_of};
 
 use crate::commands::{SubscriberCommand, TrackCommand};
-use crate::fields::Field::{Number32, Number64};
-use crate::fields::read_fields;
 use crate::hex_text::{MOST_BYTES, decode};
 use crate::lines::packet;
-use crate::words::number32;
+use crate::words::{leading32, number32, number64};
 use crate::{NoLine, read_call};
 use sfu_base::{Call, PacketBuf};
 
@@ -86,10 +84,11 @@ impl LineReader {
         ensures { MatchResult result (λ _. track_call_of TrackCommand.Tick rest.now ≡ Some self.new.tick) (λ _. track_call_of TrackCommand.Tick rest.now
             ≡ None) }
     {
-        let [number, time] = read_fields(&[Number32, Number64], rest)?;
+        let (number, rest) = leading32(rest)?;
+        let time = number64(rest)?;
         match &mut self.tick {
             Call::Tick { track, moment } => {
-                *track = number as u32;
+                *track = number;
                 *moment = time;
                 Ok(())
             }

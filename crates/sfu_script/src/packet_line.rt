@@ -7,6 +7,40 @@ use crate::NoLine;
 use crate::hex_text::{MOST_BYTES, decode};
 use sfu_base::PacketBuf;
 
+/// Reads lines that are packets one after another, as [`read_packet`] does, and keeps the room in which their digits are read.
+#[derive(Debug, Drop)]
+pub struct PacketReader {
+    room: [u8; MOST_BYTES],
+}
+
+impl PacketReader {
+    /// A reader that has read no line.
+    pub fn new() -> PacketReader {
+        PacketReader {
+            room: [0; MOST_BYTES],
+        }
+    }
+
+    /// Fills the buffer with the 1 to 2,048 bytes that a line is in hex digits. `NoLine` exactly when the line is none such; the buffer is as
+    /// before then. Takes no memory.
+    pub fn read(&mut self, line: &[u8], out: &mut PacketBuf) -> Result<(), NoLine>
+        ensures value { MatchResult result (λ _. bytes_of line.now ≡ Some out.new) (λ _. bytes_of line.now ≡ None) }
+        ensures ok { OnOk result (Fills (Hex out.new) line.now) }
+        ensures none { OnErr result ((bytes : List ℕ) → ¬ (Fills (Hex bytes) line.now)) }
+        ensures err { OnErr result (out.new ≡ out.old) }
+    {
+        let count = decode(line, &mut self.room)?;
+        out.fill(&self.room[..count]);
+        Ok(())
+    }
+}
+
+impl Default for PacketReader {
+    fn default() -> PacketReader {
+        PacketReader::new()
+    }
+}
+
 /// Fills the buffer with the 1 to 2,048 bytes that a line is in hex digits. `NoLine` exactly when the line is none such; the buffer is as
 /// before then. Takes no memory.
 pub fn read_packet(line: &[u8], out: &mut PacketBuf) -> Result<(), NoLine>
@@ -15,8 +49,5 @@ pub fn read_packet(line: &[u8], out: &mut PacketBuf) -> Result<(), NoLine>
     ensures none { OnErr result ((bytes : List ℕ) → ¬ (Fills (Hex bytes) line.now)) }
     ensures err { OnErr result (out.new ≡ out.old) }
 {
-    let mut room = [0; MOST_BYTES];
-    let count = decode(line, &mut room)?;
-    out.fill(&room[..count]);
-    Ok(())
+    PacketReader::new().read(line, out)
 }

@@ -79,7 +79,7 @@ fn numbers(call: &Call) -> [u64; 7] {
 }
 
 // The lines of the grammar, each with its call. Numbers stand at 0 and at the end of their type.
-const LINES: [(&[u8], [u64; 7]); 31] = [
+const LINES: [(&[u8], [u64; 7]); 33] = [
     (
         b"publish 1 plain 11111111 100",
         [1, 1, 286331153, 100, 0, 0, 0],
@@ -104,6 +104,14 @@ const LINES: [(&[u8], [u64; 7]); 31] = [
         [4, 1, 0, 14, 128, 187, 0],
     ),
     (b"packet 0 0 00", [4, 0, 0, 1, 0, 0, 0]),
+    (
+        b"packet 10 999999999999999999 00",
+        [4, 10, 999999999999999999, 1, 0, 0, 0],
+    ),
+    (
+        b"packet 9 9999999999999999999 00",
+        [4, 9, 9999999999999999999, 1, 0, 0, 0],
+    ),
     (
         b"packet 4294967295 18446744073709551615 abcdef",
         [4, 4294967295, 18446744073709551615, 3, 171, 239, 0],
@@ -147,7 +155,7 @@ const LINES: [(&[u8], [u64; 7]); 31] = [
 ];
 
 // Lines outside the grammar.
-const OUTSIDE: [&[u8]; 86] = [
+const OUTSIDE: [&[u8]; 91] = [
     b"",
     b" ",
     b"#",
@@ -206,6 +214,11 @@ const OUTSIDE: [&[u8]; 86] = [
     b"packet 1 0 00 ",
     b"packet 1 0 00 00",
     b"packet 1 00 00",
+    b"packet 01 0 00",
+    b"packet 1 01 00",
+    b"packet  0 00",
+    b"packet 1  00",
+    b"packet 1 1a 00",
     b"packet 4294967296 0 00",
     b"packet 1 18446744073709551616 00",
     b"tick 1",

@@ -1,9 +1,9 @@
 // The words of a line from the left.
-ghost use Rattle.std.specs.Prelude.{◌≡◌, ◌^◌, ◌&&◌, if◌then◌else◌, nat_lt, MatchResult, None, Some};
+ghost use Rattle.std.specs.Prelude.{◌≡◌, ◌≤◌, ◌^◌, ◌&&◌, if◌then◌else◌, length, nat_lt, IfSome, MatchResult, None, Some};
 ghost use Rattle.std.specs.Result.{result_ok};
 ghost use Rattle.std.specs.Str.{all_ascii_digits};
 ghost use Rattle.std.specs.Str.Parse.{digits_value};
-ghost use Rattle.sfu_script.specs.Reading.{cut, cut_at, number_of, ssrc_of};
+ghost use Rattle.sfu_script.specs.Reading.{cut, cut_at, field, number_of, ssrc_of};
 
 use crate::NoLine;
 
@@ -27,10 +27,28 @@ pub fn split(text: &[u8]) -> Result<(&[u8], &[u8]), NoLine>
     split_at(text, b' ')
 }
 
+// The number that at most 19 digits are, which fits whatever they are.
+fn short_decimal(word: &[u8]) -> Option<u64>
+    requires { length word.now ≤ 19 }
+    ensures { result ≡ (if all_ascii_digits word.now && nat_lt (digits_value 10 word.now) (2 ^ 64) then Some (digits_value 10 word.now) else None) }
+{
+    let mut number = 0u64;
+    for byte in word {
+        if !byte.is_ascii_digit() {
+            return None;
+        }
+        number = number * 10 + u64::from(*byte - b'0');
+    }
+    Some(number)
+}
+
 // The number that digits are, where it fits.
 fn decimal(word: &[u8]) -> Option<u64>
     ensures { result ≡ (if all_ascii_digits word.now && nat_lt (digits_value 10 word.now) (2 ^ 64) then Some (digits_value 10 word.now) else None) }
 {
+    if word.len() <= 19 {
+        return short_decimal(word);
+    }
     let mut number = 0u64;
     for byte in word {
         if !byte.is_ascii_digit() {
@@ -75,6 +93,64 @@ pub fn number8(word: &[u8]) -> Result<u8, NoLine>
     ensures { result_ok result ≡ number_of 8 word.now }
 {
     u8::try_from(number64(word)?).ok().ok_or(NoLine)
+}
+
+// The number before the first space and what stands behind it, where the space is among the first 19 bytes: each byte is read once, and no sum
+// is checked. `None` says nothing of the text.
+#[inline(always)]
+fn short_leading(text: &[u8]) -> Option<(u64, &[u8])>
+    ensures { IfSome result (λ x. field (number_of 64) text.now ≡ Some (x.0, x.1.now)) }
+{
+    let [first, ..] = text else {
+        return None;
+    };
+    if !first.is_ascii_digit() {
+        return None;
+    }
+    let mut number = u64::from(*first - b'0');
+    for i in 1..text.len().min(19) {
+        let byte = text[i];
+        if !byte.is_ascii_digit() {
+            if byte == b' ' && (*first != b'0' || i == 1) {
+                return Some((number, &text[i + 1..]));
+            }
+            return None;
+        }
+        number = number * 10 + u64::from(byte - b'0');
+    }
+    None
+}
+
+// As `leading64`, of numbers of any length. Apart, so that its callers hold the code of the others alone.
+#[inline(never)]
+fn any_leading(text: &[u8]) -> Result<(u64, &[u8]), NoLine>
+    ensures { MatchResult result (λ x. field (number_of 64) text.now ≡ Some (x.0, x.1.now)) (λ _. field (number_of 64) text.now ≡ None) }
+{
+    let (word, rest) = split(text)?;
+    Ok((number64(word)?, rest))
+}
+
+/// The number that the word before the first space is, as `number64`, and what stands behind the space.
+#[inline(always)]
+pub fn leading64(text: &[u8]) -> Result<(u64, &[u8]), NoLine>
+    ensures { MatchResult result (λ x. field (number_of 64) text.now ≡ Some (x.0, x.1.now)) (λ _. field (number_of 64) text.now ≡ None) }
+{
+    if let Some(read) = short_leading(text) {
+        return Ok(read);
+    }
+    any_leading(text)
+}
+
+/// As `leading64`, of at most 32 bits.
+#[inline(always)]
+pub fn leading32(text: &[u8]) -> Result<(u32, &[u8]), NoLine>
+    ensures { MatchResult result (λ x. field (number_of 32) text.now ≡ Some (x.0, x.1.now)) (λ _. field (number_of 32) text.now ≡ None) }
+{
+    let (number, rest) = leading64(text)?;
+    match u32::try_from(number) {
+        Ok(number) => Ok((number, rest)),
+        Err(_) => Err(NoLine),
+    }
 }
 
 /// The number that eight hex digits are.

@@ -5,18 +5,17 @@ ghost use Rattle.sfu_script.specs.ReadLines.{packet_head_of, packet_of};
 
 use crate::NoLine;
 use crate::hex_text::{MOST_BYTES, decode};
-use crate::words::{number32, number64, split};
+use crate::words::{leading32, leading64};
 use sfu_base::{Call, PacketBuf};
 
 /// The track, the moment, and what stands behind them.
 #[tactic(auto, unfolding(crate::specs::ReadLines::packet_head_of))]
+#[inline(always)]
 pub fn head(rest: &[u8]) -> Result<(u32, u64, &[u8]), NoLine>
     ensures { MatchResult result (λ head. packet_head_of rest.now ≡ Some (head.0, head.1, head.2.now)) (λ _. packet_head_of rest.now ≡ None) }
 {
-    let (word, rest) = split(rest)?;
-    let track = number32(word)?;
-    let (word, rest) = split(rest)?;
-    let moment = number64(word)?;
+    let (track, rest) = leading32(rest)?;
+    let (moment, rest) = leading64(rest)?;
     Ok((track, moment, rest))
 }
 

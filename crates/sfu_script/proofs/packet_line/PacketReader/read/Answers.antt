@@ -4,7 +4,7 @@ use Rattle.script_texts.specs.Grammar.{Fills, Hex}
 use Rattle.sfu_script.specs.Reading.{bytes_of}
 use Rattle.sfu_script.proofs.Filled.{bytes_found, bytes_again}
 use Rattle.sfu_script.proofs.Outcomes.{nothing}
-use Rattle.sfu_script.proofs.packet_line.read_packet.Goals as goal
+use Rattle.sfu_script.proofs.packet_line.PacketReader.read.Goals as goal
 
 on_err : {A E : Type 0} (r : Result A E) (P : Type 0) → P → OnErr r P
 on_err (Ok x) P h = tt
