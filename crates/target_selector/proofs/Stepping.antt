@@ -1,13 +1,14 @@
 -- From what a selector keeps to the standings that it stands for.
 use Rattle.std.proofs.Common.{◌≡◌, ◌<◌, ℕ, Bool, true, false, ◌||◌, List, [], ◌∷◌, cond, ap, subst, refl, sym, ◌∙◌}
 use Rattle.std.specs.List.{AllByRecursion}
+use Rattle.std.specs.declared.option.Option.{Option}
 use Rattle.std.specs.declared.option.Option.TheVariants.{Some}
 use Rattle.std.proofs.lemmas.Bool.{false_from_ne_true}
 use Rattle.sfu_base.specs.Frame.{IsDistance, IsValid}
 use Rattle.sfu_base.specs.declared.frame.FrameMeaning.{FrameMeaning}
 use Rattle.sfu_base.specs.declared.frame.Wish.{Wish}
 use Rattle.sfu_base.specs.declared.frame.Verdict.{Verdict}
-use Rattle.sfu_base.specs.declared.frame.Verdict.TheVariants.{Passed}
+use Rattle.sfu_base.specs.declared.frame.Verdict.TheVariants.{NotOfTarget, Passed}
 use Rattle.forwarding_model.specs.declared.target.CurrentTarget.{CurrentTarget}
 use Rattle.forwarding_model.specs.Lists.{first_failing, is_nothing}
 use Rattle.forwarding_model.specs.forwarding.Targets.{best, references}
@@ -21,7 +22,7 @@ use Rattle.ref_window.proofs.Forgetting.{forgets_for_good, above_all_held}
 use Rattle.chain_state.specs.Links.{numbers_of}
 use Rattle.chain_state.proofs.Agreeing.{window_answers}
 use Rattle.target_selector.specs.Seen.{Seen}
-use Rattle.target_selector.specs.Shared.{GoesOn}
+use Rattle.target_selector.specs.Shared.{Stays}
 use Rattle.target_selector.specs.Stands.{StandsFor, StandsAt, IsAboveAll, is_something, is_opening_at}
 
 -- ---- numbers
@@ -118,13 +119,16 @@ is_decided x s f packets queued kept chosen opens v valid at above room by_windo
         ∙ ap (λ k. g s.wish k x.target) at.key_passed
         ∙ ap (λ t. g s.wish (key_passed s f) t) at.target
 
--- the same of a frame that opens nothing
-pub going_decided : (x : Seen) (s : Standing) (f : FrameMeaning) (packets queued : ℕ) (top : Bool)
-    → IsValid f → StandsAt x s f → IsAboveAll f s → s.queued ≡ queued → GoesOn x.numbers x.wish x.key_passed f x.target queued packets top
-    → IsDecided s f packets x.target x.target false Passed
-going_decided x s f packets queued top valid at above room g =
-    is_decided x s f packets queued x.target x.target false Passed valid at above room g.kept
+-- the same of a frame that leaves the target as it is
+pub staying_decided : (x : Seen) (s : Standing) (f : FrameMeaning) (packets queued : ℕ) (v : Verdict)
+    → IsValid f → StandsAt x s f → IsAboveAll f s → s.queued ≡ queued → Stays x.numbers x.wish x.key_passed f x.target queued packets v
+    → IsDecided s f packets x.target x.target false v
+staying_decided x s f packets queued v valid at above room g =
+    is_decided x s f packets queued x.target x.target false v valid at above room g.kept
     (g.kept_stands (passed_at s f) at.numbers (above_at f s above)) g.candidate_is g.opens g.judged
+
+pub other_verdict : (target : Option ℕ) → NotOfTarget target ≡ Passed → ⊥
+other_verdict target e = cc
 
 pub passes_where : (s : Standing) (f : FrameMeaning) (packets : ℕ) → verdict_at s f packets ≡ Passed → passes_at s f packets ≡ true
 passes_where s f packets h = passes_from_verdict (has_passed s f) (key_passed s f) s.wish f (target_at s f) s.queued packets h

@@ -3,6 +3,8 @@ ghost use Rattle.std.specs.Prelude.{◌≡◌, ◌≤◌, ◌<◌, ◌||◌, ◌
 ghost use Rattle.sfu_base.specs.Frame.{IsValid};
 ghost use Rattle.forwarding_model.specs.forwarding.Selection.{can_open};
 ghost use Rattle.forwarding_model.specs.forwarding.Targets.{aim, best, better_one, is_allowed, is_present, is_switch};
+ghost use Rattle.forwarding_model.specs.declared.target.CurrentTarget.TheVariants.{Open};
+ghost use Rattle.target_selector.specs.Stands.{is_something};
 ghost use Rattle.target_selector.specs.Targets.{IsBelow, IsIndexBelow, allowed_one};
 
 use crate::targets::{TARGETS, beats, is_allowed, is_present, is_switch};
@@ -31,6 +33,42 @@ pub fn opening(
     }
 }
 
+/// Whether the frame opens a target in place of the open one with this index. `complete` is whether all its references were passed.
+#[inline(always)]
+#[tactic(auto, using(crate::proofs::Bests::opening_where))]
+pub fn opens_another(
+    complete: bool,
+    key_passed: bool,
+    wish: Wish,
+    frame: &FrameMeaning,
+    index: u8,
+) -> bool
+    requires valid { IsValid frame.now }
+    requires index { index < 32 }
+    ensures { result ≡ is_something (best frame.now (can_open wish complete (frame.now.key || key_passed) frame.now (Open index 0))) }
+{
+    let keyed = frame.key || key_passed;
+    if complete && keyed {
+        another_begins(wish, frame, index)
+    } else {
+        false
+    }
+}
+
+// The same of a frame whose references were all passed, in an epoch whose key frame was passed.
+#[inline(always)]
+fn another_begins(wish: Wish, frame: &FrameMeaning, index: u8) -> bool
+    requires valid { IsValid frame.now }
+    requires index { index < 32 }
+    ensures { result ≡ is_something (best frame.now (can_open wish true true frame.now (Open index 0))) }
+{
+    if begins_some(frame) {
+        best_of_targets(wish, frame, CurrentTarget::Open { index, opened: 0 }).is_some()
+    } else {
+        false
+    }
+}
+
 // A frame that isn't a switch for any target, and no key frame, is left at once.
 fn best_opening(wish: Wish, frame: &FrameMeaning, current: CurrentTarget) -> Option<u8>
     requires valid { IsValid frame.now }
@@ -46,6 +84,7 @@ fn best_opening(wish: Wish, frame: &FrameMeaning, current: CurrentTarget) -> Opt
 }
 
 // Whether the frame is a key frame, or a switch for a target. All places are looked at, so that the compiler compares many at once.
+#[inline(always)]
 fn begins_some(frame: &FrameMeaning) -> bool
     ensures { (target : ℕ) → target < 32 → result ≡ false → (is_switch frame.now target || (frame.now.key && is_present frame.now target)) ≡ false }
 {

@@ -14,7 +14,7 @@ ghost use Rattle.target_selector.specs.Shared.{IsSharedOn};
 ghost use Rattle.target_selector.specs.Stands.{IsAboveAll, StandsAt, StandsFor, is_opening_at};
 ghost use Rattle.target_selector.specs.Targets.{IsBelow, IsIndexBelow};
 
-use crate::decision::{Decision, decide, goes_on};
+use crate::decision::{Decision, Stay, decide, stays};
 use crate::frame_targets::FrameTargets;
 use crate::opening::aim;
 use crate::shared_decision::SharedDecision;
@@ -163,7 +163,7 @@ impl Selector {
         ensures shared { IsSharedOn frame.now shared.new }
     {
         self.begin_epoch(frame);
-        if let Some(top) = goes_on(
+        match stays(
             self.wish,
             self.target,
             self.key_passed,
@@ -173,24 +173,18 @@ impl Selector {
             queued,
             shared,
         ) {
-            self.go_on(frame, top);
-            return Verdict::Passed;
+            Stay::Passes => {
+                self.go_on(frame);
+                Verdict::Passed
+            }
+            Stay::NotOfTarget => {
+                self.stay_behind();
+                Verdict::NotOfTarget {
+                    target: self.target(),
+                }
+            }
+            Stay::Undecided => self.decide(frame, packets, queued),
         }
-        let decision = decide(
-            self.wish,
-            self.target,
-            self.key_passed,
-            &self.passed,
-            frame,
-            packets,
-            queued,
-            shared,
-        );
-        match decision.verdict {
-            Verdict::Passed => self.pass(frame, &decision),
-            _ => self.withhold(&decision),
-        }
-        decision.verdict
     }
 
     /// Whether the frame that was just passed has the spatial id of its target's layers, so that its last packet ends the temporal unit.
@@ -228,21 +222,63 @@ impl Selector {
         self.passed.reset();
     }
 
+    // The verdict on a frame of the epoch, by all rules. Apart, since few frames close or open a target.
+    #[inline(never)]
+    fn decide(&mut self, frame: &FrameMeaning, packets: u16, queued: u16) -> Verdict
+        requires { IsValid frame.now }
+        ensures verdict { (s : Standing) → StandsAt self.old s frame.now → IsAboveAll frame.now s → s.queued ≡ queued
+            → result ≡ verdict_at s frame.now packets }
+        ensures stands { (s : Standing) → StandsAt self.old s frame.now → IsAboveAll frame.now s → s.queued ≡ queued
+            → StandsFor self.new (after_frame s frame.now packets) }
+        ensures room { result ≡ Passed → queued + packets ≤ 512 }
+        ensures top { (s : Standing) → StandsAt self.old s frame.now → IsAboveAll frame.now s → s.queued ≡ queued → result ≡ Passed
+            → self.new.top ≡ is_top_layer frame.now (candidate_at s frame.now) }
+        ensures opened { (s : Standing) → StandsAt self.old s frame.now → IsAboveAll frame.now s → s.queued ≡ queued → result ≡ Passed
+            → self.new.opened ≡ is_opening_at s frame.now }
+        ensures not_top { (result ≡ Passed → ⊥) → self.new.top ≡ false }
+        ensures not_opened { (result ≡ Passed → ⊥) → self.new.opened ≡ false }
+        ensures newest { self.new.newest ≡ self.old.newest }
+    {
+        let decision = decide(
+            self.wish,
+            self.target,
+            self.key_passed,
+            &self.passed,
+            frame,
+            packets,
+            queued,
+        );
+        match decision.verdict {
+            Verdict::Passed => self.pass(frame, &decision),
+            _ => self.withhold(&decision),
+        }
+        decision.verdict
+    }
+
     // The frame passes, and the target stays open.
     #[inline(always)]
-    fn go_on(&mut self, frame: &FrameMeaning, top: bool)
+    fn go_on(&mut self, frame: &FrameMeaning)
         ensures wish { self.new.wish ≡ self.old.wish }
         ensures epoch { self.new.epoch ≡ self.old.epoch }
         ensures target { self.new.target ≡ self.old.target }
         ensures key_passed { self.new.key_passed ≡ (frame.now.key || self.old.key_passed) }
         ensures numbers { IsAboveAllNumbers frame.now.number self.old.numbers → self.new.numbers ≡ held_of (frame.now.number ∷ self.old.numbers) }
-        ensures top { self.new.top ≡ top }
+        ensures top { self.new.top ≡ is_top_layer frame.now self.old.target }
         ensures opened { self.new.opened ≡ false }
         ensures newest { self.new.newest ≡ self.old.newest }
     {
         self.key_passed |= frame.key;
         self.passed.insert(frame.number);
-        self.top = top;
+        self.top = is_top_layer(frame, self.target);
+        self.opened = false;
+    }
+
+    // The frame doesn't pass, and the target stays as it is.
+    #[inline(always)]
+    fn stay_behind(&mut self)
+        ensures { self.new ≡ record self.old { top = false; opened = false } }
+    {
+        self.top = false;
         self.opened = false;
     }
 

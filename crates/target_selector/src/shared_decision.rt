@@ -1,18 +1,16 @@
 // What is found for one subscriber of a frame, and holds for each of the same standing. Own rules.
 ghost use Rattle.std.specs.Prelude.{◌≡◌, true};
 ghost use Rattle.sfu_base.specs.declared.frame.FrameMeaning.{FrameMeaning as Frame};
-ghost use Rattle.target_selector.specs.Shared.{IsGoingOn, IsGoingOnIf, IsSharedOn};
+ghost use Rattle.target_selector.specs.Shared.{IsGoingOn, IsSharedOn};
 
 use sfu_base::Wish;
 
-// The standing of a subscriber whose target a frame leaves open and belongs to, and whether the frame has the spatial id of the target's layers.
+// The standing of a subscriber whose target a frame leaves open and belongs to.
 #[derive(Clone, Copy, Debug)]
 struct Remembered {
     wish: Wish,
     key_passed: bool,
     index: u8,
-    opened: u64,
-    top: bool,
 }
 
 /// For which standing a frame whose references were all passed opens nothing, and belongs to the open target. It belongs to one frame, and is made
@@ -30,42 +28,37 @@ impl SharedDecision {
         SharedDecision { remembered: None }
     }
 
-    /// Where nothing opens for this standing, whether the frame has the spatial id of the target's layers. `None` where that wasn't found.
+    /// Whether it was found that nothing opens for this standing, and that the frame belongs to its target.
     #[inline(always)]
-    pub fn find(&self, wish: Wish, key_passed: bool, index: u8, opened: u64) -> Option<bool>
-        ensures { (f : Frame) → IsSharedOn f self.now → IsGoingOnIf f wish key_passed index opened result }
+    pub fn has(&self, wish: Wish, key_passed: bool, index: u8) -> bool
+        ensures { (f : Frame) → IsSharedOn f self.now → result ≡ true → IsGoingOn f wish key_passed index }
     {
-        let remembered = self.remembered.as_ref()?;
-        if !is_of(remembered, wish, key_passed, index, opened) {
-            return None;
+        match &self.remembered {
+            Some(remembered) => is_of(remembered, wish, key_passed, index),
+            None => false,
         }
-        Some(remembered.top)
     }
 
-    /// Remembers that nothing opens for this standing.
-    pub fn remember(&mut self, wish: Wish, key_passed: bool, index: u8, opened: u64, top: bool)
-        ensures { (f : Frame) → IsSharedOn f self.old → IsGoingOn f wish key_passed index opened top → IsSharedOn f self.new }
+    /// Remembers that nothing opens for this standing, and that the frame belongs to its target.
+    pub fn remember(&mut self, wish: Wish, key_passed: bool, index: u8)
+        ensures { (f : Frame) → IsSharedOn f self.old → IsGoingOn f wish key_passed index → IsSharedOn f self.new }
     {
         self.remembered = Some(Remembered {
             wish,
             key_passed,
             index,
-            opened,
-            top,
         });
     }
 }
 
 // Whether it was found for this standing.
 #[inline(always)]
-fn is_of(remembered: &Remembered, wish: Wish, key_passed: bool, index: u8, opened: u64) -> bool
+fn is_of(remembered: &Remembered, wish: Wish, key_passed: bool, index: u8) -> bool
     ensures wish { result ≡ true → remembered.now.wish ≡ wish }
     ensures key_passed { result ≡ true → remembered.now.key_passed ≡ key_passed }
     ensures index { result ≡ true → remembered.now.index ≡ index }
-    ensures opened { result ≡ true → remembered.now.opened ≡ opened }
 {
-    remembered.opened == opened
-        && remembered.index == index
+    remembered.index == index
         && remembered.key_passed == key_passed
         && remembered.wish.spatial == wish.spatial
         && remembered.wish.temporal == wish.temporal

@@ -1,104 +1,50 @@
 use Rattle.std.proofs.Common.{sym, subst, ap, ◌∙◌}
+use Rattle.sfu_base.specs.declared.frame.Verdict.TheVariants.{NotOfTarget, Passed}
 use Rattle.forwarding_model.specs.forwarding.Outgoing.{is_top_layer}
-use Rattle.forwarding_model.specs.forwarding.Standing.{passed_at}
+use Rattle.forwarding_model.specs.forwarding.Selection.{open_target}
 use Rattle.target_selector.specs.Seen.{Seen}
 use Rattle.target_selector.specs.Stands.{StandsAt}
-use Rattle.target_selector.proofs.Stepping.{IsDecided, going_decided, is_decided, above_at, passes_where, fails_where, stands_passed, stands_withheld}
+use Rattle.target_selector.proofs.Stepping.{staying_decided, passes_where, fails_where, stands_passed, stands_withheld, other_verdict}
 use Rattle.target_selector.proofs.selector.Selector.admit_shared.Goals as goal
 
-pub returns-in-Some-clause-verdict : goal.returns-in-Some-clause-verdict
-returns-in-Some-clause-verdict c = λ s h above room.
+pub returns-in-Passes-clause-verdict : goal.returns-in-Passes-clause-verdict
+returns-in-Passes-clause-verdict c = λ s h above room.
     let at = subst (λ (x : Seen). StandsAt x s c.args.frame.now) (sym c.self.view_is) (c.begin_epoch.ensures.stands s h) in
-    (going_decided _ s c.args.frame.now c.args.packets c.args.queued c.in-Some.top c.requires.valid at above room c.in-Some.ensures).verdict
+    (staying_decided _ s c.args.frame.now c.args.packets c.args.queued Passed c.requires.valid at above room (c.stays.ensures.passes c.in-Passes.is)).verdict
 
-pub returns-in-Some-clause-stands : goal.returns-in-Some-clause-stands
-returns-in-Some-clause-stands c = λ s h above room.
+pub returns-in-Passes-clause-stands : goal.returns-in-Passes-clause-stands
+returns-in-Passes-clause-stands c = λ s h above room.
     let at = subst (λ (x : Seen). StandsAt x s c.args.frame.now) (sym c.self.view_is) (c.begin_epoch.ensures.stands s h) in
-    let d = going_decided _ s c.args.frame.now c.args.packets c.args.queued c.in-Some.top c.requires.valid at above room c.in-Some.ensures in
+    let d = staying_decided _ s c.args.frame.now c.args.packets c.args.queued Passed c.requires.valid at above room (c.stays.ensures.passes c.in-Passes.is) in
     stands_passed c.begin_epoch.new.self c.go_on.new.self s c.args.frame.now c.args.packets (c.begin_epoch.ensures.stands s h) above
     (passes_where s c.args.frame.now c.args.packets (sym d.verdict)) c.go_on.ensures.wish c.go_on.ensures.epoch
     (c.go_on.ensures.target ∙ ap (λ (x : Seen). x.target) (sym c.self.view_is) ∙ d.chosen) c.go_on.ensures.key_passed c.go_on.ensures.numbers
 
-pub returns-in-Some-clause-top : goal.returns-in-Some-clause-top
-returns-in-Some-clause-top c = λ s h above room passed.
+pub returns-in-Passes-clause-top : goal.returns-in-Passes-clause-top
+returns-in-Passes-clause-top c = λ s h above room passed.
     let at = subst (λ (x : Seen). StandsAt x s c.args.frame.now) (sym c.self.view_is) (c.begin_epoch.ensures.stands s h) in
-    let d = going_decided _ s c.args.frame.now c.args.packets c.args.queued c.in-Some.top c.requires.valid at above room c.in-Some.ensures in
-    c.go_on.ensures.top ∙ c.in-Some.ensures.top_is ∙ ap (λ t. is_top_layer c.args.frame.now t) d.chosen
+    let d = staying_decided _ s c.args.frame.now c.args.packets c.args.queued Passed c.requires.valid at above room (c.stays.ensures.passes c.in-Passes.is) in
+    c.go_on.ensures.top ∙ ap (λ t. is_top_layer c.args.frame.now t) (ap (λ (x : Seen). x.target) (sym c.self.view_is) ∙ d.chosen)
 
-pub returns-in-Some-clause-opened : goal.returns-in-Some-clause-opened
-returns-in-Some-clause-opened c = λ s h above room passed.
+pub returns-in-Passes-clause-opened : goal.returns-in-Passes-clause-opened
+returns-in-Passes-clause-opened c = λ s h above room passed.
     let at = subst (λ (x : Seen). StandsAt x s c.args.frame.now) (sym c.self.view_is) (c.begin_epoch.ensures.stands s h) in
-    let d = going_decided _ s c.args.frame.now c.args.packets c.args.queued c.in-Some.top c.requires.valid at above room c.in-Some.ensures in
+    let d = staying_decided _ s c.args.frame.now c.args.packets c.args.queued Passed c.requires.valid at above room (c.stays.ensures.passes c.in-Passes.is) in
     c.go_on.ensures.opened ∙ d.opens
 
-pub returns-in-Passed-clause-verdict : goal.returns-in-Passed-clause-verdict
-returns-in-Passed-clause-verdict c = λ s h above room.
+pub returns-in-NotOfTarget-clause-verdict : goal.returns-in-NotOfTarget-clause-verdict
+returns-in-NotOfTarget-clause-verdict c = λ s h above room.
     let at = subst (λ (x : Seen). StandsAt x s c.args.frame.now) (sym c.self.view_is) (c.begin_epoch.ensures.stands s h) in
-    let d : IsDecided s c.args.frame.now c.args.packets c.decide-decision.result.kept c.decide-decision.result.candidate c.decide-decision.result.opens c.decide-decision.result.verdict
-    = is_decided _ s c.args.frame.now c.args.packets c.args.queued c.decide-decision.result.kept c.decide-decision.result.candidate c.decide-decision.result.opens c.decide-decision.result.verdict
-    c.requires.valid at above room c.decide-decision.ensures.kept
-    (c.decide-decision.ensures.kept_stands (passed_at s c.args.frame.now) at.numbers (above_at c.args.frame.now s above))
-    c.decide-decision.ensures.candidate c.decide-decision.ensures.opens c.decide-decision.ensures.verdict in
-    d.verdict
+    let d = staying_decided _ s c.args.frame.now c.args.packets c.args.queued (NotOfTarget (open_target c.self.inside.target)) c.requires.valid at above room (c.stays.ensures.not_of c.in-NotOfTarget.is) in
+    ap NotOfTarget (c.target.ensures.target ∙ ap (λ (x : Seen). open_target x.target) c.stay_behind.ensures ∙ ap (λ (x : Seen). open_target x.target) (sym c.self.view_is))
+    ∙ d.verdict
 
-pub returns-in-Passed-clause-stands : goal.returns-in-Passed-clause-stands
-returns-in-Passed-clause-stands c = λ s h above room.
+pub returns-in-NotOfTarget-clause-stands : goal.returns-in-NotOfTarget-clause-stands
+returns-in-NotOfTarget-clause-stands c = λ s h above room.
     let at = subst (λ (x : Seen). StandsAt x s c.args.frame.now) (sym c.self.view_is) (c.begin_epoch.ensures.stands s h) in
-    let d : IsDecided s c.args.frame.now c.args.packets c.decide-decision.result.kept c.decide-decision.result.candidate c.decide-decision.result.opens c.decide-decision.result.verdict
-    = is_decided _ s c.args.frame.now c.args.packets c.args.queued c.decide-decision.result.kept c.decide-decision.result.candidate c.decide-decision.result.opens c.decide-decision.result.verdict
-    c.requires.valid at above room c.decide-decision.ensures.kept
-    (c.decide-decision.ensures.kept_stands (passed_at s c.args.frame.now) at.numbers (above_at c.args.frame.now s above))
-    c.decide-decision.ensures.candidate c.decide-decision.ensures.opens c.decide-decision.ensures.verdict in
-    stands_passed c.begin_epoch.new.self c.pass.new.self s c.args.frame.now c.args.packets (c.begin_epoch.ensures.stands s h) above
-    (passes_where s c.args.frame.now c.args.packets (sym d.verdict ∙ c.in-Passed.is)) c.pass.ensures.wish c.pass.ensures.epoch
-    (c.pass.ensures.target ∙ d.chosen) c.pass.ensures.key_passed c.pass.ensures.numbers
-
-pub returns-in-Passed-clause-top : goal.returns-in-Passed-clause-top
-returns-in-Passed-clause-top c = λ s h above room passed.
-    let at = subst (λ (x : Seen). StandsAt x s c.args.frame.now) (sym c.self.view_is) (c.begin_epoch.ensures.stands s h) in
-    let d : IsDecided s c.args.frame.now c.args.packets c.decide-decision.result.kept c.decide-decision.result.candidate c.decide-decision.result.opens c.decide-decision.result.verdict
-    = is_decided _ s c.args.frame.now c.args.packets c.args.queued c.decide-decision.result.kept c.decide-decision.result.candidate c.decide-decision.result.opens c.decide-decision.result.verdict
-    c.requires.valid at above room c.decide-decision.ensures.kept
-    (c.decide-decision.ensures.kept_stands (passed_at s c.args.frame.now) at.numbers (above_at c.args.frame.now s above))
-    c.decide-decision.ensures.candidate c.decide-decision.ensures.opens c.decide-decision.ensures.verdict in
-    c.pass.ensures.top ∙ ap (λ t. is_top_layer c.args.frame.now t) d.chosen
-
-pub returns-in-Passed-clause-opened : goal.returns-in-Passed-clause-opened
-returns-in-Passed-clause-opened c = λ s h above room passed.
-    let at = subst (λ (x : Seen). StandsAt x s c.args.frame.now) (sym c.self.view_is) (c.begin_epoch.ensures.stands s h) in
-    let d : IsDecided s c.args.frame.now c.args.packets c.decide-decision.result.kept c.decide-decision.result.candidate c.decide-decision.result.opens c.decide-decision.result.verdict
-    = is_decided _ s c.args.frame.now c.args.packets c.args.queued c.decide-decision.result.kept c.decide-decision.result.candidate c.decide-decision.result.opens c.decide-decision.result.verdict
-    c.requires.valid at above room c.decide-decision.ensures.kept
-    (c.decide-decision.ensures.kept_stands (passed_at s c.args.frame.now) at.numbers (above_at c.args.frame.now s above))
-    c.decide-decision.ensures.candidate c.decide-decision.ensures.opens c.decide-decision.ensures.verdict in
-    c.pass.ensures.opened ∙ d.opens
-
-pub returns-in_default-verdict : goal.returns-in_default-verdict
-returns-in_default-verdict c = record {
-  verdict = λ s h above room.
-      let at = subst (λ (x : Seen). StandsAt x s c.args.frame.now) (sym c.self.view_is) (c.begin_epoch.ensures.stands s h) in
-      let d : IsDecided s c.args.frame.now c.args.packets c.decide-decision.result.kept c.decide-decision.result.candidate c.decide-decision.result.opens c.decide-decision.result.verdict
-      = is_decided _ s c.args.frame.now c.args.packets c.args.queued c.decide-decision.result.kept c.decide-decision.result.candidate c.decide-decision.result.opens c.decide-decision.result.verdict
-      c.requires.valid at above room c.decide-decision.ensures.kept
-      (c.decide-decision.ensures.kept_stands (passed_at s c.args.frame.now) at.numbers (above_at c.args.frame.now s above))
-      c.decide-decision.ensures.candidate c.decide-decision.ensures.opens c.decide-decision.ensures.verdict in
-      d.verdict;
-  stands = λ s h above room.
-      let at = subst (λ (x : Seen). StandsAt x s c.args.frame.now) (sym c.self.view_is) (c.begin_epoch.ensures.stands s h) in
-      let d : IsDecided s c.args.frame.now c.args.packets c.decide-decision.result.kept c.decide-decision.result.candidate c.decide-decision.result.opens c.decide-decision.result.verdict
-      = is_decided _ s c.args.frame.now c.args.packets c.args.queued c.decide-decision.result.kept c.decide-decision.result.candidate c.decide-decision.result.opens c.decide-decision.result.verdict
-      c.requires.valid at above room c.decide-decision.ensures.kept
-      (c.decide-decision.ensures.kept_stands (passed_at s c.args.frame.now) at.numbers (above_at c.args.frame.now s above))
-      c.decide-decision.ensures.candidate c.decide-decision.ensures.opens c.decide-decision.ensures.verdict in
-      stands_withheld c.begin_epoch.new.self c.withhold.new.self s c.args.frame.now c.args.packets (c.begin_epoch.ensures.stands s h)
-      (fails_where s c.args.frame.now c.args.packets (λ v. c.in_default-verdict.not-Passed (d.verdict ∙ v)))
-      (ap (λ (x : Seen). x.wish) c.withhold.ensures) (ap (λ (x : Seen). x.epoch) c.withhold.ensures) (ap (λ (x : Seen). x.target) c.withhold.ensures ∙ d.kept)
-      (ap (λ (x : Seen). x.key_passed) c.withhold.ensures) (ap (λ (x : Seen). x.numbers) c.withhold.ensures);
-  room = λ passed. absurd (c.in_default-verdict.not-Passed passed);
-  top = λ s h above room passed. absurd (c.in_default-verdict.not-Passed passed);
-  opened = λ s h above room passed. absurd (c.in_default-verdict.not-Passed passed);
-  not_top = λ withheld. ap (λ (x : Seen). x.top) c.withhold.ensures;
-  not_opened = λ withheld. ap (λ (x : Seen). x.opened) c.withhold.ensures;
-  newest = ap (λ (x : Seen). x.newest) c.withhold.ensures ∙ c.begin_epoch.ensures.newest;
-  shared = c.decide-decision.ensures.shared;
-}
+    let d = staying_decided _ s c.args.frame.now c.args.packets c.args.queued (NotOfTarget (open_target c.self.inside.target)) c.requires.valid at above room (c.stays.ensures.not_of c.in-NotOfTarget.is) in
+    stands_withheld c.begin_epoch.new.self c.stay_behind.new.self s c.args.frame.now c.args.packets (c.begin_epoch.ensures.stands s h)
+    (fails_where s c.args.frame.now c.args.packets (λ v. other_verdict (open_target c.self.inside.target) (d.verdict ∙ v)))
+    (ap (λ (x : Seen). x.wish) c.stay_behind.ensures) (ap (λ (x : Seen). x.epoch) c.stay_behind.ensures)
+    (ap (λ (x : Seen). x.target) c.stay_behind.ensures ∙ ap (λ (x : Seen). x.target) (sym c.self.view_is) ∙ d.kept)
+    (ap (λ (x : Seen). x.key_passed) c.stay_behind.ensures) (ap (λ (x : Seen). x.numbers) c.stay_behind.ensures)
