@@ -104,6 +104,12 @@ IsReady content (call.Join subscriber track ssrc first wish) ready =
     IsFeedReady (refusal_to_join content subscriber track) content track ssrc first wish ready
 IsReady content other ready = Unit {0}
 
+-- nothing is made ready for any other call
+abbrev pub MayBeReady : Call → Ready → Type 0
+MayBeReady (call.Publish track kind ssrc hold) ready = Unit {0}
+MayBeReady (call.Join subscriber track ssrc first wish) ready = Unit {0}
+MayBeReady other ready = ready ≡ Nothing
+
 -- ---- memory
 
 -- whether a call takes memory on a room that keeps nothing

@@ -5,7 +5,7 @@ ghost use Rattle.sfu_base.specs.declared.call.Call.{Call};
 ghost use Rattle.sfu_base.specs.declared.call.Call.TheVariants as call;
 ghost use Rattle.sfu_base.specs.declared.call.Reply.TheVariants as reply;
 ghost use Rattle.sfu_base.specs.declared.frame.Wish.{Wish};
-ghost use Rattle.room_core.specs.Content.{DoesSilently, IsAcceptedAfter, IsAfter, IsReady, TakesMemory};
+ghost use Rattle.room_core.specs.Content.{DoesSilently, IsAcceptedAfter, IsAfter, IsReady, MayBeReady, TakesMemory};
 ghost use Rattle.room_core.specs.WellFormed.{IsValue};
 
 use crate::content::Content;
@@ -36,6 +36,7 @@ impl Content {
     pub fn prepare(&mut self, alloc: Global, call: &Call) -> Result<Ready, NoMemory>
         ensures same { (past : List Call) → IsAfter self.old past → IsAfter self.new past }
         ensures ready { IfOk result (IsReady self.new call.now) }
+        ensures only { IfOk result (MayBeReady call.now) }
         ensures memory { OnErr result (TakesMemory call.now) }
         ensures last { OnErr result (IsAcceptedAfter self.old call.now) }
         ensures value { IsValue call.now }

@@ -66,18 +66,20 @@ impl Feed {
         }
     }
 
-    /// Offers a layered track's most recently completed frame. `tells` is whether its first packet carries a structure or a mask. Where it
-    /// does, or the frame opens the target, that packet goes out with the mask of the targets that the subscriber gets; `cache` shares what
-    /// goes out, and `shared` what was found about the frame, with its next subscribers.
+    /// Offers a layered track's most recently completed frame, of so many packets. `tells` is whether its first packet carries a structure or a
+    /// mask. Where it does, or the frame opens the target, that packet goes out with the mask of the targets that the subscriber gets; `cache`
+    /// shares what goes out, and `shared` what was found about the frame, with its next subscribers.
     pub fn pass_frame(
         &mut self,
         track: &Track,
         frame: &FrameMeaning,
+        packets: u16,
         tells: bool,
         cache: &mut FrameCache,
         shared: &mut SharedDecision,
     )
         requires valid { IsValid frame.now }
+        requires count { packets ≡ length track.now.packets }
         requires tells { tells ≡ tells_by track.now.layers track.now.packets }
         requires of_frame { IsOfFrame track.now.layers track.now.packets cache.old }
         requires shared { IsSharedOn frame.now shared.old }
@@ -87,7 +89,7 @@ impl Feed {
     {
         let verdict = self
             .selector
-            .admit_shared(frame, track.count(), self.ring.queued(), shared);
+            .admit_shared(frame, packets, self.ring.queued(), shared);
         if let Verdict::Passed = verdict {
             // Written by its name, so that no look is had at which it is.
             self.causes.write(frame.number, Verdict::Passed);
@@ -96,7 +98,7 @@ impl Feed {
                 let mask = mask_for(frame, self.selector.target());
                 push_remasked(&mut self.ring, cache, track, mask, is_top);
             } else {
-                push_from(&mut self.ring, cache, track, 0, is_top);
+                push_from(&mut self.ring, cache, track, 0, packets, is_top);
             }
         } else {
             self.causes.write(frame.number, verdict);

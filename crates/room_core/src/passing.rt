@@ -122,13 +122,23 @@ fn pass_frame_to_all(
     ensures passed { PassedTo (λ old new. FollowsFrame old new frame.now track.now) number (get nat_eq subscribers.old) (get nat_eq subscribers.new) }
     ensures count { index_map_len subscribers.new ≡ index_map_len subscribers.old }
 {
+    let packets = track.count();
     let tells = first_tells(track);
     cache.forget();
     let mut shared = SharedDecision::new();
     let count = subscribers.len();
     for place in 0..count {
         if let Some(subscriber) = subscribers.get_index_mut(place) {
-            pass_frame(subscriber, number, track, frame, tells, cache, &mut shared);
+            pass_frame(
+                subscriber,
+                number,
+                track,
+                frame,
+                packets,
+                tells,
+                cache,
+                &mut shared,
+            );
         }
     }
 }
@@ -139,11 +149,13 @@ fn pass_frame(
     number: u32,
     track: &Track,
     frame: &FrameMeaning,
+    packets: u16,
     tells: bool,
     cache: &mut FrameCache,
     shared: &mut SharedDecision,
 )
     requires valid { IsValid frame.now }
+    requires count { packets ≡ length track.now.packets }
     requires tells { tells ≡ tells_by track.now.layers track.now.packets }
     requires of_frame { IsOfFrame track.now.layers track.now.packets cache.old }
     requires shared { IsSharedOn frame.now shared.old }
@@ -154,7 +166,7 @@ fn pass_frame(
     if subscriber.track == number {
         subscriber
             .feed
-            .pass_frame(track, frame, tells, cache, shared);
+            .pass_frame(track, frame, packets, tells, cache, shared);
     }
 }
 

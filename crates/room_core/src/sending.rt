@@ -28,9 +28,17 @@ pub fn first_tells(track: &Track) -> bool
     tells(track.packet(0), id)
 }
 
-/// Queues the packets of the frame that the track made last, from this place on. The last one's marker is set where the frame ends the
-/// target's layer.
-pub fn push_from(ring: &mut OutRing, cache: &mut FrameCache, track: &Track, from: u16, is_top: bool)
+/// Queues the packets of the frame that the track made last, of which there are so many, from this place on. The last one's marker is set where
+/// the frame ends the target's layer.
+pub fn push_from(
+    ring: &mut OutRing,
+    cache: &mut FrameCache,
+    track: &Track,
+    from: u16,
+    count: u16,
+    is_top: bool,
+)
+    requires count { count ≡ length track.now.packets }
     requires start { from ≤ length track.now.packets }
     requires room { length ring.old.queued + length track.now.packets ≤ 512 + from }
     requires of_frame { IsOfFrame track.now.layers track.now.packets cache.old }
@@ -39,7 +47,6 @@ pub fn push_from(ring: &mut OutRing, cache: &mut FrameCache, track: &Track, from
     ensures mask { cache.new.mask ≡ cache.old.mask }
     ensures grown { length cache.old.shared.items ≤ length cache.new.shared.items }
 {
-    let count = track.count();
     for place in from..count {
         let packet = track.packet(place);
         let marker = sent_marker(packet, is_top, place + 1 == count);
@@ -69,7 +76,7 @@ pub fn push_remasked(
     let packet = track.packet(0);
     let marker = sent_marker(packet, is_top, count == 1);
     push_first(ring, cache, track, packet, marker, mask);
-    push_from(ring, cache, track, 1, is_top);
+    push_from(ring, cache, track, 1, count, is_top);
 }
 
 // Queues a packet as the first of the track's frame, with this mask.

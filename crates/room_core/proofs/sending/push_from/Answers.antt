@@ -12,7 +12,7 @@ loop-place-init c = record { above = omega arith; so_far = push_begins c.args.fr
 pub queue-requires-clause-room : goal.queue-requires-clause-room
 queue-requires-clause-room c =
     push_room c.args.track.now.packets c.args.is_top c.args.from c.loop-place.place c.loop-place.ring c.args.ring.now c.loop-place.invariant.above
-    (let lt = c.loop-place-test.true in omega (arith, lt, c.count-count.ensures.count)) c.requires.room c.loop-place.invariant.so_far
+    (let lt = c.loop-place-test.true in omega (arith, lt, c.requires.count)) c.requires.room c.loop-place.invariant.so_far
 
 pub queue-requires-clause-same : goal.queue-requires-clause-same
 queue-requires-clause-same c =
@@ -24,7 +24,7 @@ loop-place-preserved c = record {
   so_far = push_next c.packet-packet.result.now c.args.track.now.packets c.args.is_top c.args.from c.loop-place.place c.loop-place.ring c.queue.new.ring c.args.ring.now
       (header_there c.packet-packet.result.now c.packet-packet.ensures.reads) c.loop-place.invariant.above c.packet-packet.ensures.at c.loop-place.invariant.so_far
       (c.queue.ensures.pushed ∙ ap (λ (m : Bool). pushed c.packet-packet.result.now m c.loop-place.ring) (c.sent_marker-marker.ensures
-      ∙ ap (λ (n : ℕ). (c.args.is_top && eqb (c.loop-place.place + 1) n || marker_of c.packet-packet.result.now)) c.count-count.ensures.count));
+      ∙ ap (λ (n : ℕ). (c.args.is_top && eqb (c.loop-place.place + 1) n || marker_of c.packet-packet.result.now)) c.requires.count));
   of_frame = frame_goes_on c.args.track.now.layers c.args.track.now.packets c.loop-place.cache c.queue.new.self c.loop-place.place c.packet-packet.result.now c.loop-place.invariant.of_frame
       c.packet-packet.ensures.at c.queue.ensures.shared c.queue.ensures.mask c.queue.ensures.packet;
   mask = c.queue.ensures.mask ∙ c.loop-place.invariant.mask;
@@ -38,7 +38,7 @@ loop-place-preserved c = record {
 pub returns : goal.returns
 returns c = record {
   pushed = push_ends c.args.track.now.packets c.args.is_top c.args.from c.loop-place.place c.loop-place.ring c.args.ring.now
-      (let ge = c.loop-place-test.false in omega (arith, ge, c.count-count.ensures.count)) c.loop-place.invariant.so_far;
+      (let ge = c.loop-place-test.false in omega (arith, ge, c.requires.count)) c.loop-place.invariant.so_far;
   of_frame = c.loop-place.invariant.of_frame;
   mask = c.loop-place.invariant.mask;
   grown = c.loop-place.invariant.grown;

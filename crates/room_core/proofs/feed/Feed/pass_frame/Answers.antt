@@ -6,11 +6,11 @@ use Rattle.room_core.proofs.Feeding.{frame_is_withheld, frame_passes}
 use Rattle.room_core.proofs.feed.Feed.pass_frame.Goals as goal
 
 pub returns-then-is_told-clause-follows : goal.returns-then-is_told-clause-follows
-returns-then-is_told-clause-follows c = frame_passes c.args.self.now _ c.args.frame.now c.args.track.now c.count.result c.queued.result c.admit_shared-verdict.result c.marks_last-is_top.result true c.mask_for-mask.result
+returns-then-is_told-clause-follows c = frame_passes c.args.self.now _ c.args.frame.now c.args.track.now c.args.packets c.queued.result c.admit_shared-verdict.result c.marks_last-is_top.result true c.mask_for-mask.result
     (record {
       kind_is = refl;
       newest_is = c.admit_shared-verdict.ensures.newest;
-      count_is = c.count.ensures.count;
+      count_is = c.requires.count;
       queued_is = c.queued.ensures.queued;
       verdict_is = c.admit_shared-verdict.ensures.verdict;
       stands = c.admit_shared-verdict.ensures.stands;
@@ -29,11 +29,11 @@ returns-then-is_told-clause-follows c = frame_passes c.args.self.now _ c.args.fr
     })
 
 pub returns-else-is_told-clause-follows : goal.returns-else-is_told-clause-follows
-returns-else-is_told-clause-follows c = frame_passes c.args.self.now _ c.args.frame.now c.args.track.now c.count.result c.queued.result c.admit_shared-verdict.result c.marks_last-is_top.result false 0
+returns-else-is_told-clause-follows c = frame_passes c.args.self.now _ c.args.frame.now c.args.track.now c.args.packets c.queued.result c.admit_shared-verdict.result c.marks_last-is_top.result false 0
     (record {
       kind_is = refl;
       newest_is = c.admit_shared-verdict.ensures.newest;
-      count_is = c.count.ensures.count;
+      count_is = c.requires.count;
       queued_is = c.queued.ensures.queued;
       verdict_is = c.admit_shared-verdict.ensures.verdict;
       stands = c.admit_shared-verdict.ensures.stands;
@@ -52,11 +52,11 @@ returns-else-is_told-clause-follows c = frame_passes c.args.self.now _ c.args.fr
     })
 
 pub returns-in_default-clause-follows : goal.returns-in_default-clause-follows
-returns-in_default-clause-follows c = frame_is_withheld c.args.self.now _ c.args.frame.now c.args.track.now c.count.result c.queued.result c.admit_shared-verdict.result
+returns-in_default-clause-follows c = frame_is_withheld c.args.self.now _ c.args.frame.now c.args.track.now c.args.packets c.queued.result c.admit_shared-verdict.result
     (record {
       kind_is = refl;
       newest_is = c.admit_shared-verdict.ensures.newest;
-      count_is = c.count.ensures.count;
+      count_is = c.requires.count;
       queued_is = c.queued.ensures.queued;
       verdict_is = c.admit_shared-verdict.ensures.verdict;
       stands = c.admit_shared-verdict.ensures.stands;
