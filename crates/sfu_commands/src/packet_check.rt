@@ -10,7 +10,7 @@ use itoa::Buffer;
 use script_texts::{add_fault, end_line, write_complaint};
 use sfu_base::{Blob, NoMemory, PacketBuf, Sink, Source};
 use sfu_driver::{Ending, Halt, Judge, Lines, Status, Units, answer};
-use sfu_script::{is_skipped, read_packet};
+use sfu_script::{PacketReader, is_skipped};
 use std::alloc::Global;
 use strict_receiver::{Complaint, Receiver};
 
@@ -18,6 +18,7 @@ use strict_receiver::{Complaint, Receiver};
 #[derive(Drop)]
 pub struct PacketJudge {
     pub receiver: Receiver,
+    pub reader: PacketReader,
     pub packet: PacketBuf,
 }
 
@@ -63,6 +64,7 @@ impl PacketJudge {
     {
         Ok(PacketJudge {
             receiver: Receiver::new(alloc, id)?,
+            reader: PacketReader::new(),
             packet: PacketBuf::new(),
         })
     }
@@ -83,7 +85,7 @@ impl Judge for PacketJudge {
         if is_skipped(line) {
             return Ok(());
         }
-        if read_packet(line, &mut self.packet).is_err() {
+        if self.reader.read(line, &mut self.packet).is_err() {
             add_fault(u64::from(number), ready)?;
             return Err(Halt::Ended(Ending::Outside));
         }

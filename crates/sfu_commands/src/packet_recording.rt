@@ -11,13 +11,14 @@ use ivf_recorder::{IvfRecorder, RecordFault};
 use script_texts::{add_fault, end_line, write_obu};
 use sfu_base::{Blob, NoMemory, PacketBuf, Sink, Source};
 use sfu_driver::{Ending, Halt, Judge, Lines, Status, Units, answer};
-use sfu_script::{is_skipped, read_packet};
+use sfu_script::{PacketReader, is_skipped};
 use std::alloc::Global;
 
 /// Feeds the packet of each line to a recorder, which gives its file away at the end.
 #[derive(Drop)]
 pub struct PacketRecorder {
     pub recorder: Option<IvfRecorder>,
+    pub reader: PacketReader,
     pub packet: PacketBuf,
 }
 
@@ -38,6 +39,7 @@ impl PacketRecorder {
     {
         Ok(PacketRecorder {
             recorder: Some(IvfRecorder::new(alloc, id)?),
+            reader: PacketReader::new(),
             packet: PacketBuf::new(),
         })
     }
@@ -58,7 +60,7 @@ impl Judge for PacketRecorder {
         if is_skipped(line) {
             return Ok(());
         }
-        if read_packet(line, &mut self.packet).is_err() {
+        if self.reader.read(line, &mut self.packet).is_err() {
             add_fault(u64::from(number), ready)?;
             return Err(Halt::Ended(Ending::Outside));
         }

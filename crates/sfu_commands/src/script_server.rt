@@ -60,8 +60,11 @@ fn serve_any(
         (writes (reply_line history call.now) (history ++ entry_of call.now ∷ [])) room.new ready.old ready.new result }
     ensures grows { length ready.old ≤ length ready.new }
 {
-    let reply = room.serve(0, call, scratch);
-    answer(&reply, scratch, ready)
+    match room.serve(0, call, scratch) {
+        // Most of them are done, which is told by its name, so that no reply is moved.
+        Reply::Done => answer(&Reply::Done, scratch, ready),
+        reply => answer(&reply, scratch, ready),
+    }
 }
 
 impl CallServer {
@@ -95,11 +98,11 @@ impl CallServer {
         // Most calls are takes.
         if let Call::Take { subscriber } = call {
             let subscriber = *subscriber;
-            return answer(
-                &self.room.take(0, subscriber, &mut self.scratch),
-                &self.scratch,
-                ready,
-            );
+            return match self.room.take(0, subscriber, &mut self.scratch) {
+                // Told by its name, so that no reply is moved.
+                Reply::Packet => answer(&Reply::Packet, &self.scratch, ready),
+                reply => answer(&reply, &self.scratch, ready),
+            };
         }
         serve_any(&mut self.room, call, &mut self.scratch, ready)
     }

@@ -21,8 +21,8 @@ returns-in-Ok-clause-judges c = λ state has.
     let packet = c.bytes.result.now in
     let number = c.args.number in
     let told : is_skipped c.args.line.now ≡ false = search rules in
-    let read : bytes_of c.args.line.now ≡ Some c.read_packet.new.out =
-    ok_value (bytes_of c.args.line.now ≡ Some c.read_packet.new.out) (bytes_of c.args.line.now ≡ None) c.read_packet.result c.if-is_err.ensures.value c.read_packet.ensures.value in
+    let read : bytes_of c.args.line.now ≡ Some c.read.new.out =
+    ok_value (bytes_of c.args.line.now ≡ Some c.read.new.out) (bytes_of c.args.line.now ≡ None) c.read.result c.if-is_err.ensures.value c.read.ensures.value in
     let said : bytes_of c.args.line.now ≡ Some packet = read ∙ ap (λ (p : List ℕ). Some p) (sym c.bytes.ensures.bytes) in
     let h = subst (λ (o : Option Recording). HasRecorded o state) c.in-Some.is has in
     let fed = c.in-Ok.ensures.feeds state.packets h.1 in
