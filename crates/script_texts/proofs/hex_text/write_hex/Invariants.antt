@@ -1,6 +1,6 @@
 use Rattle.std.proofs.Common.{◌≡◌, ◌*◌, ◌++◌, take, drop, length}
 use Rattle.hex.specs.Hex.{encode_lower}
-use Rattle.script_texts.proofs.hex_text.write_digits.Given as goal
+use Rattle.script_texts.proofs.hex_text.write_hex.Given as goal
 
 abbrev pub invariant-loop-i : goal.invariant-loop-i
 invariant-loop-i l = record {
