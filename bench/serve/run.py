@@ -14,6 +14,7 @@ usage: bench/serve/run.py [--program FILE] [--seconds N] [--rate N] [PART...]   
   control   what a control port answers
   ports     64 ports for 65 seconds
   idle      64 ports at which nothing comes: the processors that they take
+  memory    what is resident with 63 subscribers of one layered track, before and behind 4,000 packets to each
   burst     the longest burst, sent back to back, of which the system drops nothing: at one publisher's port of 4, 16 and 64, and at all at once
   strangers a track before and while strangers send 200,000 datagrams a second to its publisher's port
   calls     how often the system is called for a packet that goes out; it needs perf, and leave to count (root)
@@ -29,11 +30,11 @@ from pathlib import Path
 
 import common
 from common import (
-    LOCAL, NEVER, PEER, SIZE, TRACKS, Serving, check, drops, kind_of, milliseconds, prepared, problems, processor_seconds, receivers, room_of, sender,
-    sound, tool, wait_for, waits,
+    LOCAL, NEVER, PEER, SIZE, TRACKS, Serving, check, drops, kind_of, memory, milliseconds, prepared, problems, processor_seconds, receivers, room_of,
+    sender, sound, tool, wait_for, waits,
 )
 
-PARTS = ['plain', 'layered', 'resend', 'hostile', 'control', 'ports', 'idle', 'burst', 'strangers', 'calls']
+PARTS = ['plain', 'layered', 'resend', 'hostile', 'control', 'ports', 'idle', 'memory', 'burst', 'strangers', 'calls']
 RELAY = 23000
 
 
@@ -315,6 +316,26 @@ def idle():
     print(f'idle: 64 ports for {took:.0f} s, {cost / took:.3f} processors (the goal is 0.15), {turned / took:.0f} switches of threads a second')
 
 
+def resident():
+    """63 subscribers of one layered track, before the first packet and behind 4,000."""
+    places = range(1, 64)
+    ssrcs = [f'222222{place:02x}' for place in places]
+    serving = Serving(['publish 1 layered 11111111 30 4'] + [f'join {place} 1 {ssrc} 0 1 1' for place, ssrc in zip(places, ssrcs)],
+                      ['publisher 1 11111111'] + [f'subscriber {place} {ssrc}' for place, ssrc in zip(places, ssrcs)])
+    taking = receivers(places, ssrcs)
+    before = memory(serving.sfu.pid, 'VmRSS')
+    sent = sender(0, 'layered', '11111111', 500, 8).rows()[0]
+    time.sleep(0.5)
+    behind = memory(serving.sfu.pid, 'VmRSS')
+    dropped = [drops(LOCAL) + drops(PEER + place) for place in places]
+    taking.stop()
+    got = [row['received'] for row in taking.rows()]
+    serving.end()
+    check(all(sent['sent'] == each + gone for each, gone in zip(got, dropped)) or drops(LOCAL) > 0, f'of {sent["sent"]} packets a subscriber got {min(got)}')
+    print(f'memory: 63 subscribers of a layered track, {before / 1000:.1f} MB resident, and {behind / 1000:.1f} MB behind {sent["sent"]} packets, of which each '
+          f'got {min(got)} at least')
+
+
 BURSTS = [32, 64, 80, 88, 92, 96, 104, 128, 160, 192, 256, 384, 512]      # a subscriber's queue holds 512
 EACH = 8                                                                # bursts of each length, in a second
 
@@ -391,7 +412,7 @@ options = reader.parse_args()
 if any(part not in PARTS for part in options.parts):
     reader.error(f'the parts are {", ".join(PARTS)}')
 run = {'plain': lambda: rates('plain'), 'layered': lambda: rates('layered'), 'resend': resend, 'hostile': hostile, 'control': dialogue, 'ports': ports,
-       'idle': idle, 'burst': burst, 'strangers': strangers, 'calls': calls}
+       'idle': idle, 'memory': resident, 'burst': burst, 'strangers': strangers, 'calls': calls}
 with prepared(options.program):
     for part in PARTS:
         if part in (options.parts or PARTS):
