@@ -53,8 +53,8 @@ impl Frame {
         })
     }
 
-    /// What the mark makes of the frame so far. Where its packet, in the slot, is added, the slot changes places with one of the frame's.
     // What is made of what is seen is proved here, and what that says of whole lists of marks by the calls of the assembly.
+    /// What the mark makes of the frame so far. Where its packet, in the slot, is added, the slot changes places with one of the frame's.
     pub fn take_mark(&mut self, mark: &Mark, slot: &mut Box<PacketSlot>) -> Outcome
         ensures seen { self.new ≡ pushed self.old (marked mark.now slot.old.value) }
         ensures made { result ≡ made_of self.old (marked mark.now slot.old.value) }
