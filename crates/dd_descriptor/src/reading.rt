@@ -5,7 +5,7 @@ pub mod fields;
 pub mod frame;
 mod template;
 
-ghost use Rattle.std.specs.Prelude.{◌≡◌, ◌<◌, ◌≤◌, true, IfOk, IfSome, OnOk};
+ghost use Rattle.std.specs.Prelude.{◌≡◌, ◌<◌, ◌≤◌, true, IfOk, IfSome, None, OnOk};
 ghost use Rattle.std.specs.Option.{option_copied};
 ghost use Rattle.dd_bits.specs.Reader.{bits_left};
 ghost use Rattle.dd_bits.specs.Sequences.{Gives};
@@ -37,8 +37,18 @@ fn put_structure(bits: &mut BitReader<'_>, out: &mut Option<Structure>) -> Resul
     }
 }
 
+// No structure any more. It is a call of its own, since it is seldom made and clears much.
+#[cold]
+#[inline(never)]
+fn clear(out: &mut Option<Structure>)
+    ensures { out.new ≡ None }
+{
+    *out = None;
+}
+
 /// The structure that is carried, if one is, in place of what was there.
 #[tactic(auto, unfolding(crate::specs::Reading::carried_at))]
+#[inline(always)]
 pub fn put_carried(
     bits: &mut BitReader<'_>,
     is_present: bool,
@@ -51,13 +61,14 @@ pub fn put_carried(
     }
     // A structure is long: where none was, none is written again.
     if out.is_some() {
-        *out = None;
+        clear(out);
     }
     Ok(())
 }
 
 /// The active decode targets, where they are told or a structure is carried.
 #[tactic(auto, unfolding(crate::specs::Reading::mask_at))]
+#[inline(always)]
 pub fn mask(
     bits: &mut BitReader<'_>,
     is_present: bool,
@@ -79,6 +90,7 @@ pub fn mask(
 
 /// What follows the structure: the mask and the frame's definition.
 #[tactic(auto, unfolding(crate::specs::Reading::body_at))]
+#[inline(always)]
 fn body(
     bits: &mut BitReader<'_>,
     template: u8,
@@ -100,6 +112,7 @@ fn body(
 }
 
 /// The structure that is carried, or else the one in force.
+#[inline(always)]
 fn held<'a>(carried: &'a Option<Structure>, force: Option<&'a Structure>) -> Option<&'a Structure>
     ensures { option_copied result ≡ holding carried.now (option_copied force.entry) }
 {
@@ -111,6 +124,7 @@ fn held<'a>(carried: &'a Option<Structure>, force: Option<&'a Structure>) -> Opt
 
 /// The same by the structure that is carried, or else the one in force.
 #[tactic(auto, unfolding(crate::specs::Reading::held_body_at))]
+#[inline(always)]
 fn held_body(
     bits: &mut BitReader<'_>,
     template: u8,
@@ -155,7 +169,8 @@ pub fn lemma_force_is_well_formed(force: Option<&Structure>)
 
 /// Each field, in place of what was there.
 #[tactic(auto, unfolding(crate::specs::Reading::descriptor_at))]
-fn fill(bytes: &[u8], force: Option<&Structure>, out: &mut Descriptor) -> Result<(), DdFault>
+#[inline(always)]
+fn fill_fields(bytes: &[u8], force: Option<&Structure>, out: &mut Descriptor) -> Result<(), DdFault>
     ensures read { AnswersIn (option_copied force.entry) out.new result (descriptor_at bytes.now (option_copied force.entry)) }
     ensures few { OnOk result (out.new.ref_count ≤ 16) }
 {
@@ -188,8 +203,35 @@ fn fill(bytes: &[u8], force: Option<&Structure>, out: &mut Descriptor) -> Result
     Ok(())
 }
 
+/// The same where flags are told. It is a call of its own, so that what depends on flags falls away where there are none.
+#[inline(never)]
+fn fill_flagged(
+    bytes: &[u8],
+    force: Option<&Structure>,
+    out: &mut Descriptor,
+) -> Result<(), DdFault>
+    ensures read { AnswersIn (option_copied force.entry) out.new result (descriptor_at bytes.now (option_copied force.entry)) }
+    ensures few { OnOk result (out.new.ref_count ≤ 16) }
+{
+    fill_fields(bytes, force, out)
+}
+
+/// The same of any descriptor. Most have three bytes.
+#[inline(always)]
+fn fill(bytes: &[u8], force: Option<&Structure>, out: &mut Descriptor) -> Result<(), DdFault>
+    ensures read { AnswersIn (option_copied force.entry) out.new result (descriptor_at bytes.now (option_copied force.entry)) }
+    ensures few { OnOk result (out.new.ref_count ≤ 16) }
+{
+    if bytes.len() == 3 {
+        fill_fields(bytes, force, out)
+    } else {
+        fill_flagged(bytes, force, out)
+    }
+}
+
 /// What the bytes of a descriptor say, with the structure in force where it carries none, in place of what `out` said. The fault is the
 /// first from left to right, and `out` may then say anything; bits after the frame's definition are ignored. What is read can be written.
+#[inline(always)]
 pub fn read_into(
     bytes: &[u8],
     force: Option<&Structure>,
