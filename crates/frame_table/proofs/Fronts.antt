@@ -1,10 +1,10 @@
 -- An array whose places are written one by one: in front the items of a row that count, and one value behind them.
 use Rattle.std.proofs.Common.{◌≡◌, inl, inr, ℕ, ◌+◌, ◌-◌, ◌<◌, ◌≤◌, [], ◌∷◌, ◌++◌, List, length, get_or, set, take, drop, replicate}
-use Rattle.std.proofs.Common.{sym, ap, ◌∙◌, arith, length-append}
+use Rattle.std.proofs.Common.{Bool, true, false, refl, sym, ap, ◌∙◌, arith, length-append}
 use Rattle.std.proofs.lemmas.List.{drop-replicate, get_or-append_right, get_or-replicate, get_or-take, length-drop, length-replicate}
 use Rattle.std.proofs.lemmas.List.{length-take-le, take_more, take_more_set}
 use Rattle.std.specs.Prelude.{nat_lt, if◌then◌else◌}
-use Rattle.std.proofs.lemmas.Bool.{cases_lt, le-ltb, lt-ltb}
+use Rattle.std.proofs.lemmas.Bool.{agree_below_at, cases_lt, le-ltb, lt-ltb}
 use Rattle.dd_layout.specs.Layouts.{filled_up}
 use Rattle.dd_layout.proofs.Layouts.{at_front}
 
@@ -42,3 +42,19 @@ front_more {A = A} n d count row out k x len few long lt done is =
     ∙ (ap (λ (ys : List A). ys ++ x ∷ []) done
     ∙ (ap (λ (y : A). take k (front n d count row) ++ y ∷ []) (placed_item n d count row k x len few lt is)
     ∙ sym (take_more (front n d count row) k d (omega (arith, front_length n d count row len few)))))
+
+-- ---- which places count
+
+-- a row of 32 places that count, and 32 that don't
+half_counts : (k : ℕ) → k < 64 → get_or (replicate 32 true ++ replicate 32 false) k false ≡ nat_lt k 32
+half_counts k lt = agree_below_at (λ j. get_or (replicate 32 true ++ replicate 32 false) j false) (λ j. nat_lt j 32) 64 k refl lt
+
+-- from place 32 - n on it says which of 32 places count, if the first n do
+pub says_which : (row : List Bool) (k place count : ℕ) → row ≡ replicate 32 true ++ replicate 32 false → place < 32 → count ≤ 32
+    → k + count ≡ 32 + place → get_or row k false ≡ nat_lt place count
+says_which row k place count is small few at =
+    let there = ap (λ (r : List Bool). get_or r k false) is ∙ half_counts k (omega arith) in
+    elim (cases_lt place count) [
+      | inl own ↦ there ∙ lt-ltb k 32 (omega arith) ∙ sym (lt-ltb place count own)
+      | inr not ↦ there ∙ le-ltb k 32 (omega arith) ∙ sym (le-ltb place count not)
+    ]

@@ -1,13 +1,43 @@
 // The arrays of a frame's meaning. `select_unpredictable` has each item read, whether it counts or not: at an `if` the compiler would branch at
 // each place.
 
-ghost use Rattle.std.specs.Prelude.{◌≡◌, ◌≤◌, length, take, None};
+ghost use Rattle.std.specs.Prelude.{◌≡◌, ◌<◌, ◌≤◌, ◌++◌, false, length, nat_lt, replicate, take, true, None};
 ghost use Rattle.sfu_base.specs.declared.frame.Dti.TheVariants.{NotPresent};
 ghost use Rattle.dd_layout.specs.Layouts.{filled_up, pairs_below};
 
 use dd_structure::Structure;
 use sfu_base::{Dti, Wish};
 use std::hint::select_unpredictable;
+
+// 32 places that count, and 32 that don't.
+const COUNTED: &[bool; 64] = &[
+    true, true, true, true, true, true, true, true, true, true, true, true, true, true, true, true,
+    true, true, true, true, true, true, true, true, true, true, true, true, true, true, true, true,
+    false, false, false, false, false, false, false, false, false, false, false, false, false,
+    false, false, false, false, false, false, false, false, false, false, false, false, false,
+    false, false, false, false, false, false,
+];
+
+// Whether a place counts, of which the first so many do, by a row that says so from place 32 less so many on.
+#[inline(always)]
+fn counts_in(row: &[bool; 64], place: u8, count: u8) -> bool
+    requires row { row.now ≡ replicate 32 true ++ replicate 32 false }
+    requires place { place < 32 }
+    requires count { count ≤ 32 }
+    ensures { result ≡ nat_lt place count }
+{
+    row[32 - usize::from(count) + usize::from(place)]
+}
+
+// Whether a place counts. It is looked up and not compared, so that the compiler looks up many at once.
+#[inline(always)]
+fn counts(place: u8, count: u8) -> bool
+    requires place { place < 32 }
+    requires count { count ≤ 32 }
+    ensures { result ≡ nat_lt place count }
+{
+    counts_in(COUNTED, place, count)
+}
 
 /// The first so many indications, and `NotPresent` behind them. All places are written, so that the compiler writes many at once.
 pub fn front_indications(row: &[Dti; 32], count: u8) -> [Dti; 32]
@@ -17,7 +47,7 @@ pub fn front_indications(row: &[Dti; 32], count: u8) -> [Dti; 32]
     let mut out = [Dti::NotPresent; 32];
     for place in 0..32u8 {
         let index = usize::from(place);
-        out[index] = select_unpredictable(place < count, row[index], Dti::NotPresent);
+        out[index] = select_unpredictable(counts(place, count), row[index], Dti::NotPresent);
     }
     out
 }
@@ -30,7 +60,7 @@ pub fn front_numbers(row: &[u8; 32], count: u8) -> [u8; 32]
     let mut out = [0; 32];
     for place in 0..32u8 {
         let index = usize::from(place);
-        out[index] = select_unpredictable(place < count, row[index], 0);
+        out[index] = select_unpredictable(counts(place, count), row[index], 0);
     }
     out
 }
@@ -42,11 +72,10 @@ pub fn front_distances(row: &[u16; 16], count: u8) -> [u16; 16]
     ensures filled { result ≡ filled_up 16 0 (take count row.now) }
     ensures counted { length (take count row.now) ≡ count }
 {
-    let count = u16::from(count);
     let mut out = [0; 16];
-    for place in 0..16u16 {
+    for place in 0..16u8 {
         let index = usize::from(place);
-        out[index] = select_unpredictable(place < count, row[index], 0);
+        out[index] = select_unpredictable(counts(place, count), row[index], 0);
     }
     out
 }

@@ -8,6 +8,6 @@ loop-place-preserved c =
     record {
       whole = search rules;
       done = rw c.from-index.ensures
-          (front_more 16 0 c.from-count.result c.args.row.now l.out l.place _ c.told-row (omega (arith, c.from-count.ensures)) l.invariant.whole
-          c.loop-place-test.true l.invariant.done (rw c.from-index.ensures at c.select_unpredictable.ensures));
+          (front_more 16 0 c.args.count c.args.row.now l.out l.place _ c.told-row c.requires l.invariant.whole
+          c.loop-place-test.true l.invariant.done (rw c.counts.ensures at rw c.from-index.ensures at c.select_unpredictable.ensures));
     }

@@ -9,5 +9,5 @@ loop-place-preserved c =
       whole = search rules;
       done = rw c.from-index.ensures
           (front_more 32 0 c.args.count c.args.row.now l.out l.place _ c.told-row c.requires l.invariant.whole
-          c.loop-place-test.true l.invariant.done (rw c.from-index.ensures at c.select_unpredictable.ensures));
+          c.loop-place-test.true l.invariant.done (rw c.counts.ensures at rw c.from-index.ensures at c.select_unpredictable.ensures));
     }
