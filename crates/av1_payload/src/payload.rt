@@ -26,6 +26,7 @@ pub struct Payload<'a> {
 /// rule). It is refused by the first fault from the front: `Empty` where there is no byte; `NoElement` where W is 0 and
 /// nothing follows the aggregation header; `Leb` where an element's length is due and the bytes end within it or before it,
 /// it has more than 8 bytes, or it is 2^32 or more; `Length` where a length is more than the bytes behind it.
+#[inline(always)]
 pub fn read<'a>(bytes: &'a [u8]) -> Result<Payload<'a>, PayloadFault>
     ensures flags { IfOk result (λ p. flags_in p ≡ flags_of bytes.now) }
     ensures elements { IfOk result (λ p. elements_within p ≡ elements_of bytes.now) }

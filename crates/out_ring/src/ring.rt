@@ -68,6 +68,7 @@ impl OutRing {
 
     /// Queues an RTP packet of at most 1,536 bytes behind the others. It will go out with the next sequence number, the subscriber's SSRC
     /// and this marker, and with no other bit changed. Its bytes are copied once. Fewer than 512 are queued before.
+    #[inline(always)]
     pub fn push(&mut self, packet: &[u8], marker: bool)
         requires room { length self.old.queued < 512 }
         requires reads { first_fault packet.now ≡ None }

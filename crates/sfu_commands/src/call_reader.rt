@@ -9,9 +9,8 @@ use script_records::RecordReader;
 use sfu_base::Call;
 use sfu_script::LineReader;
 
-// One function for all commands: the reader has one caller, and is inlined in it.
 /// The call that a line says, which is kept until the next line is read; `None` exactly where it says none.
-#[inline(never)]
+#[inline(always)]
 pub fn read_line<'a>(reader: &'a mut LineReader, line: &[u8]) -> Option<&'a Call>
     ensures value { MatchOption result (call_of line.now ≡ None) (λ call. call_of line.now ≡ Some call.now) }
     ensures said { IfSome result (λ call. IsLine call.now line.now) }

@@ -82,9 +82,8 @@ impl CallServer {
         }
     }
 
-    // One function for both forms, so that a room's call is compiled once.
-    // Serves the call of a line or record.
-    #[inline(never)]
+    // Serves the call of a line or record. With `judge` it is put into the loop over units, so that most calls are told there.
+    #[inline(always)]
     fn serve(&mut self, form: Form, number: u32, unit: &[u8], ready: &mut Blob) -> Result<(), Halt>
         ensures judges { (history : List Entry) → Stands untold self.old.room history
             → Judges (λ (server : CallServer) (later : List Entry). Stands untold server.room later)
@@ -125,6 +124,7 @@ impl Judge for LineServer {
 
     ghost closing = { λ _. [] };
 
+    #[inline(always)]
     fn judge(&mut self, number: u32, line: &[u8], ready: &mut Blob) -> Result<(), Halt> {
         if is_skipped(line) {
             return Ok(());
@@ -158,6 +158,7 @@ impl Judge for RecordServer {
 
     ghost closing = { λ _. [] };
 
+    #[inline(always)]
     fn judge(&mut self, number: u32, body: &[u8], ready: &mut Blob) -> Result<(), Halt> {
         if number == 0 {
             return Ok(());
