@@ -5,8 +5,13 @@ packets of some 220 bytes, after each temporal unit a tick, and a take of each s
 usage: bench/layered_script.py [PACKETS [SUBSCRIBERS [mixed]]]      10,000 packets and one subscriber if left out
 
 Each subscriber wishes for all layers, or, mixed, for one of the four pairs of a spatial and a temporal layer in turn.
+
+example: bench/layered_script.py 600 2 mixed | ./sfu run | tail -1
 """
 import sys
+
+if sys.argv[1:] in (['-h'], ['--help']):
+    sys.exit(print(__doc__.strip()))
 
 # The bits of a key descriptor behind the frame number (RTP Payload Format For AV1, Appendix A.8): the structure of two spatial and two temporal
 # layers. Templates 0 to 2 are of the lower spatial layer, 3 to 5 of the higher: a key unit's, the first temporal layer's, the second's.

@@ -3,6 +3,8 @@
 non-blocking and isn't ready, it waits for it, and all replies come. It ends with 1 where that isn't so, takes some seconds, and is no part of the gate.
 
 usage: bench/pipe.py [PROGRAM]      crates/sfu_program/out/sfu_program if left out
+
+example: bench/pipe.py
 """
 import os
 import subprocess
@@ -10,6 +12,9 @@ import sys
 import threading
 import time
 from pathlib import Path
+
+if sys.argv[1:] in (['-h'], ['--help']):
+    sys.exit(print(__doc__.strip()))
 
 LINES = 20000       # of a script whose replies don't fit into a pipe
 REPLY = b'refused nosubscriber\n'

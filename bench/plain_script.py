@@ -2,8 +2,13 @@
 """Writes a script of one plain track: so many packets of so many bytes, with a take after each.
 
 usage: bench/plain_script.py [PACKETS [BYTES]]      10,000 packets of 200 bytes if left out
+
+example: bench/plain_script.py 100 1200 | ./sfu run | tail -1
 """
 import sys
+
+if sys.argv[1:] in (['-h'], ['--help']):
+    sys.exit(print(__doc__.strip()))
 
 packets = int(sys.argv[1]) if len(sys.argv) > 1 else 10_000
 size = int(sys.argv[2]) if len(sys.argv) > 2 else 200

@@ -6,6 +6,8 @@ all layers and of the lowest ones after 1 % and 3 % of its packets were lost for
 
 usage: bench/recordings.py [--sfu PROGRAM] [--seconds N] [--no-browser] [--keep FOLDER] [SCRIPT...]
 Chromium's streams last N seconds (10). Prints a row for each file, and ends with 1 where one has a fault. It is no part of the gate.
+
+example: bench/recordings.py --seconds 5 --no-browser examples/layered.script
 """
 import argparse
 import importlib.util

@@ -6,11 +6,16 @@ It shares no code and no text with the program, and keeps everything that ever h
 usage: bench/simulcast_model.py replies <SCRIPT            the replies, and `line N` on standard error where line N is outside the grammar
        bench/simulcast_model.py script SEED                a random script: tracks with losses, three bundles, all lines, broken ones
        bench/simulcast_model.py compare COUNT COMMAND ..   COUNT random scripts through a command that reads a script and writes replies
+
+example: bench/simulcast_model.py replies < examples/simulcast.script
 """
 import random
 import re
 import subprocess
 import sys
+
+if sys.argv[1:] in (['-h'], ['--help']):
+    sys.exit(print(__doc__.strip()))
 
 # ---- bytes
 

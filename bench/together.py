@@ -3,12 +3,17 @@
 script and run by `run`, must get the same replies; each actor's lines must stand in it in their order. Then turns a second with 1, 2, 4 and 8 actors:
 times depend on whatever else the machine does. It ends with an error where a journal is no history. It is no part of the gate.
 usage: bench/together.py [LINES] [RUNS]      12,000 lines an actor and 10 runs if left out
+
+example: bench/together.py 1000 2
 """
 import random
 import subprocess
 import sys
 import time
 from pathlib import Path
+
+if sys.argv[1:] in (['-h'], ['--help']):
+    sys.exit(print(__doc__.strip()))
 
 TOP = Path(__file__).resolve().parent.parent
 PROGRAM = TOP / 'crates/sfu_program/out/sfu_program'

@@ -3,8 +3,13 @@
 packets, of whole frames and of selection, on lists and sets of plain numbers, without a packet's bytes. It shares no code and no text with it.
 
 usage: bench/trial_model.py FRAMES START LOSS
+
+example: bench/trial_model.py 1000 7 5
 """
 import sys
+
+if sys.argv[1:] in (['-h'], ['--help']):
+    sys.exit(print(__doc__.strip()))
 
 HOLD = 50
 # Spatial and temporal layer, with the chain that protects it, of each decode target, the best first.

@@ -305,12 +305,14 @@ class Track:
         self.whole = {}
         self.packets, self.newest, self.lost = {}, None, []
         self.moment = 0
+        self.ids = set()               # of the header extension elements that its packets have
 
     def see(self, moment, rtp):
         seq = rtp.seq if self.newest is None else nearest(self.newest, rtp.seq)
         self.packets[seq] = moment
         self.newest = seq if self.newest is None else max(self.newest, seq)
         self.moment = max(self.moment, moment)
+        self.ids.update(number for number, _ in elements(rtp.profile, rtp.block))
         self.frames.see(moment, rtp)
 
     def end(self):
@@ -389,6 +391,19 @@ def study(calls):
     for track in tracks.values():
         track.end()
     return tracks, subscribers
+
+
+def layered(tracks, number):
+    """The track of this number, where frames can be judged on it."""
+    track = tracks.get(number)
+    if track is None:
+        fail(f'no track {number} is published; there are: {" ".join(tracks) or "none"}')
+    if track.id is None:
+        fail(f'track {number} is plain: its packets pass as they come, and no frame is judged')
+    if not track.frames.frames:
+        ids = ' '.join(str(each) for each in sorted(track.ids))
+        fail(f'no packet of track {number} has a descriptor that reads in the header extension element {track.id}; its packets have the elements {ids or "none"}')
+    return track
 
 
 def in_words(verdict):

@@ -2,13 +2,19 @@
 """Runs the tools on the examples and on broken inputs, and says in one line what is missing where a package is. It is no part of the gate.
 
 usage: tools/test.py        the program must be built (./sfu help), or the variable SFU name another
+
+example: tools/test.py
 """
+import sys
+
+if sys.argv[1:] in (['-h'], ['--help']):  # before what may be missing is imported
+    sys.exit(print(__doc__.strip()))
+
 import importlib.util
 import os
 import shutil
 import struct
 import subprocess
-import sys
 import tempfile
 
 HERE = os.path.dirname(os.path.abspath(__file__))
@@ -86,6 +92,8 @@ with tempfile.TemporaryDirectory() as work:
     calls = shared.read_script(f'{work}/browser.script')
     replies = ran.stdout.decode().splitlines()
     same('the browser\'s stream runs', (ran.returncode, len(replies)), (0, len(calls)))
+    ends = [reply for call, reply, after in zip(calls, replies, [*calls[1:], ['end']]) if call[0] == 'take' and after != call]
+    same('behind each packet both queues are empty', (set(ends), len(ends)), ({'empty'}, 2 * sum(call[0] == 'tick' for call in calls)))
     for subscriber in ('1', '2'):
         got = ''.join(f'{reply[7:]}\n' for call, reply in zip(calls, replies) if call == ['take', subscriber] and reply.startswith('packet '))
         check = subprocess.run([*shared.program(), 'check', '4'], input=got.encode(), stdout=subprocess.PIPE, check=False)
@@ -122,6 +130,12 @@ with tempfile.TemporaryDirectory() as work:
     with open(f'{work}/broken.script', 'wb') as file:
         file.write(b'publish 1 layered 11111111 100 4\nnothing\n')
     refuses('a line that is none, to explain', 'explain', [f'{work}/broken.script', '--frame', '1'], 'not a call of the room')
+    with open(f'{EXAMPLES}/layered.script', encoding='ascii') as file:
+        other = file.read().replace('publish 1 layered 11111111 100 4', 'publish 1 layered 11111111 100 5')
+    with open(f'{work}/other.script', 'w', encoding='ascii') as file:
+        file.write(other)
+    for name, words in (('explain', ['--frame', '11']), ('chart', [f'{work}/chart'])):
+        refuses(f'another extension id, to {name}', name, [f'{work}/other.script', *words], 'reads in the header extension element 5; its packets have the elements 4')
     refuses('a track that is not there', 'explain', [f'{EXAMPLES}/layered.script', '--frame', '1', '--track', '9'], 'no track 9 is published')
     refuses('a plain track', 'chart', [f'{EXAMPLES}/vp8.script', f'{work}/chart'], 'is plain')
     refuses('no time with frames', 'chart', [f'{EXAMPLES}/layered.script', f'{work}/chart', '--from', '90000'], 'no frame began then')

@@ -6,11 +6,16 @@ encoder makes it.
 usage: bench/serve/av1.py send FILE FROM TO SSRC [TIMES]     at the file's own pace, TIMES times over (1); NACKs are answered
        bench/serve/av1.py receive PORT FILE                  until none has come for 3 seconds; a temporal unit with a gap is left out
 FROM, TO and PORT are ports of 127.0.0.1; SSRC in hex.
+
+example: bench/serve/av1.py send av1.ivf 6000 5000 11111111
 """
 import socket
 import struct
 import sys
 import time
+
+if __name__ == '__main__' and sys.argv[1:] in (['-h'], ['--help']):
+    sys.exit(print(__doc__.strip()))
 
 ELEMENT = 4                                        # the id of the header extension
 STRUCTURE = bytes.fromhex('80003A410100')          # one decode target, one chain, two templates: of key frames and of frames that need the one before

@@ -8,6 +8,8 @@ program is named it is built first.
 
 usage: bench/serve/cascade.py [--program FILE] [--seconds N] [--rate N] [--percent N] [--hold MS]
        60 seconds, 10,000 packets a second, 1 % lost on the way and 50 milliseconds for a gap if left out
+
+example: bench/serve/cascade.py --seconds 10 --percent 2
 """
 import argparse
 import subprocess
@@ -125,7 +127,7 @@ def tree(percent):
         print(f'  (the sender itself was up to {sent["latest_us"] / 1000:.1f} ms late)')
 
 
-reader = argparse.ArgumentParser(usage=__doc__)
+reader = argparse.ArgumentParser(usage=__doc__.replace('%', '%%'))
 reader.add_argument('--program')
 reader.add_argument('--seconds', type=int, default=60)
 reader.add_argument('--rate', type=int, default=10000)

@@ -5,10 +5,15 @@ usage: bench/serve/datagrams.py send FROM TO RATE < FILE     a datagram for each
        bench/serve/datagrams.py show PORT [SECONDS]          a line for each datagram, until none has come for so many seconds (3)
        bench/serve/datagrams.py ask FROM TO LINE...          sends each line as it is and writes what is answered
 FROM, TO and PORT are ports of 127.0.0.1.
+
+example: bench/serve/datagrams.py ask 6003 5003 'why 2 5' 'key 1'
 """
 import socket
 import sys
 import time
+
+if sys.argv[1:] in (['-h'], ['--help']):
+    sys.exit(print(__doc__.strip()))
 
 
 def at(port):

@@ -8,18 +8,27 @@ than without, or a session ended early. It is no part of the gate, and what it p
 usage: bench/serve/rtx.py [--program FILE] [--seconds N] [--loss PERCENT]      10 seconds and 3 % if left out
 
 Debian's packages: gstreamer1.0-tools gstreamer1.0-plugins-base gstreamer1.0-plugins-good gstreamer1.0-plugins-bad python3-gi gir1.2-gstreamer-1.0
+
+example: bench/serve/rtx.py --seconds 10 --loss 3
 """
+import sys
+
+if sys.argv[1:] in (['-h'], ['--help']):  # before what may be missing is imported
+    sys.exit(print(__doc__.strip()))
+
 import argparse
 import hashlib
 import random
 import select
 import socket
 import subprocess
-import sys
 import threading
 from pathlib import Path
 
-import gi
+try:
+    import gi
+except ImportError:
+    sys.exit('rtx.py: missing: ' + __doc__.partition("Debian's packages: ")[2].partition('\n')[0] + ' (apt-get install)')
 gi.require_version('Gst', '1.0')
 from gi.repository import GLib, Gst
 

@@ -18,6 +18,8 @@ usage: bench/serve/run.py [--program FILE] [--seconds N] [--rate N] [PART...]   
   burst     the longest burst, sent back to back, of which the system drops nothing: at one publisher's port of 4, 16 and 64, and at all at once
   strangers a track before and while strangers send 200,000 datagrams a second to its publisher's port
   calls     how often the system is called for a packet that goes out; it needs perf, and leave to count (root)
+
+example: bench/serve/run.py --seconds 5 plain control
 """
 import argparse
 import shutil
@@ -231,7 +233,7 @@ def dialogue():
     print(f'control: {len(first) + len(second)} lines; the subscriber that a line joined received {counts[1]} packets, the other {counts[0]}')
 
 
-CALLS = ['recvfrom', 'sendto', 'clock_nanosleep', 'sched_yield', 'futex']
+CALLS = ['recvfrom', 'sendto', 'epoll_wait', 'write', 'clock_nanosleep', 'sched_yield', 'futex']
 
 
 def calls():
@@ -403,7 +405,7 @@ def strangers():
     serving.end()
 
 
-reader = argparse.ArgumentParser(usage=__doc__)
+reader = argparse.ArgumentParser(usage=__doc__.replace('%', '%%'))
 reader.add_argument('--program')
 reader.add_argument('--seconds', type=int, default=30)
 reader.add_argument('--rate', type=int, default=10000)

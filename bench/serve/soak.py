@@ -9,6 +9,8 @@ room on the disk for what layered subscribers get, 1.3 GB in 30 minutes; where n
 usage: bench/serve/soak.py [--program FILE] [--minutes N] [--rate N] [--seed N] [--folder FOLDER]
 
 30 minutes, 100 packets of 200 bytes a second for each track, the seed 1, and a folder of the system's choice for what was received if left out
+
+example: bench/serve/soak.py --minutes 2
 """
 import argparse
 import random
@@ -237,7 +239,7 @@ def soak(folder):
           f'lines: {", ".join(f"{count} {word}" for word, count in sorted(controller.answers.items()))}; the system dropped {sum(lost)}')
 
 
-reader = argparse.ArgumentParser(usage=__doc__)
+reader = argparse.ArgumentParser(usage=__doc__.replace('%', '%%'))
 reader.add_argument('--program')
 reader.add_argument('--minutes', type=float, default=30)
 reader.add_argument('--rate', type=int, default=100)

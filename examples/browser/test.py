@@ -1,10 +1,12 @@
 #!/usr/bin/python3
 """Runs the example in a headless Chromium, and complains of freezes, wishes that aren't met, and packets that `sfu check` doesn't like.
 
-usage: ./test.py [--library] [--sfu PROGRAM] [--seconds N] [--pictures DIR] [MODE...]
+usage: examples/browser/test.py [--library] [--sfu PROGRAM] [--seconds N] [--pictures DIR] [MODE...]
 MODE is L1T1, L1T3, L2T2, L3T3 or L3T3_KEY; all of them by default. Each has a run from page to page, for comparison, and one through the room,
 with a table's row for each measurement of N seconds (8). Both ways go through a relay that loses 3 % of the RTP packets where the row says so.
 With --library the gateway has the room by the library of crates/room_c, in place of `serve`.
+
+example: examples/browser/test.py --seconds 8 L1T1
 """
 import argparse
 import base64

@@ -1,9 +1,9 @@
-// Lists that grow, or want memory.
+// Growing lists, or out of memory.
 ghost use Rattle.std.specs.Prelude.{◌≡◌, ◌++◌, ◌∷◌, [], OnOk};
 
 use sfu_base::NoMemory;
 
-/// Puts an item behind the others.
+/// Appends an item.
 pub fn put_last<T: Drop>(list: &mut Vec<T>, item: T) -> Result<(), NoMemory>
     ensures { OnOk result (list.new.items ≡ list.old.items ++ item ∷ []) }
 {
@@ -13,7 +13,7 @@ pub fn put_last<T: Drop>(list: &mut Vec<T>, item: T) -> Result<(), NoMemory>
     }
 }
 
-/// Puts all items behind the others.
+/// Appends all items.
 pub fn put_all<T: Drop>(list: &mut Vec<T>, mut items: Vec<T>) -> Result<(), NoMemory>
     ensures { OnOk result (list.new.items ≡ list.old.items ++ items.items) }
 {

@@ -17,7 +17,7 @@ pub struct Placed {
     pub entry: Entry,
 }
 
-/// What the journal says of a call with this reply; want of memory has no entry.
+/// What the journal says of a call with this reply; out of memory has no entry.
 pub fn told(
     alloc: Global,
     actor: u8,

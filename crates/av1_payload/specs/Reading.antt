@@ -22,18 +22,18 @@ length_of bytes groups =
     if nat_lt 8 (length groups) || not (nat_lt (number_of groups) (2 ^ 32)) then None
     else Some (number_of groups, drop (length groups) bytes)
 
--- the length at the front of bytes with the bytes behind it, or none
+-- the length at the start of bytes with the bytes after it, or none
 unfoldable pub length_at : List ℕ → Option (ℕ × List ℕ)
 length_at bytes = option_and_then (length_of bytes) (groups_at bytes)
 
 -- Elements.
 
--- the element of this length at the front of the bytes, and the bytes behind it; or what is wrong with the length
+-- the element of this length at the start of the bytes, and the bytes after it; or what is wrong with the length
 abbrev pub front_element : Option (ℕ × List ℕ) → Result (List ℕ × List ℕ) PayloadFault
 front_element None = Err Leb
 front_element (Some (n, rest)) = if nat_lt (length rest) n then Err Length else Ok (take n rest, drop n rest)
 
--- the element with its length before it at the front of bytes, with the bytes behind it; or what is wrong there
+-- the element with its length before it at the start of bytes, with the bytes after it; or what is wrong there
 abbrev pub sized_at : List ℕ → Result (List ℕ × List ℕ) PayloadFault
 sized_at bytes = front_element (length_at bytes)
 

@@ -9,7 +9,7 @@ use Rattle.av1_payload.specs.declared.payload.Payload.{Payload}
 use Rattle.av1_payload.specs.Payloads.{Flags}
 use Rattle.av1_payload.specs.Reading.{Found, only_fault, sized_from, counted_from}
 
--- how elements are laid behind a header with this W
+-- how elements are laid out after a header with this W
 abbrev pub layout_with : ℕ → Layout
 layout_with zero = EachSized
 layout_with (suc sized) = LastBare sized

@@ -3,7 +3,7 @@
 use crate::left::{Left, first_element};
 use std::marker::Model;
 
-/// An iterator over the elements of a payload, each where it lies there, seen as the list of those that are left.
+/// An iterator over the elements of a payload, each borrowed from it, seen as the list of those that are left.
 #[derive(Debug, Drop)]
 pub struct PayloadElements<'a> {
     pub(crate) left: Left<'a>,

@@ -1,8 +1,8 @@
-// Why bytes aren't a payload of AV1.
+// Why bytes aren't an AV1 payload.
 
 use thiserror::Error;
 
-/// Why bytes aren't a payload of AV1 (RTP Payload Format For AV1, section 4.4): the first fault from the front.
+/// Why bytes aren't an AV1 payload (RTP Payload Format For AV1, section 4.4): the first fault from left to right.
 #[derive(Clone, Copy, Debug, PartialEq, Eq, Error)]
 pub enum PayloadFault {
     /// No byte.

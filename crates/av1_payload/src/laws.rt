@@ -1,4 +1,4 @@
-// Laws of the grammar that the calls are held to.
+// Laws of the grammar in the contracts of the calls.
 
 ghost use Rattle.std.specs.Prelude.{◌≡◌, ◌↔◌, ℕ, List, None, Some};
 ghost use Rattle.sfu_base.specs.Bytes.{AreBytes};
@@ -13,8 +13,7 @@ pub fn each_faultless_payload_is_in_the_grammar()
         → IsPayload bytes (flags_of bytes) (elements_of bytes) }
 {}
 
-/// A payload in the grammar has no fault, and its flags and elements are what is read from it, so no bytes have two
-/// readings.
+/// A payload in the grammar has no fault, and its flags and elements are what is read from it, so no bytes have two readings.
 pub fn a_payload_has_one_reading()
     ensures faultless { (bytes : List ℕ) (flags : Flags) (elements : List (List ℕ)) → IsPayload bytes flags elements
         → first_fault bytes ≡ None }

@@ -3,17 +3,17 @@
 ghost use Rattle.std.specs.Prelude.{◌≡◌, None, Some, MatchOption};
 ghost use Rattle.av1_payload.specs.Reading.{length_at};
 
-/// The bytes that a length has at most.
+/// The most bytes of a length.
 const MOST_BYTES: usize = 8;
 
-/// What every length is below.
+/// Every length is below this.
 const BOUND: u64 = 0x1_0000_0000;
 
 /// The highest bit of a byte, which says that more follow.
 const MORE: u8 = 0x80;
 
-/// The length at the front (AV1 Bitstream Specification, section 4.10.5) and the bytes behind it, or `None` where there
-/// is none.
+/// Reads the length that the bytes begin with (AV1 Bitstream Specification, section 4.10.5), and returns it with the bytes after it, or
+/// `None` where there is none.
 pub fn split_length<'a>(bytes: &'a [u8]) -> Option<(usize, &'a [u8])>
     ensures { MatchOption result (length_at bytes.now ≡ None) (λ x. length_at bytes.now ≡ Some (x.0, x.1.now)) }
 {

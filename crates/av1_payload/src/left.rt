@@ -7,7 +7,7 @@ ghost use Rattle.av1_payload.specs.Seen.{found_left, layout_with};
 use crate::fault::PayloadFault;
 use crate::leb::split_length;
 
-/// How elements are laid.
+/// How elements are laid out.
 #[derive(Clone, Copy, Debug, PartialEq, Eq)]
 pub(crate) enum Layout {
     /// Each has its length before it.
@@ -23,7 +23,7 @@ pub(crate) struct Left<'a> {
     pub(crate) bytes: &'a [u8],
 }
 
-/// How the elements behind an aggregation header are laid.
+/// How the elements after an aggregation header are laid out.
 pub(crate) fn layout_behind(header: u8) -> Layout
     ensures { result ≡ layout_with (count_in header) }
 {
@@ -33,7 +33,7 @@ pub(crate) fn layout_behind(header: u8) -> Layout
     }
 }
 
-/// The first element that is left, and what is left behind it; `None` where none is left.
+/// The first element that is left, and what is left after it; `None` where none is left.
 pub(crate) fn first_element<'a>(
     left: Left<'a>,
 ) -> Result<Option<(&'a [u8], Left<'a>)>, PayloadFault>
@@ -66,7 +66,7 @@ pub(crate) fn first_element<'a>(
     }
 }
 
-/// The element with its length before it at the front, and the bytes behind it.
+/// The element at the start, which has its length before it, and the bytes after it.
 fn split_sized<'a>(bytes: &'a [u8]) -> Result<(&'a [u8], &'a [u8]), PayloadFault>
     ensures { MatchResult result (λ x. sized_at bytes.now ≡ Ok (x.0.now, x.1.now)) (λ e. sized_at bytes.now ≡ Err e) }
 {

@@ -1,4 +1,4 @@
-// A payload taken apart.
+// A parsed payload.
 
 ghost use Rattle.std.specs.Prelude.{◌≡◌, None, Some, IfOk, IfErr, MatchResult};
 ghost use Rattle.av1_payload.specs.Faults.{HasFault};
@@ -10,22 +10,22 @@ use crate::elements::PayloadElements;
 use crate::fault::PayloadFault;
 use crate::left::{Layout, Left, first_element, layout_behind};
 
-/// The payload of an RTP packet of AV1 (RTP Payload Format For AV1, section 4.4).
+/// The payload of an AV1 RTP packet (RTP Payload Format For AV1, section 4.4).
 #[derive(Clone, Copy, Debug, PartialEq, Eq)]
 pub struct Payload<'a> {
     /// Z: the first element continues one of the packet before.
     pub continues: bool,
-    /// Y: the last element goes on in the next packet.
+    /// Y: the last element continues in the next packet.
     pub carries: bool,
     /// N: the packet is the first of a coded video sequence. It isn't judged (own rule).
     pub new_sequence: bool,
     left: Left<'a>,
 }
 
-/// Reads a payload (RTP Payload Format For AV1, section 4.4). Reserved bits are ignored, and an element may be empty (own
-/// rule). It is refused by the first fault from the front: `Empty` where there is no byte; `NoElement` where W is 0 and
-/// nothing follows the aggregation header; `Leb` where an element's length is due and the bytes end within it or before it,
-/// it has more than 8 bytes, or it is 2^32 or more; `Length` where a length is more than the bytes behind it.
+/// Reads a payload (RTP Payload Format For AV1, section 4.4). Reserved bits are ignored, and an element may be empty (own rule). It is
+/// refused by the first fault from left to right: `Empty` where there is no byte; `NoElement` where W is 0 and nothing follows the
+/// aggregation header; `Leb` where an element's length is due and the bytes end within it or before it, it has more than 8 bytes, or it is
+/// 2^32 or more; `Length` where a length is more than the bytes that follow it.
 #[inline(always)]
 pub fn read<'a>(bytes: &'a [u8]) -> Result<Payload<'a>, PayloadFault>
     ensures flags { IfOk result (λ p. flags_in p ≡ flags_of bytes.now) }
@@ -73,7 +73,7 @@ impl<'a> Payload<'a> {
     ghost use Rattle.std.specs.Prelude.{◌≡◌};
     ghost use Rattle.av1_payload.specs.Seen.{elements_within};
 
-    /// The elements, in order, each where it lies in the payload.
+    /// The elements, in order, each borrowed from the payload.
     pub fn elements(&self) -> PayloadElements<'a>
         ensures { result ≡ elements_within self.now }
     {

@@ -1,4 +1,4 @@
-// The first words of lines that speak of a bundle.
+// The first words of lines about bundles.
 ghost use Rattle.std.specs.Prelude.{◌≡◌};
 ghost use Rattle.bundle_lines.specs.Commands.{command_of};
 

@@ -1,14 +1,14 @@
 // What lines say where there are bundles.
 use sfu_base::Call;
 
-/// What a line says: a call on the room, or something of a bundle. Own rule. A bundle is one outgoing stream; its legs are two or three
-/// subscribers of layered tracks, and it sends on what one of them is sent. Bundles are named by numbers that the caller chooses.
+/// What a line says: a call on the room, or something about a bundle. Own rule. A bundle is one outgoing stream; its legs are two or three
+/// subscribers of layered tracks, and it forwards what one of them is sent. Bundles are named by numbers that the caller chooses.
 #[derive(Debug, Drop)]
 pub enum BundleLine {
     /// A call on the room.
     Room(Call),
-    /// A bundle begins. Its legs' tracks have this header extension id (RFC 8285, section 4); what it sends has this SSRC and sequence
-    /// numbers from `first` on. The first `count` of the legs count, 2 or 3; behind them stands 0.
+    /// A bundle begins. Its legs' tracks have this header extension id (RFC 8285, section 4); its packets have this SSRC and sequence
+    /// numbers from `first` on. The first `count` of the legs count, 2 or 3; the others are 0.
     Bundle {
         bundle: u32,
         id: u8,
@@ -17,20 +17,20 @@ pub enum BundleLine {
         legs: [u32; 3],
         count: u8,
     },
-    /// The bundle is to send this one of its legs, counted from 1.
+    /// The bundle is to forward this one of its legs, counted from 1.
     Choose {
         bundle: u32,
         leg: u8,
     },
-    /// What waits for the bundle's legs is taken.
+    /// Takes what is queued for the bundle's legs.
     Pump {
         bundle: u32,
     },
-    /// The bundle's oldest queued packet is asked for.
+    /// Takes the bundle's oldest queued packet.
     Draw {
         bundle: u32,
     },
-    /// The packet that the bundle sent under this sequence number is asked for again.
+    /// Asks again for the packet that the bundle sent under this sequence number.
     Redraw {
         bundle: u32,
         seq: u16,

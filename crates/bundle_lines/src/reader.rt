@@ -10,7 +10,7 @@ use crate::command::{BundleCommand, bundle_command};
 use sfu_script::Field::{Number8, Number16, Number32, Ssrc};
 use sfu_script::{NoLine, read_call, read_fields, split};
 
-// The readers of single lines are inlined: each function that hands a line on would clear and copy the 2 KB of its call once more.
+// The readers of single lines are inlined: each function that returns a line by value would clear and copy the 2 KB of its call once more.
 #[inline(always)]
 fn two_legs(rest: &[u8]) -> Result<BundleLine, NoLine>
     ensures { result_ok result ≡ two_legs_of rest.now }
@@ -55,7 +55,7 @@ fn bundle(rest: &[u8]) -> Result<BundleLine, NoLine>
     }
 }
 
-// What a command says with the words behind it.
+// What a command says with the words after it.
 #[inline(always)]
 fn behind(command: BundleCommand, rest: &[u8]) -> Result<BundleLine, NoLine>
     ensures { result_ok result ≡ said_of command rest.now }
@@ -91,7 +91,7 @@ fn behind(command: BundleCommand, rest: &[u8]) -> Result<BundleLine, NoLine>
     }
 }
 
-// What a line says of a bundle.
+// What a line says about a bundle.
 #[inline(always)]
 fn own(line: &[u8]) -> Result<BundleLine, NoLine>
     ensures { result_ok result ≡ own_of line.now }
@@ -114,7 +114,7 @@ fn said(line: &[u8]) -> Result<BundleLine, NoLine>
 }
 
 /// What a line says; the line comes without its line end. `NoLine` exactly when it says nothing: it is neither a call's line nor one of
-/// those that speak of a bundle. Takes no memory.
+/// those about bundles. Takes no memory.
 pub fn read_bundle_line(line: &[u8]) -> Result<BundleLine, NoLine>
     ensures value { result_ok result ≡ line_of line.now }
     ensures ok { IfOk result (λ said. IsBundleLine said line.now) }

@@ -7,10 +7,10 @@ use itoa::Buffer;
 use script_texts::end_line;
 use sfu_base::{Blob, NoMemory};
 
-/// What a line that speaks of a bundle is replied, where no call of the room has the reply. Own rule.
+/// The reply to a line about a bundle, where no call of the room has this reply. Own rule.
 #[derive(Clone, Copy, Debug, PartialEq, Eq)]
 pub enum BundleReply {
-    /// So many of the packets that a pump took go out, and so many were dropped.
+    /// Of the packets that a pump took, `forwarded` were forwarded and `dropped` were dropped.
     Pumped { forwarded: u32, dropped: u32 },
     /// No bundle has the number.
     NoBundle,
@@ -47,7 +47,7 @@ fn append_bundle_reply(reply: BundleReply, out: &mut Blob) -> Result<(), NoMemor
     }
 }
 
-/// Puts the line of a reply behind the texts that are ready. After `NoMemory` all is as before.
+/// Appends the line of a reply to the texts that are ready. After `NoMemory` all is as before.
 pub fn add_bundle_reply(reply: BundleReply, ready: &mut Blob) -> Result<(), NoMemory>
     ensures ok { OnOk result (ready.new ≡ ready.old ++ (bundle_reply_text reply ++ 10 ∷ [])) }
     ensures err { OnErr result (ready.new ≡ ready.old) }

@@ -26,9 +26,7 @@ use Rattle.forwarding_laws.proofs.Timelines.{SeesNewest, sees_newest}
 use Rattle.dd_structure.specs.TemplateStructure.{TemplateStructure}
 use Rattle.packet_format.specs.Packets.{bytes_of, packet_of}
 use Rattle.packet_format.specs.Remasked.{or_same, remasked, remasked_bytes, remasked_packet}
-use Rattle.packet_format.specs.RemaskedReads.{IsRemasked}
 use Rattle.packet_format.proofs.Packets.{packets_sent}
-use Rattle.packet_format.proofs.Remasked.{packets_remasked}
 use Rattle.packet_format.proofs.RemaskedRests.{rests_remasked}
 use Rattle.track_core.proofs.Brought.{ItemHas, frame_has}
 use Rattle.track_core.proofs.TakenPieces.{all_append}
@@ -46,9 +44,10 @@ use Rattle.room_core.proofs.Giving.{accepted_are}
 use Rattle.room_core.proofs.SentMarked.{with_told}
 use Rattle.room_core.proofs.Stepping.{format_is}
 use Rattle.cascade_laws.specs.Told.{arrivals}
-use Rattle.cascade.specs.Cascades.{AreOfRooms, IsPassedOnOf}
+use Rattle.cascade.specs.Cascades.{AreOfRooms, IsMasked, IsPassedOnOf}
 use Rattle.cascade.specs.Fed.{IsFed}
 use Rattle.cascade.proofs.JoinedAt.{kind_is}
+use Rattle.cascade.proofs.Masked.{is_masked as masked_so}
 use Rattle.cascade.proofs.Ordered.{IsInOrder, IsSmall, in_order}
 use Rattle.cascade.proofs.Sizes.{remasked_short, rewritten_short}
 use Rattle.cascade.proofs.Taken.{GivesInOrder, IsRtp, all_rtp, all_small, gives_in_order}
@@ -68,7 +67,7 @@ module _ (took : List (List ℕ)) where
     bytes : List ℕ
     member : IsMember bytes took
     masked : List ℕ
-    is_masked : (masked ≡ bytes) ⊎ IsRemasked id bytes masked
+    is_masked : (masked ≡ bytes) ⊎ IsMasked id bytes masked
     few : length masked ≤ 276 + 4 * length bytes
     long : 12 ≤ length masked
     rest_is : q.rest ≡ (packet_of masked).rest
@@ -87,7 +86,7 @@ module _ (took : List (List ℕ)) where
   -- ---- what is sent
 
   record IsMaskedSo (id : ℕ) (bytes masked : List ℕ) : Type 0 where
-    is_masked : (masked ≡ bytes) ⊎ IsRemasked id bytes masked
+    is_masked : (masked ≡ bytes) ⊎ IsMasked id bytes masked
     few : length masked ≤ 276 + 4 * length bytes
     reads : first_fault masked ≡ None
 
@@ -105,8 +104,8 @@ module _ (took : List (List ℕ)) where
       go : (o : Option (List ℕ)) → remasked id force mask c.bytes ≡ o → IsMaskedSo id c.bytes (or_same o c.bytes)
       go None e = record { is_masked = inl refl; few = omega arith; reads = c.reads }
       go (Some new) e =
-          let r = packets_remasked id mask force c.bytes new e in
-          record { is_masked = inr r; few = remasked_short id mask force c.bytes new e; reads = r.reads c.reads }
+          let r = masked_so id mask force c.bytes new c.reads e in
+          record { is_masked = inr r; few = remasked_short id mask force c.bytes new e; reads = r.stays.reads c.reads }
 
       is : IsMaskedSo id c.bytes (remasked_bytes id force mask c.bytes)
       is = go (remasked id force mask c.bytes) refl

@@ -10,7 +10,7 @@ use Rattle.forwarding_model.specs.forwarding.Targets.{is_active, is_allowed, is_
 use Rattle.forwarding_model.specs.frames.Reading.{Layout}
 use Rattle.forwarding_model.specs.frames.Frames.{all_targets}
 use Rattle.forwarding_laws.proofs.Readings.{all_targets-lt}
-use Rattle.target_selector.specs.Masks.{mask_for, mask_within, targets_within}
+use Rattle.target_selector.specs.Masks.{mask_for, mask_within, targets_where}
 use Rattle.target_selector.proofs.TargetBits.{mask_small, targets_small}
 
 -- the bit of a target stands in the mask
@@ -77,22 +77,22 @@ bit_itself x k small =
     let one : x + 2 ^ k ≡ x + 2 ^ k * 1 = omega arith in
     eq-eqb ((x + 2 ^ k) / 2 ^ k % 2) 1 (ap (λ n. n / 2 ^ k % 2) one ∙ ap (λ n. n % 2) divided ∙ ap (λ n. (n + 1) % 2) none)
 
-within_bit : (most : Wish) (f : FrameMeaning) (n t : ℕ) → t < n → is_allowed most f t ≡ true → HasBit (targets_within most f n) t
+within_bit : (most : Wish) (f : FrameMeaning) (n t : ℕ) → t < n → is_allowed most f t ≡ true → HasBit (targets_where (is_allowed most f) n) t
 within_bit most f zero t low ok = absurd (omega arith)
 within_bit most f (suc n) t low ok = elim (cases_lt t n) [
   | inl under ↦ go (is_allowed most f n) (within_bit most f n t under ok) under
   | inr over ↦ last (let same : t ≡ n = omega arith in same)
 ]
   where
-    go : (b : Bool) → HasBit (targets_within most f n) t → t < n → HasBit (targets_within most f n + cond b (2 ^ n) 0) t
-    go true bit under = bit_below (targets_within most f n) n t under bit
-    go false bit under = subst (λ (m : ℕ). HasBit m t) (let e : targets_within most f n ≡ targets_within most f n + 0 = omega arith in e) bit
+    go : (b : Bool) → HasBit (targets_where (is_allowed most f) n) t → t < n → HasBit (targets_where (is_allowed most f) n + cond b (2 ^ n) 0) t
+    go true bit under = bit_below (targets_where (is_allowed most f) n) n t under bit
+    go false bit under = subst (λ (m : ℕ). HasBit m t) (let e : targets_where (is_allowed most f) n ≡ targets_where (is_allowed most f) n + 0 = omega arith in e) bit
 
-    last : t ≡ n → HasBit (targets_within most f n + cond (is_allowed most f n) (2 ^ n) 0) t
+    last : t ≡ n → HasBit (targets_where (is_allowed most f) n + cond (is_allowed most f n) (2 ^ n) 0) t
     last same =
-        subst (λ (k : ℕ). HasBit (targets_within most f n + cond (is_allowed most f n) (2 ^ n) 0) k) (sym same)
-        (subst (λ (b : Bool). HasBit (targets_within most f n + cond b (2 ^ n) 0) n) (sym (subst (λ (k : ℕ). is_allowed most f k ≡ true) same ok))
-        (bit_itself (targets_within most f n) n (targets_small most f n)))
+        subst (λ (k : ℕ). HasBit (targets_where (is_allowed most f) n + cond (is_allowed most f n) (2 ^ n) 0) k) (sym same)
+        (subst (λ (b : Bool). HasBit (targets_where (is_allowed most f) n + cond b (2 ^ n) 0) n) (sym (subst (λ (k : ℕ). is_allowed most f k ≡ true) same ok))
+        (bit_itself (targets_where (is_allowed most f) n) n (targets_small (is_allowed most f) n)))
 
 -- the mask for an active target with layers has its bit
 pub mask_has : (f : FrameMeaning) (target : ℕ) (most : Wish) → target < f.target_count → is_active f target ≡ true → layers f target ≡ Some most

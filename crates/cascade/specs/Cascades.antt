@@ -1,9 +1,10 @@
 -- What a subscriber of a fed track is sent. Own statements, over the definitions of rooms and of forwarding, for the accepted calls of two
 -- histories.
-use Rattle.std.specs.Prelude.{◌≡◌, ◌⊎◌, ◌<◌, ◌≤◌, ℕ, List, [], ◌∷◌, ◌++◌, Bool, true, None, Some, map, drop, length}
+use Rattle.std.specs.Prelude.{◌≡◌, ◌⊎◌, ◌*◌, ◌<◌, ◌≤◌, ℕ, List, [], ◌∷◌, ◌++◌, Bool, true, Option, None, Some, map, drop, length, take}
 use Rattle.sfu_base.specs.declared.call.Call.{Call}
 use Rattle.sfu_base.specs.declared.call.Kind.TheVariants.{Plain, Layered}
 use Rattle.sfu_base.specs.declared.frame.Wish.{Wish}
+use Rattle.rtp_packet.specs.Fields.{csrc_count}
 use Rattle.rtp_packet.specs.Rewritten.{rewritten}
 use Rattle.forwarding_model.specs.Lists.{IsMember}
 use Rattle.forwarding_model.specs.declared.target.CurrentTarget.TheVariants.{Open}
@@ -16,6 +17,7 @@ use Rattle.forwarding_model.specs.History.{items_of}
 use Rattle.forwarding_laws.specs.frames.Making.{said}
 use Rattle.dd_structure.specs.TemplateStructure.{TemplateStructure}
 use Rattle.packet_format.specs.Packets.{read_packet}
+use Rattle.packet_format.specs.Remasked.{remasked}
 use Rattle.packet_format.specs.RemaskedReads.{IsRemasked}
 use Rattle.room_core.specs.Follows.{Happened}
 use Rattle.room_core.specs.Formats.{format_of}
@@ -63,13 +65,22 @@ PlainTracksGoOn = (h1 h2 : List Entry) (s t u : ℕ) (i j : Joined) (p : Publish
 
 -- ---- a layered second track
 
--- the packet with another number, SSRC and marker, and perhaps with another mask, which changes its header extension alone
+-- The packet with a mask in its descriptor, by the structure that is in force: its header extension is written anew with it, and every other bit stays,
+-- the CSRC words among them.
+pub record IsMasked (id : ℕ) (bytes masked : List ℕ) : Type 0 where
+  pub force : Option TemplateStructure
+  pub mask : ℕ
+  pub is : remasked id force mask bytes ≡ Some masked
+  pub csrcs : take (4 * csrc_count bytes) (drop 12 masked) ≡ take (4 * csrc_count bytes) (drop 12 bytes)
+  pub stays : IsRemasked id bytes masked
+
+-- the packet with another number, SSRC and marker, and perhaps with another mask
 pub record IsPassedOn (id : ℕ) (bytes new : List ℕ) : Type 0 where
   pub sequence : ℕ
   pub ssrc : ℕ
   pub marker : Bool
   pub masked : List ℕ
-  pub is_masked : (masked ≡ bytes) ⊎ IsRemasked id bytes masked
+  pub is_masked : (masked ≡ bytes) ⊎ IsMasked id bytes masked
   pub readdressed : new ≡ rewritten sequence ssrc marker masked
 
 abbrev pub IsPassedOnOf : ℕ → List (List ℕ) → List ℕ → Type 0

@@ -1,4 +1,4 @@
-//! The chain that protects a decode target: whether the frame before a frame in it was passed on (AV1 RTP payload format, Appendix A).
+//! The chain that protects a decode target: whether a frame's previous frame in it was forwarded (AV1 RTP payload format, Appendix A).
 #![tactic(auto)]
 
 ghost use Rattle.std.specs.Prelude.{◌≡◌, ◌<◌, List};
@@ -15,14 +15,14 @@ use sfu_base::FrameMeaning;
 /// Whether a chain is broken at a frame.
 #[derive(Clone, Copy, Debug, PartialEq, Eq)]
 pub enum LinkState {
-    /// The frame before it in the chain was passed on, or none is needed.
+    /// The frame before it in the chain was forwarded, or none is needed.
     Intact,
-    /// The frame before it in the chain has this number, and wasn't passed on.
+    /// The frame before it in the chain has this number, and wasn't forwarded.
     Broken { number: u64 },
 }
 
-/// The state at a frame of the chain that protects an open target, by the numbers of the frames of the epoch that were passed on. `opened` is
-/// the number of the frame at which the target was opened: what lies before it in the chain isn't needed. Where there are no chains, or the
+/// The state, at a frame, of the chain that protects an open target, by the numbers of the frames of the epoch that were forwarded. `opened`
+/// is the number of the frame at which the target was opened: frames of the chain before it aren't needed. Where there are no chains, or the
 /// frame's distance in the chain is 0, the chain is intact.
 pub fn link_state(frame: &FrameMeaning, target: u8, opened: u64, passed: &RefWindow) -> LinkState
     requires valid { IsValid frame.now }

@@ -1,4 +1,4 @@
--- The two kinds of number that stand in bits: f(n) and ns(n).
+-- The two kinds of number that bits spell: f(n) and ns(n).
 -- RTP Payload Format For AV1 v1.0, Appendix A, whose syntax takes f(n) and ns(n) from the AV1 bitstream
 -- specification, sections 4.10.2 and 4.10.7. The code takes the bits of a number from one byte at a time.
 use Rattle.std.specs.Prelude.{ℕ, zero, suc, ◌+◌, ◌-◌, ◌*◌, ◌^◌, Bool, List, length, take, drop, Option, Some, None, nat_lt, if◌then◌else◌}
@@ -26,7 +26,7 @@ abbrev pub with_last : ℕ → ℕ → Option (ℕ × List Bool) → Option (ℕ
 with_last n front None = None
 with_last n front (Some last) = Some (2 * front - short_forms n + last.0, last.1)
 
--- the number that begins with these digits, one less than n has: a short form, or with one more bit behind it
+-- the number that begins with these digits, one less than n has: a short form, or with one more bit after it
 abbrev pub from_front : ℕ → Option (ℕ × List Bool) → Option (ℕ × List Bool)
 from_front n None = None
 from_front n (Some front) = if nat_lt front.0 (short_forms n) then Some front else with_last n front.0 (fixed 1 front.1)

@@ -1,5 +1,5 @@
 -- Grammars that are read from left to right: one part after another, and the first fault ends it.
--- S is what is read, as a list of bits or of bytes; a part answers its value and what is left, or a fault E.
+-- S is what is read, as a list of bits or of bytes; a part gives its value and what is left, or a fault E.
 -- The code keeps a place in its input and an array or a list that it fills; here each part takes what the one before it left.
 use Rattle.std.specs.Prelude.{◌≡◌, ℕ, zero, suc, Bool, List, [], ◌∷◌, ◌++◌, Option, Some, None, Result, Ok, Err}
 use Rattle.dd_bits.specs.declared.reader.BitReader.{BitReader}
@@ -23,7 +23,7 @@ fixed_or short n bits = or_fault short (fixed n bits)
 abbrev pub non_symmetric_or : {E : Type 0} → E → ℕ → List Bool → Result (ℕ × List Bool) E
 non_symmetric_or short n bits = or_fault short (non_symmetric n bits)
 
--- ---- so many items, one after another
+-- ---- n items, one after another
 
 unfoldable pub repeat_at : {A E S : Type 0} → (S → Result (A × S) E) → ℕ → S → Result (List A × S) E
 repeat_at item zero input = Ok ([], input)
@@ -39,7 +39,7 @@ abbrev pub going_on : {A E S : Type 0} → (A → S → Result (List A × S) E) 
 going_on more (None, input) = Ok ([], input)
 going_on more (Some x, input) = more x input >>= λ others. Ok (x ∷ others.0, others.1)
 
--- items up to a mark, each read after the one before it; one more than there is room for is the fault `full`
+-- items up to a mark, each read after the one before it; one above the limit is the fault `full`
 unfoldable pub until_at : {A E S : Type 0} → (A → S → Result (Option A × S) E) → E → ℕ → A → S → Result (List A × S) E
 until_at next full zero before input = next before input >>= going_on (λ x rest. Err full)
 until_at next full (suc room) before input = next before input >>= going_on (until_at next full room)

@@ -18,8 +18,8 @@ pub record IsPadded (bits : List Bool) (bytes : List ℕ) : Type 0 where
   pub few : zeros < 8
   pub holds : bits_of_bytes bytes ≡ bits ++ replicate zeros false
 
--- What a write did: these bits stand last, or they would pass the room.
--- Where several fields are written one after another, a part of them may then stand, unless a clause says otherwise.
+-- What a write did: these bits are last, or they would pass the capacity.
+-- Where several fields are written one after another, a part of them may then be written, unless a clause says otherwise.
 abbrev pub Puts : Result (Unit {0}) NoRoom → BitWriter → BitWriter → List Bool → Type 0
 Puts (Ok x) old new bits = written new ≡ written old ++ bits
 Puts (Err e) old new bits = room < length (written old) + length bits

@@ -25,7 +25,7 @@ pub fn short_form_count(n: u32) -> u32
     (all - n as u64) as u32
 }
 
-/// The `count` digits of a number that stand before its lowest `behind` ones.
+/// The `count` digits of a number that precede its lowest `behind` ones.
 pub fn digits_at(number: u32, behind: u8, count: u8) -> u32
     requires { count ≤ 8 }
     ensures value { result ≡ number / 2 ^ behind % 2 ^ count }
@@ -38,7 +38,7 @@ pub fn digits_at(number: u32, behind: u8, count: u8) -> u32
     }
 }
 
-/// The number with the `count` digits of `more` behind its own.
+/// The number with the `count` digits of `more` appended to its own.
 pub fn with_digits(number: u32, count: u8, more: u32) -> u32
     requires count { count ≤ 8 }
     requires more { more < 2 ^ count }
@@ -48,7 +48,7 @@ pub fn with_digits(number: u32, count: u8, more: u32) -> u32
     (number << count) + more
 }
 
-/// The byte that begins with the `count` digits of `digits`, and has zeros behind them.
+/// The byte that begins with the `count` digits of `digits`, followed by zeros.
 pub fn byte_with(digits: u32, count: u8) -> u8
     requires count { count ≤ 8 }
     requires small { digits < 2 ^ count }

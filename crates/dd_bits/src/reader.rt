@@ -11,7 +11,7 @@ pub struct Short;
 /// The bits of a slice that are left to be read, the highest of each byte first.
 #[derive(Clone, Copy, Debug)]
 pub struct BitReader<'a> {
-    /// The bytes from the one on that the next bit is in.
+    /// The bytes, from the one that holds the next bit on.
     rest: &'a [u8],
     /// How many bits of the first of them were read.
     used: u8,
@@ -34,7 +34,7 @@ impl<'a> BitReader<'a> {
         }
     }
 
-    /// How many bits are left, or the greatest `usize` where there are more.
+    /// How many bits are left, or `usize::MAX` where there are more.
     pub fn left(&self) -> usize
         ensures { result ≡ min (length (bits_left self.now)) usize.MAX }
     {
@@ -54,7 +54,7 @@ impl<'a> BitReader<'a> {
         (self.rest.len() as u128 * 8).saturating_sub(self.used as u128)
     }
 
-    /// Takes the number in the next n bits, f(n). After `Short` the reader is as before.
+    /// Reads a number of n bits, f(n). After `Short` the reader is as before.
     pub fn bits(&mut self, n: u8) -> Result<u32, Short>
         requires { n ≤ 32 }
         ensures read { IfOk result (λ v. fixed n (bits_left self.old) ≡ Some (v, bits_left self.new)) }
@@ -68,7 +68,7 @@ impl<'a> BitReader<'a> {
         Ok(self.take_bits(n))
     }
 
-    /// Takes the next number below n, ns(n). After `Short` the reader is as before.
+    /// Reads a number below n, ns(n). After `Short` the reader is as before.
     pub fn ns(&mut self, n: u32) -> Result<u32, Short>
         requires { 1 ≤ n }
         ensures read { IfOk result (λ v. non_symmetric n (bits_left self.old) ≡ Some (v, bits_left self.new)) }
@@ -91,7 +91,7 @@ impl<'a> BitReader<'a> {
         }
     }
 
-    /// The same as [`BitReader::bits`], with a fault of the caller's for `Short`.
+    /// The same as [`BitReader::bits`], with the caller's fault `short` in place of `Short`.
     pub fn bits_or<E: Copy>(&mut self, n: u8, short: E) -> Result<u32, E>
         requires { n ≤ 32 }
         ensures read { Gives (λ v. v) result self.new (fixed_or short n (bits_left self.old)) }
@@ -101,7 +101,7 @@ impl<'a> BitReader<'a> {
         self.bits(n).map_err(|_| short)
     }
 
-    /// The same as [`BitReader::ns`], with a fault of the caller's for `Short`.
+    /// The same as [`BitReader::ns`], with the caller's fault `short` in place of `Short`.
     pub fn ns_or<E: Copy>(&mut self, n: u32, short: E) -> Result<u32, E>
         requires { 1 ≤ n }
         ensures read { Gives (λ v. v) result self.new (non_symmetric_or short n (bits_left self.old)) }
@@ -111,7 +111,7 @@ impl<'a> BitReader<'a> {
         self.ns(n).map_err(|_| short)
     }
 
-    /// Takes n bits, as many of one byte at a time as it has.
+    /// Reads n bits, as many of each byte at once as it has left.
     pub(crate) fn take_bits(&mut self, n: u8) -> u32
         requires width { n ≤ 32 }
         requires enough { n ≤ length (bits_left self.old) }
@@ -128,7 +128,7 @@ impl<'a> BitReader<'a> {
         number
     }
 
-    /// Takes bits that the next byte has.
+    /// Reads bits that all lie in the next byte.
     fn take_in_byte(&mut self, count: u8) -> u32
         requires some { 1 ≤ length (bits_left self.old) }
         requires in_byte { self.old.used + count ≤ 8 }

@@ -9,16 +9,16 @@ use thiserror::Error;
 #[error("the bits would pass 2,040 bytes")]
 pub struct NoRoom;
 
-/// The most bytes that a writer holds.
+/// The capacity of a writer, in bytes.
 const MOST: usize = 2040;
 
-/// Bits that are put one after another into at most 2,040 bytes, the highest of each byte first.
+/// Bits that are appended to at most 2,040 bytes, the highest of each byte first.
 #[derive(Clone, Copy, Debug)]
 pub struct BitWriter {
     bytes: [u8; MOST],
     /// How many bytes are full.
     len: usize,
-    /// How many bits stand in the byte after these, fewer than 8, and the number that they spell.
+    /// How many bits are in the byte after these, fewer than 8, and the number that they spell.
     used: u8,
     pending: u32,
     ghost whole: { length bytes ≡ 2040 },
@@ -34,7 +34,7 @@ impl BitWriter {
     ghost use Rattle.dd_bits.specs.Reader.{bits_left, bits_between};
     ghost use Rattle.dd_bits.specs.Writer.{room, written, IsPadded, Puts};
 
-    /// A writer in which nothing stands.
+    /// An empty writer.
     pub fn new() -> BitWriter
         ensures { written result ≡ [] }
     {
@@ -46,7 +46,7 @@ impl BitWriter {
         }
     }
 
-    /// Takes all bits out. The bytes stay as they are, so this costs less than a new writer.
+    /// Removes all bits. The bytes aren't cleared, so this costs less than a new writer.
     pub fn clear(&mut self)
         ensures { written self.new ≡ [] }
     {
@@ -55,7 +55,7 @@ impl BitWriter {
         self.pending = 0;
     }
 
-    /// Puts a number in n bits, f(n). `NoRoom` comes where they would pass 2,040 bytes; the writer is then as before.
+    /// Appends a number in n bits, f(n). Returns `NoRoom` where they would pass 2,040 bytes; the writer is then as before.
     pub fn put(&mut self, n: u8, value: u32) -> Result<(), NoRoom>
         requires { value < 2 ^ n }
         ensures put { Puts result self.old self.new (bits_of n value) }
@@ -69,8 +69,7 @@ impl BitWriter {
         Ok(())
     }
 
-    /// Puts a number below n as ns(n) spells it. `NoRoom` comes where its bits would pass 2,040 bytes; the writer is then
-    /// as before.
+    /// Appends a number below n as ns(n) spells it. Returns `NoRoom` where its bits would pass 2,040 bytes; the writer is then as before.
     pub fn put_ns(&mut self, n: u32, value: u32) -> Result<(), NoRoom>
         requires { value < n }
         ensures put { Puts result self.old self.new (non_symmetric_bits n value) }
@@ -86,8 +85,8 @@ impl BitWriter {
         }
     }
 
-    /// Puts the bits that `from` has left before those of `to`, as a reader took them that was copied as `from` and is now `to`.
-    /// `NoRoom` comes where they would pass 2,040 bytes; the writer is then as before.
+    /// Appends the bits that a reader took between two moments: `from` is a copy of it before, `to` after. Returns `NoRoom` where they
+    /// would pass 2,040 bytes; the writer is then as before.
     pub fn put_read(&mut self, from: BitReader<'_>, to: BitReader<'_>) -> Result<(), NoRoom>
         ensures put { Puts result self.old self.new (bits_between from.entry to.entry) }
         ensures unchanged { OnErr result (self.new ≡ self.old) }
@@ -102,7 +101,7 @@ impl BitWriter {
         Ok(())
     }
 
-    /// The bytes that hold the bits, the last with zeros up to its end.
+    /// The bytes that hold the bits; the last is filled up with zeros.
     pub fn bytes(&self) -> &[u8]
         ensures { IsPadded (written self.now) result.now }
     {
@@ -113,7 +112,7 @@ impl BitWriter {
         }
     }
 
-    /// Puts so many bits off the front of a reader.
+    /// Appends the first `count` bits of a reader.
     fn put_front(&mut self, from: BitReader<'_>, count: usize)
         requires enough { count ≤ length (bits_left from) }
         requires fit { length (written self.old) + count ≤ room }
@@ -129,7 +128,7 @@ impl BitWriter {
         }
     }
 
-    /// Puts n bits, as many in one byte at a time as it takes.
+    /// Appends n bits, as many to each byte at once as it takes.
     fn put_bits(&mut self, n: u8, value: u32)
         requires { length (written self.old) + n ≤ room }
         ensures { written self.new ≡ written self.old ++ bits_of n value }
@@ -142,7 +141,7 @@ impl BitWriter {
         }
     }
 
-    /// Puts bits that the byte after the full ones has room for.
+    /// Appends bits that fit in the byte after the full ones.
     fn put_in_byte(&mut self, count: u8, value: u32)
         requires some { 1 ≤ count }
         requires in_byte { self.old.used + count ≤ 8 }

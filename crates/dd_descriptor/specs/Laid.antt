@@ -12,13 +12,13 @@ use Rattle.dd_descriptor.specs.Spelling.{flag_bits, head_bits, carried_bits, whe
 
 -- what the content of a descriptor leaves open of its bits
 pub record Layout : Type 0 where
-  -- whether anything stands after the first three bytes
+  -- whether anything follows the first three bytes
   pub is_long : Bool
-  -- whether the mask stands
+  -- whether there is a mask
   pub has_mask : Bool
-  -- in how many half bytes each of the frame's own distances stands
+  -- how many half bytes each of the frame's own distances has
   pub sizes : List ℕ
-  -- what stands behind the frame's definition
+  -- what follows the frame's definition
   pub behind : List Bool
 
 -- ---- the parts
@@ -46,7 +46,7 @@ laid_frame sizes custom f =
     where_custom custom.dtis (flat_map indication_bits f.indications)
     ++ (where_custom custom.fdiffs (laid_distances sizes f.distances) ++ where_custom custom.chains (flat_map (bits_of 8) f.links))
 
--- what stands after the first three bytes
+-- what follows the first three bytes
 unfoldable pub laid_more : ℕ → Layout → Content → List Bool
 laid_more targets l c =
     laid_flags l.has_mask c ++ (carried_bits c.structure ++ (laid_mask targets l.has_mask c.mask ++ (laid_frame l.sizes c.custom c.frame ++ l.behind)))
@@ -57,7 +57,7 @@ laid_bits targets l c = head_bits c ++ (if l.is_long then laid_more targets l c 
 
 -- ---- which contents have such bits
 
--- a mask stands where the flag says so, and else it is the one that a structure stands for
+-- there is a mask where the flag says so, and else it is the one that a structure implies
 abbrev pub IsMask : Bool → Option TemplateStructure → Option ℕ → Type 0
 IsMask true carried mask = is_some mask ≡ true
 IsMask false carried mask = mask ≡ settled_mask carried None

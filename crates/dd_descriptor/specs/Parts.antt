@@ -26,7 +26,7 @@ pub record PartBits : Type 0 where
 abbrev pub taken : List Bool → List Bool → List Bool
 taken bits rest = take (length bits - length rest) bits
 
--- how many decode targets there are, and the bits of the frame's definition, which stand behind the mask
+-- how many decode targets there are, and the bits of the frame's definition, which follow the mask
 unfoldable pub body_parts_at : ℕ → Flags → Bool → TemplateStructure → List Bool → Result ((ℕ × List Bool) × List Bool) DdFault
 body_parts_at template flags carries s bits = do
   mask ← mask_at flags.mask carries s.target_count bits

@@ -1,5 +1,5 @@
--- A descriptor that tells another mask. Own rule, over the bits of RTP Payload Format For AV1 v1.0, Appendix A: the parts stay as they stand, so
--- a distance keeps its size, the mask's flag is set and the new mask stands in its place; what stood behind the frame's definition is gone. The code
+-- A descriptor with another mask. Own rule, over the bits of RTP Payload Format For AV1 v1.0, Appendix A: the other parts stay unchanged, so
+-- a distance keeps its size, the mask's flag is set and the new mask is in its place; what followed the frame's definition is dropped. The code
 -- copies bits between places in the bytes.
 use Rattle.std.specs.Prelude.{◌≡◌, ℕ, ◌<◌, ◌^◌, true, List, Bool, ◌++◌, Option, Some, Ok}
 use Rattle.dd_bits.specs.Bits.{bits_of}

@@ -15,7 +15,7 @@ pub struct Custom {
     pub chains: bool,
 }
 
-/// What the dependency descriptor of a packet says. Of the arrays only the first places count: as many as the structure that holds has
+/// What the dependency descriptor of a packet says. Only the first entries of the arrays count: as many as the structure that applies has
 /// decode targets and chains, and `ref_count`.
 #[derive(Debug, Drop)]
 pub struct Descriptor {
@@ -23,7 +23,7 @@ pub struct Descriptor {
     pub start: bool,
     /// Whether the packet is the last of its frame.
     pub end: bool,
-    /// The template id as it stands in the descriptor, 0 to 63.
+    /// The template id as the descriptor has it, 0 to 63.
     pub template: u8,
     /// The frame number modulo 65,536.
     pub number: u16,
@@ -48,7 +48,7 @@ pub struct Descriptor {
 }
 
 impl Descriptor {
-    /// A descriptor that says nothing, for others to be read into.
+    /// A blank descriptor, for others to be read into.
     pub fn new() -> Descriptor
         ensures { IsBlank result }
     {

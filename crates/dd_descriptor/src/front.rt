@@ -10,7 +10,7 @@ use crate::descriptor::Edges;
 use crate::reading::fields::head;
 use dd_bits::Short;
 
-/// What the first three bytes of a descriptor say, whatever follows them; `Short` comes where there are fewer.
+/// What the first three bytes of a descriptor say, whatever follows them; returns `Short` where there are fewer.
 pub fn edges(bytes: &[u8]) -> Result<Edges, Short>
     ensures short { IsErr result ↔ (length bytes.now < 3) }
     ensures front { IfOk result (BeginsWith bytes.now) }

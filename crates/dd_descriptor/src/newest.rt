@@ -13,13 +13,14 @@ use crate::reading::read_into;
 use dd_structure::Structure;
 use std::marker::Model;
 
-/// The newest descriptor of packets that are read one after another, which clauses see. One that carries a structure is read into a place of
-/// its own: a structure is long, so none is cleared for the next descriptor, which mostly carries none, and none is made for the next that does.
+/// The newest descriptor of packets that are read one after another, which clauses see. There are two buffers, one for descriptors that carry a
+/// structure: a structure is long, so none is cleared for the next descriptor, which mostly carries none, and none is made for the next that
+/// does.
 #[derive(Debug, Drop)]
 pub struct NewestDescriptor {
     carrying: Descriptor,
     plain: Descriptor,
-    // In which of the two places it stands.
+    // Which of the two buffers holds it.
     carries: bool,
 }
 
@@ -33,7 +34,7 @@ impl Model for NewestDescriptor {
 }
 
 impl NewestDescriptor {
-    /// A descriptor that says nothing: none was read.
+    /// A blank descriptor: none was read.
     pub fn new() -> NewestDescriptor
         ensures { IsBlank result }
     {
@@ -44,7 +45,7 @@ impl NewestDescriptor {
         }
     }
 
-    /// The next descriptor, as [`read_into`] reads it. After a fault the newest may say anything.
+    /// Reads the next descriptor, as [`read_into`] does. After a fault the newest may say anything.
     pub fn read(&mut self, bytes: &[u8], force: Option<&Structure>) -> Result<(), DdFault>
         ensures read { AnswersIn (option_copied force.entry) self.new result (descriptor_at bytes.now (option_copied force.entry)) }
         ensures writable { OnOk result (IsWritableBy (holding self.new.structure (option_copied force.entry))
@@ -72,7 +73,7 @@ impl NewestDescriptor {
     }
 }
 
-// Whether the flag of a structure is set, the first bit behind the first three bytes. Either place is right for any descriptor.
+// Whether the flag of a structure is set, the first bit after the first three bytes. Either buffer is right for any descriptor.
 fn is_flagged(bytes: &[u8]) -> bool {
     match bytes {
         [_, _, _, flags, ..] => *flags >= 0x80,

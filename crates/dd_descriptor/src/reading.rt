@@ -25,7 +25,7 @@ use dd_bits::BitReader;
 use dd_structure::Structure;
 use sfu_base::Dti;
 
-/// The structure that is carried, in place of what was there. It is a call of its own, since few descriptors carry one.
+/// Reads the structure that is carried, in place of what was there. Out of line: few descriptors carry one.
 #[tactic(auto, unfolding(crate::specs::Reading::carried_at, dd_structure::specs::Reading::some_structure_at))]
 #[inline(never)]
 fn put_structure(bits: &mut BitReader<'_>, out: &mut Option<Structure>) -> Result<(), DdFault>
@@ -37,7 +37,7 @@ fn put_structure(bits: &mut BitReader<'_>, out: &mut Option<Structure>) -> Resul
     }
 }
 
-// No structure any more. It is a call of its own, since it is seldom made and clears much.
+// Removes the structure. Out of line: this is rare and clears much.
 #[cold]
 #[inline(never)]
 fn clear(out: &mut Option<Structure>)
@@ -59,14 +59,14 @@ pub fn put_carried(
     if is_present {
         return put_structure(bits, out);
     }
-    // A structure is long: where none was, none is written again.
+    // A structure is long: where there was none, none is written again.
     if out.is_some() {
         clear(out);
     }
     Ok(())
 }
 
-/// The active decode targets, where they are told or a structure is carried.
+/// The active decode targets, where the descriptor has a mask or carries a structure.
 #[tactic(auto, unfolding(crate::specs::Reading::mask_at))]
 #[inline(always)]
 pub fn mask(
@@ -203,7 +203,7 @@ fn fill_fields(bytes: &[u8], force: Option<&Structure>, out: &mut Descriptor) ->
     Ok(())
 }
 
-/// The same where flags are told. It is a call of its own, so that what depends on flags falls away where there are none.
+/// The same where there are flags. Out of line, so that what depends on flags is removed from the code for descriptors without them.
 #[inline(never)]
 fn fill_flagged(
     bytes: &[u8],
@@ -216,7 +216,7 @@ fn fill_flagged(
     fill_fields(bytes, force, out)
 }
 
-/// The same of any descriptor. Most have three bytes.
+/// The same for any descriptor. Most have three bytes.
 #[inline(always)]
 fn fill(bytes: &[u8], force: Option<&Structure>, out: &mut Descriptor) -> Result<(), DdFault>
     ensures read { AnswersIn (option_copied force.entry) out.new result (descriptor_at bytes.now (option_copied force.entry)) }
@@ -229,8 +229,8 @@ fn fill(bytes: &[u8], force: Option<&Structure>, out: &mut Descriptor) -> Result
     }
 }
 
-/// What the bytes of a descriptor say, with the structure in force where it carries none, in place of what `out` said. The fault is the
-/// first from left to right, and `out` may then say anything; bits after the frame's definition are ignored. What is read can be written.
+/// Reads a descriptor into `out`, in place of what it held, with the structure in force where it carries none. The fault is the first from
+/// left to right, and `out` may then say anything; bits after the frame's definition are ignored. What is read can be written.
 #[inline(always)]
 pub fn read_into(
     bytes: &[u8],
@@ -245,7 +245,7 @@ pub fn read_into(
     fill(bytes, force, out)
 }
 
-/// The same as [`read_into`], into a new descriptor. A descriptor is long: where many are read, one that is filled again costs less.
+/// The same as [`read_into`], into a new descriptor. A descriptor is long: where many are read, one that is reused costs less.
 pub fn read(bytes: &[u8], force: Option<&Structure>) -> Result<Descriptor, DdFault>
     ensures read { Answers (option_copied force.entry) result (descriptor_at bytes.now (option_copied force.entry)) }
     ensures writable { IfOk result (λ d. IsWritableBy (holding d.structure (option_copied force.entry)) (content_of (option_copied force.entry) d)) }

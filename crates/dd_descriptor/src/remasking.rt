@@ -1,4 +1,4 @@
-//! Another mask in a descriptor that else stays as it stands.
+//! Replaces the mask of a descriptor and leaves all else as it is.
 
 ghost use Rattle.std.specs.Prelude.{◌≡◌, ◌<◌, ◌≤◌, ◌*◌, ◌%◌, ◌^◌, ◌↔◌, Some, Ok, IsErr, OnOk, OnErr, length};
 ghost use Rattle.std.specs.Option.{option_copied};
@@ -41,7 +41,7 @@ pub struct Parts<'a> {
     pub frame: Part<'a>,
 }
 
-/// How many decode targets there are, and where the frame's definition stands.
+/// How many decode targets there are, and where the frame's definition lies.
 #[tactic(auto, unfolding(crate::specs::Parts::body_parts_at))]
 fn body_parts<'a>(
     bits: &mut BitReader<'a>,
@@ -86,7 +86,7 @@ fn held_parts<'a>(
     }
 }
 
-/// Where the parts stand in the bytes of a descriptor. A structure that it carries is read into `carried`.
+/// Where the parts lie in the bytes of a descriptor. A structure that it carries is read into `carried`.
 #[tactic(auto, unfolding(crate::specs::Parts::parts_at))]
 fn parts_in<'a>(
     bytes: &'a [u8],
@@ -114,7 +114,7 @@ fn parts_in<'a>(
     })
 }
 
-/// The lowest so many bits of a mask, or all.
+/// The lowest `count` bits of a mask, or all.
 fn lowest(mask: u32, count: u8) -> u32
     ensures { result ≡ mask % 2 ^ count }
 {
@@ -125,7 +125,7 @@ fn lowest(mask: u32, count: u8) -> u32
     }
 }
 
-/// Puts the parts with this mask.
+/// Appends the parts with this mask.
 fn put_parts(out: &mut BitWriter, parts: &Parts<'_>, mask: u32) -> Result<(), NoRoom>
     ensures { Puts result out.old out.new (with_mask (parts_of parts.now) mask) }
 {
@@ -141,14 +141,14 @@ fn put_parts(out: &mut BitWriter, parts: &Parts<'_>, mask: u32) -> Result<(), No
     out.put_read(parts.frame.from, parts.frame.to)
 }
 
-/// Puts the lowest so many bits of a mask.
+/// Appends the lowest `targets` bits of a mask.
 fn put_mask(out: &mut BitWriter, targets: u8, mask: u32) -> Result<(), NoRoom>
     ensures { Puts result out.old out.new (bits_of targets mask) }
 {
     out.put(targets, lowest(mask, targets))
 }
 
-/// What a remask works in, 7 KB of whatever was there before: where a caller keeps it, nothing is cleared.
+/// The working memory of a remask, 7 KB of whatever was there before: where a caller keeps it, nothing is cleared.
 #[derive(Debug, Drop)]
 pub struct RemaskRoom {
     structure: Option<Structure>,
@@ -171,8 +171,8 @@ impl Default for RemaskRoom {
     }
 }
 
-/// Fills `out` anew as [`remask`] does, with as many of the mask's lowest bits as there are decode targets. `NoFit` comes also where the bytes
-/// don't read with the structure in force; `out` is then as before. The bytes are read once.
+/// Fills `out` anew as [`remask`] does, with as many of the mask's lowest bits as there are decode targets. Returns `NoFit` also where the
+/// bytes don't read with the structure in force; `out` is then as before. The bytes are read once.
 pub fn remask_lowest(
     bytes: &[u8],
     force: Option<&Structure>,
@@ -202,8 +202,8 @@ pub fn remask_lowest(
 }
 
 /// Fills `out` anew with the same descriptor but for its mask: bit i of the mask, the lowest first, says whether decode target i is active.
-/// Each part stays bit by bit, what stood behind the frame's definition is gone, and zeros follow up to the end of the last byte. `NoFit` comes
-/// where there would be more than 255 bytes; `out` is then as before.
+/// Each part is copied bit by bit, the bits after the frame's definition are dropped, and zeros fill the last byte. Returns `NoFit` where there
+/// would be more than 255 bytes; `out` is then as before.
 ///
 /// The bytes must read with the structure in force, and the mask has no bit past the last decode target.
 pub fn remask(

@@ -35,7 +35,7 @@ descriptor_with start end number structure mask frame = record {
   links = filled_up 32 0 frame.links;
 }
 
--- the greatest layers of each of the first so many targets
+-- the highest layers of each of the first n targets
 abbrev pub pairs_below : TemplateStructure → ℕ → List (Option Wish)
 pairs_below s zero = []
 pairs_below s (suc n) = pairs_below s n ++ pair_of s n ∷ []

@@ -1,4 +1,4 @@
-//! What the definitions say together.
+//! Laws of the definitions.
 
 ghost use Rattle.std.specs.Prelude.{◌≡◌, ◌↔◌, true};
 ghost use Rattle.forwarding_model.specs.frames.Reading.{IsLayout};

@@ -85,7 +85,7 @@ greatest (n ∷ ns) = max n (greatest ns)
 abbrev pub greatest_spatial : List Layer → ℕ
 greatest_spatial layers = greatest (map (λ l. l.spatial) layers)
 
--- how many resolutions are told: one for each spatial id from 0 to the greatest, where the flag is set
+-- how many resolutions there are: one for each spatial id from 0 to the greatest, where the flag is set
 abbrev pub resolution_count : ℕ → List Layer → ℕ
 resolution_count flag layers = if flag == 0 then 0 else greatest_spatial layers + 1
 

@@ -86,7 +86,7 @@ pub record IsTemplate (targets chains : ℕ) (t : Template) : Type 0 where
 abbrev pub IsResolution : ℕ × ℕ → Type 0
 IsResolution r = (1 ≤ r.0) × (r.0 ≤ 2 ^ 16) × (1 ≤ r.1) × (r.1 ≤ 2 ^ 16)
 
--- none are told, or one for each spatial id
+-- none, or one for each spatial id
 abbrev pub AreResolutions : List Layer → List (ℕ × ℕ) → Type 0
 AreResolutions layers [] = Unit {0}
 AreResolutions layers (r ∷ rs) = (length (r ∷ rs) ≡ greatest_spatial layers + 1) × AllByRecursion IsResolution (r ∷ rs)

@@ -1,6 +1,6 @@
 -- What a template structure says: the value that contracts see.
 -- RTP Payload Format For AV1 v1.0, Appendix A, template_dependency_structure. The standard and the code have one list for each kind of
--- field, template by template; here each template stands whole.
+-- field, template by template; here each template is one record.
 use Rattle.std.specs.Prelude.{ℕ, List, [], ◌∷◌, map, slice_index_or}
 use Rattle.sfu_base.specs.declared.frame.Dti.{Dti}
 use Rattle.dd_structure.specs.declared.layer.Layer.{Layer}
@@ -23,7 +23,7 @@ pub record TemplateStructure : Type 0 where
   pub templates : List Template
   -- decode target by decode target, the chain that protects it; empty where there are no chains
   pub guards : List ℕ
-  -- spatial id by spatial id from 0, the width and height in pixels; empty where they aren't told
+  -- spatial id by spatial id from 0, the width and height in pixels; empty where there are none
   pub resolutions : List (ℕ × ℕ)
 
 -- the layer of the first template

@@ -53,7 +53,7 @@ impl Structure {
         self.columns.layers[template as usize]
     }
 
-    /// What a template is to each decode target.
+    /// A template's indication for each decode target.
     pub fn indications(&self, template: u8) -> &[Dti]
         requires { template < length self.now.templates }
         ensures value { result.now ≡ (template_at self.now template).indications }
@@ -64,7 +64,7 @@ impl Structure {
         &columns.indications[template as usize][..columns.target_count as usize]
     }
 
-    /// The same at the front of an array, which is copied faster; what stands behind doesn't count.
+    /// The same at the start of an array, which is copied faster; the entries behind them don't count.
     pub fn indication_row(&self, template: u8) -> &[Dti; 32]
         requires { template < length self.now.templates }
         ensures value { take self.now.target_count result.now ≡ (template_at self.now template).indications }
@@ -72,7 +72,7 @@ impl Structure {
         &self.columns.indications[template as usize]
     }
 
-    /// How many frames back each frame is that a template refers to.
+    /// A template's frame differences: how many frames back each frame is that it refers to.
     pub fn distances(&self, template: u8) -> &[u8]
         requires { template < length self.now.templates }
         ensures value { result.now ≡ (template_at self.now template).distances }
@@ -82,7 +82,7 @@ impl Structure {
         &distances.items[..distances.count as usize]
     }
 
-    /// How many they are, at most 16, and the same at the front of an array; what stands behind doesn't count.
+    /// How many they are, at most 16, and the same at the start of an array; the entries behind them don't count.
     pub fn distance_row(&self, template: u8) -> (u8, &[u8; 16])
         requires { template < length self.now.templates }
         ensures value { take result.0 result.1.now ≡ (template_at self.now template).distances }
@@ -103,7 +103,7 @@ impl Structure {
         &columns.links[template as usize][..columns.chain_count as usize]
     }
 
-    /// The same at the front of an array; what stands behind doesn't count.
+    /// The same at the start of an array; the entries behind them don't count.
     pub fn link_row(&self, template: u8) -> &[u8; 32]
         requires { template < length self.now.templates }
         ensures value { take self.now.chain_count result.now ≡ (template_at self.now template).links }
@@ -120,7 +120,7 @@ impl Structure {
         &columns.guards[..guarded_targets(columns.chain_count, columns.target_count) as usize]
     }
 
-    /// The width and height of each spatial id, from 0 to the greatest; none where they aren't told.
+    /// The width and height of each spatial id, from 0 to the greatest; none where the structure has no resolutions.
     pub fn resolutions(&self) -> &[(u32, u32)]
         ensures { result.now ≡ self.now.resolutions }
     {

@@ -1,4 +1,4 @@
-//! A structure that says nothing, for others to be read into.
+//! A blank structure, for others to be read into.
 
 ghost use Rattle.dd_structure.specs.Columns.{IsWhole};
 
@@ -30,7 +30,7 @@ pub const BLANK: Columns = Columns {
     resolutions: NO_RESOLUTIONS,
 };
 
-/// Makes whole again what a fault left half read: as blank as [`BLANK`] in the places that count, and the others stay.
+/// Makes columns valid again that a fault left half read: as [`BLANK`] in the entries that count; the others stay.
 #[inline(never)]
 pub fn mend(out: &mut Columns)
     ensures { IsWhole out.new }

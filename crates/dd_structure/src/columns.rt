@@ -13,7 +13,7 @@ pub struct Distances {
     ghost within: { count ≤ 16 },
 }
 
-/// The width and height of each spatial id, from 0 on, where they are told.
+/// The width and height of each spatial id, from 0 on, where the structure has them.
 #[derive(Clone, Copy, Debug)]
 pub struct Resolutions {
     pub count: u8,
@@ -21,8 +21,8 @@ pub struct Resolutions {
     ghost within: { count ≤ 4 },
 }
 
-/// The fields of a structure, of which only the first places count: `template_count` of those that go by template,
-/// `target_count` of those that go by decode target, `chain_count` of those that go by chain.
+/// The fields of a structure, of which only the first entries count: `template_count` of those that go by template, `target_count` of those
+/// that go by decode target, `chain_count` of those that go by chain.
 #[derive(Clone, Copy, Debug)]
 pub struct Columns {
     pub offset: u8,

@@ -1,4 +1,4 @@
-//! What was written is read again, whatever bits follow it, and what is read was spelled so.
+//! What was written reads back, whatever bits follow it, and what is read was spelled so.
 
 ghost use Rattle.std.specs.Prelude.{◌≡◌, ◌++◌, List, Bool, Ok};
 ghost use Rattle.dd_structure.specs.TemplateStructure.{TemplateStructure};
@@ -10,7 +10,7 @@ pub fn structure_reads_back()
     ensures { (s : TemplateStructure) (rest : List Bool) → IsWellFormed s → structure_at (structure_bits s ++ rest) ≡ Ok (s, rest) }
 {}
 
-/// A structure that is read is well formed, and what was read are its bits alone.
+/// A structure that is read is well formed, and the bits that were read are exactly its own.
 pub fn structures_are_well_formed()
     ensures well_formed { (bits : List Bool) (s : TemplateStructure) (rest : List Bool) → structure_at bits ≡ Ok (s, rest) → IsWellFormed s }
     ensures spelled { (bits : List Bool) (s : TemplateStructure) (rest : List Bool) → structure_at bits ≡ Ok (s, rest) → bits ≡ structure_bits s ++ rest }

@@ -24,7 +24,7 @@ use crate::reading::layers::fill_layers;
 use crate::reading::resolutions::resolutions;
 use dd_bits::BitReader;
 
-/// The structure that the bits begin with, in place of what was there, or the first fault, after which the reader may have moved on, and
+/// Reads a structure into `out`, in place of what was there, or returns the first fault, after which the reader may have moved on, and
 /// `out` may hold a part.
 #[tactic(auto, unfolding(crate::specs::Reading::structure_at))]
 fn fill_columns(bits: &mut BitReader<'_>, out: &mut Columns) -> Result<(), StructureFault>

@@ -57,7 +57,7 @@ impl Structure {
     ghost use Rattle.dd_structure.specs.Reading.{structure_at, some_structure_at};
     ghost use Rattle.dd_structure.specs.Spelling.{structure_bits, IsWellFormed};
 
-    /// Takes the structure that the bits begin with. The fault is the first from left to right; the reader is then as before.
+    /// Reads the structure that the bits begin with. The fault is the first from left to right; the reader is then as before.
     pub fn read(bits: &mut BitReader<'_>) -> Result<Structure, StructureFault>
         ensures read { Gives (λ s. s) result bits.new (structure_at (bits_left bits.old)) }
         ensures unchanged { OnErr result (bits.new ≡ bits.old) }
@@ -67,8 +67,8 @@ impl Structure {
         Ok(Structure { columns })
     }
 
-    /// The same, in place of what `out` held; after a fault it holds none. A structure is long: where one stands already, nothing is cleared
-    /// or moved.
+    /// The same, in place of what `out` held; after a fault `out` holds none. A structure is long: where `out` holds one already, nothing is
+    /// cleared or moved.
     #[tactic(auto, unfolding(crate::specs::Reading::some_structure_at))]
     pub fn read_into(
         bits: &mut BitReader<'_>,
@@ -90,7 +90,7 @@ impl Structure {
         }
     }
 
-    /// Puts the bits of the structure. `NoRoom` comes where they would pass 2,040 bytes; the writer is then as before.
+    /// Appends the bits of the structure. Returns `NoRoom` where they would pass 2,040 bytes; the writer is then as before.
     pub fn write(&self, out: &mut BitWriter) -> Result<(), NoRoom>
         ensures put { Puts result out.old out.new (structure_bits self.now) }
         ensures unchanged { OnErr result (out.new ≡ out.old) }
@@ -113,7 +113,7 @@ impl Structure {
         same_columns(&self.columns, &other.columns)
     }
 
-    /// The same structure once more.
+    /// A copy of the structure.
     pub fn copied(&self) -> Structure
         ensures { result ≡ self.now }
     {
@@ -122,7 +122,7 @@ impl Structure {
         }
     }
 
-    /// Every structure has its numbers in the ranges of their fields, and as many of each as the others say.
+    /// Every structure has its numbers in the ranges of their fields, and its counts agree with one another.
     pub fn is_well_formed(&self)
         ensures { IsWellFormed self.now }
     {

@@ -1,6 +1,6 @@
 #![tactic(auto)]
-//! Tests, alone, of the crates that read and write the Dependency Descriptor, and of whole packets that carry one. They stand here and not
-//! in those crates, since a crate with tests is proved twice.
+//! Tests of the crates that read and write the dependency descriptor, and of whole packets that carry one. They are here and not in those
+//! crates, since a crate with tests is proved twice.
 
 #[cfg(test)]
 mod dd_bits_tests;

@@ -5,7 +5,7 @@ ghost use Rattle.forwarding_examples.specs.LayeredRows;
 ghost use Rattle.forwarding_examples.specs.WorkedPackets;
 ghost use Rattle.forwarding_model.specs.frames.Reading.{IsFormat};
 
-/// Worked histories: joins, packets, a wish that changes, and what goes out, is taken and is withheld, worked out by hand.
+/// Worked histories: joins, packets, a wish that changes, and what is forwarded, is taken and is withheld, worked out by hand.
 pub fn worked_history()
     ensures numbers { WorkedPackets.HistoryNumbers }
     ensures taken { WorkedPackets.HistoryTaken }
@@ -18,7 +18,7 @@ pub fn worked_history()
     ensures third_subscriber_causes { WorkedPackets.ThirdSubscriberCauses }
 {}
 
-/// Worked histories of layered tracks with chains, from packets to causes and to what goes out. Their format has all the facts on which
+/// Worked histories of layered tracks with chains, from packets to causes and to what is forwarded. Their format has all the facts on which
 /// the laws rest.
 pub fn worked_layers()
     ensures format { IsFormat LayeredFormat.layered_format }

@@ -2,7 +2,7 @@
 
 ghost use Rattle.forwarding_examples.specs.Refusals;
 
-/// Words that stand only in what laws conclude refuse what they should: paths that are empty, don't fall, don't go on, don't end or tell
+/// Words that only conclusions of laws use refuse what they should: paths that are empty, don't decrease, don't go on, don't end or give
 /// other causes, frames that aren't decodable, restarts and links that are none. And that nobody joins, and what is said of the frames
 /// since, are no narrower than they should be.
 pub fn words_refuse_what_they_should()

@@ -41,7 +41,7 @@ pair_total ps pt qs qt t u lt h = a (nat_lt qs ps) refl h
     a true e h = absurd (true≢false h)
     a false e h = let le : ps ≤ qs = ltb-false qs ps e in b (ps == qs) refl (inr le) h le
 
-better_trans : (x y z : Option Wish) (t u v : ℕ) → IsBetterOf x y t u → IsBetterOf y z u v → IsBetterOf x z t v
+pub better_trans : (x y z : Option Wish) (t u v : ℕ) → IsBetterOf x y t u → IsBetterOf y z u v → IsBetterOf x z t v
 better_trans None y z t u v h k = h
 better_trans (Some p) None z t u v h k = absurd k
 better_trans (Some p) (Some q) None t u v h k = tt

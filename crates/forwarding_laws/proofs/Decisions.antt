@@ -219,7 +219,7 @@ pair_test p q t u (inr (same, inr (equal, lt))) = second (nat_lt q.spatial p.spa
     second false true = rw (eq-eqb p.spatial q.spatial same) refl
     second false false = rw (eq-eqb p.spatial q.spatial same, eq-eqb p.temporal q.temporal equal, lt-ltb t u lt) refl
 
-better_test : (x y : Option Wish) (t u : ℕ) → IsBetterOf x y t u → is_better_of x y t u ≡ true
+pub better_test : (x y : Option Wish) (t u : ℕ) → IsBetterOf x y t u → is_better_of x y t u ≡ true
 better_test None y t u h = absurd h
 better_test (Some p) None t u h = refl
 better_test (Some p) (Some q) t u h = pair_test p q t u h

@@ -1,4 +1,4 @@
-// The laws of forwarding: which frames pass to a subscriber, why others are withheld, and what goes out.
+// The laws of forwarding: which frames are forwarded to a subscriber, why others are withheld, and which packets are forwarded.
 
 ghost use Rattle.forwarding_laws.specs.forwarding.CauseWords;
 ghost use Rattle.forwarding_laws.specs.forwarding.Decisions;
@@ -15,7 +15,7 @@ ghost use Rattle.forwarding_laws.specs.histories.Laws as HistoryLaws;
 
 // ---- targets
 
-/// A target is active where its bit stands in the mask; a frame is a switch for it, or present in it, as its indication says; and a wish
+/// A target is active where its bit is set in the mask; a frame is a switch for it, or present in it, as its indication says; and a wish
 /// allows an active target whose layers are at most the wish's in both parts.
 pub fn tests_on_targets_mean_what_they_say()
     ensures active { TargetWords.ActiveInWords }
@@ -45,8 +45,8 @@ pub fn frames_leave_the_target_or_close_it()
     ensures keeping { StandingSteps.OtherFramesKeep }
 {}
 
-/// A broken link closes the open target, and no other link does. Where a target is closed, a frame of the timeline closed it for the
-/// reason that it has, it was the last frame to close one, and no frame passed since.
+/// A broken link closes the open target, and no other link does. Where a target is closed, a frame of the timeline closed it for the reason
+/// that it has, it was the last frame to close one, and no frame was forwarded since.
 pub fn targets_are_closed_for_their_reasons<Structure>()
     ensures broken { Decisions.BrokenLinksClose }
     ensures other { Decisions.OtherLinksKeep }
@@ -61,25 +61,25 @@ pub fn frames_open_the_best_that_they_can()
 {}
 
 /// Where a frame opens nothing, the target keeps its opening frame; where it opens a target, it is that target's opening frame. Where a
-/// target is open, the frame with its opening number passed and opened it, and since then no frame closed it or opened another.
+/// target is open, the frame with its opening number was forwarded and opened it, and since then no frame closed it or opened another.
 pub fn open_targets_were_opened_by_their_frame<Structure>()
     ensures kept { Openings.NothingOpenedIsKept }
     ensures opened { Openings.OpenedTargetsAreCandidates }
     ensures frame { Openings.OpeningsHold Structure }
 {}
 
-/// A frame that passes is present in its target, and its mask has that target.
+/// A frame that is forwarded is present in its target, and its mask has that target.
 pub fn passed_frames_are_in_their_target()
     ensures { Decisions.PassesInTarget }
 {}
 
-/// A frame that passes opens its target; or the target was open before, and its chain names, in the frame, no frame since the opening one
-/// that wasn't passed.
+/// A frame that is forwarded opens its target; or the target was open before, and its chain names, in the frame, no frame since the opening
+/// one that wasn't forwarded.
 pub fn passed_frames_are_linked()
     ensures { Laws.PassesLinked }
 {}
 
-/// What each event makes of a standing. The epoch is that of the newest frame, whether or not that passed.
+/// What each event makes of a standing. The epoch is that of the newest frame, whether or not that frame was forwarded.
 pub fn each_event_changes_the_standing<Structure>()
     ensures passing { StandingSteps.PassingFramesAreTakenIn Structure }
     ensures withheld { StandingSteps.OtherFramesAreWithheld Structure }
@@ -89,15 +89,15 @@ pub fn each_event_changes_the_standing<Structure>()
     ensures epoch { StandingSteps.NewestFramesHaveTheEpoch Structure }
 {}
 
-/// At a frame of a track all frames of its epoch that passed count as passed, and no others: its references, links and the epoch's key
-/// frame are looked for among those.
+/// At a frame of a track all frames of its epoch that were forwarded count as forwarded, and no others: its references, links and the
+/// epoch's key frame are looked for among those.
 pub fn passed_frames_of_the_epoch_count<Structure>()
     ensures frames { PassedFrames.EpochsFramesCount Structure }
     ensures number { PassedFrames.HasPassedInWords Structure }
     ensures key { PassedFrames.KeyPassedInWords Structure }
 {}
 
-/// Whoever knows, of each frame that a frame refers to or is linked to, whether it was passed, decides as one who knows all of them.
+/// A decision on a frame depends only on which of the frames that it refers to or is linked to were forwarded.
 pub fn decisions_rest_on_named_frames()
     ensures kept { Laws.KeepAlike }
     ensures candidate { Laws.OpenAlike }
@@ -105,15 +105,15 @@ pub fn decisions_rest_on_named_frames()
     ensures verdict { Laws.JudgeAlike }
 {}
 
-// ---- what passes
+// ---- which frames are forwarded
 
-/// Each frame that passed is decodable in the passed frames of its epoch.
+/// Each frame that was forwarded is decodable in the forwarded frames of its epoch.
 pub fn passed_frames_are_decodable<Structure>()
     ensures { Laws.AreDecodable Structure }
 {}
 
-/// After a broken chain link the next frame that passes is a key frame, or a switch for the target that it opens, and all its
-/// references were passed.
+/// After a broken chain link the next frame that is forwarded is a key frame, or a switch for the target that it opens, and all its
+/// references were forwarded.
 pub fn broken_links_end_at_a_restart<Structure>()
     ensures at_once { Laws.RestartsAtOnce Structure }
     ensures later { Laws.RestartsLater Structure }
@@ -121,7 +121,7 @@ pub fn broken_links_end_at_a_restart<Structure>()
 
 // ---- verdicts and causes
 
-/// The verdict on a frame is that it passed exactly when it passes.
+/// The verdict on a frame is `Passed` exactly when the frame is forwarded.
 pub fn verdicts_are_passed_where_frames_pass()
     ensures passes { Laws.PassedWherePasses }
     ensures passed { Laws.PassesWherePassed }
@@ -139,8 +139,8 @@ pub fn verdicts_are_true()
     ensures hole { Decisions.NoFrameIsAHole }
 {}
 
-/// What the verdict on a frame says is so, and no other verdict says what is so. A frame passes exactly when it is present in an open
-/// target, all its references were passed, and there is room.
+/// What the verdict on a frame says is so, and no other verdict says what is so. A frame is forwarded exactly when it is present in an open
+/// target, all its references were forwarded, and the queue has space for it.
 pub fn the_verdict_says_what_is_so()
     ensures verdict { VerdictWords.VerdictsSayWhatIsSo }
     ensures passes { VerdictWords.PassingInWords }
@@ -160,8 +160,8 @@ pub fn causes_are_known_up_to_the_newest()
     ensures ahead { Laws.AheadIsAbove }
 {}
 
-/// The path of each withheld frame begins at it, falls strictly, ends at a root, and tells the cause of each of its numbers. Each frame
-/// that came and didn't pass is withheld.
+/// The path of each withheld frame begins at it, strictly decreases, ends at a root, and gives the cause of each of its numbers. Each frame
+/// that came and wasn't forwarded is withheld.
 pub fn withheld_frames_have_a_path_to_a_root<Structure>()
     ensures root { Laws.EndsAtRoot Structure }
     ensures unpassed { Laws.EndsAtRootUnpassed Structure }
@@ -171,9 +171,9 @@ pub fn withheld_frames_have_a_path_to_a_root<Structure>()
     ensures history { HistoryLaws.EndsAtRootInHistories Structure }
 {}
 
-// ---- what goes out
+// ---- which packets are forwarded
 
-/// A frame of the target's spatial layer goes out with the marker on its last packet, and any other frame with its markers as they stand.
+/// A frame of the target's spatial layer is forwarded with the marker on its last packet, and any other frame with its own markers.
 pub fn markers_end_the_target_layer<Structure>()
     ensures top_layer { OutgoingWords.TopLayerInWords }
     ensures last { OutgoingWords.LastPacketsAreMarked Structure }
@@ -187,27 +187,27 @@ pub fn marking_keeps_frames_whole<Structure>()
     ensures count { Laws.MarkingKeepsCount Structure }
 {}
 
-/// The packets of a frame that passes go out behind all before them, sent for the frame's candidate and numbered on; at any other frame, at
-/// a change of the wish and at a take nothing goes out.
+/// The packets of a frame that is forwarded follow all that were forwarded before, sent for the frame's candidate and with the next
+/// sequence numbers; at any other frame, at a change of the wish and at a take nothing is forwarded.
 pub fn packets_of_passing_frames_go_out<Structure>()
     ensures passing { OutgoingWords.PassingFramesGoOut Structure }
     ensures others { OutgoingWords.NothingElseGoesOut Structure }
     ensures numbers { OutgoingWords.PacketsAreRenumbered }
 {}
 
-/// A packet of a plain track goes out as it came, but for its number and its SSRC, where fewer than 512 packets are queued.
+/// A packet of a plain track is forwarded as it came, but for its number and its SSRC, where fewer than 512 packets are queued.
 pub fn plain_packets_go_out_as_they_came<Structure>()
     ensures passes { Plain.PlainPacketsGoOut Structure }
     ensures full { Plain.FullQueuesTakeNone Structure }
     ensures history { Plain.PlainTakesFindPackets Structure }
 {}
 
-/// What went out stays as it was, and more comes behind it.
+/// What was forwarded stays as it was, and more follows it.
 pub fn outgoing_packets_only_grow<Structure>()
     ensures { Laws.OnlyGrows Structure }
 {}
 
-/// Sequence numbers that go out are consecutive modulo 65,536.
+/// Sequence numbers that are forwarded are consecutive modulo 65,536.
 pub fn outgoing_numbers_are_consecutive<Structure>()
     ensures { Laws.AreNumberedInOrder Structure }
 {}
@@ -217,7 +217,7 @@ pub fn next_numbers_count_the_takes<Structure>()
     ensures { OutgoingWords.NextNumbersCountTakes Structure }
 {}
 
-/// As many packets are queued as went out and weren't taken, where each take found one, as it does in a history.
+/// As many packets are queued as were forwarded and weren't taken, where each take found one, as it does in a history.
 pub fn queued_packets_are_those_not_taken<Structure>()
     ensures queued { Laws.QueuesTheRest Structure }
     ensures history { HistoryLaws.TakesFindPackets Structure }

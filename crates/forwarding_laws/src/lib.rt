@@ -1,4 +1,4 @@
-//! The laws of forwarding, and the words in which they are told. `forwarding_model` has the definitions.
+//! The laws of forwarding, and the words in which they are stated. `forwarding_model` has the definitions.
 //!
 //! Each law is the contract of a function that does nothing. A crate above takes a law by a call of its function, or by naming the lemma of
 //! `proofs/` that proves it. `specs/` has, for each part, its words and the statements of its laws. `Structure` is the type of template

@@ -1,11 +1,11 @@
-// The laws of the strict receiver: it has no complaint of what goes out, and what that says.
+// The laws of the strict receiver: it has no complaint of what is forwarded, and what that says.
 
 ghost use Rattle.forwarding_laws.specs.receiver.Accepted;
 ghost use Rattle.forwarding_laws.specs.receiver.Laws;
 
 // ---- the headline
 
-/// A strict receiver of the packets that go out to a subscriber of a layered track, and of each prefix of them, has no complaint. In
+/// A strict receiver of the packets that are forwarded to a subscriber of a layered track, and of each prefix of them, has no complaint. In
 /// whatever history of a track, it has none of those, nor of what a subscriber has taken.
 pub fn strict_receiver_never_complains<Structure>()
     ensures prefix { Laws.NeverComplains Structure }
@@ -17,7 +17,7 @@ pub fn strict_receiver_never_complains<Structure>()
 
 /// What a strict receiver has no complaint of is of one source, consecutive in number, and whole frames one after another, and then the
 /// first packets of one more, or none. Each frame refers to frames that came since the newest key frame, and since the newest whose number
-/// wasn't above the one before it. And whatever is so, it has no complaint of. Bytes that RTP doesn't read it always complains of.
+/// wasn't above the one before it. And whatever is so, it has no complaint of. It always complains of bytes that aren't an RTP packet.
 pub fn accepted_packets_are_whole_frames<Structure>()
     ensures accepts { Accepted.NoComplaintAccepts Structure }
     ensures converse { Accepted.AcceptedIsNotComplainedOf Structure }

@@ -3,8 +3,8 @@
 /// The first thing that a strict receiver finds wrong with the packets that it is given. Own rule.
 #[derive(Clone, Copy, Debug, PartialEq, Eq)]
 pub enum Complaint {
-    /// RTP doesn't read; or the payload is empty or broken, the descriptor's header extension is missing, the descriptor doesn't read, or
-    /// it carries a structure that isn't in force and begins no key frame.
+    /// The bytes aren't an RTP packet; or the payload is empty or broken, the descriptor's header extension is missing, the descriptor
+    /// doesn't read, or it carries a structure that isn't in force and begins no key frame.
     Unread,
     /// The packet's SSRC isn't the first packet's.
     OtherSource { had: u32, got: u32 },

@@ -1,8 +1,8 @@
 //! What forwarding means: the definitions that the contracts of the forwarder cite.
 //!
-//! The definitions stand in `specs/`, one topic a file, in the order in which one reads them. `forwarding` has what happens to a
-//! subscriber, which frames pass to it, what goes out and why a frame was withheld; `frames` how packets are read and which frames they
-//! make; `Receiver` what a strict receiver makes of packets; `History` what happens to each subscriber of a track. Their laws stand in
+//! The definitions are in `specs/`, one topic a file, in the order in which one reads them. `forwarding` has what happens to a subscriber,
+//! which frames are forwarded to it, as which packets, and why a frame was withheld; `frames` how packets are read and which frames they
+//! make; `Receiver` what a strict receiver makes of packets; `History` what happens to each subscriber of a track. Their laws are in
 //! `forwarding_laws`. The code here is the types that definitions and code share.
 #![tactic(auto)]
 

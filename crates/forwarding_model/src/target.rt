@@ -3,7 +3,7 @@
 /// Why no decode target is open. Own rule; frames are named by their unwrapped numbers.
 #[derive(Clone, Copy, Debug, PartialEq, Eq)]
 pub enum Reason {
-    /// At frame `at` the target's chain was found broken: its link names frame `number`, which wasn't passed.
+    /// At frame `at` the target's chain was found broken: its link names frame `number`, which wasn't forwarded.
     BrokenLink { at: u64, number: u64 },
     /// No target was opened since frame `since`, with which an epoch began or the mask took the target away.
     NotOpened { since: u64 },

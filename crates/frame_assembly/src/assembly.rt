@@ -40,7 +40,7 @@ impl Assembly {
         })
     }
 
-    /// The next packet, at most 1,500 bytes, which are copied. It is answered
+    /// The next packet, at most 1,500 bytes, which are copied. Returns
     /// - `Whole` where it ends a whole frame: parts in a row, padding left aside, of one frame number; the first and no other starts, the
     ///   last and no other ends; the first continues no element, each next one exactly when the one before carries one on, and the last
     ///   carries none on. There are at most 512 of them (own rule);
@@ -68,7 +68,7 @@ impl Assembly {
     }
 
     /// The next packet as [`Assembly::push`] takes it, in a slot; where it is a part of the frame under assembly the slot changes places with
-    /// one of the assembly's, so that no byte is copied. What the slot has then is nothing's.
+    /// one of the assembly's, so that no byte is copied. What the slot has then is no frame's.
     pub fn push_slot(&mut self, mark: &Mark, slot: &mut Box<PacketSlot>) -> Outcome
         ensures stands { (past : List (CutMark (List ℕ))) → IsAfter self.old past → IsAfter self.new (marked mark.now slot.old.value ∷ past) }
         ensures outcome { (past : List (CutMark (List ℕ))) → IsAfter self.old past

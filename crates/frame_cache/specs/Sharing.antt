@@ -1,12 +1,12 @@
--- What the subscribers of the frame in hand share: packets of the frame, and its first one as it tells a mask.
+-- What the subscribers of the frame in hand share: packets of the frame, and its first one remasked.
 use Rattle.std.specs.Prelude.{◌≡◌, ◌⊎◌, ℕ, List, [], ◌∷◌, ◌++◌, Option, None, Some, length, slice_get, take}
 use Rattle.dd_structure.specs.TemplateStructure.{TemplateStructure}
 use Rattle.packet_format.specs.Remasked.{remasked_bytes}
 
 -- what is kept is the packet with the mask, where one is kept
-abbrev pub TellsOne : ℕ → Option TemplateStructure → List ℕ → Option ℕ → List ℕ → Type 0
-TellsOne id force packet None kept = Unit {0}
-TellsOne id force packet (Some mask) kept = kept ≡ remasked_bytes id force mask packet
+abbrev pub CarriesMask : ℕ → Option TemplateStructure → List ℕ → Option ℕ → List ℕ → Type 0
+CarriesMask id force packet None kept = Unit {0}
+CarriesMask id force packet (Some mask) kept = kept ≡ remasked_bytes id force mask packet
 
 -- where a packet is shared at this place, it is this one
 abbrev pub IsShared : ℕ → List ℕ → List (List ℕ) → Type 0

@@ -6,8 +6,8 @@ ghost use Rattle.std.proofs.Props.{props};
 ghost use Rattle.rtp_packet.specs.Faults.{first_fault};
 ghost use Rattle.out_ring.specs.Ring.{pushed};
 ghost use Rattle.packet_format.specs.Remasked.{remasked_bytes};
-ghost use Rattle.frame_cache.specs.Room.{room_for};
-ghost use Rattle.frame_cache.specs.Sharing.{IsShared, MayShare, TellsOne};
+ghost use Rattle.frame_cache.specs.Capacity.{capacity_for};
+ghost use Rattle.frame_cache.specs.Sharing.{IsShared, MayShare, CarriesMask};
 
 use dd_structure::Structure;
 use out_ring::{OutRing, PacketStore, SharedPacket};
@@ -18,7 +18,7 @@ use std::alloc::Global;
 /// The most packets of a frame that are shared: as many as ever wait for a subscriber, since no longer frame passes.
 const MOST_SHARED: usize = 512;
 
-/// The most subscribers with different wishes, each of which keeps packets that the others don't, for which a track's store has room.
+/// The most subscribers with different wishes, each of which keeps packets that the others don't, that a track's store has buffers for.
 const MOST_APART: usize = 3;
 
 /// As many packets as each of them keeps.
@@ -27,9 +27,9 @@ const KEPT: usize = 1024;
 /// The packets that each subscriber has of its own: first ones with its mask, and those that wait for it alone.
 const OWN: usize = 12;
 
-/// Caches what the subscribers of a track are sent of its current frame: its packets, each of which lies once in a store for all that get it,
-/// and its first packet rewritten with one mask of active decode targets, the mask that was asked for last, since most subscribers of a frame
-/// get the same. It changes no packet that is sent. The buffer is filled in place, so that no frame clears it.
+/// Caches what the subscribers of a track are sent of its current frame: its packets, each of which is stored once for all that get it, and its first
+/// packet rewritten with one mask of active decode targets, the mask that was asked for last, since most subscribers of a frame get the same. It
+/// changes no packet that is sent. The buffer is filled in place, so that no frame clears it.
 #[derive(Drop)]
 pub struct FrameCache {
     pub store: PacketStore,
@@ -37,18 +37,19 @@ pub struct FrameCache {
     pub shared: Vec<SharedPacket>,
     pub mask: Option<u32>,
     pub packet: PacketBuf,
-    told: Option<SharedPacket>,
+    // `packet`, once it is shared
+    remasked: Option<SharedPacket>,
     remasker: Remasker,
-    ghost told_is: { IfSome told (λ shared. shared ≡ packet) } by { Prim.hlevel props },
+    ghost remasked_is: { IfSome remasked (λ shared. shared ≡ packet) } by { Prim.hlevel props },
 }
 
 impl FrameCache {
-    /// An empty cache, with no room in its store.
+    /// An empty cache, whose store has no buffers.
     pub fn new(alloc: Global) -> Result<FrameCache, NoMemory>
         ensures mask { IfOk result (λ cache. cache.mask ≡ None) }
         ensures shared { IfOk result (λ cache. cache.shared.items ≡ []) }
         ensures store { IfOk result (λ cache. cache.store ≡ record { all = 0; free = 0 }) }
-        ensures room { IfOk result (λ cache. 512 ≤ vec_capacity cache.shared) }
+        ensures capacity { IfOk result (λ cache. 512 ≤ vec_capacity cache.shared) }
     {
         let Ok(shared) = Vec::with_capacity(alloc, MOST_SHARED) else {
             return Err(NoMemory);
@@ -58,30 +59,30 @@ impl FrameCache {
             shared,
             mask: None,
             packet: PacketBuf::new(),
-            told: None,
+            remasked: None,
             remasker: Remasker::new(),
         })
     }
 
-    /// Takes room for the packets of so many subscribers, if there is less yet: for what waits, for what is kept for those with different wishes, and
-    /// for some of each one's own. One alone takes none: sharing is for two or more, and its packets are copied into its ring. `NoMemory`: some of the
-    /// room may have been taken.
-    pub fn make_room(&mut self, alloc: Global, subscribers: usize) -> Result<(), NoMemory>
+    /// Allocates buffers for the packets of this many subscribers, as far as there are fewer: for what waits, for what is kept for those with different
+    /// wishes, and for some of each one's own. One alone needs none: sharing is for two or more, and its packets are copied into its ring. `NoMemory`:
+    /// out of memory; some of them may have been allocated.
+    pub fn reserve(&mut self, alloc: Global, subscribers: usize) -> Result<(), NoMemory>
         ensures free { self.old.store.free ≤ self.new.store.free }
         ensures grown { self.new.store.free + self.old.store.all ≡ self.old.store.free + self.new.store.all }
-        ensures enough { OnOk result (room_for subscribers ≤ self.new.store.all) }
-        ensures most { self.new.store.all ≤ max self.old.store.all (room_for subscribers) }
+        ensures enough { OnOk result (capacity_for subscribers ≤ self.new.store.all) }
+        ensures most { self.new.store.all ≤ max self.old.store.all (capacity_for subscribers) }
     {
-        self.store.grow(alloc, room_for(subscribers))
+        self.store.grow(alloc, capacity_for(subscribers))
     }
 
-    /// Takes back the packets of a ring that ends, where so many subscribers are left, and gives up the room that they don't need.
-    pub fn take_back(&mut self, ring: OutRing, left: usize)
+    /// Releases the packets of a ring that ends, where `left` subscribers are left, and frees the buffers that those don't need.
+    pub fn release(&mut self, ring: OutRing, left: usize)
         ensures all { self.new.store.all ≤ self.old.store.all }
-        ensures kept { room_for left ≤ self.old.store.all → room_for left ≤ self.new.store.all }
+        ensures kept { capacity_for left ≤ self.old.store.all → capacity_for left ≤ self.new.store.all }
     {
-        ring.give_back(&mut self.store);
-        self.store.shrink(room_for(left));
+        ring.release(&mut self.store);
+        self.store.shrink(capacity_for(left));
     }
 
     /// Empties the cache: another frame begins.
@@ -91,16 +92,15 @@ impl FrameCache {
         ensures all { self.new.store.all ≡ self.old.store.all }
     {
         self.mask = None;
-        if let Some(packet) = self.told.take() {
-            self.store.give_back(packet);
+        if let Some(packet) = self.remasked.take() {
+            self.store.release(packet);
         }
         while let Some(packet) = self.shared.pop() {
-            self.store.give_back(packet);
+            self.store.release(packet);
         }
     }
 
-    /// Makes the cache share the packet at this place of the frame, if it shares those before it and there is room. Apart, since it is done once
-    /// for all subscribers.
+    /// Shares the packet at this place of the frame, if those before it are shared and a buffer is free. Out of line: once for all subscribers.
     #[inline(never)]
     pub fn share(&mut self, place: u16, packet: &[u8])
         requires reads { first_fault packet.now ≡ None }
@@ -117,10 +117,10 @@ impl FrameCache {
         }
     }
 
-    /// Queues the packet at this place of the frame: it is shared, or copied where it can't be.
+    /// Queues the packet at this place of the frame: shared, or copied where it can't be.
     #[inline(always)]
     pub fn queue(&mut self, ring: &mut OutRing, place: u16, packet: &[u8], marker: bool)
-        requires room { length ring.old.queued < 512 }
+        requires capacity { length ring.old.queued < 512 }
         requires reads { first_fault packet.now ≡ None }
         requires fits { length packet.now ≤ 1536 }
         requires same { IsShared place packet.now self.old.shared.items }
@@ -130,7 +130,7 @@ impl FrameCache {
         ensures packet { self.new.packet ≡ self.old.packet }
         ensures all { self.new.store.all ≡ self.old.store.all }
     {
-        let_go(&mut self.store, ring);
+        evict(&mut self.store, ring);
         // What is shared already is asked for first, since that is so for all subscribers but one.
         if self.shared.len() == usize::from(place) {
             self.share(place, packet);
@@ -141,9 +141,9 @@ impl FrameCache {
         }
     }
 
-    /// Queues the packet with the mask that was asked for last, in the same way.
-    pub fn queue_told(&mut self, ring: &mut OutRing, marker: bool)
-        requires room { length ring.old.queued < 512 }
+    /// Queues the remasked packet in the same way.
+    pub fn queue_remasked(&mut self, ring: &mut OutRing, marker: bool)
+        requires capacity { length ring.old.queued < 512 }
         requires reads { first_fault self.old.packet ≡ None }
         requires fits { length self.old.packet ≤ 1536 }
         ensures pushed { ring.new ≡ pushed self.old.packet marker ring.old }
@@ -152,25 +152,25 @@ impl FrameCache {
         ensures packet { self.new.packet ≡ self.old.packet }
         ensures all { self.new.store.all ≡ self.old.store.all }
     {
-        let_go(&mut self.store, ring);
-        if self.told.is_none() {
-            self.told = self.store.put(self.packet.bytes());
+        evict(&mut self.store, ring);
+        if self.remasked.is_none() {
+            self.remasked = self.store.put(self.packet.bytes());
         }
-        match another(self.told.as_ref()) {
+        match another(self.remasked.as_ref()) {
             Some(shared) => push_shared(&mut self.store, ring, shared, marker),
             None => ring.push(self.packet.bytes(), marker),
         }
     }
 
-    /// Makes the cache hold the packet with this mask, or unchanged where it can't be rewritten. The packet is the current frame's first one;
-    /// its descriptor is read by this structure.
-    pub fn tell(&mut self, packet: &[u8], id: u8, force: Option<&Structure>, mask: u32)
+    /// Rewrites the current frame's first packet with this mask, or copies it where it can't be rewritten, unless that is cached. Its descriptor is
+    /// read by this structure.
+    pub fn remask(&mut self, packet: &[u8], id: u8, force: Option<&Structure>, mask: u32)
         requires reads { first_fault packet.now ≡ None }
         requires fits { length packet.now ≤ 1536 }
-        requires told { TellsOne id (option_copied force) packet.now self.old.mask self.old.packet }
+        requires carries { CarriesMask id (option_copied force) packet.now self.old.mask self.old.packet }
         ensures packet { self.new.packet ≡ remasked_bytes id (option_copied force.entry) mask packet.now }
         ensures mask { self.new.mask ≡ Some mask }
-        ensures told { TellsOne id (option_copied force.entry) packet.now self.new.mask self.new.packet }
+        ensures carries { CarriesMask id (option_copied force.entry) packet.now self.new.mask self.new.packet }
         ensures shared { self.new.shared ≡ self.old.shared }
         ensures all { self.new.store.all ≡ self.old.store.all }
     {
@@ -179,7 +179,7 @@ impl FrameCache {
         }
     }
 
-    // Whether the cached packet has this mask. It may always say no: then the packet is made anew.
+    // Whether the cached packet has this mask. Where it says no, the packet is rewritten.
     fn has(&self, mask: u32) -> bool
         ensures { result ≡ true → self.now.mask ≡ Some mask }
     {
@@ -189,7 +189,7 @@ impl FrameCache {
         }
     }
 
-    // Fills in the packet. Apart, since it is done once a mask.
+    // Rewrites the packet. Out of line: once for each mask.
     #[inline(never)]
     fn make(&mut self, packet: &[u8], id: u8, force: Option<&Structure>, mask: u32)
         requires reads { first_fault packet.now ≡ None }
@@ -199,8 +199,8 @@ impl FrameCache {
         ensures shared { self.new.shared ≡ self.old.shared }
         ensures all { self.new.store.all ≡ self.old.store.all }
     {
-        if let Some(packet) = self.told.take() {
-            self.store.give_back(packet);
+        if let Some(packet) = self.remasked.take() {
+            self.store.release(packet);
         }
         self.mask = Some(mask);
         match self
@@ -221,18 +221,18 @@ fn another(shared: Option<&SharedPacket>) -> Option<SharedPacket>
     shared?.another()
 }
 
-// What the ring doesn't keep any more goes back to the store: one packet before each push, since a take leaves one behind at most.
+// Releases what the ring doesn't keep any more: one packet before each push, since a take leaves one behind at most.
 #[inline(always)]
-fn let_go(store: &mut PacketStore, ring: &mut OutRing)
+fn evict(store: &mut PacketStore, ring: &mut OutRing)
     ensures ring { ring.new ≡ ring.old }
     ensures all { store.new.all ≡ store.old.all }
 {
-    if let Some(packet) = ring.let_go() {
-        store.give_back(packet);
+    if let Some(packet) = ring.evict() {
+        store.release(packet);
     }
 }
 
-// Queues a packet that is shared. One that its slot still has goes back to the store.
+// Queues a packet that is shared, and releases one that its slot still has.
 #[inline(always)]
 fn push_shared(store: &mut PacketStore, ring: &mut OutRing, packet: SharedPacket, marker: bool)
     requires { length ring.old.queued < 512 }
@@ -240,13 +240,13 @@ fn push_shared(store: &mut PacketStore, ring: &mut OutRing, packet: SharedPacket
     ensures all { store.new.all ≡ store.old.all }
 {
     if let Some(gone) = ring.push_shared(packet, marker) {
-        store.give_back(gone);
+        store.release(gone);
     }
 }
 
-// How many packets a store has room for that so many subscribers share: none where there is no other to share with.
-fn room_for(subscribers: usize) -> usize
-    ensures { result ≡ room_for subscribers }
+// How many buffers this many subscribers need to share packets: none where there is no other to share with.
+fn capacity_for(subscribers: usize) -> usize
+    ensures { result ≡ capacity_for subscribers }
 {
     if subscribers < 2 {
         return 0;

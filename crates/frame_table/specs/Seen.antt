@@ -19,7 +19,7 @@ pub record IsReadBy (force : Option TemplateStructure) (d : Descriptor) : Type 0
   pub reads : descriptor_at bytes force ≡ Ok (content_of force d)
   pub few : d.ref_count ≤ 16
 
--- a mask that is told is one of the structure's targets
+-- a mask that is carried is one of the structure's targets
 abbrev pub IsMaskOf : Option ℕ → TemplateStructure → Type 0
 IsMaskOf mask s = IfSome mask (λ m. m < 2 ^ s.target_count)
 
@@ -76,18 +76,18 @@ numbered force d = record force { newest = newest_after (number_by force d) forc
 
 -- ---- steps of the code
 
-abbrev pub told_or : Option ℕ → ℕ → ℕ
-told_or None old = old
-told_or (Some mask) old = mask
+abbrev pub carried_or : Option ℕ → ℕ → ℕ
+carried_or None old = old
+carried_or (Some mask) old = mask
 
 abbrev pub masked : Force TemplateStructure → Option ℕ → Force TemplateStructure
-masked force mask = record force { mask = told_or mask force.mask }
+masked force mask = record force { mask = carried_or mask force.mask }
 
 -- a key start with this structure, mask and frame number
 abbrev pub begun : Force TemplateStructure → TemplateStructure → Option ℕ → ℕ → Force TemplateStructure
 begun force s mask number = record {
   structure = Some s;
-  mask = told_or mask force.mask;
+  mask = carried_or mask force.mask;
   epoch = force.epoch + 1;
   start = key_number force.structure force.newest number;
   newest = key_number force.structure force.newest number;

@@ -18,7 +18,7 @@ const COUNTED: &[bool; 64] = &[
     false, false, false, false, false, false,
 ];
 
-// Whether a place counts, of which the first so many do, by a row that says so from place 32 less so many on.
+// Whether a place is among the first `count`, by a row whose first 32 places say yes and the others no.
 #[inline(always)]
 fn counts_in(row: &[bool; 64], place: u8, count: u8) -> bool
     requires row { row.now ≡ replicate 32 true ++ replicate 32 false }
@@ -29,7 +29,7 @@ fn counts_in(row: &[bool; 64], place: u8, count: u8) -> bool
     row[32 - usize::from(count) + usize::from(place)]
 }
 
-// Whether a place counts. It is looked up and not compared, so that the compiler looks up many at once.
+// Whether a place is among the first `count`. It is looked up and not compared, so that the compiler looks up many at once.
 #[inline(always)]
 fn counts(place: u8, count: u8) -> bool
     requires place { place < 32 }
@@ -39,8 +39,8 @@ fn counts(place: u8, count: u8) -> bool
     counts_in(COUNTED, place, count)
 }
 
-/// The first so many indications, and `NotPresent` behind them. All places are written, so that the compiler writes many at once.
-pub fn front_indications(row: &[Dti; 32], count: u8) -> [Dti; 32]
+/// The first `count` indications, and `NotPresent` behind them. All places are written, so that the compiler writes many at once.
+pub fn prefix_indications(row: &[Dti; 32], count: u8) -> [Dti; 32]
     requires { count ≤ 32 }
     ensures { result ≡ filled_up 32 NotPresent (take count row.now) }
 {
@@ -52,8 +52,8 @@ pub fn front_indications(row: &[Dti; 32], count: u8) -> [Dti; 32]
     out
 }
 
-/// The first so many numbers, and 0 behind them. All places are written, so that the compiler writes many at once.
-pub fn front_numbers(row: &[u8; 32], count: u8) -> [u8; 32]
+/// The first `count` numbers, and 0 behind them. All places are written, so that the compiler writes many at once.
+pub fn prefix_numbers(row: &[u8; 32], count: u8) -> [u8; 32]
     requires { count ≤ 32 }
     ensures { result ≡ filled_up 32 0 (take count row.now) }
 {
@@ -65,9 +65,9 @@ pub fn front_numbers(row: &[u8; 32], count: u8) -> [u8; 32]
     out
 }
 
-/// The first so many distances, and 0 behind them. All places are written, so that the compiler writes many at once. No more are told than
-/// the row has.
-pub fn front_distances(row: &[u16; 16], count: u8) -> [u16; 16]
+/// The first `count` distances, and 0 behind them. All places are written, so that the compiler writes many at once. The row has
+/// `count` of them.
+pub fn prefix_distances(row: &[u16; 16], count: u8) -> [u16; 16]
     requires { count ≤ 16 }
     ensures filled { result ≡ filled_up 16 0 (take count row.now) }
     ensures counted { length (take count row.now) ≡ count }

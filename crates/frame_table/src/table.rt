@@ -11,7 +11,7 @@ ghost use Rattle.frame_table.specs.Seen.{IsFirst, IsReadBy, IsMaskOf, answer, be
 ghost use Rattle.frame_table.specs.Heads.{HasReferences, head_of, meaning_at, meant_at, number_or_stale, numbered_at, written_or_stale};
 
 use crate::fill::{
-    filled_numbers, filled_pairs, front_distances, front_indications, front_numbers,
+    filled_numbers, filled_pairs, prefix_distances, prefix_indications, prefix_numbers,
 };
 use dd_descriptor::Descriptor;
 use dd_structure::Structure;
@@ -75,6 +75,25 @@ pub struct FrameTable {
     newest: u64,
 }
 
+/// A meaning to be written over: no frame has it.
+pub const NO_MEANING: FrameMeaning = FrameMeaning {
+    number: 0,
+    start: 0,
+    epoch: 0,
+    spatial: 0,
+    temporal: 0,
+    key: false,
+    mask: 0,
+    target_count: 0,
+    dtis: [Dti::NotPresent; 32],
+    pairs: [None; 32],
+    chain_count: 0,
+    guards: [0; 32],
+    links: [0; 32],
+    ref_count: 0,
+    refs: [0; 16],
+};
+
 /// A number that lies further ahead is read as behind.
 const FARTHEST_AHEAD: u64 = 32767;
 
@@ -118,7 +137,7 @@ impl FrameTable {
 
     /// The next descriptor, which was read by the structure in force. A key start, which carries a structure, has the start bit and refers to
     /// nothing, puts its structure in force, begins an epoch and is numbered. A structure in any other descriptor must be the one in force,
-    /// or the descriptor isn't read and changes nothing. A mask that is told is in force from then on.
+    /// or the descriptor isn't read and changes nothing. A mask that it carries is in force from then on.
     pub fn see(&mut self, descriptor: &Descriptor) -> Reading
         requires read { IsReadBy self.old.structure descriptor.now }
         requires bound { IfSome self.old.structure (λ _. self.old.newest < 2 ^ 63) }
@@ -148,7 +167,7 @@ impl FrameTable {
     }
 
     /// What the frame means that just got whole, by its first descriptor. Every descriptor of the frame was seen and read. Its number is then
-    /// the newest; where it isn't above the newest the frame is stale, and nothing changes.
+    /// the newest; where it isn't above the newest the frame is stale, and nothing changes. [`FrameTable::head`] and [`FrameTable::whole_into`] in one.
     pub fn whole(&mut self, first: &Descriptor) -> Result<FrameMeaning, Stale>
         requires first { IsFirst self.old first.now }
         requires bound { self.old.newest < 2 ^ 63 }
@@ -156,8 +175,11 @@ impl FrameTable {
         ensures valid { IfOk result IsValid }
         ensures force { self.new ≡ numbered self.old first.now }
     {
+        let newest = self.newest;
         let head = self.head(first);
-        self.whole_of(&head)
+        let mut meaning = NO_MEANING;
+        let is_whole = self.whole_into(&head, &mut meaning);
+        or_stale(is_whole, meaning, newest)
     }
 
     /// What of a frame's first descriptor its meaning takes: all that has to be kept until the frame is whole.
@@ -171,22 +193,8 @@ impl FrameTable {
         self.fields(first, key)
     }
 
-    /// What the frame means that just got whole, by what was kept of its first descriptor. The same as [`FrameTable::whole`].
-    pub fn whole_of(&mut self, head: &FrameHead) -> Result<FrameMeaning, Stale>
-        requires structure { is_some self.old.structure ≡ true }
-        requires references { HasReferences head.now }
-        requires bound { self.old.newest < 2 ^ 63 }
-        ensures meaning { (s : TemplateStructure) → self.old.structure ≡ Some s → result ≡ meant_at s self.old head.now }
-        ensures valid { IfOk result IsValid }
-        ensures force { self.new ≡ numbered_at self.old head.now }
-        ensures near { self.new.newest ≤ self.old.newest + 65536 }
-    {
-        let number = self.number(head)?;
-        self.newest = number;
-        Ok(self.meaning(number, head))
-    }
-
-    /// The same, with the meaning written where the caller keeps it. False where the number is stale: then nothing is written.
+    /// Writes what the frame means that just got whole, by the head of its first descriptor, and makes its number the newest. Returns false where
+    /// the number isn't above the newest: the frame is stale then, and nothing changes.
     pub fn whole_into(&mut self, head: &FrameHead, out: &mut FrameMeaning) -> bool
         requires structure { is_some self.old.structure ≡ true }
         requires references { HasReferences head.now }
@@ -217,10 +225,10 @@ impl FrameTable {
             number: first.number,
             spatial: first.spatial,
             temporal: first.temporal,
-            dtis: front_indications(&first.dtis, self.target_count),
-            links: front_numbers(&first.links, self.chain_count),
+            dtis: prefix_indications(&first.dtis, self.target_count),
+            links: prefix_numbers(&first.links, self.chain_count),
             ref_count: first.ref_count,
-            refs: front_distances(&first.refs, first.ref_count),
+            refs: prefix_distances(&first.refs, first.ref_count),
         }
     }
 
@@ -231,7 +239,7 @@ impl FrameTable {
         let _ = &self.structure;
     }
 
-    // A mask that is told is in force from now on.
+    // The mask that a descriptor carries, if it does, is in force from now on.
     fn take_mask(&mut self, mask: Option<u32>)
         requires { IfSome self.old.structure (IsMaskOf mask) }
         ensures { self.new ≡ masked self.old mask }
@@ -244,7 +252,7 @@ impl FrameTable {
     // A key start with this structure, mask and frame number.
     fn begin_epoch(&mut self, structure: &Structure, mask: Option<u32>, number: u16)
         requires mask { IsMaskOf mask structure.now }
-        requires told { is_some mask ≡ true }
+        requires carried { is_some mask ≡ true }
         requires bound { IfSome self.old.structure (λ _. self.old.newest < 2 ^ 63) }
         ensures begun { self.new ≡ begun self.old structure.now mask number }
         ensures near { self.new.newest ≤ self.old.newest + 65536 }
@@ -317,6 +325,19 @@ impl FrameTable {
             ref_count: head.ref_count,
             refs: head.refs,
         }
+    }
+}
+
+// A meaning that was written, or that the frame's number isn't above the newest.
+fn or_stale(is_whole: bool, meaning: FrameMeaning, newest: u64) -> Result<FrameMeaning, Stale>
+    requires { is_whole ≡ true → IsValid meaning }
+    ensures result { result ≡ written_or_stale is_whole meaning newest }
+    ensures valid { IfOk result IsValid }
+{
+    if is_whole {
+        Ok(meaning)
+    } else {
+        Err(Stale { newest })
     }
 }
 

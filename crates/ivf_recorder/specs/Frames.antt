@@ -104,7 +104,7 @@ fault_by true (Some complaint) = Some (fault.Complaint complaint)
 abbrev pub fault_over : ℕ → List (List ℕ) → Option RecordFault
 fault_over id history = fault_by (are_sound (gathered_over id history).frames) (complaint_over id history)
 
--- the width and height that are told of them
+-- the width and height that are recorded for them
 abbrev pub size_over : ℕ → List (List ℕ) → Size
 size_over id history = size_in (structure_of (gathered_over id history).frames)
 

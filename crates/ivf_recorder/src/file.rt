@@ -1,4 +1,4 @@
-// The file that grows.
+// The growing file.
 ghost use Rattle.std.specs.Prelude.{◌≡◌, ◌+◌, ◌%◌, ◌^◌, ◌<◌, ◌≤◌, ◌++◌, length, ℕ, List, IfOk, OnOk, Some, [], true};
 ghost use Rattle.std.specs.Vec.{vec_capacity, vec_len};
 ghost use Rattle.std.specs.Int.{to_le_bytes, w32, w64};
@@ -11,10 +11,10 @@ use std::alloc::Global;
 /// The most bytes of a unit of more than one frame.
 const MOST_UNIT: usize = 16_777_216;
 
-/// Where the width stands in the header, with the height behind it.
+/// The place of the width in the header; the height follows it.
 const SIZE_AT: usize = 12;
 
-/// Where the number of units stands.
+/// The place of the number of units.
 const COUNT_AT: usize = 24;
 
 /// The bytes of a unit's size and time.
@@ -23,13 +23,13 @@ const UNIT_HEADER: usize = 12;
 /// The bytes of a new unit before its first frame: its size, its time, and a temporal delimiter.
 const UNIT_FRONT: usize = 14;
 
-/// The header, with no width, height and units.
+/// The header, without width, height and number of units.
 const HEADER: [u8; 32] = [
     b'D', b'K', b'I', b'F', 0, 0, 32, 0, b'A', b'V', b'0', b'1', 0, 0, 0, 0, 0x90, 0x5f, 0x01, 0,
     1, 0, 0, 0, 0, 0, 0, 0, 0, 0, 0, 0,
 ];
 
-/// What a frame more makes of the newest unit.
+/// What one more frame does to the newest unit.
 #[derive(Clone, Copy)]
 pub enum Growth {
     Grown,
@@ -55,7 +55,7 @@ pub struct IvfFile {
     ghost unit: { at + 12 ≤ vec_len bytes },
 }
 
-// Bytes stand in place of as many others.
+// Overwrites bytes with as many others.
 fn put_at(bytes: &mut Vec<u8>, at: usize, new: &[u8])
     requires within { at + length new.now ≤ vec_len bytes.old }
     ensures put { (front old rest : List ℕ) → bytes.old.items ≡ front ++ (old ++ rest) → length front ≡ at → length old ≡ length new.now
@@ -95,7 +95,7 @@ impl IvfFile {
         })
     }
 
-    /// Makes room for a frame whose OBUs have at most so many bytes.
+    /// Reserves memory for a frame whose OBUs have at most `most` bytes.
     pub fn reserve(&mut self, most: usize) -> Result<(), NoMemory>
         requires { UNIT_FRONT + most < 2 ^ 64 }
         ensures ok { OnOk result (vec_len self.new.bytes + (UNIT_FRONT + most) ≤ vec_capacity self.new.bytes) }
@@ -107,7 +107,7 @@ impl IvfFile {
         }
     }
 
-    /// A frame more, for which there is room; false, and all as before, where an element isn't an OBU.
+    /// Appends a frame, for which memory is reserved; returns false, and leaves all as before, where an element isn't an OBU.
     pub fn add(&mut self, frame: &OpenFrame) -> bool
         requires room { vec_len self.old.bytes + (UNIT_FRONT + most_bytes frame.now) ≤ vec_capacity self.old.bytes }
         ensures { (size : Size) (contents : List RecordedFrame) → IsFileOf self.old size contents
@@ -124,7 +124,7 @@ impl IvfFile {
         }
     }
 
-    // A frame more in the newest unit, whose timestamp it has.
+    // Appends a frame to the newest unit, whose timestamp it has.
     fn grow(&mut self, frame: &OpenFrame) -> Growth
         requires room { vec_len self.old.bytes + most_bytes frame.now ≤ vec_capacity self.old.bytes }
         requires begun { self.old.begun ≡ true }
@@ -146,7 +146,7 @@ impl IvfFile {
         Growth::Grown
     }
 
-    // A frame more in a unit of its own.
+    // Appends a frame in a unit of its own.
     fn add_apart(&mut self, timestamp: u32, frame: &OpenFrame) -> bool
         requires room { vec_len self.old.bytes + (UNIT_FRONT + most_bytes frame.now) ≤ vec_capacity self.old.bytes }
         requires timestamp { timestamp_in frame.now.timestamp ≡ timestamp }
@@ -188,7 +188,7 @@ impl IvfFile {
         self.time.wrapping_add(u64::from(ticks))
     }
 
-    // The unit from this place on is the newest.
+    // The unit that begins at this place is the newest.
     fn begin(&mut self, at: usize, timestamp: u32, time: u64)
         requires within { at + UNIT_FRONT ≤ vec_len self.old.bytes }
         ensures told { TellsUnit at self.old.count self.old.bytes.items self.new.bytes.items }
@@ -207,7 +207,7 @@ impl IvfFile {
         put_at(&mut self.bytes, COUNT_AT, &self.count.to_le_bytes());
     }
 
-    /// Tells a width and a height, each modulo 65,536.
+    /// Writes a width and a height, each modulo 65,536.
     pub fn tell_size(&mut self, width: u32, height: u32)
         ensures told { (size : Size) (contents : List RecordedFrame) → IsFileOf self.old size contents
             → IsFileOf self.new (record { width = width; height = height }) contents }

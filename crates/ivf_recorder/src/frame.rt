@@ -8,8 +8,8 @@ use av1_payload::PayloadElements;
 use sfu_base::NoMemory;
 use std::alloc::Global;
 
-/// The elements of the packets of the frame that has begun and not ended: their bytes end to end, and where each begins. What is in front of
-/// the first is empty.
+/// The elements of the packets of the frame that has begun and not ended: their bytes, concatenated, and where each begins. There are no
+/// bytes before the first.
 #[derive(Drop)]
 pub struct OpenFrame {
     /// The RTP timestamp of the first packet, if one came.
@@ -46,7 +46,8 @@ impl OpenFrame {
         }
     }
 
-    /// The next packet, where RTP reads it and its payload reads; else nothing is taken of it. After `NoMemory` a part of it may stand there.
+    /// Takes the next packet, where it is an RTP packet and its payload reads; else takes nothing of it. After `NoMemory` it may have taken a
+    /// part.
     pub fn take(&mut self, packet: &[u8]) -> Result<(), NoMemory>
         ensures taken { OnOk result (IsReadable packet.now → HasTaken self.old self.new packet.now) }
         ensures grown { Grown self.old self.new }
@@ -64,7 +65,7 @@ impl OpenFrame {
         Ok(())
     }
 
-    // Elements of a packet, of which the first may go on with the last one before.
+    // Elements of a packet, of which the first may continue the last one before.
     fn append(&mut self, continues: bool, elements: PayloadElements) -> Result<(), NoMemory>
         ensures added { OnOk result (segments_in self.new ≡ add_elements continues (segments_in self.old) elements.entry) }
         ensures grown { Grown self.old self.new }
@@ -104,7 +105,7 @@ impl OpenFrame {
         }
     }
 
-    // Bytes that the last element goes on with.
+    // Bytes that continue the last element.
     fn go_on(&mut self, bytes: &[u8]) -> Result<(), NoMemory>
         ensures more { OnOk result (segments_in self.new ≡ onto_last (segments_in self.old) bytes.now) }
         ensures grown { Grown self.old self.new }
@@ -116,7 +117,7 @@ impl OpenFrame {
         }
     }
 
-    /// How far it has come.
+    /// A mark of how far it has come.
     pub fn mark(&self) -> Mark
         ensures timestamp { result.timestamp ≡ self.now.timestamp }
         ensures bytes { result.bytes ≡ vec_len self.now.bytes }
@@ -129,7 +130,7 @@ impl OpenFrame {
         }
     }
 
-    /// It is again as it was at this mark.
+    /// Goes back to this mark.
     pub fn back_to(&mut self, mark: Mark)
         requires within { are_cuts 0 (take mark.cuts self.old.cuts.items) mark.bytes ≡ true }
         requires bytes { mark.bytes ≤ vec_len self.old.bytes }
@@ -152,7 +153,7 @@ impl OpenFrame {
         self.bytes.clear();
     }
 
-    /// How many bytes its OBUs have at most.
+    /// The most bytes that its OBUs have.
     pub fn most_bytes(&self) -> usize
         ensures most { result ≡ most_bytes self.now }
         ensures small { result < 2 ^ 64 - 2 ^ 32 }
@@ -163,7 +164,7 @@ impl OpenFrame {
         bytes.len() + (cuts.len() + 1) * MORE_BYTES
     }
 
-    // Puts its OBUs behind the bytes, up to the first element that isn't one.
+    // Appends its OBUs, up to the first element that isn't one.
     fn lay_all(&self, out: &mut Vec<u8>) -> bool
         requires room { vec_len out.old + most_bytes self.now ≤ vec_capacity out.old }
         ensures lays { LaysOr result (obus_in (segments_in self.now)) out.old.items out.new.items }
@@ -184,7 +185,7 @@ impl OpenFrame {
         append_obu(left, out)
     }
 
-    /// Puts a head and its OBUs behind the bytes, where there is room; nothing where an element isn't an OBU.
+    /// Appends a head and its OBUs, where the capacity allows; appends nothing where an element isn't an OBU.
     pub fn lay(&self, head: &[u8], out: &mut Vec<u8>) -> bool
         requires room { vec_len out.old + length head.now + most_bytes self.now ≤ vec_capacity out.old }
         ensures lays { Lays result head.now (obus_in (segments_in self.now)) out.old.items out.new.items }

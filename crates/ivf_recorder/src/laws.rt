@@ -1,4 +1,4 @@
-// What the definitions say together.
+// Laws of the definitions.
 ghost use Rattle.std.specs.Prelude.{◌≡◌, ◌<◌, ◌^◌, [], List, length, ℕ};
 ghost use Rattle.std.specs.List.{AllByRecursion};
 ghost use Rattle.strict_receiver.specs.Receivers.{frames_over};
@@ -8,13 +8,13 @@ ghost use Rattle.ivf_recorder.specs.Obus.{Obu};
 ghost use Rattle.ivf_recorder.specs.ReadFiles.{IsFileWith};
 ghost use Rattle.ivf_recorder.specs.Units.{no_size, units_of};
 
-/// A law: a file is read as one list of OBUs, delimiters and size fields aside.
+/// A law: a file is read as at most one list of OBUs, without delimiters and size fields.
 pub fn files_have_one_reading()
     ensures one { (bytes : List ℕ) (obus others : List Obu) → IsFileWith bytes obus → IsFileWith bytes others → obus ≡ others }
 {}
 
 /// A law: what is recorded of packets of at most 2,048 bytes is read back as the OBUs of the recorded frames, each once and in order. The size of
-/// each unit fits the four bytes that tell it.
+/// each unit fits its field of four bytes.
 pub fn files_read_back()
     ensures read { (id : ℕ) (history : List (List ℕ)) → AreShort history → IsFileWith (ivf_over id history) (obus_over id history) }
     ensures sizes { (id : ℕ) (history : List (List ℕ)) → AreShort history

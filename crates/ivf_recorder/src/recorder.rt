@@ -28,7 +28,7 @@ impl IvfRecorder {
     ghost use Rattle.ivf_recorder.specs.Recorders.{Feeds, StandsFor};
     ghost use Rattle.ivf_recorder.specs.declared.fault.RecordFault.{RecordFault as FaultOf};
 
-    /// A recorder that no packet came to yet, of dependency descriptors under this header extension id.
+    /// A recorder that has seen no packet yet, for dependency descriptors under this header extension id.
     pub fn new(alloc: Global, id: u8) -> Result<IvfRecorder, NoMemory>
         ensures id { IfOk result (λ recorder. recorder.receiver.id ≡ id) }
         ensures stands { IfOk result (λ recorder. StandsFor recorder []) }
@@ -38,9 +38,9 @@ impl IvfRecorder {
         })
     }
 
-    /// The next packet's bytes, at most 2,048 of them. The first fault that stands is answered: a complaint of the strict receiver; `Obu`,
-    /// where the packet ends a frame one of whose elements isn't an OBU, which isn't recorded then. From then on each call answers that one
-    /// and changes nothing. Before, `NoMemory` may come instead, after which all is as before.
+    /// Takes the next packet's bytes, at most 2,048 of them. Returns the first fault that applies: a complaint of the strict receiver;
+    /// `Obu`, where the packet ends a frame one of whose elements isn't an OBU, which isn't recorded then. From then on each call returns
+    /// that one and changes nothing. Before, `NoMemory` may come instead, after which all is as before.
     pub fn feed(&mut self, packet: &[u8]) -> Result<(), RecordFault>
         requires { length packet.now ≤ 2048 }
         ensures id { self.new.receiver.id ≡ self.old.receiver.id }
@@ -52,7 +52,8 @@ impl IvfRecorder {
         self.recording.feed(packet)
     }
 
-    /// The file of the frames so far. One that hasn't ended is left out, and so is one with an element that isn't an OBU. No memory is taken.
+    /// The file of the frames so far. A frame that hasn't ended is left out, and so is one with an element that isn't an OBU. No memory is
+    /// taken.
     pub fn finish(self) -> Blob
         ensures file { (history : List (List ℕ)) → StandsFor self history → result ≡ ivf_over self.receiver.id history }
         ensures reads { (history : List (List ℕ)) → StandsFor self history → IsFileWith result (obus_over self.receiver.id history) }

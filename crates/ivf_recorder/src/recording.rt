@@ -11,7 +11,7 @@ use sfu_base::{Blob, NoMemory};
 use std::alloc::Global;
 use strict_receiver::Receiver;
 
-/// The receiver that judges the packets, what is kept of the frame that hasn't ended, the file so far, and the fault that was answered.
+/// The receiver that judges the packets, what is kept of the frame that hasn't ended, the file so far, and the fault that was returned.
 #[derive(Drop)]
 pub struct Recording {
     pub receiver: Receiver,
@@ -42,7 +42,7 @@ impl Recording {
         })
     }
 
-    /// The next packet's bytes. All memory is taken before the receiver looks at them, since it can't take a packet back.
+    /// Takes the next packet's bytes. All memory is taken before the receiver looks at them, since it can't take a packet back.
     pub fn feed(&mut self, packet: &[u8]) -> Result<(), RecordFault>
         requires { length packet.now ≤ 2048 }
         ensures id { self.new.receiver.id ≡ self.old.receiver.id }
@@ -65,7 +65,8 @@ impl Recording {
         }
     }
 
-    // Takes the packet's elements, and makes room for the frame in the file. After `NoMemory` a part of them may stand there.
+    // Takes the packet's elements, and reserves memory for the frame in the file. After `NoMemory` a part of the elements may have been
+    // taken.
     fn make_ready(&mut self, packet: &[u8]) -> Result<(), NoMemory>
         ensures taken { OnOk result (IsReadable packet.now → HasTaken self.old.frame self.new.frame packet.now) }
         ensures grown { Grown self.old.frame self.new.frame }
@@ -78,7 +79,7 @@ impl Recording {
         self.file.reserve(self.frame.most_bytes())
     }
 
-    // From now on this is the answer.
+    // From now on this is returned.
     fn fail(&mut self, fault: RecordFault) -> RecordFault
         ensures result { result ≡ fault }
         ensures fault { self.new.fault ≡ Some fault }
@@ -88,7 +89,7 @@ impl Recording {
         fault
     }
 
-    // A packet was accepted: puts the frame into the file, where it has ended it.
+    // A packet was accepted: if it ended a frame, the frame is appended to the file.
     fn end_frame(&mut self) -> Result<(), RecordFault>
         requires room { vec_len self.old.file.bytes + (14 + most_bytes self.old.frame) ≤ vec_capacity self.old.file.bytes }
         ensures ends { (history : List (List ℕ)) (packet : List ℕ) → IsFed self.old history packet

@@ -46,7 +46,7 @@ fn verdicts_are_kept_for_4096_numbers(rt: HostRuntime) -> Result<(), Fail> {
     for (number, wanted) in rows {
         assert_eq!(rt; book.verdict(number), wanted, "of {number}");
     }
-    // 11 lies 4,096 below the newest now
+    // 11 is 4,096 below the newest now
     book.write(4107, Verdict::Passed);
     assert_eq!(rt; book.verdict(11), Err(Refusal::TooOld { oldest: 12 }));
     assert_eq!(rt; book.verdict(12), hole(None, 4106));
@@ -137,7 +137,7 @@ fn a_path_names_its_next_number_falls_and_ends_at_a_root(rt: HostRuntime) {
         assert!(rt; !check_path(&[step(3, root), step(2, root)]));
         // another number than the one that is named
         assert!(rt; !check_path(&[step(5, to_three), step(2, root)]));
-        // numbers that don't fall
+        // numbers that don't decrease
         assert!(rt; !check_path(&[step(3, to_three), step(3, root)]));
         assert!(rt; !check_path(&[step(1, to_two), step(2, root)]));
     }

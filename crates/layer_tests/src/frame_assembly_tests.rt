@@ -100,7 +100,7 @@ fn check_row(rt: &impl Abort, assembly: &mut Assembly, marks: &[(Mark, Outcome)]
     }
 }
 
-// Marks and what each is answered, and the first bytes of the packets of the frame that the last made whole.
+// Marks and what is returned for each, and the first bytes of the packets of the frame that the last made whole.
 const ROWS: [(&[(Mark, Outcome)], &[u8]); 20] = [
     // before the first frame
     (

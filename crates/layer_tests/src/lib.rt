@@ -1,6 +1,6 @@
 #![tactic(auto)]
-//! Tests, alone, of the small crates that stand between the formats and the room: numbers, slots, rings, frames, references, chains, causes,
-//! and the maker of streams. They stand here and not in those crates, since a crate with tests is proved twice.
+//! Tests of the small crates between the formats and the room: numbers, slots, rings, frames, references, chains, causes, and the maker of
+//! streams. They are here and not in those crates, since a crate with tests is proved twice.
 
 #[cfg(test)]
 mod cause_book_tests;

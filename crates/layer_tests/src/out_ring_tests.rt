@@ -5,7 +5,7 @@ use sfu_base::{PacketBuf, Refusal};
 use std::test::Fail;
 
 // A packet of a publisher: version 2, marker 0, payload type 96, a sequence number of its own, timestamp 0, SSRC 11111111, and one word
-// that tells it from others.
+// that distinguishes it from others.
 fn packet(word: u32) -> [u8; 16] {
     let mut bytes = [
         0x80, 0x60, 0xAB, 0xCD, 0, 0, 0, 0, 0x11, 0x11, 0x11, 0x11, 0, 0, 0, 0,
@@ -14,7 +14,7 @@ fn packet(word: u32) -> [u8; 16] {
     bytes
 }
 
-// Queues that packet, where fewer than 512 wait.
+// Queues that packet, where fewer than 512 are queued.
 fn push(ring: &mut OutRing, word: u32, marker: bool) {
     let bytes = packet(word);
     if let (Ok(_), 0..512) = (read(&bytes), ring.queued()) {
@@ -22,7 +22,7 @@ fn push(ring: &mut OutRing, word: u32, marker: bool) {
     }
 }
 
-// What goes out of that packet under SSRC 22222222.
+// What is sent of that packet under SSRC 22222222.
 fn outgoing(word: u32, seq: u16, marker: bool) -> [u8; 16] {
     let mut bytes = packet(word);
     bytes[1] = if marker { 0xE0 } else { 0x60 };
@@ -157,7 +157,7 @@ fn put(store: &mut PacketStore, word: u32) -> Option<SharedPacket> {
     }
 }
 
-// Queues a packet that is shared, where fewer than 512 wait. Answers what the ring shared before.
+// Queues a packet that is shared, where fewer than 512 are queued. Returns what the ring shared before.
 fn push_shared(ring: &mut OutRing, packet: SharedPacket, marker: bool) -> Option<SharedPacket> {
     match ring.queued() {
         0..512 => ring.push_shared(packet, marker),
@@ -166,7 +166,7 @@ fn push_shared(ring: &mut OutRing, packet: SharedPacket, marker: bool) -> Option
 }
 
 #[test]
-fn a_packet_that_rings_share_has_each_ones_fields_and_its_room_is_used_again(
+fn a_packet_that_rings_share_has_each_ones_fields_and_its_buffer_is_used_again(
     rt: HostRuntime,
 ) -> Result<(), Fail> {
     let alloc = rt.alloc();
@@ -176,14 +176,14 @@ fn a_packet_that_rings_share_has_each_ones_fields_and_its_room_is_used_again(
     let mut first = OutRing::new(alloc, 0x2222_2222, 65_535)?;
     let mut second = OutRing::new(alloc, 0x2222_2222, 7)?;
     let Some(shared) = put(&mut store, 1) else {
-        return Err(Fail::from("no room"));
+        return Err(Fail::from("no buffer is free"));
     };
     let Some(another) = shared.another() else {
         return Err(Fail::from("not counted"));
     };
     assert!(rt; push_shared(&mut first, shared, true).is_none());
     assert!(rt; push_shared(&mut second, another, false).is_none());
-    assert_eq!(rt; store.room(), 0);
+    assert_eq!(rt; store.spare(), 0);
     assert!(rt; put(&mut store, 2).is_none());
     let mut out = PacketBuf::new();
     assert_eq!(rt; first.take(&mut out), Ok(65_535));
@@ -192,22 +192,22 @@ fn a_packet_that_rings_share_has_each_ones_fields_and_its_room_is_used_again(
     assert_eq!(rt; out.bytes(), outgoing(1, 7, false).as_slice());
     // The first ring keeps it until it gave 1,024 more.
     for word in 2..1026u32 {
-        assert!(rt; first.let_go().is_none());
+        assert!(rt; first.evict().is_none());
         push(&mut first, word, false);
         assert!(rt; first.take(&mut out).is_ok());
     }
-    let Some(left) = first.let_go() else {
+    let Some(left) = first.evict() else {
         return Err(Fail::from("it is kept too long"));
     };
-    store.give_back(left);
-    assert_eq!(rt; store.room(), 0);
+    store.release(left);
+    assert_eq!(rt; store.spare(), 0);
     assert_eq!(rt; second.resend(7, &mut out), Ok(()));
     assert_eq!(rt; out.bytes(), outgoing(1, 7, false).as_slice());
-    second.give_back(&mut store);
-    assert_eq!(rt; store.room(), 1);
-    // Where a ring isn't asked to let go of it, the push that takes its slot answers it.
+    second.release(&mut store);
+    assert_eq!(rt; store.spare(), 1);
+    // Where it isn't evicted, the push that takes its slot returns it.
     let Some(shared) = put(&mut store, 3) else {
-        return Err(Fail::from("its room isn't used again"));
+        return Err(Fail::from("its buffer isn't used again"));
     };
     assert!(rt; push_shared(&mut first, shared, false).is_none());
     for word in 4..1539u32 {
@@ -216,7 +216,7 @@ fn a_packet_that_rings_share_has_each_ones_fields_and_its_room_is_used_again(
     }
     store.grow(alloc, 2)?;
     let Some(last) = put(&mut store, 1539) else {
-        return Err(Fail::from("no more room"));
+        return Err(Fail::from("no other buffer"));
     };
     assert!(rt; push_shared(&mut first, last, false).is_some());
     Ok(())

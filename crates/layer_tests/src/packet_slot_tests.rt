@@ -1,4 +1,4 @@
-// What stands in a slot is what it was filled with last.
+// A slot holds what it was filled with last.
 use packet_slot::*;
 
 #[test]

@@ -1,5 +1,5 @@
-//! Which of the packets that were taken from a bundle's legs go out, and with which timestamp: packets of one leg after another, each change
-//! of leg between whole frames and at a key frame. No call takes memory.
+//! Which of the packets that were taken from a bundle's legs are forwarded, and with which timestamp: packets of one leg after another, each
+//! change of leg between whole frames and at a key frame. No call takes memory.
 #![tactic(auto)]
 
 mod laws;

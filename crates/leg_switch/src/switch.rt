@@ -1,4 +1,4 @@
-// Which leg goes out.
+// Which leg is forwarded.
 ghost use Rattle.std.specs.Prelude.{◌≡◌, None};
 ghost use Rattle.rtp_packet.specs.Faults.{first_fault};
 ghost use Rattle.leg_switch.specs.Switching.{begun};
@@ -10,16 +10,16 @@ use std::marker::Model;
 /// What the timestamps of a stream rise by at a change of leg, in ticks of the media's clock (own rule).
 const STEP: u32 = 3000;
 
-/// Which of a bundle's legs, counted from 1, is chosen, and which is active. The packets of the active leg go out. The chosen one becomes
-/// active with a packet that is a key start, where the last packet that went out ended its frame, or none did go out yet. Timestamps go on
-/// over a change of leg.
+/// Which of a bundle's legs, counted from 1, is chosen, and which is active. The packets of the active leg are forwarded. The chosen one
+/// becomes active with a packet that is a key start, where the last packet that was forwarded ended its frame, or none was forwarded yet.
+/// Timestamps continue over a change of leg.
 #[derive(Debug, Drop)]
 pub struct Switch {
     chosen: u8,
     active: Option<u8>,
     // What is added to the timestamps of the active leg.
     offset: u32,
-    // Of the last packet that went out: whether it ended its frame, and its timestamp.
+    // Of the last packet that was forwarded: whether it ended its frame, and its timestamp.
     ended: bool,
     timestamp: u32,
 }
@@ -58,7 +58,7 @@ impl Switch {
         self.chosen
     }
 
-    /// The leg that is active, if a packet went out.
+    /// The active leg, if a packet was forwarded.
     pub fn active(&self) -> Option<u8>
         ensures { result ≡ self.now.active }
     {
@@ -72,8 +72,8 @@ impl Switch {
         self.chosen = leg;
     }
 
-    /// Decides on a packet that was taken from a leg: the timestamp that it goes out with, or `None` where it is dropped. Its dependency
-    /// descriptor has this header extension id (RFC 8285), and RTP reads it. `newest` may say anything afterwards.
+    /// Decides on a packet that was taken from a leg: the timestamp that it is forwarded with, or `None` where it is dropped. Its
+    /// dependency descriptor has this header extension id (RFC 8285), and it must be an RTP packet. `newest` may say anything afterwards.
     pub fn pass(
         &mut self,
         id: u8,

@@ -29,7 +29,7 @@ lacks_extension [] = false
 lacks_extension (first ∷ []) = is_extended (first ∷ [])
 lacks_extension (first ∷ second ∷ rest) = false
 
--- the first fault that stands, or none
+-- the first fault that applies, or none
 unfoldable pub first_fault : List ℕ → Option ObuFault
 first_fault [] = Some Empty
 first_fault (first ∷ rest) =

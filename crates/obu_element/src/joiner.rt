@@ -6,18 +6,18 @@ ghost use Rattle.obu_element.specs.Joins.{AreJoined, Flags, IsAfter, Join};
 use std::marker::Model;
 use thiserror::Error;
 
-/// Why a packet doesn't go on where the one before ended: one of the two flags is set, and the other isn't.
+/// Why a packet doesn't continue where the one before ended: one of the two flags is set, and the other isn't.
 #[derive(Clone, Copy, Debug, PartialEq, Eq, Error)]
 #[error("the packet's Z is {continues}, and the former Y {carried}")]
 pub struct JoinFault {
-    /// Y of the packet before, or false before the first: its last element goes on.
+    /// Y of the packet before, or false before the first: its last element continues in the next packet.
     pub carried: bool,
     /// Z of this packet: its first element continues one.
     pub continues: bool,
 }
 
-/// The packets of a frame as far as their elements join (RTP Payload Format For AV1, section 4.4), seen as whether an element is open:
-/// Y of the last packet, and false before the first.
+/// The packets of a frame as far as their elements join (RTP Payload Format For AV1, section 4.4), seen as whether an element is open: Y of
+/// the last packet, and false before the first.
 #[derive(Debug, Drop)]
 pub struct Joiner {
     carries: bool,
@@ -40,7 +40,7 @@ impl Joiner {
         Joiner { carries: false }
     }
 
-    /// The next packet, with its Z and Y. It is refused exactly when its Z differs from the former Y, and nothing changes then.
+    /// Takes the next packet, with its Z and Y. It is refused exactly when its Z differs from the former Y, and nothing changes then.
     pub fn feed(&mut self, continues: bool, carries: bool) -> Result<(), JoinFault>
         ensures ok { OnOk result ((continues ≡ self.old) × (self.new ≡ carries)) }
         ensures fault { IfErr result (λ e. (continues ≢ self.old) × (e ≡ record { carried = self.old; continues = continues })) }

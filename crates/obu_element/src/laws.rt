@@ -1,4 +1,4 @@
-// Laws of the definitions that `header` is held to.
+// Laws of the definitions in the contract of `header`.
 
 ghost use Rattle.std.specs.Prelude.{◌≡◌, List, None, ℕ};
 ghost use Rattle.obu_element.specs.Header.{BeginsWith};
@@ -11,7 +11,7 @@ pub fn faultless_bytes_begin_with_a_header()
     ensures { (bytes : List ℕ) → AreBytes bytes → first_fault bytes ≡ None → BeginsWith bytes (header_of bytes) }
 {}
 
-/// Bytes that begin with a header have no fault, and their fields say what it says. So they begin with no other header.
+/// Bytes that begin with a header have no fault, and their fields say what it says. So they begin with at most one header.
 pub fn a_header_has_one_reading()
     ensures no_fault { (bytes : List ℕ) (h : ObuHeader) → BeginsWith bytes h → first_fault bytes ≡ None }
     ensures fields { (bytes : List ℕ) (h : ObuHeader) → BeginsWith bytes h → header_of bytes ≡ h }

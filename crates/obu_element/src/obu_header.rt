@@ -18,7 +18,7 @@ pub struct ObuHeader {
     pub spatial: u8,
     /// Whether the size of the OBU follows the header.
     pub has_size: bool,
-    /// The bytes of the header: 2 with an extension byte, and else 1.
+    /// The length of the header in bytes: 2 with an extension byte, and else 1.
     pub len: u8,
 }
 
@@ -37,7 +37,7 @@ pub enum ObuFault {
 }
 
 /// Reads the header that the bytes begin with (AV1 Bitstream Specification, sections 5.3.2 and 5.3.3). Reserved bits are ignored. It is
-/// refused by the first fault that stands: `Empty`, `Forbidden`, `Cut`.
+/// refused by the first fault that applies: `Empty`, `Forbidden`, `Cut`.
 pub fn header(bytes: &[u8]) -> Result<ObuHeader, ObuFault>
     ensures found { IfOk result (λ h. BeginsWith bytes.now h) }
     ensures none { IfErr result (λ _. (h : ObuHeader) → BeginsWith bytes.now h → ⊥) }

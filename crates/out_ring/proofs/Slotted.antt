@@ -4,7 +4,7 @@ use Rattle.std.specs.Prelude.{set}
 use Rattle.out_ring.specs.declared.heads.Head.{Head}
 use Rattle.out_ring.specs.Packet.{least_packet}
 use Rattle.out_ring.specs.Ring.{Pushed}
-use Rattle.out_ring.specs.Slots.{AreAlike, bytes_by, let_go, packet_by, packets_from, shared_at}
+use Rattle.out_ring.specs.Slots.{AreAlike, bytes_by, evict, packet_by, packets_from, shared_at}
 use Rattle.out_ring.proofs.Lists.{item_elsewhere, item_put_in}
 
 pub size_of_packets : (place : ℕ) (heads : List Head) (own : List (List ℕ)) → length (packets_from place heads own) ≡ length heads
@@ -122,37 +122,37 @@ shared_there [] i head e = absurd (cc e)
 shared_there (h ∷ heads) zero head e = ap (λ (x : Head). x.shared) (let same : h ≡ head = cc e in same)
 shared_there (h ∷ heads) (suc i) head e = shared_there heads i head e
 
-pub let_go_there : (heads : List Head) (i : ℕ) (head : Head) → slice_get heads i ≡ Some head
-    → let_go heads i ≡ set heads i (record { shared = None; marker = head.marker })
-let_go_there [] i head e = refl
-let_go_there (h ∷ heads) zero head e = ap (λ (x : Head). record { shared = None; marker = x.marker } ∷ heads) (let same : h ≡ head = cc e in same)
-let_go_there (h ∷ heads) (suc i) head e = ap (λ (hs : List Head). h ∷ hs) (let_go_there heads i head e)
+pub evict_there : (heads : List Head) (i : ℕ) (head : Head) → slice_get heads i ≡ Some head
+    → evict heads i ≡ set heads i (record { shared = None; marker = head.marker })
+evict_there [] i head e = refl
+evict_there (h ∷ heads) zero head e = ap (λ (x : Head). record { shared = None; marker = x.marker } ∷ heads) (let same : h ≡ head = cc e in same)
+evict_there (h ∷ heads) (suc i) head e = ap (λ (hs : List Head). h ∷ hs) (evict_there heads i head e)
 
 pub none_shared_past : (heads : List Head) (i : ℕ) → length heads ≤ i → shared_at heads i ≡ None
 none_shared_past [] i past = refl
 none_shared_past (h ∷ heads) zero past = absurd (omega (arith, past))
 none_shared_past (h ∷ heads) (suc i) past = none_shared_past heads i (omega (arith, past))
 
-pub let_go_past : (heads : List Head) (i : ℕ) → length heads ≤ i → let_go heads i ≡ heads
-let_go_past [] i past = refl
-let_go_past (h ∷ heads) zero past = absurd (omega (arith, past))
-let_go_past (h ∷ heads) (suc i) past = ap (λ (hs : List Head). h ∷ hs) (let_go_past heads i (omega (arith, past)))
+pub evict_past : (heads : List Head) (i : ℕ) → length heads ≤ i → evict heads i ≡ heads
+evict_past [] i past = refl
+evict_past (h ∷ heads) zero past = absurd (omega (arith, past))
+evict_past (h ∷ heads) (suc i) past = ap (λ (hs : List Head). h ∷ hs) (evict_past heads i (omega (arith, past)))
 
-pub size_let_go : (heads : List Head) (i : ℕ) → length (let_go heads i) ≡ length heads
-size_let_go [] i = refl
-size_let_go (h ∷ heads) zero = refl
-size_let_go (h ∷ heads) (suc i) = ap suc (size_let_go heads i)
+pub size_evict : (heads : List Head) (i : ℕ) → length (evict heads i) ≡ length heads
+size_evict [] i = refl
+size_evict (h ∷ heads) zero = refl
+size_evict (h ∷ heads) (suc i) = ap suc (size_evict heads i)
 
-behind : (heads : List Head) (i from : ℕ) → i < from → drop from (let_go heads i) ≡ drop from heads
+behind : (heads : List Head) (i from : ℕ) → i < from → drop from (evict heads i) ≡ drop from heads
 behind heads i zero lt = absurd (omega (arith, lt))
 behind [] i (suc from) lt = refl
 behind (h ∷ heads) zero (suc from) lt = refl
 behind (h ∷ heads) (suc i) (suc from) lt = behind heads i from (omega (arith, lt))
 
 pub others_stay : (first i from : ℕ) (heads : List Head) (own : List (List ℕ)) → i < from
-    → drop from (packets_from first (let_go heads i) own) ≡ drop from (packets_from first heads own)
+    → drop from (packets_from first (evict heads i) own) ≡ drop from (packets_from first heads own)
 others_stay first i from heads own lt =
-    sym (packets_after from first (let_go heads i) own) ∙ ap (λ (hs : List Head). packets_from (first + from) hs own) (behind heads i from lt)
+    sym (packets_after from first (evict heads i) own) ∙ ap (λ (hs : List Head). packets_from (first + from) hs own) (behind heads i from lt)
     ∙ packets_after from first heads own
 
 -- ---- the packet at a place

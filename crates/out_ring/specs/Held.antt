@@ -26,7 +26,7 @@ packets_of a = packets_from a.first a.heads a.own.items
 pub record AreSlots (a : slots.Inside) : Type 0 where
   pub heads : length a.heads ≡ 1536
   pub own : length a.own.items ≤ 1536
-  pub room : 1536 ≤ vec_capacity a.own
+  pub capacity : 1536 ≤ vec_capacity a.own
   pub first : a.first < 1536
 
 -- the packets that are kept or queued, the oldest first

@@ -2,7 +2,7 @@ pub mod Ring
 pub mod History
 pub mod Packet
 pub mod Store
-pub mod Room
+pub mod Capacity
 pub mod Slots
 pub mod Held
 pub mod Places

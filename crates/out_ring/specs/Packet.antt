@@ -1,4 +1,4 @@
--- What the fields of a packet in its room stand for.
+-- What the fields of a packet in its buffer stand for.
 use Rattle.std.specs.Prelude.{◌≡◌, ◌≤◌, ℕ, List, [], ◌∷◌, take}
 use Rattle.std.specs.declared.option.Option.TheVariants.{None}
 use Rattle.rtp_packet.specs.Faults.{first_fault}
@@ -9,9 +9,9 @@ abbrev pub least_packet : List ℕ
 least_packet = 128 ∷ 0 ∷ 0 ∷ 0 ∷ 0 ∷ 0 ∷ 0 ∷ 0 ∷ 0 ∷ 0 ∷ 0 ∷ 0 ∷ []
 
 abbrev pub bytes_in : Inside → List ℕ
-bytes_in packet = take packet.count packet.room
+bytes_in packet = take packet.count packet.buf
 
 -- there is a packet in it, and it reads
 pub record HasPacket (packet : Inside) : Type 0 where
   pub few : packet.count ≤ 1536
-  pub reads : first_fault (take packet.count packet.room) ≡ None
+  pub reads : first_fault (take packet.count packet.buf) ≡ None

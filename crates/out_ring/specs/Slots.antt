@@ -25,10 +25,10 @@ shared_at (head ∷ heads) zero = head.shared
 shared_at (head ∷ heads) (suc place) = shared_at heads place
 
 -- the head at this place, if there is one, shares nothing any more
-abbrev pub let_go : List Head → ℕ → List Head
-let_go [] place = []
-let_go (head ∷ heads) zero = record { shared = None; marker = head.marker } ∷ heads
-let_go (head ∷ heads) (suc place) = head ∷ let_go heads place
+abbrev pub evict : List Head → ℕ → List Head
+evict [] place = []
+evict (head ∷ heads) zero = record { shared = None; marker = head.marker } ∷ heads
+evict (head ∷ heads) (suc place) = head ∷ evict heads place
 
 -- no slot has another packet
 abbrev pub AreAlike : List (List ℕ) → List (List ℕ) → Type 0

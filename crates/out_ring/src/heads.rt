@@ -1,6 +1,6 @@
 // The heads of the slots.
 ghost use Rattle.std.specs.Prelude.{◌≡◌, ◌<◌, ◌≤◌, ◌∷◌, ◌++◌, All, IfOk, None, Some, [], drop, length, slice_get};
-ghost use Rattle.out_ring.specs.Slots.{let_go, shared_at};
+ghost use Rattle.out_ring.specs.Slots.{evict, shared_at};
 
 use crate::places::{SLOTS, next_place, place_from};
 use crate::store::{PacketStore, SharedPacket};
@@ -66,9 +66,9 @@ impl Heads {
 
     /// Takes what the head at this place shares, the oldest's being 0; none where there is no head.
     #[inline(always)]
-    pub fn let_go(&mut self, place: usize) -> Option<SharedPacket>
+    pub fn evict(&mut self, place: usize) -> Option<SharedPacket>
         ensures shared { result ≡ shared_at self.old place }
-        ensures heads { self.new ≡ let_go self.old place }
+        ensures heads { self.new ≡ evict self.old place }
     {
         let oldest = self.oldest;
         if place >= SLOTS {
@@ -77,7 +77,7 @@ impl Heads {
         self.ring[place_from(oldest, place)].shared.take()
     }
 
-    /// Puts a head in as the newest. The oldest is gone: answers what it shared.
+    /// Puts a head in as the newest. The oldest is gone: returns what it shared.
     #[inline(always)]
     pub fn put_last(&mut self, shared: Option<SharedPacket>, marker: bool) -> Option<SharedPacket>
         ensures shared { result ≡ shared_at self.old 0 }
@@ -92,8 +92,8 @@ impl Heads {
         before
     }
 
-    /// What is shared goes back to the store.
-    pub fn give_back(self, store: &mut PacketStore)
+    /// Releases what is shared to the store.
+    pub fn release(self, store: &mut PacketStore)
         ensures all { store.new.all ≡ store.old.all }
         ensures free { store.old.free ≤ store.new.free }
     {
@@ -101,7 +101,7 @@ impl Heads {
         while let Some(head) = ring.pop() {
             let Head { shared, marker: _ } = head;
             if let Some(packet) = shared {
-                store.give_back(packet);
+                store.release(packet);
             }
         }
     }

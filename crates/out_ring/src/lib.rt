@@ -1,5 +1,5 @@
-//! What goes out to one subscriber: the packets that wait to be taken, and the last that were taken, for those that got lost on the way.
-//! A packet that goes out to many is kept once, where there is a store for it. Only constructors take memory, and what says so.
+//! What is sent to one subscriber: the packets that wait to be taken, and the last that were taken, for retransmissions. A packet that is sent to
+//! many is stored once, where there is a store for it. Only constructors and `PacketStore::grow` take memory.
 #![tactic(auto)]
 
 mod heads;

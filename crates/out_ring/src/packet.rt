@@ -1,4 +1,4 @@
-// One packet, in room for the longest that goes out.
+// One packet, in a buffer for the longest that is sent.
 ghost use Rattle.std.specs.Prelude.{◌≡◌, ◌≤◌, None, length};
 ghost use Rattle.rtp_packet.specs.Faults.{first_fault};
 ghost use Rattle.out_ring.specs.Packet.{least_packet};
@@ -6,13 +6,13 @@ ghost use Rattle.out_ring.specs.Packet.{least_packet};
 use rtp_packet::plain_packets_read;
 use std::marker::Model;
 
-/// The most bytes that a packet has which goes out (own rule).
+/// The most bytes of a packet that is sent (own rule).
 const MOST_BYTES: usize = 1536;
 
 /// An RTP packet of at most 1,536 bytes, as it was handed in. Clauses see it as its bytes. No call takes memory.
 #[derive(Debug, Drop)]
 pub struct StoredPacket {
-    room: [u8; MOST_BYTES],
+    buf: [u8; MOST_BYTES],
     count: usize,
 }
 
@@ -34,9 +34,9 @@ impl StoredPacket {
         ensures { result ≡ least_packet }
     {
         plain_packets_read();
-        let mut room = [0; MOST_BYTES];
-        room[0] = 0x80;
-        StoredPacket { room, count: 12 }
+        let mut buf = [0; MOST_BYTES];
+        buf[0] = 0x80;
+        StoredPacket { buf, count: 12 }
     }
 
     /// Puts a packet in, over what was there.
@@ -46,7 +46,7 @@ impl StoredPacket {
         ensures { self.new ≡ packet.now }
     {
         let count = packet.len();
-        self.room[..count].copy_from_slice(packet);
+        self.buf[..count].copy_from_slice(packet);
         self.count = count;
     }
 
@@ -56,6 +56,6 @@ impl StoredPacket {
         ensures reads { first_fault self.now ≡ None }
         ensures fits { length self.now ≤ 1536 }
     {
-        &self.room[..self.count]
+        &self.buf[..self.count]
     }
 }

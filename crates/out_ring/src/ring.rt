@@ -70,7 +70,7 @@ impl OutRing {
     /// and this marker, and with no other bit changed. Its bytes are copied once. Fewer than 512 are queued before.
     #[inline(always)]
     pub fn push(&mut self, packet: &[u8], marker: bool)
-        requires room { length self.old.queued < 512 }
+        requires capacity { length self.old.queued < 512 }
         requires reads { first_fault packet.now ≡ None }
         requires fits { length packet.now ≤ 1536 }
         ensures pushed { self.new ≡ pushed packet.now marker self.old }
@@ -81,11 +81,11 @@ impl OutRing {
         let _ = self.slots.fill(packet, marker);
     }
 
-    /// Queues a packet that is shared behind the others, as `push` does with a copy. No byte is copied. Answers one that it shared before and
-    /// doesn't keep any more, where the slot that it takes still has one.
+    /// Queues a packet that is shared behind the others, as `push` does with a copy. No byte is copied. Returns the packet that was shared in the slot
+    /// that it takes, if it wasn't evicted before.
     #[inline(always)]
     pub fn push_shared(&mut self, packet: SharedPacket, marker: bool) -> Option<SharedPacket>
-        requires room { length self.old.queued < 512 }
+        requires capacity { length self.old.queued < 512 }
         ensures pushed { self.new ≡ pushed packet marker self.old }
         ensures stands { (h : History) → IsAfter self.old h → IsAfter self.new (and_push h packet marker) }
     {
@@ -94,10 +94,10 @@ impl OutRing {
         self.slots.share(packet, marker)
     }
 
-    /// Lets go of a packet that is shared and isn't kept any more: the oldest, if there may be one. To be called before each push, so that none stays
-    /// for long: a take leaves one behind at most.
+    /// Evicts a shared packet that isn't kept any more: the oldest, if there may be one. To be called before each push, so that none stays for long: a take
+    /// leaves one behind at most.
     #[inline(always)]
-    pub fn let_go(&mut self) -> Option<SharedPacket>
+    pub fn evict(&mut self) -> Option<SharedPacket>
         ensures { self.new ≡ self.old }
     {
         if self.spent == 0 {
@@ -105,19 +105,19 @@ impl OutRing {
         }
         let place = SLOTS - usize::from(self.queued + self.kept + self.spent);
         self.spent -= 1;
-        self.slots.let_go(place)
+        self.slots.evict(place)
     }
 
-    /// Ends the ring: the packets that it shares go back to the store.
-    pub fn give_back(self, store: &mut PacketStore)
+    /// Ends the ring: the packets that it shares are released to the store.
+    pub fn release(self, store: &mut PacketStore)
         ensures all { store.new.all ≡ store.old.all }
         ensures free { store.old.free ≤ store.new.free }
     {
         let OutRing { slots, .. } = self;
-        slots.give_back(store);
+        slots.release(store);
     }
 
-    /// Hands out the oldest queued packet, and answers its sequence number. It is kept from then on, and the oldest of 1,025 kept ones is
+    /// Copies the oldest queued packet out, and returns its sequence number. It is kept from then on, and the oldest of 1,025 kept ones is
     /// forgotten. `Empty`: none is queued; nothing changes then. The bytes are copied once.
     #[inline(always)]
     pub fn take(&mut self, out: &mut PacketBuf) -> Result<u16, Refusal>
@@ -143,7 +143,7 @@ impl OutRing {
         Ok(number)
     }
 
-    /// Hands out the kept packet with this sequence number, with the bytes that its take gave. `NotKept`: none of the last 1,024 that were
+    /// Copies the kept packet with this sequence number out, with the bytes that its take gave. `NotKept`: none of the last 1,024 that were
     /// taken has it; nothing changes then. It is found in constant time, and its bytes are copied once.
     pub fn resend(&self, seq: u16, out: &mut PacketBuf) -> Result<(), Refusal>
         ensures resends { Resends self.now seq result out.old out.new }
@@ -166,7 +166,7 @@ impl OutRing {
     }
 }
 
-// How many slots before those of so many queued and kept packets may still share a packet, of those that did.
+// How many slots before those of the queued and kept packets may still share a packet, of those that did.
 #[inline(always)]
 fn spent_in(spent: u16, queued: u16, kept: u16) -> u16
     requires queued { queued ≤ 512 }

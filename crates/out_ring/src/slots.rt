@@ -54,7 +54,7 @@ impl Slots {
         })
     }
 
-    /// Puts a copy of a packet in as the newest, with this marker. The oldest is gone: answers what it shared.
+    /// Puts a copy of a packet in as the newest, with this marker. The oldest is gone: returns what it shared.
     pub fn fill(&mut self, packet: &[u8], marker: bool) -> Option<SharedPacket>
         requires reads { first_fault packet.now ≡ None }
         requires fits { length packet.now ≤ 1536 }
@@ -67,7 +67,7 @@ impl Slots {
         self.heads.put_last(None, marker)
     }
 
-    /// Puts a packet that is shared in as the newest, with this marker. The oldest is gone: answers what it shared.
+    /// Puts a packet that is shared in as the newest, with this marker. The oldest is gone: returns what it shared.
     #[inline(always)]
     pub fn share(&mut self, packet: SharedPacket, marker: bool) -> Option<SharedPacket>
         ensures { self.new ≡ drop 1 self.old ++ record { bytes = packet; marker = marker } ∷ [] }
@@ -77,22 +77,22 @@ impl Slots {
         self.heads.put_last(Some(packet), marker)
     }
 
-    /// Lets go of what the slot at this place shares, the oldest's being 0. Another packet is in that slot then, and all behind it are as they were.
+    /// Evicts what the slot at this place shares, the oldest's being 0. Another packet is in that slot then, and all behind it are as they were.
     #[inline(always)]
-    pub fn let_go(&mut self, place: usize) -> Option<SharedPacket>
+    pub fn evict(&mut self, place: usize) -> Option<SharedPacket>
         ensures size { length self.new ≡ length self.old }
         ensures others { (from : ℕ) → place < from → drop from self.new ≡ drop from self.old }
     {
-        self.heads.let_go(place)
+        self.heads.evict(place)
     }
 
-    /// What is shared goes back to the store.
-    pub fn give_back(self, store: &mut PacketStore)
+    /// Releases what is shared to the store.
+    pub fn release(self, store: &mut PacketStore)
         ensures all { store.new.all ≡ store.old.all }
         ensures free { store.old.free ≤ store.new.free }
     {
         let Slots { heads, .. } = self;
-        heads.give_back(store);
+        heads.release(store);
     }
 
     /// Copies the packet at this place out, the oldest's being 0, and gives it this sequence number and SSRC, and its marker. RTP still reads it,
@@ -126,10 +126,10 @@ fn place_for(own: &[StoredPacket], first: usize) -> usize
 fn make_own(own: &mut Vec<StoredPacket>, place: usize)
     requires place { place < 1536 }
     requires few { vec_len own.old ≤ 1536 }
-    requires room { 1536 ≤ vec_capacity own.old }
+    requires capacity { 1536 ≤ vec_capacity own.old }
     ensures made { place < length own.new.items }
     ensures few { vec_len own.new ≤ 1536 }
-    ensures room { 1536 ≤ vec_capacity own.new }
+    ensures capacity { 1536 ≤ vec_capacity own.new }
     ensures same { AreAlike own.old.items own.new.items }
 {
     while own.len() <= place {
@@ -142,9 +142,9 @@ fn make_own(own: &mut Vec<StoredPacket>, place: usize)
 fn go_on(own: &mut Vec<StoredPacket>, place: usize)
     requires place { place < 1536 }
     requires few { vec_len own.old ≤ 1536 }
-    requires room { 1536 ≤ vec_capacity own.old }
+    requires capacity { 1536 ≤ vec_capacity own.old }
     ensures few { vec_len own.new ≤ 1536 }
-    ensures room { 1536 ≤ vec_capacity own.new }
+    ensures capacity { 1536 ≤ vec_capacity own.new }
     ensures same { AreAlike own.old.items own.new.items }
 {
     if !own.is_empty() {

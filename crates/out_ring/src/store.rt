@@ -47,8 +47,8 @@ impl SharedPacket {
     }
 }
 
-/// Room for packets that rings share, of 1,536 bytes each. What no ring has any more is used again, the last one first, so that the memory that is
-/// touched is what is in use. Clauses see for how many packets there is room in all, and for how many of them now.
+/// A pool of buffers of 1,536 bytes for packets that rings share. A buffer whose packet no ring has any more is reused, the last released first, so that
+/// the memory that is touched is what is in use. Clauses see how many buffers there are in all, and how many of them are free.
 #[derive(Drop)]
 pub struct PacketStore {
     free: Vec<Arc<StoredPacket>>,
@@ -58,15 +58,15 @@ pub struct PacketStore {
 
 impl Model for PacketStore {
     ghost use Rattle.std.specs.Prelude.{length};
-    ghost use Rattle.out_ring.specs.Room.{Room};
+    ghost use Rattle.out_ring.specs.Capacity.{Capacity};
 
-    ghost Value = { Room };
+    ghost Value = { Capacity };
 
     ghost view = { λ store. record { all = store.all; free = length store.free.items } };
 }
 
 impl PacketStore {
-    /// A store with no room. It takes no memory.
+    /// A store without buffers. It takes no memory.
     pub fn new(alloc: Global) -> PacketStore
         ensures { result ≡ record { all = 0; free = 0 } }
     {
@@ -76,14 +76,14 @@ impl PacketStore {
         }
     }
 
-    /// For how many packets there is room now.
-    pub fn room(&self) -> usize
+    /// How many buffers are free.
+    pub fn spare(&self) -> usize
         ensures { result ≡ self.now.free }
     {
         self.free.len()
     }
 
-    /// Takes room for so many packets in all, if there is less yet. `NoMemory`: some of it may have been taken.
+    /// Allocates buffers until there are `all` of them. `NoMemory`: out of memory; some of them may have been allocated.
     pub fn grow(&mut self, alloc: Global, all: usize) -> Result<(), NoMemory>
         ensures enough { OnOk result (all ≤ self.new.all) }
         ensures free { self.old.free ≤ self.new.free }
@@ -97,10 +97,10 @@ impl PacketStore {
             return Err(NoMemory);
         };
         while self.all < all {
-            let Ok(room) = Arc::new(alloc, StoredPacket::new()) else {
+            let Ok(buf) = Arc::new(alloc, StoredPacket::new()) else {
                 return Err(NoMemory);
             };
-            let Ok(()) = self.free.push(room) else {
+            let Ok(()) = self.free.push(buf) else {
                 return Err(NoMemory);
             };
             self.all += 1;
@@ -108,7 +108,7 @@ impl PacketStore {
         Ok(())
     }
 
-    /// Gives up free room until there is room for so many packets in all, or none is free. Where there is less already nothing changes.
+    /// Frees free buffers until there are `all` of them, or none is free. Where there are fewer already nothing changes.
     pub fn shrink(&mut self, all: usize)
         ensures all { self.new.all ≡ self.old.all - min self.old.free (self.old.all - all) }
         ensures free { self.new.free ≡ self.old.free - min self.old.free (self.old.all - all) }
@@ -118,7 +118,7 @@ impl PacketStore {
         }
     }
 
-    /// Puts a packet into the store, if it has room. Its bytes are copied once. It takes no memory.
+    /// Copies a packet into a free buffer, if there is one. It takes no memory.
     pub fn put(&mut self, packet: &[u8]) -> Option<SharedPacket>
         requires reads { first_fault packet.now ≡ None }
         requires fits { length packet.now ≤ 1536 }
@@ -128,18 +128,18 @@ impl PacketStore {
         ensures none { self.old.free ≡ 0 → result ≡ None }
         ensures used { IfSome result (λ _. self.old.free ≡ self.new.free + 1) }
     {
-        let mut room = self.free.pop()?;
-        match Arc::get_mut(&mut room) {
+        let mut buf = self.free.pop()?;
+        match Arc::get_mut(&mut buf) {
             Some(stored) => stored.fill(packet),
             None => return None,
         }
-        Some(SharedPacket { packet: room })
+        Some(SharedPacket { packet: buf })
     }
 
-    /// Takes back a packet from one that had it: the last one's room is free again. It takes no memory. A shared packet that is dropped in place
-    /// of that takes its room along.
+    /// Drops one reference to a packet; the last one returns the buffer to the pool. It takes no memory. Dropping a `SharedPacket` without this leaks its
+    /// buffer from the pool.
     #[inline(always)]
-    pub fn give_back(&mut self, packet: SharedPacket)
+    pub fn release(&mut self, packet: SharedPacket)
         ensures all { self.new.all ≡ self.old.all }
         ensures more { self.old.free ≤ self.new.free }
         ensures one { self.new.free ≤ self.old.free + 1 }

@@ -1,4 +1,4 @@
--- A packet whose dependency descriptor tells another mask (own rule).
+-- A packet whose dependency descriptor is given another mask (own rule).
 -- RFC 3550, sections 5.1 and 5.3.1 (where the header extension lies), RFC 8285 (its elements), AV1 RTP payload format, Appendix A (the
 -- descriptor). The first element with the track's id gets a new value: the descriptor's bits with the new mask. The header extension is
 -- written anew with it, and every other bit of the packet stays. A packet that would get too long isn't remasked. The code reads the

@@ -12,7 +12,7 @@ use Rattle.packet_format.specs.Packets.{packet_of}
 use Rattle.packet_format.specs.Telling.{tells}
 use Rattle.packet_format.specs.Remasked.{remasked, remasked_bytes, remasked_packet}
 
--- a descriptor that tells this mask
+-- a descriptor with this mask
 abbrev pub telling : ℕ → Descriptor TemplateStructure → Descriptor TemplateStructure
 telling mask d = record d { mask = Some mask }
 

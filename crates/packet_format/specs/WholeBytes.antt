@@ -3,7 +3,7 @@
 use Rattle.std.specs.Prelude.{ℕ, zero, suc, ◌+◌, ◌-◌, ◌*◌, ◌/◌, Bool, false, List, [], ◌∷◌, ◌++◌, length, take, drop, replicate}
 use Rattle.dd_bits.specs.Bits.{value}
 
--- so many bytes off the front of the bits
+-- n bytes from the start of the bits
 unfoldable pub bytes_from : ℕ → List Bool → List ℕ
 bytes_from zero bits = []
 bytes_from (suc n) bits = value (take 8 bits) ∷ bytes_from n (drop 8 bits)

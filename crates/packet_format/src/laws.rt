@@ -1,4 +1,4 @@
-// What the definitions say together.
+// Laws of the definitions.
 
 ghost use Rattle.std.specs.Prelude.{◌≡◌, ℕ, List, Ok, Option, Some, is_some};
 ghost use Rattle.sfu_base.specs.Bytes.{AreBytes};
@@ -20,14 +20,14 @@ pub fn formats_have_the_facts()
     ensures { (id : ℕ) → IsFormat (format_of id) }
 {}
 
-/// A packet is sent as the bytes that it came as, but for the three fields; and the rest of a packet says what its bytes say.
+/// A packet is sent with the bytes that it came with, except for the three fields; and the rest of a packet says what its bytes say.
 pub fn packets_are_sent_as_they_came()
     ensures sent { PacketsAreSent }
     ensures rests { RestsSayTheSame }
 {}
 
-/// A packet that gets a new mask is the same packet but for its header extension, whose other elements keep their values; and it shows the
-/// same descriptor but for its mask, and the same payload.
+/// A packet that gets a new mask is the same packet except for its header extension, whose other elements keep their values; and it shows
+/// the same descriptor except for its mask, and the same payload.
 pub fn remasked_packets_show_the_new_mask()
     ensures packets { PacketsAreRemasked }
     ensures shown { RemaskedPacketsShow }
@@ -37,15 +37,15 @@ pub fn remasked_packets_show_the_new_mask()
     ensures tells { RestsTell }
 {}
 
-/// A law: a descriptor that reads tells which decode targets there are exactly where it has a mask: one that it carries, or that of all the
+/// A law: a descriptor that reads says which decode targets are active exactly where it has a mask: one that it carries, or that of all the
 /// targets of a structure that it carries.
 pub fn descriptors_tell_their_mask()
     ensures { (bytes : List ℕ) (force : Option TemplateStructure) (c : Content) → AreBytes bytes → descriptor_at bytes force ≡ Ok c
         → tells_in (Some bytes) ≡ is_some c.mask }
 {}
 
-/// A law: the new value of a packet's element is the descriptor with another mask, as the bits of descriptors are laid end to end, and zero
-/// bits to a whole byte.
+/// A law: the new value of a packet's element is the descriptor with another mask, its parts' bits concatenated, and zero bits up to a
+/// whole byte.
 pub fn new_values_are_remasked_descriptors()
     ensures { (bytes : List ℕ) (force : Option TemplateStructure) (c : Content) (mask : ℕ) → (d : IsDescriptor bytes force c)
         → new_value force mask (Some bytes) ≡ Some (whole_bytes (remasked_bits d mask)) }

@@ -1,4 +1,4 @@
-// A packet whose dependency descriptor tells another mask.
+// Replaces the mask in a packet's dependency descriptor.
 
 ghost use Rattle.std.specs.Prelude.{◌≡◌, ◌≤◌, ◌+◌, ◌*◌, None, OnErr, OnOk, Some, drop, length};
 ghost use Rattle.std.specs.Option.{option_copied};
@@ -21,10 +21,10 @@ const CSRC: usize = 4;
 /// The bytes of the header extension's profile and count of words (RFC 3550, section 5.3.1).
 const EXTENSION_HEADER: usize = 4;
 
-/// The bytes that a remasked packet has at most.
+/// The most bytes that a remasked packet has.
 const MOST: usize = 1536;
 
-/// Gives packets another mask. It keeps what it works in, some 12 KB, so that no packet has to clear it.
+/// Gives packets another mask. It keeps its working memory, some 12 KB, so that no packet has to clear it.
 #[derive(Drop)]
 pub struct Remasker {
     room: RemaskRoom,
@@ -38,7 +38,7 @@ impl Remasker {
     ghost use Rattle.rtp_packet.specs.Faults.{first_fault};
     ghost use Rattle.packet_format.specs.Remasked.{remasked};
 
-    /// One for all packets, whatever they tell.
+    /// A remasker, which any packet can use.
     pub fn new() -> Remasker {
         Remasker {
             room: RemaskRoom::new(),
@@ -47,14 +47,14 @@ impl Remasker {
         }
     }
 
-    /// Fills `out` with the packet as it tells another mask in its dependency descriptor (AV1 RTP payload format, Appendix A): bit i of the
-    /// mask, the lowest first, says whether decode target i is active, and bits past the last decode target are left out. The descriptor is
-    /// the value of the first header extension element with the id (RFC 8285); the elements stand in their order, and a descriptor of more
-    /// than 16 bytes turns the one-byte form into the two-byte form. Fixed header, CSRC identifiers, payload and padding (RFC 3550, section
-    /// 5.1) stay bit by bit. `NoFit` comes where the packet can't be remasked: it has no descriptor, or one that doesn't read with the
+    /// Fills `out` with the packet, its dependency descriptor given another mask (AV1 RTP payload format, Appendix A): bit i of the mask,
+    /// the lowest first, says whether decode target i is active, and bits past the last decode target are left out. The descriptor is the
+    /// value of the first header extension element with the id (RFC 8285); the elements keep their order, and a descriptor of more than 16
+    /// bytes turns the one-byte form into the two-byte form. Fixed header, CSRC identifiers, payload and padding (RFC 3550, section 5.1)
+    /// are copied bit by bit. Returns `NoFit` where the packet can't be remasked: it has no descriptor, or one that doesn't read with the
     /// structure in force, or the descriptor would have more than 255 bytes or the packet more than 1,536; `out` is then as it was.
     ///
-    /// RTP reads the packet.
+    /// The packet must be an RTP packet.
     pub fn remask(
         &mut self,
         packet: &[u8],
@@ -92,7 +92,7 @@ impl Default for Remasker {
     }
 }
 
-/// Fills `out` with the descriptor as it tells this mask.
+/// Fills `out` with the descriptor, given this mask.
 fn fill_value(
     descriptor: &[u8],
     force: Option<&Structure>,
@@ -115,7 +115,7 @@ fn lemma_are_bytes(bytes: &[u8])
     let _ = bytes;
 }
 
-/// Fills `out` with the packet as it has this header extension in place of its own, which has so many bytes.
+/// Fills `out` with the packet, its header extension of `old` bytes replaced by `extension`.
 fn fill_packet(
     packet: &[u8],
     old: usize,

@@ -23,12 +23,12 @@ pub enum Shown {
     LacksStructure,
     /// It has no descriptor, or one that doesn't read or carries another structure without beginning a key frame.
     Unread,
-    /// It has a descriptor that is read, and a payload with these flags.
+    /// Its descriptor reads, and its payload has these flags.
     Shows(PayloadFlags),
 }
 
-/// What a packet shows by the structure in force. Its descriptor, where it has one that is read, is left in `newest`, which may else say
-/// anything.
+/// What a packet shows by the structure in force. Its descriptor, where it has one that reads, is left in `newest`; otherwise `newest` may
+/// say anything.
 pub fn show(
     packet: &Rtp<'_>,
     id: u8,
@@ -64,7 +64,7 @@ fn of_fault(fault: DdFault) -> Shown
     }
 }
 
-/// Whether only a key start brings a structure that isn't in force.
+/// Whether a structure that isn't in force may come only with a key frame's first packet.
 fn obeys(descriptor: &Descriptor, force: Option<&Structure>) -> bool
     requires { descriptor.now.ref_count ≤ 16 }
     ensures { result ≡ obeys_structure structures_alone (option_copied force.entry) (said (content_of (option_copied force.entry) descriptor.now)) }

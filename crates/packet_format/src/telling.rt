@@ -1,4 +1,4 @@
-// Whether a packet tells its decode targets.
+// Whether a packet says which decode targets are active.
 
 ghost use Rattle.std.specs.Prelude.{◌≡◌, None};
 ghost use Rattle.rtp_packet.specs.Faults.{first_fault};
@@ -13,7 +13,7 @@ const MANDATORY: usize = 3;
 const STRUCTURE_OR_MASK: u8 = 0x40;
 
 /// Whether the packet's dependency descriptor carries a structure or a mask (AV1 RTP payload format, Appendix A,
-/// extended_descriptor_fields). RTP reads the packet.
+/// extended_descriptor_fields). The packet must be an RTP packet.
 pub fn tells(packet: &[u8], id: u8) -> bool
     requires { first_fault packet.now ≡ None }
     ensures { result ≡ tells id packet.now }

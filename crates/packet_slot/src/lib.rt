@@ -1,18 +1,18 @@
-//! A slot for one packet that a track takes in. It has a fixed size and takes no memory.
+//! A slot for one packet that a track buffers. It has a fixed size and takes no memory.
 #![tactic(auto)]
 
 ghost use Rattle.std.specs.Prelude.{◌≡◌, ◌≤◌, [], length};
 
 use std::marker::Model;
 
-/// The longest packet that a track takes in, in bytes (own rule).
+/// The longest packet that a track accepts, in bytes (own rule).
 pub const PACKET_BYTES: usize = 1500;
 
 /// Up to 1,500 bytes, seen as their list. No call takes memory.
 #[derive(Debug, Drop)]
 pub struct PacketSlot {
     room: [u8; PACKET_BYTES],
-    // where the bytes begin; they go to the end of the room
+    // where the bytes begin; they go to the end of the array
     start: usize,
 }
 
@@ -27,7 +27,7 @@ impl Model for PacketSlot {
 }
 
 impl PacketSlot {
-    /// No bytes.
+    /// An empty slot.
     pub fn new() -> PacketSlot
         ensures { result ≡ [] }
     {
@@ -37,7 +37,7 @@ impl PacketSlot {
         }
     }
 
-    /// The bytes become these.
+    /// Replaces the contents by these bytes.
     pub fn fill(&mut self, bytes: &[u8])
         requires fits { length bytes.now ≤ 1500 }
         ensures { self.new ≡ bytes.now }

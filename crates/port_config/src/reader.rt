@@ -49,7 +49,7 @@ impl ServeReader {
         }
     }
 
-    // Whether a line may stand behind those that were read.
+    // Whether a line may follow those that were read.
     fn may_follow(&self, line: &ServeLine) -> bool
         ensures { (setup : Setup) → Holds self.now setup → result ≡ may_follow setup (meaning_of line.now) }
     {

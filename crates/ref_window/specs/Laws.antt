@@ -6,7 +6,7 @@ use Rattle.ref_window.specs.Numbers.{held_of, has_below, is_among, IsAboveAll}
 abbrev pub ForgetsForGood : Type 0
 ForgetsForGood = (number : ℕ) (numbers : List ℕ) → IsAboveAll number numbers → held_of (number ∷ held_of numbers) ≡ held_of (number ∷ numbers)
 
--- Below a number that lies above all that were inserted, a window answers for distances up to 4,096 as all of them do.
+-- Below a number that lies above all that were inserted, a window decides on distances up to 4,096 as all of them do.
 abbrev pub AnswersForAll : Type 0
 AnswersForAll = (number distance : ℕ) (numbers : List ℕ) → IsAboveAll number numbers → distance ≤ 4096
     → has_below (held_of numbers) number distance ≡ has_below numbers number distance

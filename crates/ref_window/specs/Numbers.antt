@@ -1,4 +1,4 @@
--- What a window of numbers holds. Own rule; it is as wide as a frame can refer back (AV1 RTP payload format, Appendix A: frame_fdiff is at
+-- What a window of numbers contains. Own rule; it is as wide as a frame can refer back (AV1 RTP payload format, Appendix A: frame_fdiff is at
 -- most 4,096). Lists of numbers have the newest first. The code has the greatest number and a ring of bits.
 use Rattle.std.specs.Prelude.{◌+◌, ◌<◌, ◌==◌, ℕ, List, [], ◌∷◌, Bool, filter, nat_le}
 use Rattle.std.specs.List.{AllByRecursion, list_any}
@@ -12,7 +12,7 @@ abbrev pub held_of : List ℕ → List ℕ
 held_of [] = []
 held_of (newest ∷ before) = newest ∷ filter (is_near newest) before
 
--- the number stands among these
+-- the number is among these
 abbrev pub is_among : List ℕ → ℕ → Bool
 is_among numbers number = list_any (λ n. n == number) numbers
 

@@ -1,4 +1,4 @@
--- What the fields of a window mean: a number's bit stands in a ring of 64 words of 64 bits, at the number modulo 4,096.
+-- What the fields of a window mean: a number's bit is in a ring of 64 words of 64 bits, at the number modulo 4,096.
 use Rattle.std.specs.Prelude.{◌≡◌, ◌≢◌, ◌+◌, ◌<◌, ◌≤◌, ◌/◌, ◌%◌, ◌==◌, ℕ, zero, suc, List, [], ◌∷◌, Bool, false, if◌then◌else◌, ◌&&◌, slice_index}
 use Rattle.std.specs.declared.option.Option.{Option}
 use Rattle.std.specs.declared.option.Option.TheVariants.{None, Some}

@@ -1,11 +1,11 @@
-// The window over the numbers.
+// The window over the frame numbers.
 ghost use Rattle.std.specs.Prelude.{◌≡◌, ◌∷◌, ℕ, List, [], IsTrue, ◌↔◌};
 ghost use Rattle.ref_window.specs.Numbers.{IsAboveAll, held_of, is_among};
 
 use crate::words::{SPAN, WORDS, Words, bit, move_on};
 use std::marker::Model;
 
-/// The numbers that were inserted since the last reset and lie at most 4,096 below the greatest of them. Clauses see their list, the newest
+/// The numbers that were inserted since the last reset and are at most 4,096 below the greatest of them. Clauses see their list, the newest
 /// first.
 #[derive(Debug, Drop)]
 pub struct RefWindow {
@@ -24,7 +24,7 @@ impl Model for RefWindow {
 }
 
 impl RefWindow {
-    /// A window that holds no number.
+    /// An empty window.
     pub fn new() -> RefWindow
         ensures { result ≡ [] }
     {
@@ -34,7 +34,7 @@ impl RefWindow {
         }
     }
 
-    /// Whether the number is held.
+    /// Whether the window contains the number.
     pub fn holds(&self, number: u64) -> bool
         ensures { result ≡ is_among self.now number }
     {

@@ -1,9 +1,9 @@
-// The ring of bits. A number's bit lies at that number modulo 4,096, so the ring isn't moved when the window moves on.
+// The ring of bits. A number's bit is at that number modulo 4,096, so the ring isn't moved when the window moves on.
 ghost use Rattle.std.specs.Prelude.{◌≡◌, ◌∷◌, ◌+◌, ◌/◌, ◌%◌, ◌<◌, ◌≤◌, ℕ, Some, true, false};
 ghost use Rattle.ref_window.specs.Numbers.{IsAboveAll, held_of};
 ghost use Rattle.ref_window.specs.Words.{ChangesBit, ClearsBits, has_bit, held_in};
 
-/// How far below the greatest number a number may lie.
+/// How far below the greatest number a number may be.
 pub const SPAN: u64 = 4096;
 
 /// Words in the ring, of `WORD_BITS` bits each.

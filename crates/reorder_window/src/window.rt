@@ -1,9 +1,11 @@
 // The window over a track's packets.
-ghost use Rattle.std.specs.Prelude.{◌≡◌, ◌≤◌, ◌∷◌, ◌^◌, [], IfOk, IsNone, List, ◌↔◌, max, OnErr, OnOk, drop, length, slice_get};
+ghost use Rattle.std.specs.Prelude.{◌≡◌, ◌<◌, ◌≤◌, ◌+◌, ◌∷◌, ◌^◌, [], IfOk, IsNone, List, None, ℕ, ◌↔◌, max, OnErr, OnOk, drop, length, slice_get};
 ghost use Rattle.std.specs.Option.{option_map};
 ghost use Rattle.reorder_window.specs.Events.{Event, Arrives, Ticks};
 ghost use Rattle.reorder_window.specs.Missing.{missing_sequences};
 ghost use Rattle.reorder_window.specs.Order.{added, after, before_all, judged_sequence, number_of};
+ghost use Rattle.reorder_window.specs.Kept.{waiting_from};
+ghost use Rattle.reorder_window.specs.Slots.{held_at, waiting_at};
 ghost use Rattle.reorder_window.specs.Steps.{in_range, newest_below};
 ghost use Rattle.reorder_window.specs.Window.{IsAfter, filled, item_of, refusal};
 
@@ -32,6 +34,8 @@ pub struct Window {
     next: u64,
     // the first number that wasn't fetched
     given: u64,
+    // where `next_item` has a packet while it copies it
+    copied: Box<PacketSlot>,
 }
 
 impl Model for Window {
@@ -47,17 +51,20 @@ impl Model for Window {
 }
 
 impl Window {
-    /// A window before the first packet, that holds a packet behind a gap for so many milliseconds. All its memory is taken here.
+    /// A window before the first packet, that holds a packet behind a gap for `hold` milliseconds. All its memory is taken here.
     pub fn new(alloc: Global, hold: u32) -> Result<Window, NoMemory>
         ensures { IfOk result (λ window. window ≡ record { hold = hold; order = before_all; waiting = [] }) }
     {
+        let ring = Ring::new(alloc)?;
+        let copied = Box::new(alloc, PacketSlot::new()).map_err(|_| NoMemory)?;
         Ok(Window {
-            ring: Ring::new(alloc)?,
+            ring,
             hold,
             moment: 0,
             end: 0,
             next: 0,
             given: 0,
+            copied,
         })
     }
 
@@ -77,17 +84,17 @@ impl Window {
             return Err(Arrival::Repeat);
         }
         let first = if self.end == 0 { number } else { self.next };
-        let room = first.max(number.saturating_sub(SPAN - 1));
+        let lowest = first.max(number.saturating_sub(SPAN - 1));
         let now = self.moment.max(moment);
         self.ring.keep(number, now, bytes);
         self.moment = now;
         self.end = self.end.max(number + 1);
         self.given = first;
-        self.next = self.ring.run_end(room, self.end);
+        self.next = self.ring.run_end(lowest, self.end);
         Ok(())
     }
 
-    /// Time has come to this moment, in milliseconds: gaps before packets that were held for the hold are given up.
+    /// Time has come to this moment, in milliseconds: gaps before packets that have been held for the full hold time are given up.
     pub fn tick(&mut self, moment: u64)
         requires { self.old.waiting ≡ [] }
         ensures order { self.new.order ≡ after self.old.hold self.old.order (Ticks moment) }
@@ -103,7 +110,17 @@ impl Window {
             .due_end(self.next, self.end, self.moment, self.hold);
     }
 
-    /// The next item that waits, or none. A packet's bytes are copied into the buffer; else it stays as it was.
+    /// The next item that waits, or none. A packet's slot changes places with this one, so that no byte is copied; else the slot stays as it was.
+    pub fn next_slot(&mut self, slot: &mut Box<PacketSlot>) -> Option<Item>
+        ensures none { IsNone result ↔ (self.old.waiting ≡ []) }
+        ensures item { result ≡ option_map item_of (slice_get self.old.waiting 0) }
+        ensures bytes { slot.new.value ≡ filled (slice_get self.old.waiting 0) slot.old.value }
+        ensures rest { self.new ≡ record self.old { waiting = drop 1 self.old.waiting } }
+    {
+        fetch(&mut self.ring, &mut self.given, self.next, slot)
+    }
+
+    /// The next item that waits, as [`Window::next_slot`] returns it, with a packet's bytes copied into the buffer; else the buffer stays as it was.
     pub fn next_item(&mut self, buf: &mut PacketBuf) -> Option<Item>
         ensures none { IsNone result ↔ (self.old.waiting ≡ []) }
         ensures length { length buf.new ≤ max (length buf.old) 1500 }
@@ -111,44 +128,11 @@ impl Window {
         ensures bytes { buf.new ≡ filled (slice_get self.old.waiting 0) buf.old }
         ensures rest { self.new ≡ record self.old { waiting = drop 1 self.old.waiting } }
     {
-        let from = self.given;
-        if from == self.next {
-            return None;
+        let item = fetch(&mut self.ring, &mut self.given, self.next, &mut self.copied)?;
+        if let Item::Got { .. } = item {
+            buf.fill(self.copied.bytes());
         }
-        if let Some(moment) = self.ring.give(from, buf) {
-            self.given = from + 1;
-            return Some(Item::Got {
-                number: from,
-                moment,
-            });
-        }
-        let end = self.ring.gap_end(from, self.next);
-        self.given = end;
-        Some(Item::Gone { from, to: end - 1 })
-    }
-
-    /// The next item that waits, or none, as [`Window::next_item`] hands it out; but a packet's slot changes places with this one, so that
-    /// no byte is copied. Else the slot stays as it was.
-    pub fn next_slot(&mut self, slot: &mut Box<PacketSlot>) -> Option<Item>
-        ensures none { IsNone result ↔ (self.old.waiting ≡ []) }
-        ensures item { result ≡ option_map item_of (slice_get self.old.waiting 0) }
-        ensures bytes { slot.new.value ≡ filled (slice_get self.old.waiting 0) slot.old.value }
-        ensures rest { self.new ≡ record self.old { waiting = drop 1 self.old.waiting } }
-    {
-        let from = self.given;
-        if from == self.next {
-            return None;
-        }
-        if let Some(moment) = self.ring.hand_over(from, slot) {
-            self.given = from + 1;
-            return Some(Item::Got {
-                number: from,
-                moment,
-            });
-        }
-        let end = self.ring.gap_end(from, self.next);
-        self.given = end;
-        Some(Item::Gone { from, to: end - 1 })
+        Some(item)
     }
 
     /// The missing sequence numbers, ascending by their unwrapped numbers.
@@ -162,6 +146,35 @@ impl Window {
             }
         }
     }
+}
+
+// The next of what waits in a ring, of the numbers from `given` to below `next`: `given` is behind it then. A packet's slot changes places with this one.
+#[inline(always)]
+fn fetch(ring: &mut Ring, given: &mut u64, next: u64, slot: &mut Box<PacketSlot>) -> Option<Item>
+    requires within { given.old ≤ next }
+    requires near { (n : ℕ) → given.old + SPAN < n → n < next → waiting_at ring.old.slots.items ring.old.spare n ≡ None }
+    ensures none { IsNone result ↔ (waiting_from ring.old given.old next ≡ []) }
+    ensures item { result ≡ option_map item_of (slice_get (waiting_from ring.old given.old next) 0) }
+    ensures bytes { slot.new.value ≡ filled (slice_get (waiting_from ring.old given.old next) 0) slot.old.value }
+    ensures rest { waiting_from ring.new given.new next ≡ drop 1 (waiting_from ring.old given.old next) }
+    ensures held { (n : ℕ) → next ≤ n → held_at ring.new.slots.items n ≡ held_at ring.old.slots.items n }
+    ensures within { given.new ≤ next }
+    ensures near { (n : ℕ) → given.new + SPAN < n → n < next → waiting_at ring.new.slots.items ring.new.spare n ≡ None }
+{
+    let from = *given;
+    if from == next {
+        return None;
+    }
+    if let Some(moment) = ring.exchange(from, slot) {
+        *given = from + 1;
+        return Some(Item::Got {
+            number: from,
+            moment,
+        });
+    }
+    let end = ring.gap_end(from, next);
+    *given = end;
+    Some(Item::Gone { from, to: end - 1 })
 }
 
 /// The number of an arrival, unless it is too great or behind.

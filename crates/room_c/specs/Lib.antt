@@ -1,4 +1,5 @@
 pub mod Owned
 pub mod Codes
 pub mod Reading
+pub mod Telling
 pub mod Serving

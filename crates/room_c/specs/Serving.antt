@@ -1,7 +1,7 @@
 -- What a call through a handle does.
-use Rattle.std.specs.Prelude.{◌≡◌, ℕ, Bool, false, List, take, ⊤, Option, Some, None}
+use Rattle.std.specs.Prelude.{◌≡◌, ℕ, Bool, false, List, take, ⊤, Option, Some, None, Result}
 use Rattle.sfu_base.specs.declared.call.Call.{Call}
-use Rattle.sfu_base.specs.declared.call.Reply.{Reply}
+use Rattle.sfu_base.specs.declared.call.Refusal.{Refusal}
 use Rattle.sfu_base.specs.declared.call.Reply.TheVariants as reply
 use Rattle.room_core.specs.Noted.{Noted}
 use Rattle.room_core.specs.Serves.{MemoryHasCause, MemoryIsLast, Serves, StandsHeadline}
@@ -11,10 +11,11 @@ use Rattle.room_c.specs.declared.plain_reply.PlainReply.{PlainReply}
 use Rattle.room_core.specs.Serves.{Stands}
 use Rattle.room_core.specs.History.{Entry}
 use Rattle.room_core.specs.CurrentTargets.{IsReachedBy, IsTargetOf}
+use Rattle.room_core.specs.declared.current_target.DecodeTarget.{DecodeTarget}
 use Rattle.room_c.specs.declared.code.Code.TheVariants.{NoRoom}
 use Rattle.room_c.specs.declared.plain_target.PlainTarget.{PlainTarget}
-use Rattle.room_c.specs.Codes.{code_number}
 use Rattle.room_c.specs.Reading.{reached_in, reply_in, target_in}
+use Rattle.room_c.specs.Telling.{bare_of, plain_of, reached_reply, target_reply, target_written}
 
 -- the recorder tells nothing, and never refuses
 abbrev pub untold : KeepNone → Option (List Noted)
@@ -23,18 +24,20 @@ untold recorder = None
 abbrev pub never : KeepNone → Bool
 never recorder = false
 
--- The room does and answers what `Room::serve` does for this call of this seat, with what the reply leaves in the scratch.
-pub record DoesAsRoom (old new : Home) (seat : ℕ) (call : Call) (told : Reply) : Type 0 where
-  pub serves : Serves untold old.room new.room seat call told new.scratch.packet new.scratch.names
+-- The room does and answers what `Room::serve` does for this call of this seat, with what the reply leaves in the scratch; and what is told is
+-- this reply's numbers, no others.
+pub record DoesAsRoom (old new : Home) (seat : ℕ) (call : Call) (told : PlainReply) : Type 0 where
+  pub serves : Serves untold old.room new.room seat call (reply_in told) new.scratch.packet new.scratch.names
   pub headline : StandsHeadline untold new.room
-  pub memory : MemoryHasCause never old.room call told
-  pub last : MemoryIsLast untold never old.room call told
+  pub memory : MemoryHasCause never old.room call (reply_in told)
+  pub last : MemoryIsLast untold never old.room call (reply_in told)
+  pub exact : told ≡ plain_of new.scratch (reply_in told)
 
 -- What a call through a handle does: where no room is behind it, it tells so and changes nothing.
 abbrev pub Does : Option Home → Option Home → ℕ → Call → PlainReply → Type 0
-Does None new seat call told = (new ≡ None) × (told.code ≡ code_number NoRoom)
+Does None new seat call told = (new ≡ None) × (told ≡ bare_of NoRoom)
 Does (Some old) None seat call told = ⊥
-Does (Some old) (Some new) seat call told = DoesAsRoom old new seat call (reply_in told)
+Does (Some old) (Some new) seat call told = DoesAsRoom old new seat call told
 
 -- where the reply is a packet, its bytes stand first in the buffer
 abbrev pub GivesBytes : Option Home → PlainReply → List ℕ → Type 0
@@ -46,11 +49,21 @@ abbrev pub GivesNumbers : Option Home → PlainReply → List ℕ → Type 0
 GivesNumbers None told out = ⊤
 GivesNumbers (Some home) told out = reply_in told ≡ reply.Names → take told.first out ≡ home.scratch.names
 
--- What a question of a room is told: whatever history it stands for, the answer is that history's.
-abbrev pub AsksTarget : Option Home → ℕ → PlainReply → PlainTarget → Type 0
-AsksTarget None subscriber told target = told.code ≡ code_number NoRoom
-AsksTarget (Some home) subscriber told target = (history : List Entry) → Stands untold home.room history → IsTargetOf history subscriber (target_in told target)
+-- What a question of a room is told: whatever history it stands for, the answer is that history's, in that answer's numbers and no others; the
+-- decode target is written where there is one.
+pub record TellsTarget (home : Home) (subscriber : ℕ) (told : PlainReply) (old new : PlainTarget) (answer : Result (Option DecodeTarget) Refusal) : Type 0 where
+  pub asks : (history : List Entry) → Stands untold home.room history → IsTargetOf history subscriber answer
+  pub exact : told ≡ target_reply answer
+  pub written : new ≡ target_written answer old
+
+abbrev pub AsksTarget : Option Home → ℕ → PlainReply → (old new : PlainTarget) → Type 0
+AsksTarget None subscriber told old new = (told ≡ bare_of NoRoom) × (new ≡ old)
+AsksTarget (Some home) subscriber told old new = TellsTarget home subscriber told old new (target_in told new)
+
+pub record TellsReached (home : Home) (subscriber : ℕ) (told : PlainReply) (answer : Result Bool Refusal) : Type 0 where
+  pub asks : (history : List Entry) → Stands untold home.room history → IsReachedBy history subscriber answer
+  pub exact : told ≡ reached_reply answer
 
 abbrev pub AsksReached : Option Home → ℕ → PlainReply → Type 0
-AsksReached None subscriber told = told.code ≡ code_number NoRoom
-AsksReached (Some home) subscriber told = (history : List Entry) → Stands untold home.room history → IsReachedBy history subscriber (reached_in told)
+AsksReached None subscriber told = told ≡ bare_of NoRoom
+AsksReached (Some home) subscriber told = TellsReached home subscriber told (reached_in told)

@@ -1,11 +1,12 @@
 // Replies with bytes or numbers, which are written into a buffer of C's.
-ghost use Rattle.std.specs.Prelude.{◌≡◌, ◌≤◌, length, take};
+ghost use Rattle.std.specs.Prelude.{◌≡◌, ◌≤◌, drop, length, take};
 ghost use Rattle.sfu_base.specs.declared.call.Reply.TheVariants as reply;
 ghost use Rattle.room_c.specs.Reading.{reply_in};
+ghost use Rattle.room_c.specs.Telling.{bytes_written, numbers_written, plain_of};
 
 use crate::code::Code;
 use crate::plain_reply::PlainReply;
-use sfu_base::Reply;
+use sfu_base::{Reply, Scratch};
 
 /// How many bytes a buffer for a packet has at least.
 pub const PACKET_ROOM: usize = 2048;
@@ -14,33 +15,41 @@ pub const PACKET_ROOM: usize = 2048;
 pub const NAMES_ROOM: usize = 1024;
 
 /// Writes the bytes of a packet's reply into a buffer that has room for any.
-pub fn give_bytes(answer: &Reply, bytes: &[u8], out: &mut [u8]) -> PlainReply
-    requires { length bytes.now ≤ length out.old }
+#[tactic(auto, unfolding(crate::specs::Telling::plain_of))]
+pub fn give_bytes(answer: &Reply, scratch: &Scratch, out: &mut [u8]) -> PlainReply
+    requires { 2048 ≤ length out.old }
     ensures told { reply_in result ≡ answer.now }
-    ensures gives { answer.now ≡ reply.Packet → take result.first out.new ≡ bytes.now }
+    ensures exact { result ≡ plain_of scratch.now answer.now }
+    ensures gives { answer.now ≡ reply.Packet → take result.first out.new ≡ scratch.now.packet }
+    ensures rest { drop (bytes_written result) out.new ≡ drop (bytes_written result) out.old }
     ensures length { length out.new ≡ length out.old }
 {
     match answer {
         Reply::Packet => {
+            let bytes = scratch.packet.bytes();
             out[..bytes.len()].copy_from_slice(bytes);
             PlainReply::with(Code::Packet, bytes.len() as u64)
         }
-        _ => PlainReply::of(answer),
+        _ => PlainReply::of(answer, scratch),
     }
 }
 
 /// Writes the numbers of a reply into a buffer that has room for any.
-pub fn give_numbers(answer: &Reply, numbers: &[u16], out: &mut [u16]) -> PlainReply
-    requires { length numbers.now ≤ length out.old }
+#[tactic(auto, unfolding(crate::specs::Telling::plain_of))]
+pub fn give_numbers(answer: &Reply, scratch: &Scratch, out: &mut [u16]) -> PlainReply
+    requires { 1024 ≤ length out.old }
     ensures told { reply_in result ≡ answer.now }
-    ensures gives { answer.now ≡ reply.Names → take result.first out.new ≡ numbers.now }
+    ensures exact { result ≡ plain_of scratch.now answer.now }
+    ensures gives { answer.now ≡ reply.Names → take result.first out.new ≡ scratch.now.names }
+    ensures rest { drop (numbers_written result) out.new ≡ drop (numbers_written result) out.old }
     ensures length { length out.new ≡ length out.old }
 {
     match answer {
         Reply::Names => {
+            let numbers = scratch.names.numbers();
             out[..numbers.len()].copy_from_slice(numbers);
             PlainReply::with(Code::Names, numbers.len() as u64)
         }
-        _ => PlainReply::of(answer),
+        _ => PlainReply::of(answer, scratch),
     }
 }

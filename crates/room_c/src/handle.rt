@@ -81,7 +81,8 @@ impl Handle {
                     scratch,
                     inbox: _,
                 } = &mut *home;
-                let told = PlainReply::of(&room.serve(seat, call, scratch));
+                let reply = room.serve(seat, call, scratch);
+                let told = PlainReply::of(&reply, scratch);
                 self.put(home);
                 told
             }

@@ -1,11 +1,11 @@
 // A reply as C reads it.
 ghost use Rattle.std.specs.Prelude.{◌≡◌, ◌≤◌, false, true};
 ghost use Rattle.sfu_base.specs.declared.call.Reply.TheVariants as reply;
-ghost use Rattle.room_c.specs.Codes.{code_number};
-ghost use Rattle.room_c.specs.Reading.{fault_in, refusal_in, reply_in, verdict_in};
+ghost use Rattle.room_c.specs.Reading.{fault_in, refusal_in, reply_in};
+ghost use Rattle.room_c.specs.Telling.{bare_of, flag_of, number_of_fault, one_of, plain_of, plain_refusal, plain_verdict, two_of};
 
 use crate::code::Code;
-use sfu_base::{Refusal, Reply, RtpFault, Verdict};
+use sfu_base::{Refusal, Reply, RtpFault, Scratch, Verdict};
 
 /// A reply as numbers: its code, whether an optional number is there, and its numbers, which `Code` names beside each code. What it doesn't
 /// have is 0.
@@ -21,7 +21,7 @@ pub struct PlainReply {
 impl PlainReply {
     /// The code alone.
     pub fn bare(code: Code) -> PlainReply
-        ensures { result ≡ record { code = code_number code; has = false; first = 0; second = 0 } }
+        ensures { result ≡ bare_of code }
     {
         PlainReply {
             code: code as u32,
@@ -33,7 +33,7 @@ impl PlainReply {
 
     /// A code with a yes or no.
     pub fn telling(code: Code, has: bool) -> PlainReply
-        ensures { result ≡ record { code = code_number code; has = has; first = 0; second = 0 } }
+        ensures { result ≡ flag_of code has }
     {
         PlainReply {
             code: code as u32,
@@ -45,7 +45,7 @@ impl PlainReply {
 
     /// A code with one number.
     pub fn with(code: Code, first: u64) -> PlainReply
-        ensures { result ≡ record { code = code_number code; has = true; first = first; second = 0 } }
+        ensures { result ≡ one_of code first }
     {
         PlainReply {
             code: code as u32,
@@ -57,7 +57,7 @@ impl PlainReply {
 
     /// A code with two numbers.
     pub fn with_two(code: Code, first: u64, second: u64) -> PlainReply
-        ensures { result ≡ record { code = code_number code; has = true; first = first; second = second } }
+        ensures { result ≡ two_of code first second }
     {
         PlainReply {
             code: code as u32,
@@ -67,14 +67,16 @@ impl PlainReply {
         }
     }
 
-    /// The numbers of a reply: nothing is lost, but for the bytes and numbers that stand in a scratch.
-    pub fn of(reply: &Reply) -> PlainReply
-        ensures { reply_in result ≡ reply.now }
+    /// The numbers of a reply, which left its bytes or sequence numbers in a scratch: of these, how many there are.
+    #[tactic(auto, unfolding(crate::specs::Telling::plain_of))]
+    pub fn of(reply: &Reply, scratch: &Scratch) -> PlainReply
+        ensures told { reply_in result ≡ reply.now }
+        ensures exact { result ≡ plain_of scratch.now reply.now }
     {
         match reply {
             Reply::Done => PlainReply::bare(Code::Done),
-            Reply::Packet => PlainReply::bare(Code::Packet),
-            Reply::Names => PlainReply::bare(Code::Names),
+            Reply::Packet => PlainReply::with(Code::Packet, scratch.packet.bytes().len() as u64),
+            Reply::Names => PlainReply::with(Code::Names, scratch.names.numbers().len() as u64),
             Reply::Key { wanted } => PlainReply::telling(Code::Key, *wanted),
             Reply::Cause(verdict) => of_verdict(*verdict),
             Reply::Refused(why) => PlainReply::of_refusal(*why),
@@ -86,6 +88,7 @@ impl PlainReply {
         ensures told { reply_in result ≡ reply.Refused why }
         ensures refusal { refusal_in result ≡ why }
         ensures code { 32 ≤ result.code }
+        ensures exact { result ≡ plain_refusal why }
     {
         match why {
             Refusal::NoTrack => PlainReply::bare(Code::NoTrack),
@@ -125,7 +128,8 @@ impl PlainReply {
 
 // The numbers of a verdict on a frame.
 fn of_verdict(verdict: Verdict) -> PlainReply
-    ensures { reply_in result ≡ reply.Cause verdict }
+    ensures told { reply_in result ≡ reply.Cause verdict }
+    ensures exact { result ≡ plain_verdict verdict }
 {
     match verdict {
         Verdict::Passed => PlainReply::bare(Code::Passed),
@@ -160,7 +164,8 @@ fn of_verdict(verdict: Verdict) -> PlainReply
 }
 
 fn fault_number(fault: RtpFault) -> u64
-    ensures { fault_in result ≡ fault }
+    ensures told { fault_in result ≡ fault }
+    ensures exact { result ≡ number_of_fault fault }
 {
     match fault {
         RtpFault::Short => 0,

@@ -1,6 +1,7 @@
 // A decode target as C reads it.
 ghost use Rattle.std.specs.Prelude.{◌≡◌};
 ghost use Rattle.room_c.specs.Reading.{layers_in};
+ghost use Rattle.room_c.specs.Telling.{plain_target};
 
 use room_core::DecodeTarget;
 use sfu_base::Wish;
@@ -24,6 +25,7 @@ impl PlainTarget {
     pub fn of(target: &DecodeTarget) -> PlainTarget
         ensures index { result.index ≡ target.now.index }
         ensures layers { layers_in result ≡ target.now.layers }
+        ensures exact { result ≡ plain_target target.now }
     {
         match target.layers {
             Some(Wish { spatial, temporal }) => PlainTarget {

@@ -2,6 +2,7 @@
 ghost use Rattle.std.specs.Prelude.{◌≡◌};
 ghost use Rattle.room_c.specs.Reading.{reached_in, target_in};
 ghost use Rattle.room_c.specs.Serving.{AsksReached, AsksTarget};
+ghost use Rattle.room_c.specs.Telling.{reached_reply, target_reply, target_written};
 
 use crate::code::Code;
 use crate::handle::Handle;
@@ -11,8 +12,8 @@ use room_core::DecodeTarget;
 use sfu_base::Refusal;
 use std::alloc::Global;
 
-/// The decode target that a subscriber is sent, as `Room::target_of` has it: `Target`. Where there is one, `has` is true, and it is written.
-/// `NoSubscriber`.
+/// The decode target that a subscriber is sent, as `Room::target_of` has it: `Target`. Where there is one, `has` is true, and it is written;
+/// else nothing is. `NoSubscriber`.
 #[unsafe(no_mangle)]
 pub extern "C" fn zoftemar_target_of(
     alloc: Global,
@@ -20,7 +21,7 @@ pub extern "C" fn zoftemar_target_of(
     subscriber: u32,
     out: &mut PlainTarget,
 ) -> PlainReply
-    ensures asks { AsksTarget room.old.held.home subscriber result out.new }
+    ensures asks { AsksTarget room.old.held.home subscriber result out.old out.new }
     ensures same { room.new.held.home ≡ room.old.held.home }
 {
     match room.take(alloc) {
@@ -53,8 +54,11 @@ pub extern "C" fn zoftemar_reaches_wish(
     }
 }
 
+#[tactic(auto, unfolding(crate::specs::Telling::target_reply, crate::specs::Telling::target_written))]
 fn tell_target(answer: Result<Option<DecodeTarget>, Refusal>, out: &mut PlainTarget) -> PlainReply
-    ensures { target_in result out.new ≡ answer }
+    ensures told { target_in result out.new ≡ answer }
+    ensures exact { result ≡ target_reply answer }
+    ensures written { out.new ≡ target_written answer out.old }
 {
     match answer {
         Ok(Some(target)) => {
@@ -66,8 +70,10 @@ fn tell_target(answer: Result<Option<DecodeTarget>, Refusal>, out: &mut PlainTar
     }
 }
 
+#[tactic(auto, unfolding(crate::specs::Telling::reached_reply))]
 fn tell_reached(answer: Result<bool, Refusal>) -> PlainReply
-    ensures { reached_in result ≡ answer }
+    ensures told { reached_in result ≡ answer }
+    ensures exact { result ≡ reached_reply answer }
 {
     match answer {
         Ok(reached) => PlainReply::telling(Code::Reached, reached),

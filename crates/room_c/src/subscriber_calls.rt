@@ -1,9 +1,9 @@
 // Calls on a subscriber. The seat says who calls, for a recorder of the room; this room has one that keeps nothing.
-ghost use Rattle.std.specs.Prelude.{◌≡◌, ◌<◌, ◌≤◌, length};
+ghost use Rattle.std.specs.Prelude.{◌≡◌, ◌<◌, ◌≤◌, drop, length};
 ghost use Rattle.sfu_base.specs.declared.call.Call.TheVariants as call;
 ghost use Rattle.room_c.specs.declared.code.Code.TheVariants.{NoSpace};
-ghost use Rattle.room_c.specs.Codes.{code_number};
 ghost use Rattle.room_c.specs.Serving.{Does, GivesBytes};
+ghost use Rattle.room_c.specs.Telling.{bare_of, bytes_written};
 
 use crate::answers::{PACKET_ROOM, give_bytes};
 use crate::code::Code;
@@ -85,7 +85,8 @@ pub extern "C" fn zoftemar_take(
 ) -> PlainReply
     ensures does { 2048 ≤ length out.old → Does room.old.held.home room.new.held.home seat (call.Take subscriber) result }
     ensures gives { 2048 ≤ length out.old → GivesBytes room.new.held.home result out.new }
-    ensures short { length out.old < 2048 → (result.code ≡ code_number NoSpace) × (room.new.held.home ≡ room.old.held.home) }
+    ensures rest { drop (bytes_written result) out.new ≡ drop (bytes_written result) out.old }
+    ensures short { length out.old < 2048 → (result ≡ bare_of NoSpace) × (room.new.held.home ≡ room.old.held.home) × (out.new ≡ out.old) }
 {
     if out.len() < PACKET_ROOM {
         return PlainReply::bare(Code::NoSpace);
@@ -99,7 +100,7 @@ pub extern "C" fn zoftemar_take(
                 inbox: _,
             } = &mut *home;
             let reply = inner.take(seat, subscriber, scratch);
-            let told = give_bytes(&reply, scratch.packet.bytes(), out);
+            let told = give_bytes(&reply, scratch, out);
             room.put(home);
             told
         }
@@ -119,7 +120,8 @@ pub extern "C" fn zoftemar_resend(
 ) -> PlainReply
     ensures does { 2048 ≤ length out.old → Does room.old.held.home room.new.held.home seat (call.Resend subscriber seq) result }
     ensures gives { 2048 ≤ length out.old → GivesBytes room.new.held.home result out.new }
-    ensures short { length out.old < 2048 → (result.code ≡ code_number NoSpace) × (room.new.held.home ≡ room.old.held.home) }
+    ensures rest { drop (bytes_written result) out.new ≡ drop (bytes_written result) out.old }
+    ensures short { length out.old < 2048 → (result ≡ bare_of NoSpace) × (room.new.held.home ≡ room.old.held.home) × (out.new ≡ out.old) }
 {
     if out.len() < PACKET_ROOM {
         return PlainReply::bare(Code::NoSpace);
@@ -133,7 +135,7 @@ pub extern "C" fn zoftemar_resend(
                 inbox: _,
             } = &mut *home;
             let reply = inner.resend(seat, subscriber, seq, scratch);
-            let told = give_bytes(&reply, scratch.packet.bytes(), out);
+            let told = give_bytes(&reply, scratch, out);
             room.put(home);
             told
         }

@@ -1,10 +1,10 @@
 // Calls on a track. The seat says who calls, for a recorder of the room; this room has one that keeps nothing.
-ghost use Rattle.std.specs.Prelude.{◌≡◌, ◌<◌, ◌≤◌, length};
+ghost use Rattle.std.specs.Prelude.{◌≡◌, ◌<◌, ◌≤◌, drop, length};
 ghost use Rattle.sfu_base.specs.declared.call.Call.TheVariants as call;
 ghost use Rattle.sfu_base.specs.declared.call.Kind.TheVariants.{Layered, Plain};
 ghost use Rattle.room_c.specs.declared.code.Code.TheVariants.{NoSpace, TooLong};
-ghost use Rattle.room_c.specs.Codes.{code_number};
 ghost use Rattle.room_c.specs.Serving.{Does, GivesNumbers};
+ghost use Rattle.room_c.specs.Telling.{bare_of, numbers_written};
 
 use crate::answers::{NAMES_ROOM, PACKET_ROOM, give_numbers};
 use crate::code::Code;
@@ -92,7 +92,7 @@ pub extern "C" fn zoftemar_packet(
     bytes: &[u8],
 ) -> PlainReply
     ensures does { length bytes.now ≤ 2048 → Does room.old.held.home room.new.held.home seat (call.Packet track moment bytes.now) result }
-    ensures long { 2048 < length bytes.now → (result.code ≡ code_number TooLong) × (room.new.held.home ≡ room.old.held.home) }
+    ensures long { 2048 < length bytes.now → (result ≡ bare_of TooLong) × (room.new.held.home ≡ room.old.held.home) }
 {
     if bytes.len() > PACKET_ROOM {
         return PlainReply::bare(Code::TooLong);
@@ -102,11 +102,11 @@ pub extern "C" fn zoftemar_packet(
         Some(mut home) => {
             let Home {
                 room: inner,
-                scratch: _,
+                scratch,
                 inbox,
             } = &mut *home;
             inbox.fill(bytes);
-            let told = PlainReply::of(&inner.packet(seat, track, moment, inbox));
+            let told = PlainReply::of(&inner.packet(seat, track, moment, inbox), scratch);
             room.put(home);
             told
         }
@@ -127,7 +127,8 @@ pub extern "C" fn zoftemar_tick(
     match room.take(alloc) {
         None => PlainReply::bare(Code::NoRoom),
         Some(mut home) => {
-            let told = PlainReply::of(&home.room.tick(seat, track, moment));
+            let reply = home.room.tick(seat, track, moment);
+            let told = PlainReply::of(&reply, &home.scratch);
             room.put(home);
             told
         }
@@ -146,7 +147,8 @@ pub extern "C" fn zoftemar_missing(
 ) -> PlainReply
     ensures does { 1024 ≤ length out.old → Does room.old.held.home room.new.held.home seat (call.Missing track) result }
     ensures gives { 1024 ≤ length out.old → GivesNumbers room.new.held.home result out.new }
-    ensures short { length out.old < 1024 → (result.code ≡ code_number NoSpace) × (room.new.held.home ≡ room.old.held.home) }
+    ensures rest { drop (numbers_written result) out.new ≡ drop (numbers_written result) out.old }
+    ensures short { length out.old < 1024 → (result ≡ bare_of NoSpace) × (room.new.held.home ≡ room.old.held.home) × (out.new ≡ out.old) }
 {
     if out.len() < NAMES_ROOM {
         return PlainReply::bare(Code::NoSpace);
@@ -160,7 +162,7 @@ pub extern "C" fn zoftemar_missing(
                 inbox: _,
             } = &mut *home;
             let reply = inner.missing(seat, track, scratch);
-            let told = give_numbers(&reply, scratch.names.numbers(), out);
+            let told = give_numbers(&reply, scratch, out);
             room.put(home);
             told
         }

@@ -19,7 +19,7 @@ use Rattle.track_core.specs.declared.layers.Layers.{Layers}
 use Rattle.track_core.specs.Track.{id_of, structure_in}
 use Rattle.room_core.specs.Follows.{pushed_all, remasked_by, tells_by}
 use Rattle.room_core.specs.Sent.{remasked_first, tells_first}
-use Rattle.frame_cache.specs.Sharing.{TellsOne}
+use Rattle.frame_cache.specs.Sharing.{CarriesMask}
 use Rattle.room_core.specs.FrameCache.{TellsFirst}
 use Rattle.frame_cache.specs.declared.cache.FrameCache.{FrameCache}
 use Rattle.room_core.proofs.Rings.{length-pushed, pushed_both, pushed_is, pushed_more, pushed_none, take_next}
@@ -186,36 +186,36 @@ telling_pushed id mask force bytes marker ring ring' reads now =
 pub keeps_nothing : (layers : Option Layers) (packets : List (List ℕ)) (told : FrameCache) → told.mask ≡ None → TellsFirst layers packets told
 keeps_nothing None packets told none = tt
 keeps_nothing (Some l) [] told none = tt
-keeps_nothing (Some l) (b ∷ rest) told none = subst (λ (m : Option ℕ). TellsOne l.id l.table.structure b m told.packet) (sym none) tt
+keeps_nothing (Some l) (b ∷ rest) told none = subst (λ (m : Option ℕ). CarriesMask l.id l.table.structure b m told.packet) (sym none) tt
 
 pub keeps_one : (layers : Option Layers) (packets : List (List ℕ)) (bytes : List ℕ) (told : FrameCache) → slice_get packets 0 ≡ Some bytes
     → TellsFirst layers packets told → TellsFirst layers (bytes ∷ []) told
 keeps_one None packets bytes told at kept = tt
 keeps_one (Some l) [] bytes told at kept = absurd cc
-keeps_one (Some l) (b ∷ rest) bytes told at kept = let same : b ≡ bytes = cc in subst (λ (x : List ℕ). TellsOne l.id l.table.structure x told.mask told.packet) same kept
+keeps_one (Some l) (b ∷ rest) bytes told at kept = let same : b ≡ bytes = cc in subst (λ (x : List ℕ). CarriesMask l.id l.table.structure x told.mask told.packet) same kept
 
 pub keeps_first : (layers : Option Layers) (packets : List (List ℕ)) (bytes : List ℕ) (told : FrameCache) → slice_get packets 0 ≡ Some bytes
     → TellsFirst layers (bytes ∷ []) told → TellsFirst layers packets told
 keeps_first None packets bytes told at kept = tt
 keeps_first (Some l) [] bytes told at kept = tt
-keeps_first (Some l) (b ∷ rest) bytes told at kept = let same : bytes ≡ b = cc in subst (λ (x : List ℕ). TellsOne l.id l.table.structure x told.mask told.packet) same kept
+keeps_first (Some l) (b ∷ rest) bytes told at kept = let same : bytes ≡ b = cc in subst (λ (x : List ℕ). CarriesMask l.id l.table.structure x told.mask told.packet) same kept
 
 -- by the id and the structure in force
 pub keeps_by : (layers : Option Layers) (id : ℕ) (force : Option TemplateStructure) (bytes : List ℕ) (told : FrameCache) → Some id ≡ option_map id_of layers → force ≡ structure_in layers
-    → TellsFirst layers (bytes ∷ []) told → TellsOne id force bytes told.mask told.packet
+    → TellsFirst layers (bytes ∷ []) told → CarriesMask id force bytes told.mask told.packet
 keeps_by None id force bytes told is force_is kept = absurd cc
 keeps_by (Some l) id force bytes told is force_is kept =
     let same : id ≡ l.id = cc in
-    subst (λ (f : Option TemplateStructure). TellsOne id f bytes told.mask told.packet) (sym force_is)
-    (subst (λ (n : ℕ). TellsOne n l.table.structure bytes told.mask told.packet) (sym same) kept)
+    subst (λ (f : Option TemplateStructure). CarriesMask id f bytes told.mask told.packet) (sym force_is)
+    (subst (λ (n : ℕ). CarriesMask n l.table.structure bytes told.mask told.packet) (sym same) kept)
 
 pub keeps_on : (layers : Option Layers) (id : ℕ) (force : Option TemplateStructure) (bytes : List ℕ) (told : FrameCache) → Some id ≡ option_map id_of layers → force ≡ structure_in layers
-    → TellsOne id force bytes told.mask told.packet → TellsFirst layers (bytes ∷ []) told
+    → CarriesMask id force bytes told.mask told.packet → TellsFirst layers (bytes ∷ []) told
 keeps_on None id force bytes told is force_is kept = tt
 keeps_on (Some l) id force bytes told is force_is kept =
     let same : id ≡ l.id = cc in
-    subst (λ (n : ℕ). TellsOne n l.table.structure bytes told.mask told.packet) same
-    (subst (λ (f : Option TemplateStructure). TellsOne id f bytes told.mask told.packet) force_is kept)
+    subst (λ (n : ℕ). CarriesMask n l.table.structure bytes told.mask told.packet) same
+    (subst (λ (f : Option TemplateStructure). CarriesMask id f bytes told.mask told.packet) force_is kept)
 
 -- on a plain track it is as it was
 pub none_told : (layers : Option Layers) (mask : ℕ) (ps : List Packet) → None ≡ option_map id_of layers → remasked_by layers mask ps ≡ ps

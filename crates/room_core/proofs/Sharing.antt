@@ -4,7 +4,7 @@ use Rattle.std.proofs.lemmas.Option.{slice_get_within}
 use Rattle.out_ring.proofs.Lists.{item_before_end, take_one_more}
 use Rattle.track_core.specs.declared.layers.Layers.{Layers}
 use Rattle.frame_cache.specs.declared.cache.FrameCache.{FrameCache}
-use Rattle.frame_cache.specs.Sharing.{AreFirst, IsShared, MayShare, TellsOne}
+use Rattle.frame_cache.specs.Sharing.{AreFirst, IsShared, MayShare, CarriesMask}
 use Rattle.room_core.specs.FrameCache.{IsOfFrame, TellsFirst}
 use Rattle.room_core.proofs.Pushing.{keeps_nothing}
 
@@ -46,8 +46,8 @@ pub told_stays : (layers : Option Layers) (packets : List (List ℕ)) (old new :
 told_stays None packets old new mask packet h = tt
 told_stays (Some l) [] old new mask packet h = tt
 told_stays (Some l) (b ∷ rest) old new mask packet h =
-    subst (λ (m : Option ℕ). TellsOne l.id l.table.structure b m new.packet) (sym mask)
-    (subst (λ (p : List ℕ). TellsOne l.id l.table.structure b old.mask p) (sym packet) h)
+    subst (λ (m : Option ℕ). CarriesMask l.id l.table.structure b m new.packet) (sym mask)
+    (subst (λ (p : List ℕ). CarriesMask l.id l.table.structure b old.mask p) (sym packet) h)
 
 -- a packet of the frame was queued
 pub frame_goes_on : (layers : Option Layers) (packets : List (List ℕ)) (old new : FrameCache) (place : ℕ) (packet : List ℕ) → IsOfFrame layers packets old

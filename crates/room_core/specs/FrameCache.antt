@@ -2,13 +2,13 @@
 use Rattle.std.specs.Prelude.{ℕ, List, [], ◌∷◌, Option, None, Some}
 use Rattle.track_core.specs.declared.layers.Layers.{Layers}
 use Rattle.frame_cache.specs.declared.cache.FrameCache.{FrameCache}
-use Rattle.frame_cache.specs.Sharing.{AreFirst, TellsOne}
+use Rattle.frame_cache.specs.Sharing.{AreFirst, CarriesMask}
 
 -- the first packet with a mask is that of the first of these packets, by what a layered track keeps
 abbrev pub TellsFirst : Option Layers → List (List ℕ) → FrameCache → Type 0
 TellsFirst None packets told = Unit {0}
 TellsFirst (Some l) [] told = Unit {0}
-TellsFirst (Some l) (packet ∷ rest) told = TellsOne l.id l.table.structure packet told.mask told.packet
+TellsFirst (Some l) (packet ∷ rest) told = CarriesMask l.id l.table.structure packet told.mask told.packet
 
 -- what is kept is of the frame with these packets
 pub record IsOfFrame (layers : Option Layers) (packets : List (List ℕ)) (cache : FrameCache) : Type 0 where

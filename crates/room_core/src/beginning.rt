@@ -112,7 +112,7 @@ impl Content {
             // A join of no track was refused.
             return Ok(Ready::Nothing);
         };
-        known.frame_cache.make_room(alloc, others + 1)?;
+        known.frame_cache.reserve(alloc, others + 1)?;
         let feed = Feed::new(alloc, known.kind, ssrc, first, wish)?;
         let Ok(feed) = Box::new(alloc, feed) else {
             return Err(NoMemory);

@@ -1,20 +1,18 @@
 // What one subscriber is sent.
 ghost use Rattle.std.specs.Prelude.{◌≡◌, ◌≤◌, ◌||◌, ◌∷◌, [], false, true, IfOk, OnErr, OnOk, length};
 ghost use Rattle.rtp_packet.specs.Faults.{first_fault};
-ghost use Rattle.sfu_base.specs.Frame.{IsValid};
 ghost use Rattle.room_core.specs.Follows.{FollowsAim, FollowsFrame, FollowsPacket, FollowsTake, HasNoTarget, IsFed, IsFresh, Resends, Tells, tells_by};
 ghost use Rattle.room_core.specs.Sendable.{IsSendable};
 ghost use Rattle.frame_cache.specs.Sharing.{AreFirst};
 ghost use Rattle.room_core.specs.FrameCache.{IsOfFrame};
-ghost use Rattle.target_selector.specs.Shared.{IsSharedOn};
 
 use crate::sending::{own_marker, push_from, push_remasked};
 use cause_book::CauseBook;
 use frame_cache::FrameCache;
 use out_ring::OutRing;
-use sfu_base::{FrameMeaning, Kind, NoMemory, PacketBuf, Refusal, Verdict, Wish};
+use sfu_base::{Kind, NoMemory, PacketBuf, Refusal, Verdict, Wish};
 use std::alloc::Global;
-use target_selector::{MOST_QUEUED, Selector, SharedDecision, mask_for};
+use target_selector::{FrameOffer, MOST_QUEUED, Selector};
 use track_core::Track;
 
 /// The kind of the subscriber's track, the selection of frames, the packets that wait or are kept, and the verdicts on frames. All its
@@ -66,42 +64,36 @@ impl Feed {
         }
     }
 
-    /// Offers a layered track's most recently completed frame, of so many packets. `tells` is whether its first packet carries a structure or a
-    /// mask. Where it does, or the frame opens the target, that packet goes out with the mask of the targets that the subscriber gets; `cache`
-    /// shares what goes out, and `shared` what was found about the frame, with its next subscribers.
+    /// Offers a layered track's most recently completed frame. `tells` is whether its first packet carries a structure or a mask. Where it does, or the
+    /// frame opens the target, that packet goes out with the mask of the targets that the subscriber gets; `cache` shares what goes out with the
+    /// frame's next subscribers.
     pub fn pass_frame(
         &mut self,
         track: &Track,
-        frame: &FrameMeaning,
-        packets: u16,
+        offer: &FrameOffer<'_>,
         tells: bool,
         cache: &mut FrameCache,
-        shared: &mut SharedDecision,
     )
-        requires valid { IsValid frame.now }
-        requires count { packets ≡ length track.now.packets }
+        requires count { offer.now.packets ≡ length track.now.packets }
         requires tells { tells ≡ tells_by track.now.layers track.now.packets }
         requires of_frame { IsOfFrame track.now.layers track.now.packets cache.old }
-        requires shared { IsSharedOn frame.now shared.old }
-        ensures follows { FollowsFrame self.old self.new frame.now track.now }
+        ensures follows { FollowsFrame self.old self.new offer.now.frame track.now }
         ensures of_frame { IsOfFrame track.now.layers track.now.packets cache.new }
-        ensures shared { IsSharedOn frame.now shared.new }
     {
-        let verdict = self
-            .selector
-            .admit_shared(frame, packets, self.ring.queued(), shared);
+        let number = offer.number();
+        let verdict = self.selector.admit_offered(offer, self.ring.queued());
         if let Verdict::Passed = verdict {
             // Written by its name, so that no look is had at which it is.
-            self.causes.write(frame.number, Verdict::Passed);
+            self.causes.write(number, Verdict::Passed);
             let is_top = self.selector.marks_last();
             if is_told(self.selector.opened(), tells) {
-                let mask = mask_for(frame, self.selector.target());
+                let mask = offer.mask_for(self.selector.target());
                 push_remasked(&mut self.ring, cache, track, mask, is_top);
             } else {
-                push_from(&mut self.ring, cache, track, 0, packets, is_top);
+                push_from(&mut self.ring, cache, track, 0, offer.packets(), is_top);
             }
         } else {
-            self.causes.write(frame.number, verdict);
+            self.causes.write(number, verdict);
         }
     }
 
@@ -120,7 +112,7 @@ impl Feed {
         ensures { cache.new.store.all ≤ cache.old.store.all }
     {
         let Feed { ring, .. } = self;
-        cache.take_back(ring, left);
+        cache.release(ring, left);
     }
 
     /// Whether there is no current target.

@@ -3,20 +3,19 @@ ghost use Rattle.std.specs.Prelude.{◌≡◌, ◌≤◌, ◌&&◌, ◌∷◌, [
 ghost use Rattle.indexmap.specs.IndexMap.{get, index_map_len};
 ghost use Rattle.rtp_packet.specs.Faults.{first_fault};
 ghost use Rattle.sfu_base.specs.Frame.{IsValid};
-ghost use Rattle.track_core.specs.Track.{told_with};
+ghost use Rattle.track_core.specs.Track.{with_meaning};
 ghost use Rattle.room_core.specs.Follows.{FollowsFrame, FollowsPacket, tells_by};
 ghost use Rattle.room_core.specs.Passing.{IsPassed, PassedTo, WaitsIn, WaitsOne, WorkedIf, WorkedOff};
 ghost use Rattle.room_core.specs.Stepping.{IsMadeValid, Steps};
 ghost use Rattle.frame_cache.specs.Sharing.{AreFirst};
 ghost use Rattle.room_core.specs.FrameCache.{IsOfFrame};
-ghost use Rattle.target_selector.specs.Shared.{IsSharedOn};
 
 use crate::live::LiveSubscriber;
 use crate::sending::first_tells;
 use frame_cache::FrameCache;
 use indexmap::IndexMap;
 use sfu_base::FrameMeaning;
-use target_selector::SharedDecision;
+use target_selector::FrameOffer;
 use track_core::{Advance, Track};
 
 /// Works off all items of a track that wait: what they make goes to each of its subscribers, and a key frame ends a plea.
@@ -62,8 +61,8 @@ fn work_off_one(
 
 // One step of a track, told by its items.
 fn step(pipeline: &mut Track) -> Advance
-    ensures steps { Steps pipeline.old pipeline.new (told_with pipeline.new.meaning result) }
-    ensures valid { IsMadeValid (told_with pipeline.new.meaning result) pipeline.new.packets }
+    ensures steps { Steps pipeline.old pipeline.new (with_meaning pipeline.new.meaning result) }
+    ensures valid { IsMadeValid (with_meaning pipeline.new.meaning result) pipeline.new.packets }
 {
     pipeline.advance()
 }
@@ -122,23 +121,13 @@ fn pass_frame_to_all(
     ensures passed { PassedTo (λ old new. FollowsFrame old new frame.now track.now) number (get nat_eq subscribers.old) (get nat_eq subscribers.new) }
     ensures count { index_map_len subscribers.new ≡ index_map_len subscribers.old }
 {
-    let packets = track.count();
+    let offer = FrameOffer::new(frame, track.count());
     let tells = first_tells(track);
     cache.forget();
-    let mut shared = SharedDecision::new();
     let count = subscribers.len();
     for place in 0..count {
         if let Some(subscriber) = subscribers.get_index_mut(place) {
-            pass_frame(
-                subscriber,
-                number,
-                track,
-                frame,
-                packets,
-                tells,
-                cache,
-                &mut shared,
-            );
+            pass_frame(subscriber, number, track, &offer, tells, cache);
         }
     }
 }
@@ -148,25 +137,18 @@ fn pass_frame(
     subscriber: &mut LiveSubscriber,
     number: u32,
     track: &Track,
-    frame: &FrameMeaning,
-    packets: u16,
+    offer: &FrameOffer<'_>,
     tells: bool,
     cache: &mut FrameCache,
-    shared: &mut SharedDecision,
 )
-    requires valid { IsValid frame.now }
-    requires count { packets ≡ length track.now.packets }
+    requires count { offer.now.packets ≡ length track.now.packets }
     requires tells { tells ≡ tells_by track.now.layers track.now.packets }
     requires of_frame { IsOfFrame track.now.layers track.now.packets cache.old }
-    requires shared { IsSharedOn frame.now shared.old }
-    ensures passed { IsPassed (λ old new. FollowsFrame old new frame.now track.now) number subscriber.old subscriber.new }
+    ensures passed { IsPassed (λ old new. FollowsFrame old new offer.now.frame track.now) number subscriber.old subscriber.new }
     ensures of_frame { IsOfFrame track.now.layers track.now.packets cache.new }
-    ensures shared { IsSharedOn frame.now shared.new }
 {
     if subscriber.track == number {
-        subscriber
-            .feed
-            .pass_frame(track, frame, packets, tells, cache, shared);
+        subscriber.feed.pass_frame(track, offer, tells, cache);
     }
 }
 

@@ -6,7 +6,7 @@ ghost use Rattle.rtp_packet.specs.Fields.{marker_of};
 ghost use Rattle.packet_format.specs.Packets.{packet_of};
 ghost use Rattle.packet_format.specs.Remasked.{remasked_packet};
 ghost use Rattle.room_core.specs.Follows.{PushesBehind, PushesFrame, pushed_all, remasked_by, tells_by};
-ghost use Rattle.frame_cache.specs.Sharing.{IsShared, MayShare, TellsOne};
+ghost use Rattle.frame_cache.specs.Sharing.{IsShared, MayShare, CarriesMask};
 ghost use Rattle.room_core.specs.FrameCache.{IsOfFrame, TellsFirst};
 
 use dd_structure::Structure;
@@ -120,14 +120,14 @@ fn push_told(
     requires room { length ring.old.queued < 512 }
     requires reads { first_fault packet.now ≡ None }
     requires fits { length packet.now ≤ 1500 }
-    requires told { TellsOne id (option_copied force) packet.now cache.old.mask cache.old.packet }
+    requires told { CarriesMask id (option_copied force) packet.now cache.old.mask cache.old.packet }
     ensures pushed { ring.new ≡ pushed_all (remasked_packet id (option_copied force.entry) mask (record (packet_of packet.now) { marker = marker })
         ∷ []) ring.old }
-    ensures told { TellsOne id (option_copied force.entry) packet.now cache.new.mask cache.new.packet }
+    ensures told { CarriesMask id (option_copied force.entry) packet.now cache.new.mask cache.new.packet }
     ensures shared { cache.new.shared ≡ cache.old.shared }
 {
-    cache.tell(packet, id, force, mask);
-    cache.queue_told(ring, marker);
+    cache.remask(packet, id, force, mask);
+    cache.queue_remasked(ring, marker);
 }
 
 // The marker with which a packet of a frame is sent: that of the frame's last packet is set where the frame ends the target's layer.

@@ -6,3 +6,4 @@ pub mod Datagram
 pub mod Seen
 pub mod Writing
 pub mod Ahead
+pub mod Cursors

@@ -1,14 +1,13 @@
 -- What is left to an iterator over a datagram's feedback (own rule, over RFC 4585, sections 6.2.1 and 6.3.1). The code
 -- keeps the bytes that are left and the bits of one pair.
-use Rattle.std.specs.Prelude.{ℕ, zero, suc, ◌+◌, ◌/◌, ◌%◌, ◌==◌, if◌then◌else◌, List, [], ◌∷◌, ◌++◌, length}
+use Rattle.std.specs.Prelude.{◌≡◌, ℕ, zero, suc, ◌+◌, ◌/◌, ◌%◌, ◌==◌, ◌≤◌, if◌then◌else◌, List, [], ◌∷◌, length, slice_range}
 use Rattle.rtcp_feedback.specs.declared.feedback.Feedback.{Feedback}
 use Rattle.rtcp_feedback.specs.declared.feedback.Feedback.TheVariants.{Pli}
 use Rattle.rtcp_feedback.specs.declared.names.Names.{Names}
 use Rattle.rtcp_feedback.specs.declared.packet.Body.{Body}
 use Rattle.rtcp_feedback.specs.declared.packet.Body.TheVariants.{Nack as NackBody, Pli as PliBody, Other as OtherBody}
-use Rattle.rtcp_feedback.specs.declared.place.Place.{Place}
 use Rattle.rtcp_feedback.specs.Names.{names_in}
-use Rattle.rtcp_feedback.specs.Reading.{nacks, feedback_of}
+use Rattle.rtcp_feedback.specs.Reading.{nacks}
 
 -- the numbers from `next` on, modulo 65,536, whose bits are set, the lowest bit being that of `next`: so many at most
 unfoldable pub marked : ℕ → ℕ → ℕ → List ℕ
@@ -32,6 +31,7 @@ body_length (NackBody media pairs) = length pairs.now
 body_length (PliBody media) = 0
 body_length OtherBody = 0
 
--- those of the pair at hand, then those of the NACK's other pairs, then the feedback of the packets behind it
-abbrev pub feedback_left : Place → List Feedback
-feedback_left p = nacks p.media (names_left p.names) ++ (nacks p.media (names_in p.pairs.now) ++ feedback_of p.packets.now)
+-- the pairs of a packet are its bytes from byte 12 on
+abbrev pub PairsStand : Body → List ℕ → Type 0
+PairsStand (NackBody media pairs) bytes = (pairs.now ≡ slice_range bytes 12 (12 + length pairs.now)) × (12 + length pairs.now ≤ length bytes)
+PairsStand body bytes = Unit {0}

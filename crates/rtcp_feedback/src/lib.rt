@@ -1,12 +1,13 @@
 //! RTCP feedback: generic NACKs and picture loss indications (RFC 4585), read and written. No call takes memory.
 #![tactic(auto)]
 
+mod cursor;
 mod fault;
 mod feedback;
 mod laws;
 mod names;
 mod packet;
-mod place;
+mod queue;
 mod reader;
 #[cfg(test)]
 mod tests;
@@ -18,5 +19,6 @@ pub use laws::{
     a_datagram_has_one_reading, each_faultless_datagram_is_in_the_grammar,
     the_rule_makes_the_fewest_pairs, what_is_written_reads_back,
 };
+pub use queue::FeedbackQueue;
 pub use reader::{Feedbacks, read};
 pub use writers::{write_nack, write_pli};

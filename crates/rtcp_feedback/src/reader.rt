@@ -5,29 +5,29 @@ ghost use Rattle.rtcp_feedback.specs.Datagram.{IsDatagram};
 ghost use Rattle.rtcp_feedback.specs.Faults.{first_fault};
 ghost use Rattle.rtcp_feedback.specs.Reading.{feedback_of};
 
+use crate::cursor::{Cursor, cursor_at, first_item};
 use crate::fault::RtcpFault;
 use crate::feedback::Feedback;
 use crate::packet::checked_length;
-use crate::place::{Place, at_pairs, first_item};
 use std::marker::Model;
 
 /// An iterator over the feedback of a datagram, seen as the list of what is left of it.
 #[derive(Debug, Drop)]
 pub struct Feedbacks<'a> {
-    place: Place<'a>,
+    datagram: &'a [u8],
+    cursor: Cursor,
 }
 
 impl<'a> Model for Feedbacks<'a> {
-    ghost use Rattle.std.specs.Prelude.{◌≡◌, List, None};
+    ghost use Rattle.std.specs.Prelude.{List};
     ghost use Rattle.rtcp_feedback.specs.declared.feedback.Feedback.{Feedback};
-    ghost use Rattle.rtcp_feedback.specs.Faults.{fault_among, packets_in};
-    ghost use Rattle.rtcp_feedback.specs.Seen.{feedback_left};
+    ghost use Rattle.rtcp_feedback.specs.Cursors.{LiesIn, left_at};
 
     ghost Value = { List Feedback };
 
-    ghost view = { λ f. feedback_left f.place };
+    ghost view = { λ f. left_at f.datagram.now f.cursor };
 
-    ghost invariant = { λ f. fault_among (packets_in f.place.packets.now) ≡ None };
+    ghost invariant = { λ f. LiesIn f.datagram.now f.cursor };
 }
 
 impl<'a> Iterator for Feedbacks<'a> {
@@ -40,9 +40,9 @@ impl<'a> Iterator for Feedbacks<'a> {
     ghost remaining = { item_count (λ left. left) };
 
     fn next(&mut self) -> Option<Feedback> {
-        match first_item(self.place) {
-            Some((item, place)) => {
-                self.place = place;
+        match first_item(self.datagram, self.cursor) {
+            Some((item, behind)) => {
+                self.cursor = behind;
                 Some(item)
             }
             None => None,
@@ -67,6 +67,9 @@ pub fn read<'a>(bytes: &'a [u8]) -> Result<Feedbacks<'a>, RtcpFault>
         let length = checked_length(rest)?;
         rest = &rest[length..];
     }
-    let place = at_pairs(0, &[], bytes);
-    Ok(Feedbacks { place })
+    let cursor = cursor_at(0, 0, 0, 0);
+    Ok(Feedbacks {
+        datagram: bytes,
+        cursor,
+    })
 }

@@ -17,10 +17,10 @@ const ONE_BYTE_PROFILE: u16 = 0xBEDE;
 /// The first of the sixteen profiles of the two-byte form.
 const TWO_BYTE_PROFILE: u16 = 0x1000;
 
-/// The bytes that a value has at most in the one-byte form.
+/// The most bytes of a value in the one-byte form.
 pub(crate) const LONGEST_ONE_BYTE: usize = 16;
 
-/// The bytes that a value has at most in the two-byte form.
+/// The most bytes of a value in the two-byte form.
 pub(crate) const LONGEST_TWO_BYTE: usize = 255;
 
 /// The form that a profile names.
@@ -36,7 +36,7 @@ pub(crate) fn named_form(profile: u16) -> Option<Form>
     }
 }
 
-/// The profile and the form of a block in this form once an element in it has this value.
+/// The profile and the form of a block, originally in this form, once an element in it has this value.
 pub(crate) fn wide_enough(profile: u16, form: Form, value: &[u8]) -> (u16, Form)
     requires { form_of profile ≡ Some form }
     ensures profile { result.0 ≡ profile_for profile value.now }
@@ -49,7 +49,7 @@ pub(crate) fn wide_enough(profile: u16, form: Form, value: &[u8]) -> (u16, Form)
     }
 }
 
-/// The bytes of an element in this form.
+/// The length of an element in this form, in bytes.
 pub(crate) fn element_len(form: Form, value: &[u8]) -> usize
     ensures { (e : PlainElement) → e.value ≡ value.now → result ≡ length (element_bytes form e) }
 {

@@ -1,4 +1,4 @@
-// Laws of the grammar that the calls are held to.
+// Laws of the grammar in the contracts of the calls.
 
 ghost use Rattle.std.specs.Prelude.{◌≡◌, ◌≢◌, ◌*◌, ◌/◌, ◌++◌, ◌∷◌, [], IsSome, List, length, ℕ};
 ghost use Rattle.rtp_extension.specs.declared.form.Form.{Form};
@@ -19,9 +19,8 @@ pub fn a_block_has_one_reading()
     ensures one { (form : Form) (block : List ℕ) (es fs : List PlainElement) → IsBlock form block es → IsBlock form block fs → es ≡ fs }
 {}
 
-/// Elements and padding laid behind elements and padding have the elements of the first and then those of the second. An
-/// element's bytes have that element, and a zero byte has none: so a buffer that is filled by the writers and rounded up
-/// by zero bytes reads back.
+/// Elements and padding followed by elements and padding have the elements of the first and then those of the second. An element's bytes
+/// have that element, and a zero byte has none: so a buffer that is filled by the writers and rounded up by zero bytes reads back.
 pub fn whole_blocks_join()
     ensures joined { (form : Form) (a b : List ℕ) (es fs : List PlainElement) → IsWhole form a es → IsWhole form b fs → IsWhole form (a ++ b) (es ++ fs) }
     ensures element { (form : Form) (e : PlainElement) → Fits form e → IsWhole form (element_bytes form e) (e ∷ []) }

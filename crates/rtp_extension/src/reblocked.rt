@@ -17,10 +17,10 @@ const EXTENSION_HEADER: usize = 4;
 /// The bytes of a word.
 const WORD: usize = 4;
 
-/// Appends a header extension, profile and count of words included, with the elements of a block in their order, of which the first with
-/// the id has this value of 1 to 255 bytes (own rule). What isn't an element isn't in the new block, and zero bytes fill its last word.
-/// The profile stays, but that a value of more than 16 bytes turns the one-byte form into the two-byte form, with profile 1000. `NoFit`
-/// where the buffer would pass 2,048 bytes; it is then as it was.
+/// Appends a header extension, profile and count of words included, with the elements of a block in their order; the first with this id
+/// gets this value of 1 to 255 bytes (own rule). What isn't an element isn't in the new block, and zero bytes fill its last word. The
+/// profile stays, except that a value of more than 16 bytes turns the one-byte form into the two-byte form, with profile 1000. Returns
+/// `NoFit` where the buffer would pass 2,048 bytes; it is then as it was.
 pub fn reblock(
     profile: u16,
     block: &[u8],
@@ -58,7 +58,7 @@ pub fn reblock(
     Ok(())
 }
 
-/// The bytes of the elements in this form, or `None` where they have no room in a buffer.
+/// The length of the elements in this form, in bytes, or `None` where they exceed a buffer's capacity.
 fn written_len(form: Form, elements: Replaced<'_>) -> Option<usize>
     ensures { MatchOption result (2048 < length (elements_laid form (elements_left elements.entry)))
         (λ n. (n ≡ length (elements_laid form (elements_left elements.entry))) × (n ≤ 2048)) }

@@ -6,7 +6,7 @@ ghost use Rattle.rtp_extension.specs.Seen.{elements_left, plain};
 use crate::element::{Element, first};
 use crate::form::Form;
 
-/// The elements that are left of a block, of which the first with the id has the value, until it is placed.
+/// The remaining elements of a block, of which the first with the id gets the value, until it is placed.
 #[derive(Clone, Copy, Debug)]
 pub(crate) struct Replaced<'a> {
     pub(crate) form: Form,
@@ -15,7 +15,7 @@ pub(crate) struct Replaced<'a> {
     pub(crate) value: Option<&'a [u8]>,
 }
 
-/// The first element that is left, and what is left behind it.
+/// The first remaining element, and what remains after it.
 pub(crate) fn first_left<'a>(left: Replaced<'a>) -> Option<(Element<'a>, Replaced<'a>)>
     ensures { MatchOption result (elements_left left.entry ≡ []) (λ x. elements_left left.entry ≡ plain x.0 ∷ elements_left x.1) }
 {

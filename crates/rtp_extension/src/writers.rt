@@ -7,11 +7,11 @@ ghost use Rattle.rtp_extension.specs.Writing.{AddsElement, CanAppend};
 use crate::form::{Form, LONGEST_ONE_BYTE, LONGEST_TWO_BYTE};
 use sfu_base::{NoFit, PacketBuf};
 
-/// The bytes that a buffer has room for.
+/// The capacity of a buffer, in bytes.
 pub(crate) const ROOM: usize = 2048;
 
-/// Appends an element of the one-byte form (RFC 8285, section 4.2). `NoFit` where the id isn't 1 to 14, the value
-/// hasn't 1 to 16 bytes, or the buffer would pass 2,048 bytes; the buffer is then as it was.
+/// Appends an element of the one-byte form (RFC 8285, section 4.2). Returns `NoFit` where the id isn't 1 to 14, the value hasn't 1 to 16
+/// bytes, or the buffer would pass 2,048 bytes; the buffer is then as it was.
 pub fn write_one(out: &mut PacketBuf, id: u8, value: &[u8]) -> Result<(), NoFit>
     ensures fits { IsOk result ↔ CanAppend Form.OneByte out.old (record { id = id; value = value.now }) }
     ensures ok { OnOk result (out.new ≡ out.old ++ element_bytes Form.OneByte (record { id = id; value = value.now })) }
@@ -28,8 +28,8 @@ pub fn write_one(out: &mut PacketBuf, id: u8, value: &[u8]) -> Result<(), NoFit>
     Ok(())
 }
 
-/// Appends an element of the two-byte form (RFC 8285, section 4.3). `NoFit` where the id is 0, the value has more than
-/// 255 bytes, or the buffer would pass 2,048 bytes; the buffer is then as it was.
+/// Appends an element of the two-byte form (RFC 8285, section 4.3). Returns `NoFit` where the id is 0, the value has more than 255 bytes,
+/// or the buffer would pass 2,048 bytes; the buffer is then as it was.
 pub fn write_two(out: &mut PacketBuf, id: u8, value: &[u8]) -> Result<(), NoFit>
     ensures fits { IsOk result ↔ CanAppend Form.TwoByte out.old (record { id = id; value = value.now }) }
     ensures ok { OnOk result (out.new ≡ out.old ++ element_bytes Form.TwoByte (record { id = id; value = value.now })) }
@@ -46,7 +46,7 @@ pub fn write_two(out: &mut PacketBuf, id: u8, value: &[u8]) -> Result<(), NoFit>
     Ok(())
 }
 
-/// Appends an element that the form can say and the buffer has room for.
+/// Appends an element that the form can encode and that fits in the buffer.
 pub(crate) fn append_element(out: &mut PacketBuf, form: Form, id: u8, value: &[u8])
     requires fits { Fits form (record { id = id; value = value.now }) }
     requires room { length out.old + length (element_bytes form (record { id = id; value = value.now })) ≤ 2048 }

@@ -26,7 +26,7 @@ lacks_extension extended rest = extended && nat_lt (length rest) (4 + 4 * block_
 abbrev pub has_bad_padding : Bool → List ℕ → Bool
 has_bad_padding padded rest = padded && (last_byte rest == 0 || nat_lt (length rest) (last_byte rest))
 
--- the first fault that stands, or none
+-- the first fault that applies, or none
 unfoldable pub first_fault : List ℕ → Option RtpFault
 first_fault bytes =
     if lacks_header bytes then Some Short

@@ -56,7 +56,7 @@ block_in extended rest = if extended then take (4 * block_words rest) (drop 4 re
 abbrev pub behind_extension : Bool → List ℕ → List ℕ
 behind_extension extended rest = if extended then drop (4 + 4 * block_words rest) rest else rest
 
--- The payload and the padding behind it, which are what follows the whole header.
+-- The payload and the padding after it, which are what follows the whole header.
 
 -- the last byte, which counts the padding, itself included
 abbrev pub last_byte : List ℕ → ℕ

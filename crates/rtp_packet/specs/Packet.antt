@@ -39,7 +39,7 @@ abbrev pub extension_bytes : Option ℕ → ℕ → List ℕ → List ℕ
 extension_bytes None words block = []
 extension_bytes (Some profile) words block = big_bytes 2 profile ++ big_bytes 2 words ++ block
 
--- the padding: any bytes, and behind them the count of all, itself included
+-- the padding: any bytes, and after them the count of all, itself included
 abbrev pub padding_bytes : Option (List ℕ) → List ℕ
 padding_bytes None = []
 padding_bytes (Some filler) = filler ++ (length filler + 1) ∷ []

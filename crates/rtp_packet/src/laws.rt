@@ -1,4 +1,4 @@
-// Laws of the definitions that `read`, `rewrite` and `restamp` are held to.
+// Laws of the definitions in the contracts of `read`, `rewrite` and `restamp`.
 
 ghost use Rattle.std.specs.Prelude.{◌≡◌, ◌<◌, ◌≤◌, ◌^◌, ℕ, Bool, List, None, length, slice_index};
 ghost use Rattle.rtp_packet.specs.Faults.{first_fault};
@@ -24,12 +24,12 @@ pub fn a_packet_is_read()
     ensures fields { (bytes : List ℕ) (p : Packet) → IsPacket bytes p → packet_of bytes ≡ p }
 {}
 
-/// The same bytes are no two packets.
+/// The same bytes are at most one packet.
 pub fn bytes_are_one_packet()
     ensures { (bytes : List ℕ) (p q : Packet) → IsPacket bytes p → IsPacket bytes q → p ≡ q }
 {}
 
-/// Rewritten bytes are as many as before, have the same faults, and say the same but for the three fields.
+/// Rewritten bytes have the same length and the same faults, and say the same except for the three fields.
 pub fn three_fields_are_rewritten()
     ensures len { (sequence ssrc : ℕ) (marker : Bool) (bytes : List ℕ) → 12 ≤ length bytes
         → length (rewritten sequence ssrc marker bytes) ≡ length bytes }
@@ -39,7 +39,7 @@ pub fn three_fields_are_rewritten()
         → packet_of (rewritten sequence ssrc marker bytes) ≡ readdressed sequence ssrc marker (packet_of bytes) }
 {}
 
-/// Restamped bytes are as many as before, have the same faults, and say the same but for the timestamp.
+/// Restamped bytes have the same length and the same faults, and say the same except for the timestamp.
 pub fn the_timestamp_is_rewritten()
     ensures len { (timestamp : ℕ) (bytes : List ℕ) → 12 ≤ length bytes → length (restamped timestamp bytes) ≡ length bytes }
     ensures faults { (timestamp : ℕ) (bytes : List ℕ) → 12 ≤ length bytes → first_fault (restamped timestamp bytes) ≡ first_fault bytes }

@@ -1,4 +1,4 @@
-// A packet that goes out with other fields: sequence number, SSRC and marker, or the timestamp.
+// Rewrites header fields of a packet: sequence number, SSRC and marker, or the timestamp.
 
 ghost use Rattle.std.specs.Prelude.{◌≡◌, ◌<◌, None};
 ghost use Rattle.rtp_packet.specs.Faults.{first_fault};
@@ -9,8 +9,8 @@ ghost use Rattle.rtp_packet.specs.Rewritten.{readdressed, rewritten};
 use byteorder::{BigEndian, ByteOrder};
 use sfu_base::PacketBuf;
 
-/// Gives a packet another sequence number, SSRC and marker, and changes no other bit. The packet is one that
-/// [`read`](crate::read) takes, and it still is.
+/// Replaces a packet's sequence number, SSRC and marker, and changes no other bit. The packet must be one that [`read`](crate::read)
+/// accepts, and it remains one.
 #[tactic(auto, using(crate::proofs::Faultless::header_there))]
 pub fn rewrite(packet: &mut PacketBuf, seq: u16, ssrc: u32, marker: bool)
     requires { first_fault packet.old ≡ None }
@@ -27,8 +27,8 @@ pub fn rewrite(packet: &mut PacketBuf, seq: u16, ssrc: u32, marker: bool)
     packet.overwrite(8, &source);
 }
 
-/// Gives a packet another timestamp, in ticks of the media's clock, and changes no other bit. The packet is one that
-/// [`read`](crate::read) takes, and it still is.
+/// Replaces a packet's timestamp, in ticks of the media's clock, and changes no other bit. The packet must be one that
+/// [`read`](crate::read) accepts, and it remains one.
 #[tactic(auto, using(crate::proofs::Faultless::header_there))]
 pub fn restamp(packet: &mut PacketBuf, timestamp: u32)
     requires { first_fault packet.old ≡ None }

@@ -9,8 +9,8 @@ ghost use Rattle.rtp_packet.specs.Seen.{parts};
 use byteorder::{BigEndian, ByteOrder};
 use sfu_base::RtpFault;
 
-/// The parts of an RTP packet (RFC 3550, section 5.1), where they lie in its bytes. A packet without a header
-/// extension has no `profile` and an empty `block`. CSRC words and padding are part of none of them.
+/// The parts of an RTP packet (RFC 3550, section 5.1), as slices of its bytes. A packet without a header extension has no `profile` and an
+/// empty `block`. CSRC words and padding are part of none of them.
 #[derive(Clone, Copy, Debug)]
 pub struct Rtp<'a> {
     /// The marker bit.
@@ -27,16 +27,16 @@ pub struct Rtp<'a> {
     pub profile: Option<u16>,
     /// The block of the header extension, a whole number of 32-bit words, without its profile and count.
     pub block: &'a [u8],
-    /// What stands between the header and the padding.
+    /// The bytes between the header and the padding.
     pub payload: &'a [u8],
 }
 
 /// The bytes of the fixed header.
 const FIXED_HEADER: usize = 12;
 
-/// Reads a packet (RFC 3550, section 5.1). It is refused by the first fault that stands: `Short` below 12 bytes,
-/// `Version` where the version isn't 2, `Csrc` where the CSRC words aren't all there, `Extension` where the header
-/// extension isn't, `Padding` where the padding's count is 0 or more than the bytes that follow the header.
+/// Reads a packet (RFC 3550, section 5.1). It is refused by the first fault that applies: `Short` below 12 bytes, `Version` where the
+/// version isn't 2, `Csrc` where the CSRC words aren't all there, `Extension` where the header extension isn't all there, `Padding` where
+/// the padding's count is 0 or more than the bytes that follow the header.
 pub fn read<'a>(bytes: &'a [u8]) -> Result<Rtp<'a>, RtpFault>
     ensures found { IfOk result (λ r. IsPacket bytes.now (parts r)) }
     ensures none { IfErr result (λ _. (p : Packet) → IsPacket bytes.now p → ⊥) }
@@ -47,7 +47,7 @@ pub fn read<'a>(bytes: &'a [u8]) -> Result<Rtp<'a>, RtpFault>
     located(bytes)
 }
 
-/// Each part where its field says that it lies, or the first fault.
+/// Each part at the place that its field says, or the first fault.
 #[tactic(auto, unfolding(crate::specs::Faults::first_fault))]
 fn located<'a>(bytes: &'a [u8]) -> Result<Rtp<'a>, RtpFault>
     ensures parts { IfOk result (λ r. parts r ≡ packet_of bytes.now) }
@@ -80,8 +80,7 @@ fn located<'a>(bytes: &'a [u8]) -> Result<Rtp<'a>, RtpFault>
     })
 }
 
-/// What stands at the front of the bytes behind the CSRC words: the extension's profile and block where there is one,
-/// and the bytes behind it.
+/// Splits the bytes after the CSRC words: the extension's profile and block where there is one, and the bytes after it.
 fn extension<'a>(
     extended: bool,
     rest: &'a [u8],
@@ -105,7 +104,7 @@ fn extension<'a>(
     Ok((Some(BigEndian::read_u16(rest)), &rest[4..end], &rest[end..]))
 }
 
-/// The bytes behind the header without their padding.
+/// The bytes after the header, without their padding.
 fn unpadded<'a>(padded: bool, rest: &'a [u8]) -> Result<&'a [u8], RtpFault>
     ensures payload { IfOk result (λ x. x.now ≡ payload_in padded rest.now) }
     ensures ok { IfOk result (λ _. has_bad_padding padded rest.now ≡ false) }

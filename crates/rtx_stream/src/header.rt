@@ -1,4 +1,4 @@
-// The header of a packet, laid again with other fields.
+// Rebuilds a packet's header with other fields.
 
 ghost use Rattle.std.specs.Prelude.{◌≡◌, ◌+◌, ◌<◌, ◌≤◌, ℕ, Bool, None, false, length};
 ghost use Rattle.rtp_packet.specs.Faults.{first_fault};
@@ -16,8 +16,8 @@ const FIXED_HEADER: usize = 12;
 /// The bytes of the extension's profile and count (RFC 3550, section 5.3.1).
 const EXTENSION_HEADER: usize = 4;
 
-/// The buffer becomes the header of a packet, whose parts were read from it, without the padding bit and with another payload
-/// type, sequence number and SSRC.
+/// Replaces the buffer's contents by the header of a packet, whose parts were read from it, without the padding bit and with another
+/// payload type, sequence number and SSRC.
 pub(crate) fn fill_header(
     packet: &[u8],
     read: &Rtp<'_>,
@@ -43,7 +43,7 @@ pub(crate) fn fill_header(
     out.append(&packet[FIXED_HEADER..header_len(packet, read)]);
 }
 
-/// The bytes of the whole header.
+/// The length of the whole header, in bytes.
 fn header_len(packet: &[u8], read: &Rtp<'_>) -> usize
     requires { IsPacket packet.now (parts read.now) }
     ensures { (is : IsPacket packet.now (parts read.now))

@@ -1,4 +1,4 @@
-// Laws of the definitions that `wrap` and `unwrap` are held to.
+// Laws of the definitions in the contracts of `wrap` and `unwrap`.
 
 ghost use Rattle.std.specs.Prelude.{◌≡◌, false, List, None, ℕ};
 ghost use Rattle.rtp_packet.specs.Fields.{is_padded};
@@ -23,7 +23,7 @@ pub fn a_packet_without_padding_is_bare()
     rtp_packet::a_packet_is_read();
 }
 
-/// Bytes carry one original for an SSRC and a payload type.
+/// Bytes carry at most one original for an SSRC and a payload type.
 pub fn a_retransmission_has_one_original()
     ensures { (bytes original other : List ℕ) (ssrc payload_type : ℕ) → IsOriginal bytes ssrc payload_type original
         → IsOriginal bytes ssrc payload_type other → original ≡ other }

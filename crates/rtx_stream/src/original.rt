@@ -16,9 +16,9 @@ use sfu_base::PacketBuf;
 /// The bytes of the original sequence number.
 const ORIGINAL_SEQUENCE: usize = 2;
 
-/// The buffer becomes the packet that a retransmission packet carries (RFC 4588, section 4), without padding, with this SSRC and this
-/// payload type. The bytes are refused, and the buffer is then as it was: `Unreadable` where they aren't an RTP packet, and else `Cut`
-/// where the payload has fewer than two bytes.
+/// Replaces the buffer's contents by the packet that a retransmission packet carries (RFC 4588, section 4), without padding, with this SSRC
+/// and this payload type. The bytes are refused, and the buffer is then as it was: `Unreadable` where they aren't an RTP packet, and else
+/// `Cut` where the payload has fewer than two bytes.
 pub fn unwrap(
     bytes: &[u8],
     ssrc: u32,

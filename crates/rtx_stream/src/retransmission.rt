@@ -9,7 +9,7 @@ use crate::header::fill_header;
 use rtp_packet::read;
 use sfu_base::PacketBuf;
 
-/// A stream of retransmission packets, beside the stream of the originals (RFC 4588, section 5.3).
+/// A stream of retransmission packets, separate from the stream of the originals (RFC 4588, section 5.3).
 #[derive(Clone, Copy, Debug, PartialEq, Eq)]
 pub struct Rtx {
     /// Its synchronization source.
@@ -18,8 +18,8 @@ pub struct Rtx {
     pub payload_type: u8,
 }
 
-/// The buffer becomes the retransmission packet (RFC 4588, section 4) of a packet that [`read`](rtp_packet::read) takes, with this
-/// sequence number: the packet without its padding, with its own sequence number as two bytes before the payload.
+/// Replaces the buffer's contents by the retransmission packet (RFC 4588, section 4) of a packet that [`read`](rtp_packet::read) accepts,
+/// with this sequence number: the packet without its padding, with its own sequence number as two bytes before the payload.
 pub fn wrap(packet: &[u8], seq: u16, rtx: &Rtx, out: &mut PacketBuf)
     requires reads { first_fault packet.now ≡ None }
     requires room { length packet.now ≤ 2046 }

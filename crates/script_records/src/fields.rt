@@ -17,7 +17,7 @@ fn width(field: Field) -> usize
     }
 }
 
-/// The numbers at the front of the bytes, one for each field, the highest byte of each first.
+/// The numbers that the bytes begin with, one for each field, each with its highest byte first.
 pub fn read_numbers<const N: usize>(fields: &[Field; N], bytes: &[u8]) -> [u64; N]
     requires { size_of fields.now ≤ length bytes.now }
     ensures value { result ≡ numbers_at fields.now bytes.now }

@@ -23,7 +23,7 @@ pub fn records_read_back()
     ensures { (call : Call) → HasLine call → call_of (body_of call) ≡ Some call }
 {}
 
-/// A call's body has the number of a kind in front, and a length of that kind.
+/// A call's body begins with the number of a kind, and has a length of that kind.
 pub fn records_are_in_the_table()
     ensures { (call : Call) (body : List ℕ) → IsBody call body → is_in_table body ≡ true }
 {}

@@ -18,10 +18,10 @@ use thiserror::Error;
 #[error("the record is outside the grammar")]
 pub struct NoRecord;
 
-/// How many bytes stand between a record's kind and its packet.
+/// How many bytes there are between a record's kind and its packet.
 pub const PACKET_HEAD: usize = 12;
 
-// The readers of single kinds are inlined: each function that hands a call on would clear and copy its 2 KB once more.
+// The readers of single kinds are inlined: each function that returns a call by value would clear and copy its 2 KB once more.
 #[inline(always)]
 fn publish_plain(bytes: &[u8]) -> Call
     requires { length bytes.now ≡ 12 }
@@ -146,7 +146,7 @@ pub fn number(bytes: &[u8]) -> u32
     number as u32
 }
 
-// The call of a kind and the bytes behind it.
+// The call of a kind and the bytes after it.
 #[inline(always)]
 fn call(kind: RecordKind, bytes: &[u8]) -> Call
     requires { has_length kind (1 + length bytes.now) ≡ true }
@@ -197,7 +197,7 @@ fn said(body: &[u8]) -> Result<Call, NoRecord>
     }
 }
 
-/// The call that the body of a record says: the bytes behind its length. `NoRecord` exactly when it says none. Takes no memory.
+/// The call that the body of a record says: the bytes after its length. `NoRecord` exactly when it says none. Takes no memory.
 pub fn read_record(body: &[u8]) -> Result<Call, NoRecord>
     ensures value { result_ok result ≡ call_of body.now }
     ensures ok { IfOk result (λ said. IsBody said body.now) }

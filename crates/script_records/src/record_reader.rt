@@ -12,8 +12,8 @@ use crate::reader::{NoRecord, PACKET_HEAD, number, read_record};
 use sfu_base::{Call, PacketBuf};
 use sfu_script::Field::{Number32, Number64};
 
-/// Reads records one after another, as [`read_record`] does, and keeps the room of the calls: the records that come most often write no
-/// more than they say.
+/// Reads records one after another, as [`read_record`] does, and reuses the memory of the calls: for the records that come most often only
+/// the fields that they say are written.
 #[derive(Debug, Drop)]
 pub struct RecordReader {
     packet: Call,
@@ -87,7 +87,7 @@ impl RecordReader {
         }
     }
 
-    // Apart, so that the other records need no room for a call that is handed on.
+    // Out of line: the other records need no stack space for a call that is returned by value.
     #[inline(never)]
     fn read_other(&mut self, body: &[u8]) -> Result<(), NoRecord>
         ensures value { MatchResult result (λ _. call_of body.now ≡ Some self.new.other) (λ _. call_of body.now ≡ None) }

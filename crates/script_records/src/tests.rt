@@ -1,4 +1,4 @@
-// Records and lines as tables. The records are the format's table by hand.
+// Records and lines as tables. The records are the format's table, written by hand.
 ghost use Rattle.std.specs.Prelude.{◌≡◌, true};
 ghost use Rattle.script_texts.specs.Lines.{HasBytes};
 
@@ -7,7 +7,7 @@ use sfu_base::{Blob, Call, PacketBuf};
 use sfu_script::{read_call, write_call};
 use std::test::Fail;
 
-// Lines of calls, each with its record. Numbers stand at 0 and at the end of their type.
+// Lines of calls, each with its record. Numbers are 0 and the greatest of their type.
 const RECORDS: [(&[u8], &[u8]); 31] = [
     (
         b"publish 1 plain 11111111 100",
@@ -122,7 +122,7 @@ fn lines_are_converted_to_records_and_back(rt: HostRuntime) -> Result<(), Fail> 
     Ok(())
 }
 
-// The table in another order, and in front of each record the longest packet and a body that says none.
+// The table in another order, and before each record the longest packet and a body that says none.
 #[test]
 fn a_reader_keeps_nothing_of_the_record_before(rt: HostRuntime) -> Result<(), Fail> {
     let mut longest = [0xa5; 2061];

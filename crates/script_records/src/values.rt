@@ -5,7 +5,7 @@ ghost use Rattle.script_records.specs.Values.{value_bytes, values_bytes};
 
 use sfu_base::{Blob, NoMemory};
 
-/// What stands in a body behind its kind.
+/// What a body has after its kind.
 #[derive(Clone, Copy, Debug, PartialEq, Eq)]
 pub enum Value<'a> {
     /// A number of 8 bits.
@@ -60,7 +60,7 @@ fn append_value(value: &Value, out: &mut Blob) -> Result<(), NoMemory>
     }
 }
 
-/// Appends values one behind the other. After `NoMemory` a front of their bytes may stand there.
+/// Appends values one after another. After `NoMemory` a prefix of their bytes may have been appended.
 pub fn append_values(values: &[Value], out: &mut Blob) -> Result<(), NoMemory>
     ensures ok { OnOk result (out.new ≡ out.old ++ values_bytes values.now) }
     ensures begun { GoesOn out.old out.new }

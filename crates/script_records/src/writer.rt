@@ -91,7 +91,7 @@ fn append_aim(subscriber: u32, wish: Wish, out: &mut Blob) -> Result<(), NoMemor
     append(RecordKind::Aim, &values, out)
 }
 
-// Appends the record that says a call. After `NoMemory` a front of it may stand there.
+// Appends the record that says a call. After `NoMemory` a prefix of it may have been appended.
 fn append_call(call: &Call, out: &mut Blob) -> Result<(), NoMemory>
     requires { HasBytes call.now }
     ensures ok { OnOk result (out.new ≡ out.old ++ record_of call.now) }

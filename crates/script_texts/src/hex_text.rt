@@ -1,4 +1,4 @@
-// Bytes in hex digits, and the line of a packet: each is written where it goes.
+// Bytes in hex digits, and the line of a packet: each is written in place.
 ghost use Rattle.std.specs.Prelude.{◌≡◌, ◌+◌, ◌++◌, ◌∷◌, ◌*◌, ◌≤◌, [], codes, length, OnErr, OnOk};
 ghost use Rattle.hex.specs.Hex.{encode_lower};
 ghost use Rattle.sfu_base.specs.Answer.{Sent};
@@ -11,12 +11,12 @@ fn digits_of(byte: u8) -> [u8; 2]
     ensures { result ≡ encode_lower (byte ∷ []) }
 {
     let nibbles = u16::from(byte >> 4) + (u16::from(byte & 15) << 8);
-    // 1 in the place of each nibble whose digit is a letter
+    // 1 at the place of each nibble whose digit is a letter
     let letters = ((nibbles + 0x0606) >> 4) & 0x0101;
     (nibbles + 0x3030 + 39 * letters).to_le_bytes()
 }
 
-// Writes the bytes in hex digits over a room of that size.
+// Writes the bytes in hex digits over a slice of that length.
 fn write_hex(bytes: &[u8], digits: &mut [u8])
     requires { length digits.old ≡ 2 * length bytes.now }
     ensures { digits.new ≡ encode_lower bytes.now }
@@ -28,12 +28,12 @@ fn write_hex(bytes: &[u8], digits: &mut [u8])
     }
 }
 
-// What a packet's line has before the digits, and behind them.
+// What a packet's line has before the digits, and after them.
 const HEAD: &[u8; 7] = b"packet ";
 
 const END: &[u8; 1] = b"\n";
 
-// Writes the line of a packet over a room of its size.
+// Writes the line of a packet over a slice of its length.
 fn write_line(bytes: &[u8], line: &mut [u8])
     requires { length line.old ≡ 2 * length bytes.now + 8 }
     ensures { line.new ≡ codes "packet " ++ (encode_lower bytes.now ++ 10 ∷ []) }

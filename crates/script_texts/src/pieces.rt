@@ -11,7 +11,7 @@ use std::marker::Model;
 /// A word, by what it says.
 #[derive(Clone, Copy, Debug, PartialEq, Eq)]
 pub enum Piece<'a> {
-    /// This very text.
+    /// This text as it is.
     Text(&'a [u8]),
     /// A number in decimal digits.
     Number(u64),
@@ -19,7 +19,7 @@ pub enum Piece<'a> {
     Ssrc(u32),
 }
 
-// As many as the line of a call with the most words has.
+// The most words that the line of a call has.
 const MOST_PIECES: usize = 7;
 
 /// Up to seven words, seen as their list.
@@ -72,7 +72,7 @@ fn append_piece(piece: &Piece, out: &mut Blob) -> Result<(), NoMemory>
     }
 }
 
-/// Appends words with one space between them. After `NoMemory` a front of the text may stand there.
+/// Appends words with one space between them. After `NoMemory` a prefix of the text may have been appended.
 pub fn append_pieces(pieces: &[Piece], out: &mut Blob) -> Result<(), NoMemory>
     ensures ok { OnOk result (out.new ≡ out.old ++ pieces_text pieces.now) }
     ensures begun { GoesOn out.old out.new }

@@ -1,9 +1,9 @@
-// What a writer began goes away again where memory ran out.
+// Removes what a writer began where memory ran out.
 ghost use Rattle.std.specs.Prelude.{◌≡◌, OnErr, OnOk, take};
 
 use sfu_base::{Blob, NoMemory};
 
-/// The outcome of a writer that began at this length: after `NoMemory` what stands behind it goes away.
+/// The outcome of a writer that began at `start`: after `NoMemory` all from there on is removed.
 pub fn whole_or_nothing(
     written: Result<(), NoMemory>,
     start: usize,

@@ -1,4 +1,4 @@
-// Why a frame was or wasn't passed on, in words.
+// Why a frame was or wasn't forwarded, in words.
 ghost use Rattle.std.specs.Prelude.{◌≡◌, ◌≤◌};
 ghost use Rattle.script_texts.specs.Grammar.{text_of, word_of, AllWithin, IsWithin};
 ghost use Rattle.script_texts.specs.Pieces.{piece_word, pieces_text};

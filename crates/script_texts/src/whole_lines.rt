@@ -1,4 +1,4 @@
-// Texts with their line ends, put behind the texts that are ready.
+// Texts with their line ends, appended to the texts that are ready.
 ghost use Rattle.std.specs.Prelude.{◌≡◌, ◌++◌, ◌∷◌, [], OnOk, OnErr, take};
 ghost use Rattle.sfu_base.specs.Answer.{answer_of, is_starved};
 ghost use Rattle.script_texts.specs.Replies.{answer_text};
@@ -8,14 +8,14 @@ use crate::hex_text::append_line;
 use crate::{write_line_fault, write_record_fault, write_reply};
 use sfu_base::{Blob, NoMemory, Refusal, Reply, Scratch};
 
-/// Whether a reply is want of memory: a command ends there, and writes no line of it.
+/// Whether a reply is out of memory: a command ends there, and writes no line of it.
 pub fn wants_memory(reply: &Reply) -> bool
     ensures { result ≡ is_starved reply.now }
 {
     matches!(reply, Reply::Refused(Refusal::NoMemory))
 }
 
-/// Puts a line end behind a text that begins at this place, or takes the text away again.
+/// Appends a line end to a text that begins at `start`, or removes the text again.
 pub fn end_line(start: usize, ready: &mut Blob) -> Result<(), NoMemory>
     ensures ok { OnOk result (ready.new ≡ ready.old ++ 10 ∷ []) }
     ensures err { OnErr result (ready.new ≡ take start ready.old) }
@@ -27,20 +27,20 @@ pub fn end_line(start: usize, ready: &mut Blob) -> Result<(), NoMemory>
     Ok(())
 }
 
-/// Puts the line of a reply behind the texts that are ready. After `NoMemory` all is as before.
+/// Appends the line of a reply to the texts that are ready. After `NoMemory` all is as before.
 pub fn add_reply(reply: &Reply, scratch: &Scratch, ready: &mut Blob) -> Result<(), NoMemory>
     ensures ok { OnOk result (ready.new ≡ ready.old ++ (answer_text (answer_of reply.now scratch.now.packet scratch.now.names) ++ 10 ∷ [])) }
     ensures err { OnErr result (ready.new ≡ ready.old) }
 {
     match reply {
-        // Most replies of a script are packets, and the others nothing but that the call was done.
+        // Most replies of a script are packets, and most of the others say only that the call was done.
         Reply::Packet => append_line(&scratch.packet, ready),
         Reply::Done => ready.append(b"ok\n"),
         _ => add_other_reply(reply, scratch, ready),
     }
 }
 
-// The same of a reply of any kind.
+// The same for a reply of any kind.
 #[inline(never)]
 fn add_other_reply(reply: &Reply, scratch: &Scratch, ready: &mut Blob) -> Result<(), NoMemory>
     ensures ok { OnOk result (ready.new ≡ ready.old ++ (answer_text (answer_of reply.now scratch.now.packet scratch.now.names) ++ 10 ∷ [])) }
@@ -51,7 +51,7 @@ fn add_other_reply(reply: &Reply, scratch: &Scratch, ready: &mut Blob) -> Result
     end_line(start, ready)
 }
 
-/// Puts the line that says which line is outside the grammar behind the texts that are ready. After `NoMemory` all is as before.
+/// Appends the line that says which line is outside the grammar to the texts that are ready. After `NoMemory` all is as before.
 pub fn add_fault(number: u64, ready: &mut Blob) -> Result<(), NoMemory>
     ensures ok { OnOk result (ready.new ≡ ready.old ++ fault_line number) }
     ensures err { OnErr result (ready.new ≡ ready.old) }
@@ -61,7 +61,7 @@ pub fn add_fault(number: u64, ready: &mut Blob) -> Result<(), NoMemory>
     end_line(start, ready)
 }
 
-/// Puts the line that says which record is outside the grammar behind the texts that are ready. After `NoMemory` all is as before.
+/// Appends the line that says which record is outside the grammar to the texts that are ready. After `NoMemory` all is as before.
 pub fn add_record_fault(number: u64, ready: &mut Blob) -> Result<(), NoMemory>
     ensures ok { OnOk result (ready.new ≡ ready.old ++ record_fault_line number) }
     ensures err { OnErr result (ready.new ≡ ready.old) }

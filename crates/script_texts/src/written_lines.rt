@@ -110,7 +110,7 @@ fn append_aim(subscriber: u32, wish: Wish, out: &mut Blob) -> Result<(), NoMemor
     )
 }
 
-/// Appends the line that says a call. After `NoMemory` a front of it may stand there.
+/// Appends the line that says a call. After `NoMemory` a prefix of it may have been appended.
 pub fn append_call(call: &Call, out: &mut Blob) -> Result<(), NoMemory>
     requires { HasBytes call.now }
     ensures ok { OnOk result (out.new ≡ out.old ++ line_of call.now) }

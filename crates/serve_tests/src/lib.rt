@@ -1,6 +1,6 @@
 #![tactic(auto)]
-//! Tests, alone, of `sfu_serve`: a room behind a lock, sessions over links in memory, and sessions at once. They stand here and not there, since
-//! a crate with tests is proved twice.
+//! Tests, alone, of `session_steps` and `sfu_serve`: sessions step by step on a room of one thread, a room behind a lock, sessions over links in
+//! memory, and sessions at once. They are here and not there, since a crate with tests is proved twice.
 
 #[cfg(test)]
 mod rtx_tests;
@@ -10,3 +10,5 @@ mod run_tests;
 mod session_tests;
 #[cfg(test)]
 mod shared_room_tests;
+#[cfg(test)]
+mod step_tests;

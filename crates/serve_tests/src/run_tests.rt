@@ -3,7 +3,7 @@
 use crate::session_tests::{NACK, SSRC, has_sent, link, room_after, rtp};
 use crate::shared_room_tests::publish;
 use rtx_stream::Rtx;
-use sfu_base::{CalmLink, StepClock};
+use sfu_base::{CalmLink, Clock, StepClock};
 use sfu_serve::{Job, Role, SessionEnd, run_sessions};
 use std::test::Fail;
 
@@ -76,5 +76,7 @@ fn calm_links_have_all_their_turns(rt: HostRuntime) -> Result<(), Fail> {
     for one in &ended {
         assert_eq!(rt; one.end, SessionEnd::AllTurns);
     }
+    // each turn of each session asks the clock once
+    assert_eq!(rt; clock.now(), 12);
     Ok(())
 }

@@ -36,7 +36,7 @@ abbrev pub FillsOnlyWhere : {E : Type 0} → Result Bool E → List ℕ → List
 FillsOnlyWhere result before now = MatchResult result (λ came. came ≡ false → now ≡ before) (λ _. now ≡ before)
 
 -- A link in memory: the prepared datagrams that are left; its traffic; the places of the receives and of the sends that are to fail,
--- counted from 0; how many of each were made, at most 2^64 - 1; and the count of faults. The code keeps a position in its datagrams.
+-- counted from 0; how many of each were made, at most 2^64 - 1; its name; and the count of faults. The code keeps a position in its datagrams.
 pub record LinkInMemory : Type 0 where
   pub prepared : List (List ℕ)
   pub traffic : Traffic
@@ -44,9 +44,10 @@ pub record LinkInMemory : Type 0 where
   pub failing_sends : List ℕ
   pub receives : ℕ
   pub sends : ℕ
+  pub name : ℕ
   pub faults : ℕ
 
--- a link in memory before its first call
+-- a link in memory before its first call, and before ports name it
 abbrev pub fresh : List (List ℕ) → List ℕ → List ℕ → LinkInMemory
 fresh prepared failing_receives failing_sends =
     record {
@@ -56,6 +57,7 @@ fresh prepared failing_receives failing_sends =
       failing_sends = failing_sends;
       receives = 0;
       sends = 0;
+      name = 0;
       faults = 0;
     }
 

@@ -34,10 +34,14 @@ pub record PortsInMemory : Type 0 where
   pub bound : ℕ
   pub faults : ℕ
 
--- the link that comes next: past the prepared ones a link with nothing prepared
-abbrev pub next_link : List LinkInMemory → LinkInMemory
-next_link [] = fresh [] [] []
-next_link (link ∷ rest) = link
+-- the first of the prepared links: past them a link with nothing prepared
+abbrev pub first_link : List LinkInMemory → LinkInMemory
+first_link [] = fresh [] [] []
+first_link (link ∷ rest) = link
+
+-- the link that a bind gives: its name is how many were bound before
+abbrev pub next_link : ℕ → List LinkInMemory → LinkInMemory
+next_link bound prepared = record (first_link prepared) { name = bound }
 
 -- after a bind that failed: one more bind, one more fault
 abbrev pub failed_bind : PortsInMemory → PortsInMemory

@@ -6,7 +6,7 @@ use thiserror::Error;
 /// What a track carries.
 #[derive(Clone, Copy, Debug, PartialEq, Eq)]
 pub enum Kind {
-    /// Packets that pass as they come.
+    /// Packets that are forwarded as they come.
     Plain,
     /// AV1 packets (RTP Payload Format For AV1), each with a dependency descriptor in the header extension element of this id, 1 to 14 or
     /// 16 to 255 (RFC 8285, section 4).
@@ -23,23 +23,23 @@ pub enum Call {
         ssrc: u32,
         hold: u32,
     },
-    /// A track ends. Its subscribers stay: what waits for them can still be taken.
+    /// A track ends. Its subscribers stay: packets that are queued for them can still be taken.
     Unpublish {
         track: u32,
     },
-    /// An RTP packet of the track came at a moment in milliseconds.
+    /// An RTP packet of the track arrived at this moment, in milliseconds.
     Packet {
         track: u32,
         moment: u64,
         bytes: PacketBuf,
     },
-    /// It is this moment, in milliseconds: gaps of the track that were waited for long enough are given up.
+    /// The clock's moment, in milliseconds: gaps that the track has waited for long enough are given up.
     Tick {
         track: u32,
         moment: u64,
     },
-    /// A subscriber of the track begins: what goes out to it has this SSRC and sequence numbers from `first` on; `wish` bounds the
-    /// layers of a layered track.
+    /// A subscriber of the track begins: what is sent to it has this SSRC and sequence numbers from `first` on; `wish` bounds the layers of
+    /// a layered track.
     Join {
         subscriber: u32,
         track: u32,
@@ -56,20 +56,20 @@ pub enum Call {
         subscriber: u32,
         wish: Wish,
     },
-    /// The subscriber's oldest queued packet is asked for.
+    /// Takes the subscriber's oldest queued packet.
     Take {
         subscriber: u32,
     },
-    /// The packet that the subscriber took under this sequence number is asked for again (RFC 4585, section 6.2.1).
+    /// Asks again for the packet that the subscriber took under this sequence number (RFC 4585, section 6.2.1).
     Resend {
         subscriber: u32,
         seq: u16,
     },
-    /// The sequence numbers that the track waits for are asked for.
+    /// Asks for the sequence numbers that the track waits for.
     Missing {
         track: u32,
     },
-    /// Whether the track's publisher is to be asked for a key frame.
+    /// Asks whether the track's publisher is to be asked for a key frame.
     KeyWanted {
         track: u32,
     },
@@ -77,14 +77,14 @@ pub enum Call {
     Plead {
         subscriber: u32,
     },
-    /// Why the frame with this number, without the wrap at 65,536, was or wasn't passed on to the subscriber.
+    /// Asks why the frame with this unwrapped number was or wasn't forwarded to the subscriber.
     Why {
         subscriber: u32,
         number: u64,
     },
 }
 
-/// Why bytes aren't an RTP packet (RFC 3550, section 5.1), the first that stands.
+/// Why bytes aren't an RTP packet (RFC 3550, section 5.1): the first fault in this order.
 #[derive(Clone, Copy, Debug, PartialEq, Eq, Error)]
 pub enum RtpFault {
     /// Fewer than 12 bytes.
@@ -113,7 +113,7 @@ pub enum Refusal {
     NoSubscriber,
     /// The number is at most `highest`, the highest that was ever live.
     NumberUsed { highest: u32 },
-    /// So many are live, and no more may be.
+    /// `live` are live already, and no more may be.
     TooMany { live: u32 },
     /// The header extension id is 0, which is padding, or 15, which ends processing (RFC 8285, section 4.2).
     BadExtensionId,
@@ -123,11 +123,11 @@ pub enum Refusal {
     Unreadable(RtpFault),
     /// The packet's SSRC is `got`, and the track's is `wanted`.
     WrongSsrc { got: u32, wanted: u32 },
-    /// The packet's number, without the wrap at 65,536, is 2^46 or more.
+    /// The packet's unwrapped sequence number is 2^46 or more.
     Spent,
-    /// The packet's number, without the wrap at 65,536, is below `next`, which the track waits for.
+    /// The packet's unwrapped sequence number is below `next`, which the track waits for.
     Late { next: u64 },
-    /// A packet with this number is held already.
+    /// A packet with this number is buffered already.
     Repeat,
     /// Nothing is queued.
     Empty,
@@ -139,7 +139,7 @@ pub enum Refusal {
     TooOld { oldest: u64 },
     /// The subscriber's track is plain.
     Plain,
-    /// Want of memory: the one refusal that the calls before don't determine.
+    /// Out of memory: the one refusal that the earlier calls don't determine.
     NoMemory,
 }
 
@@ -148,13 +148,13 @@ pub enum Refusal {
 pub enum Reply {
     /// The call was done.
     Done,
-    /// A packet, whose bytes stand in `packet` of the scratch.
+    /// A packet, whose bytes are in `packet` of the scratch.
     Packet,
-    /// Sequence numbers, which stand in `names` of the scratch.
+    /// Sequence numbers, which are in `names` of the scratch.
     Names,
     /// Whether the publisher is to be asked for a key frame.
     Key { wanted: bool },
-    /// Why a frame was or wasn't passed on.
+    /// Why a frame was or wasn't forwarded.
     Cause(Verdict),
     /// The call was refused.
     Refused(Refusal),

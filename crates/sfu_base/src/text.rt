@@ -1,7 +1,7 @@
-// Texts that are written where they go.
+// Texts that are written in place.
 ghost use Rattle.std.specs.Prelude.{◌≡◌, ℕ, List, length};
 
-/// A text that is written in place, over room of its size.
+/// A text that is written in place, into a slice of its length.
 pub trait Text {
     /// Its bytes.
     ghost text: { Self → List ℕ };
@@ -10,7 +10,7 @@ pub trait Text {
     fn size(&self) -> usize
         ensures { result ≡ length (text self.now) };
 
-    /// Writes it over all of the room. What stood there before counts for nothing.
+    /// Writes the text over the whole slice. What the slice held before doesn't matter.
     fn write(&self, room: &mut [u8])
         requires { length room.old ≡ length (text self.now) }
         ensures { room.new ≡ text self.now };

@@ -4,8 +4,7 @@ ghost use Rattle.std.specs.Borrow.{ftrue};
 
 use std::marker::{Model, PhantomData};
 
-/// Pairs in the order in which they were added, which clauses read as `items`. It takes no memory, and its methods do nothing when the
-/// program runs.
+/// Pairs in the order in which they were added, which clauses read as `items`. It takes no memory, and its methods do nothing at run time.
 #[derive(Drop)]
 pub struct Trace<A, B> {
     of: PhantomData<(A, B)>,

@@ -22,7 +22,7 @@ use Rattle.sfu_commands.specs.Script.{Script, call_in, calls_of, entry_of, first
 use Rattle.sfu_commands.specs.Script as script
 use Rattle.sfu_commands.specs.Promise.{AreServed, IsOfBytes, IsServed}
 
-line_is_value : (c : Call) (line : List ℕ) → IsLine c line → IsValue c
+pub line_is_value : (c : Call) (line : List ℕ) → IsLine c line → IsValue c
 line_is_value (call.Join subscriber track ssrc first wish) line says = says.3.3.3.2.0
 line_is_value (call.Publish track kind ssrc hold) line says = tt
 line_is_value (call.Unpublish track) line says = tt

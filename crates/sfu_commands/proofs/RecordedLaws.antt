@@ -1,19 +1,21 @@
 -- What `record` makes of what a subscriber took.
-use Rattle.std.proofs.Common.{◌≡◌, ℕ, Bool, true, false, List, [], ◌∷◌, ◌++◌, map, Option, Some, None, refl, sym, ap, ◌∙◌, append_assoc}
+use Rattle.std.proofs.Common.{◌≡◌, ℕ, Bool, true, false, List, [], ◌∷◌, ◌++◌, map, Option, Some, None, refl, sym, ap, subst, ◌∙◌, append_assoc}
+use Rattle.std.specs.Prelude.{IfSome}
 use Rattle.forwarding_model.specs.declared.complaint.Complaint.{Complaint}
 use Rattle.forwarding_model.specs.Receiver.{complaint}
 use Rattle.packet_format.specs.Packets.{read_packet}
 use Rattle.strict_receiver.specs.Receivers.{complaint_over}
 use Rattle.room_core.specs.Formats.{format_of}
-use Rattle.ivf_recorder.specs.Frames.{are_sound, fault_by, gathered_over}
+use Rattle.room_core.proofs.Promising.{headline}
+use Rattle.ivf_recorder.specs.Frames.{are_sound, fault_by, gathered_over, ivf_over}
 use Rattle.sfu_driver.specs.declared.halt.Ending.{Ending}
 use Rattle.sfu_driver.specs.declared.halt.Ending.TheVariants as ending
-use Rattle.sfu_driver.specs.Drive.{outside_end}
+use Rattle.sfu_driver.specs.Drive.{WritesEnd, end_by, outside_end}
 use Rattle.sfu_driver.specs.Outcome.{End}
-use Rattle.sfu_commands.specs.Check.{bytes_in}
-use Rattle.sfu_commands.specs.PacketScript.{NumberedPacket}
-use Rattle.sfu_commands.specs.Record.{end_from, end_unless}
-use Rattle.sfu_commands.specs.Recorded.{TakenPacketsArentComplainedOf}
+use Rattle.sfu_commands.specs.Check.{bytes_in, unless_ended}
+use Rattle.sfu_commands.specs.PacketScript.{NumberedPacket, packets_in}
+use Rattle.sfu_commands.specs.Record.{end_from, end_unless, record_due, record_end}
+use Rattle.sfu_commands.specs.Recorded.{TakenPacketsArentComplainedOf, TakenPacketsDontEndWith8}
 use Rattle.script_texts.specs.WholeLines.{fault_line}
 
 why_in : Ending → Option End → Ending
@@ -47,8 +49,20 @@ unfolding format_of
 same_complaint id history = refl
 
 pub taken_calm : TakenPacketsArentComplainedOf
-taken_calm past n id j headline is kind sends queued split script said end e why =
-    let receivers = (headline.layered n id j is kind).receivers in
+taken_calm id script sent end e why =
+    let receivers = ((headline sent.history sent.well_formed).layered sent.subscriber id sent.joined_is sent.live sent.kind_is).receivers in
     calm_from id [] script.packets script.fault
     (λ front rest same. sym (same_complaint id front)
-    ∙ receivers.fronts front (rest ++ queued) (sym (append_assoc front rest queued) ∙ (ap (λ (x : List (List ℕ)). x ++ queued) (same ∙ said) ∙ split))) end e why
+    ∙ receivers.fronts front (rest ++ sent.queued) (sym (append_assoc front rest sent.queued) ∙ (ap (λ (x : List (List ℕ)). x ++ sent.queued) same ∙ sent.begins))) end e why
+
+-- the end of what is due is that of the script
+end_is : (end : Option End) (text : List ℕ) → (unless_ended end text).end ≡ end
+end_is None text = refl
+end_is (Some end) text = refl
+
+pub none_ends_with_8 : TakenPacketsDontEndWith8
+none_ends_with_8 id bytes sent x told records =
+    let ended = subst (λ (left : Option (List ℕ)). IfSome left (λ b. (last : List ℕ) × ((record_due id b).end ≡ Some (end_by ending.Complaint last))
+    × WritesEnd x.written x.written' x.writes x.writes' (record_due id b).text last)) told (records.ended ending.Complaint refl) in
+    taken_calm id (packets_in bytes) sent (end_by ending.Complaint ended.0)
+    (sym (end_is (record_end id (packets_in bytes)) (ivf_over id (bytes_in (packets_in bytes).packets))) ∙ ended.1) refl

@@ -4,7 +4,7 @@ ghost use Rattle.stream_maker.specs.declared.place.Place.{Place};
 ghost use Rattle.stream_maker.specs.Bytes.{packet_bytes};
 ghost use Rattle.sfu_commands.specs.Convert.{convert_due, silent_end};
 ghost use Rattle.sfu_commands.specs.MadePackets.{SaysPlace};
-ghost use Rattle.sfu_commands.specs.Recorded.{TakenPacketsArentComplainedOf};
+ghost use Rattle.sfu_commands.specs.Recorded.{TakenPacketsArentComplainedOf, TakenPacketsDontEndWith8};
 ghost use Rattle.sfu_commands.specs.Records.{header};
 ghost use Rattle.sfu_commands.specs.Run.{run_due};
 ghost use Rattle.sfu_commands.specs.Script.{form_of, script_in, script_of, stops_at};
@@ -27,7 +27,8 @@ pub fn made_packets_say_their_places()
 {}
 
 /// What goes out to a subscriber of a layered track, and so what its takes gave, is recorded without a complaint by a recorder that knows the
-/// track's extension id.
+/// track's extension id: `record` doesn't end with 8 there.
 pub fn taken_packets_arent_complained_of()
     ensures complaint { TakenPacketsArentComplainedOf }
+    ensures status { TakenPacketsDontEndWith8 }
 {}

@@ -207,7 +207,7 @@ drove_ended {U} {V} {S} {T} wants at stands byte ends u u1 new r r1 left left' w
       by_result = ended_drove at stands byte ends s bytes u1 new r1 left' w0 w1 w2 f0 f1 f2 result le a empty end last;
     }
 
--- ---- want of memory
+-- ---- out of memory
 
 -- memory was wanting for the bytes
 pub starves_took : {U S : Type 0} (wants at : U → S → Type 0) (byte : S → ℕ → Outcome S) (u u1 : U) (r r1 : List ℕ) (left left' w w' : Option (List ℕ)) (f f' : ℕ) (stop : Interruption)

@@ -65,7 +65,7 @@ number_of status.NoMemory = 6
 number_of status.PortFault = 7
 number_of (status.Ended why) = status_of why
 
--- Where nothing of the outside fails, the status is the one of the input, or want of memory.
+-- Where nothing of the outside fails, the status is the one of the input, or out of memory.
 abbrev pub Completes : Option End → ℕ → Type 0
 Completes None status = (status ≡ 0) ⊎ (status ≡ 6)
 Completes (Some end) status = (status ≡ status_of end.why) ⊎ (status ≡ 6)

@@ -10,7 +10,7 @@ use crate::{Cut, Judge, MOST_PIECE, Status, Units, drive, drive_behind};
 use sfu_base::{Sink, Source};
 use std::alloc::Global;
 
-/// Takes the whole input of a command, writes what is due, and answers the status.
+/// Takes the whole input of a command, writes what is due, and returns the status.
 pub fn answer<C: Cut, J: Judge, S: Source, K: Sink>(
     alloc: Global,
     units: &mut Units<C, J>,
@@ -26,7 +26,8 @@ pub fn answer<C: Cut, J: Judge, S: Source, K: Sink>(
     Status::of(drive(alloc, units, source, sink))
 }
 
-/// Takes the input of a command of which so many bytes of a piece were read, none only at its end, writes what is due, and answers the status.
+/// Takes the input of a command of which the first `first` bytes of a piece were read, none only at its end, writes what is due, and returns
+/// the status.
 pub fn answer_behind<C: Cut, J: Judge, S: Source, K: Sink>(
     alloc: Global,
     units: &mut Units<C, J>,

@@ -2,21 +2,21 @@
 ghost use Rattle.std.specs.Prelude.{◌≤◌, ℕ, List, length};
 ghost use Rattle.sfu_driver.specs.Scan.{Finds, FindsLast, Scan};
 
-/// The most bytes that a unit has before the one that ends it.
+/// The most bytes that a unit has, without the byte that ends it.
 pub const MOST_UNIT: usize = 4200;
 
 /// What a piece of the input does to a unit.
 #[derive(Clone, Copy, Debug, PartialEq, Eq)]
 pub enum Found {
-    /// The unit goes on behind the piece.
+    /// The unit continues after the piece.
     More,
-    /// It ends with so many bytes of the piece, and says the bytes between two of its places.
+    /// It ends with the first `count` bytes of the piece, and says its bytes from `start` to `end`.
     Whole {
         count: usize,
         start: usize,
         end: usize,
     },
-    /// With so many bytes of the piece it is outside the grammar.
+    /// With the first `count` bytes of the piece it is outside the grammar.
     Outside {
         count: usize,
     },

@@ -1,4 +1,4 @@
-// What goes from the source through the units to the sink.
+// Drives input from the source through the units to the sink.
 ghost use Rattle.std.specs.Prelude.{◌≡◌, ◌≢◌, ◌≤◌, ◌<◌, ◌+◌, ℕ, List, Option, [], Ok, Err, OnOk, OnErr, IfOk, take, drop, length};
 ghost use Rattle.std.specs.Io.KnownBytes.{Appends, Consumes, IsAtEnd};
 ghost use Rattle.sfu_base.specs.Faults.{Rose};
@@ -11,10 +11,10 @@ use crate::{Cut, Halt, Interruption, Judge, Units};
 use sfu_base::{Blob, Sink, Source};
 use std::alloc::Global;
 
-/// So many bytes of a source are read at once at most.
+/// The most bytes of a source that are read at once.
 pub const MOST_PIECE: usize = 65_536;
 
-/// Texts of so many bytes are written at once, also where a piece of the input has more to say.
+/// Once the texts have this many bytes they are written, even where a piece of the input has more to say.
 const MOST_READY: usize = 65_536;
 
 // Writes all that is ready.
@@ -36,7 +36,7 @@ fn flush<K: Sink>(ready: &mut Blob, sink: &mut K) -> Result<(), Interruption>
     }
 }
 
-// Writes what was ready before the command ended, and then its last text. The sink's failing in the last text changes nothing.
+// Writes what was ready before the command ended, and then its last text. A fault of the sink in the last text changes nothing.
 fn halt<K: Sink>(ready: &Blob, mark: usize, why: Halt, sink: &mut K) -> Interruption
     requires { mark ≤ length ready.now }
     ensures halts { Halts result why (take mark ready.now) (drop mark ready.now) (K.written sink.old) (K.written sink.new) (K.faults sink.old)
@@ -53,7 +53,7 @@ fn halt<K: Sink>(ready: &Blob, mark: usize, why: Halt, sink: &mut K) -> Interrup
     Interruption::Halted(why)
 }
 
-// Judges at most one unit at the front of a piece, and says how many bytes were taken.
+// Judges at most one unit at the start of a piece, and returns how many bytes were taken.
 #[inline(always)]
 fn take_unit<C: Cut, J: Judge, K: Sink>(
     units: &mut Units<C, J>,
@@ -112,7 +112,7 @@ fn feed<C: Cut, J: Judge, K: Sink>(
     flush(ready, sink)
 }
 
-// Takes so many bytes of a piece that was read, and then all bytes of the source, piece by piece.
+// Takes the first `first` bytes of a piece that was read, and then all bytes of the source, piece by piece.
 fn take_all<C: Cut, J: Judge, S: Source, K: Sink>(
     units: &mut Units<C, J>,
     ready: &mut Blob,
@@ -164,7 +164,7 @@ fn finish<C: Cut, J: Judge, K: Sink>(
     }
 }
 
-/// Takes a command's input of which so many bytes of a piece were read, none only at its end, and writes what is due.
+/// Takes a command's input of which the first `first` bytes of a piece were read, none only at its end, and writes what is due.
 pub fn drive_behind<C: Cut, J: Judge, S: Source, K: Sink>(
     alloc: Global,
     units: &mut Units<C, J>,

@@ -4,7 +4,7 @@ ghost use Rattle.sfu_driver.specs.declared.halt.Halt.TheVariants.{Starved};
 
 use sfu_base::NoMemory;
 
-/// Why a command ends by what its input says.
+/// Why the input ends a command.
 #[derive(Clone, Copy, Debug, PartialEq, Eq)]
 pub enum Ending {
     /// A unit is outside the grammar.
@@ -15,12 +15,12 @@ pub enum Ending {
     Obu,
 }
 
-/// Why a unit lets a command end.
+/// Why a unit ends a command.
 #[derive(Clone, Copy, Debug, PartialEq, Eq)]
 pub enum Halt {
-    /// By what the input says.
+    /// What the input says ends it.
     Ended(Ending),
-    /// For want of memory.
+    /// Out of memory.
     Starved,
 }
 
@@ -39,6 +39,6 @@ pub enum Interruption {
     SourceFault,
     /// The sink failed before all texts but the last were written.
     SinkFault,
-    /// A unit, or the end of the input, let it end.
+    /// A unit, or the end of the input, ended it.
     Halted(Halt),
 }

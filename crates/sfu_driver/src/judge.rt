@@ -6,7 +6,7 @@ ghost use Rattle.sfu_driver.specs.Drive.{Judges};
 use crate::Halt;
 use sfu_base::{Blob, NoMemory};
 
-/// Judges units one after another, each with its number. Each text goes behind those that are ready; nothing is written here.
+/// Judges units one after another, each with its number. Each text is appended to those that are ready; nothing is written here.
 pub trait Judge {
     /// What the judge can stand for.
     ghost State: { Type 0 };
@@ -23,18 +23,18 @@ pub trait Judge {
     /// The text that is due at the end of the input.
     ghost closing: { Self.State → List ℕ };
 
-    /// Judges the unit with this number. Where the command ends here, its last text alone was made ready; after want of memory none was.
+    /// Judges the unit with this number. Where the command ends here, only its last text was made ready; where memory ran out, none was.
     fn judge(&mut self, number: u32, unit: &[u8], ready: &mut Blob) -> Result<(), Halt>
         ensures judges { (state : Self.State) → Self.stands self.old state
             → Judges Self.stands (Self.step state number unit.now) self.new ready.old ready.new result }
         ensures grows { length ready.old ≤ length ready.new };
 
-    /// Gets the last text ready where a unit is outside the grammar of units.
+    /// Makes the last text ready where a unit is outside the grammar of units.
     fn refuse(&self, number: u64, ready: &mut Blob) -> Result<(), NoMemory>
         ensures ok { OnOk result (ready.new ≡ ready.old ++ Self.outside number) }
         ensures err { OnErr result (ready.new ≡ ready.old) };
 
-    /// Gets the text ready that is due at the end of the input.
+    /// Makes the text ready that is due at the end of the input.
     fn close(&mut self, ready: &mut Blob) -> Result<(), NoMemory>
         ensures ok { OnOk result ((state : Self.State) → Self.stands self.old state → Self.stands self.new state
             × (ready.new ≡ ready.old ++ Self.closing state)) }

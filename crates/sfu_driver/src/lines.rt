@@ -7,8 +7,8 @@ ghost use Rattle.sfu_driver.specs.Scan.{Finds};
 use crate::{Cut, Found, Last, MOST_UNIT};
 use memchr::memchr;
 
-/// Cuts input into lines, which end by LF, as the last may. A CR directly before an LF isn't said. A line has at most 4,200 bytes before its
-/// LF, the CR counted.
+/// Cuts input into lines, each ended by LF, which the last may lack. A CR directly before an LF is left out. A line has at most 4,200 bytes
+/// before its LF, the CR counted.
 #[derive(Clone, Copy, Debug, Drop)]
 pub struct Lines;
 
@@ -34,7 +34,7 @@ fn joined_cr(kept: &[u8], came: &[u8]) -> bool
     has_cr(came)
 }
 
-// How many bytes stand before the CR and LF.
+// How many bytes precede the CR and LF.
 #[inline(always)]
 fn text_len(kept: &[u8], came: &[u8]) -> usize
     requires { length kept.now + length came.now ≤ MOST_UNIT }

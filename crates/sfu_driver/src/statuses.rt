@@ -4,7 +4,7 @@ ghost use Rattle.sfu_driver.specs.Statuses.{number_of, status_for};
 
 use crate::{Ending, Halt, Interruption};
 
-/// How a command ended. The program answers its number.
+/// How a command ended. The program exits with its number.
 #[derive(Clone, Copy, Debug, PartialEq, Eq)]
 pub enum Status {
     /// All that is due was written: 0.
@@ -15,7 +15,7 @@ pub enum Status {
     SourceFault,
     /// The sink failed before all texts but a last one were written: 4.
     SinkFault,
-    /// Memory was wanting: 6.
+    /// Out of memory: 6.
     NoMemory,
     /// A port failed: 7.
     PortFault,
@@ -25,7 +25,7 @@ pub enum Status {
 }
 
 impl Status {
-    /// The status of a command that came out so.
+    /// The status of a command with this outcome.
     pub fn of(came_out: Result<(), Interruption>) -> Status
         ensures { number_of result ≡ status_for came_out }
     {
@@ -38,7 +38,7 @@ impl Status {
         }
     }
 
-    /// The number that the program answers.
+    /// The program's exit status.
     pub fn number(self) -> u8
         ensures { result ≡ number_of self }
     {

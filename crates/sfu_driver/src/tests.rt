@@ -50,7 +50,7 @@ impl Judge for Echo {
     }
 }
 
-// Gives pieces of at most so many bytes.
+// Gives pieces of at most `most` bytes.
 #[derive(Drop)]
 struct Pieces {
     inner: MemSource,
@@ -93,11 +93,11 @@ fn lines_end_by_lf_in_pieces_of_any_size(rt: HostRuntime) -> Result<(), Fail> {
         ("", 0, ""),
         ("\n", 0, "\n"),
         ("a\nbc", 0, "a\nbc\n"),
-        // A CR directly before an LF isn't said, and no other.
+        // A CR directly before an LF is left out, and no other.
         ("a\r\n\r\n", 0, "a\n\n"),
         ("a\r\r\nb\r", 0, "a\r\nb\r\n"),
         ("\ra\n", 0, "\ra\n"),
-        // A line that ends the command: nothing is said of those behind it.
+        // A line that ends the command: nothing is said of those after it.
         ("a\nz\nb\n", 8, "a\nbad\n"),
         ("a\n b\nz\n", 5, "a\nsecond\n"),
         ("\n\n c", 5, "\n\nline\n"),
@@ -123,7 +123,7 @@ fn a_line_has_at_most_4200_bytes(rt: HostRuntime) -> Result<(), Fail> {
     for _ in 0..4199 {
         line.push(b'a')?;
     }
-    // The CR counts, whether it is said or not.
+    // The CR counts, whether it is left out or not.
     for (end, status) in [
         ("a\n", 0),
         ("\r\n", 0),
@@ -150,7 +150,7 @@ fn a_line_has_at_most_4200_bytes(rt: HostRuntime) -> Result<(), Fail> {
 #[test]
 fn the_first_fault_ends_the_command(rt: HostRuntime) -> Result<(), Fail> {
     let alloc = rt.alloc();
-    // In pieces of 3 bytes: two texts, the last text, and a line behind it that nobody reads.
+    // In pieces of 3 bytes: two texts, the last text, and a line after it that nobody reads.
     let input = b"a\nbc\nd\nz\ne\n";
     for (read_fails, write_fails, status, text) in [
         ([].as_slice(), [].as_slice(), 8, "a\nbc\nd\nbad\n"),

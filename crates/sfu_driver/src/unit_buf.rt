@@ -1,9 +1,9 @@
-// The unit that is being put together.
+// The unit that is being assembled.
 ghost use Rattle.std.specs.Prelude.{◌≡◌, ◌+◌, ◌==◌, ◌≤◌, ◌++◌, [], length};
 
 use std::marker::Model;
 
-/// How many bytes there is room for: the longest unit, and the byte that ends it.
+/// The capacity in bytes: the longest unit, and the byte that ends it.
 pub const ROOM: usize = 4201;
 
 /// Up to 4,201 bytes, seen as their list.
@@ -25,7 +25,7 @@ impl Model for UnitBuf {
 }
 
 impl UnitBuf {
-    /// No bytes.
+    /// An empty buffer.
     pub fn new() -> UnitBuf
         ensures { result ≡ [] }
     {
@@ -35,7 +35,7 @@ impl UnitBuf {
         }
     }
 
-    /// Takes all bytes out.
+    /// Removes all bytes.
     pub fn clear(&mut self)
         ensures { self.new ≡ [] }
     {
@@ -57,7 +57,7 @@ impl UnitBuf {
         self.count == 0
     }
 
-    /// These bytes come behind the others.
+    /// Appends these bytes.
     pub fn append(&mut self, bytes: &[u8])
         requires { length self.old + length bytes.now ≤ ROOM }
         ensures { self.new ≡ self.old ++ bytes.now }

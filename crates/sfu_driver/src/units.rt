@@ -1,4 +1,4 @@
-// Units that are put together from pieces of any size, and judged one after another.
+// Units that are assembled from pieces of any size, and judged one after another.
 ghost use Rattle.std.specs.Prelude.{◌≤◌, ◌+◌, length};
 ghost use Rattle.sfu_driver.specs.declared.cut.TheConstants.{MOST_UNIT};
 ghost use Rattle.sfu_driver.specs.declared.units.TheConstants.{MOST_UNITS};
@@ -10,7 +10,7 @@ use sfu_base::{Blob, NoMemory};
 /// The greatest number of a unit.
 const MOST_UNITS: u64 = 4_294_967_295;
 
-/// The input of a command so far: how it is cut, what judges its units, the number of the unit that is being put together, and its bytes.
+/// The input of a command so far: how it is cut, what judges its units, the number of the unit that is being assembled, and its bytes.
 #[derive(Debug, Drop)]
 pub struct Units<C, J> {
     pub cut: C,
@@ -124,7 +124,7 @@ impl<C: Cut, J: Judge> Units<C, J> {
         Ok(())
     }
 
-    /// Takes bytes from the front of a piece, until a unit ends or the piece does, and judges the unit. Answers how many they are.
+    /// Takes bytes from the start of a piece, until a unit ends or the piece does, and judges the unit. Returns how many they are.
     #[inline(always)]
     pub fn next(&mut self, piece: &[u8], ready: &mut Blob) -> Result<usize, Halt>
         requires { 0 < length piece.now }

@@ -1,6 +1,6 @@
 // The adapters, each used once through its trait: over bytes, over a reader and a writer that fail, over sockets of this machine, and over clocks.
 use crate::trouble::{Trouble, trouble_of};
-use crate::{StdSink, StdSource, SysClock, UdpPorts};
+use crate::{StdSink, StdSource, SysClock, UdpPorts, WakeTable};
 use sfu_base::{Address, Blob, Clock, Failed, Link, NoMemory, PacketBuf, Ports, Sink, Source};
 use std::alloc::Global;
 use std::io::{Read, Write};
@@ -8,6 +8,8 @@ use std::net::{Ipv4Addr, Net, SocketAddr, UdpSocket};
 use std::test::Fail;
 use std::time::Duration;
 use std::{io, time};
+
+mod waking;
 
 // Linux's numbers of errors (errno(3)).
 const EPERM: i32 = 1;
@@ -210,15 +212,36 @@ fn heard_soon<L: Link>(link: &mut L) -> (Result<bool, Failed>, Option<u8>) {
     heard(link)
 }
 
+// Whether a datagram comes within a hundred receives.
+fn is_soon_there<L: Link>(link: &mut L, buf: &mut PacketBuf) -> bool {
+    for _ in 0..100 {
+        if link.receive(buf) == Ok(true) {
+            return true;
+        }
+    }
+    false
+}
+
+// Whether three sends where nobody listens go well, and nothing comes of them.
+fn sends_to_nobody<L: Link>(link: &mut L) -> bool {
+    for _ in 0..3 {
+        if link.send(&packet(8)) != Ok(()) || heard(link) != (Ok(false), Some(9)) {
+            return false;
+        }
+    }
+    true
+}
+
 #[test]
 fn a_link_over_udp_hears_its_peer_alone_and_outlasts_one_that_goes_and_comes_back(
     rt: HostRuntime,
 ) -> Result<(), Fail> {
     let (far, _, peer) = open(&rt)?;
-    let (stranger, _, _) = open(&rt)?;
+    let (other, _, _) = open(&rt)?;
     let (free, at, local) = open(&rt)?;
     drop(free);
-    let mut ports = UdpPorts::new(&rt);
+    let table = WakeTable::new(rt.alloc())?;
+    let mut ports = UdpPorts::new(&rt, rt.alloc(), &table);
     let mut link = ports.bind(local, peer)?;
     assert_eq!(rt; ports.bind(local, peer).is_err(), true);
     assert_eq!(rt; heard(&mut link), (Ok(false), Some(9)));
@@ -226,23 +249,16 @@ fn a_link_over_udp_hears_its_peer_alone_and_outlasts_one_that_goes_and_comes_bac
     let mut buf = [0u8; 4];
     assert_eq!(rt; far.recv_from(&mut buf)?, (1, at));
     assert_eq!(rt; buf[0], 7);
-    stranger.send_to(&[1], at)?;
+    other.send_to(&[1], at)?;
     far.send_to(&[2], at)?;
     assert_eq!(rt; heard_soon(&mut link), (Ok(true), Some(2)));
     assert_eq!(rt; heard(&mut link), (Ok(false), Some(9)));
     far.send_to(&[3; 3000], at)?;
     let mut long = PacketBuf::new();
-    for _ in 0..100 {
-        if link.receive(&mut long)? {
-            break;
-        }
-    }
+    assert_eq!(rt; is_soon_there(&mut link, &mut long), true);
     assert_eq!(rt; long.bytes(), [3u8; 2048].as_slice());
     drop(far);
-    for _ in 0..3 {
-        assert_eq!(rt; link.send(&packet(8)), Ok(()));
-        assert_eq!(rt; heard(&mut link), (Ok(false), Some(9)));
-    }
+    assert_eq!(rt; sends_to_nobody(&mut link), true);
     let far = UdpSocket::bind(&rt, SocketAddr::from((Ipv4Addr::LOCALHOST, peer.port)))?;
     assert_eq!(rt; link.send(&packet(6)), Ok(()));
     assert_eq!(rt; far.recv_from(&mut buf)?, (1, at));

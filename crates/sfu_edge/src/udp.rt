@@ -1,106 +1,222 @@
-// Links over UDP sockets: the trusted edge. They tell nothing of content.
+// Links over UDP sockets: the trusted edge. They report nothing of content.
 ghost use Rattle.std.specs.Prelude.{◌≡◌, ◌<◌, ◌≤◌, None, IfOk, IfSome, length};
 
-use crate::room::widen;
+use crate::receive_buffer::enlarge;
 use crate::trouble::{Trouble, trouble_of};
+use crate::wake_table::{WakeTable, tail_of};
+use mio::unix::SourceFd;
+use mio::{Events, Interest, Poll, Token, Waker};
 use sfu_base::{Address, Failed, Link, PacketBuf, Ports};
+use std::alloc::Global;
 use std::net::{Ipv4Addr, Net, SocketAddr, SocketAddrV4, UdpSocket};
+use std::os::fd::AsRawFd;
 use std::time::Duration;
 use std::{io, thread, time};
 
-/// How long a receive of a port in use waits for a datagram, in microseconds. A packet waits for its subscriber's receive as for its publisher's, half
-/// of this each on average and with what the system adds to a sleep, so that half of all packets are through within a millisecond. The longer a
-/// wait, the fewer looks at ports where nothing is, which cost as much as a packet.
-const RECEIVE_WAIT: u64 = 650;
+/// How long a receive sleeps where no datagram comes and no other link wakes it, in milliseconds: less than 5 with what the system adds.
+const LONGEST_SLEEP: u64 = 4;
 
-/// How long a receive of a quiet port waits, in microseconds: no more than 5 milliseconds with what the system adds to a sleep.
-const QUIET_WAIT: u64 = 4500;
+/// How long a receive of a quiet link sleeps, in microseconds: less than 5 milliseconds with what the system adds. Nothing ends it earlier, which
+/// costs less.
+const QUIET_SLEEP: u64 = 4500;
 
-/// After how many receives in a row that brought nothing, with nothing sent between them, a port is quiet: some second.
-const QUIET_AFTER: u32 = 1250;
+/// After how many receives in a row that returned no datagram, with nothing sent between them, a link is quiet: some 2 seconds.
+const QUIET_AFTER: u32 = 500;
 
-/// How long a send waits for room in the system's buffer before it tries again, in milliseconds.
+/// How long a receive of a busy link sleeps, in microseconds, so that what comes meanwhile is forwarded together. Nothing ends it earlier.
+const BUSY_SLEEP: u64 = 650;
+
+/// A link is busy where its socket was empty twice within so many microseconds, with a datagram between.
+const BUSY_WITHIN: u64 = 900;
+
+/// How many datagrams in a row are received before the followers are woken, where the socket isn't empty before.
+const ROW: u32 = 32;
+
+/// How many packets sent since the receive before show that more may wait to be sent, so that a receive doesn't sleep. A session sends 32 at most
+/// before it receives again.
+const MUCH: u32 = 16;
+
+/// How long a send waits for space in the system's buffer before it tries again, in milliseconds.
 const SEND_WAIT: u64 = 1;
 
-/// How many datagrams of strangers a receive passes over in a row.
-const STRANGER_LIMIT: u32 = 64;
+/// How many datagrams from other addresses a receive passes over in a row.
+const OTHERS_LIMIT: u32 = 64;
 
 /// How often a send is tried where the system's buffer is full.
 const SEND_TRIES: u32 = 100;
 
-/// How many bytes of a datagram are seen.
-const DATAGRAM_ROOM: usize = 2048;
+/// How many bytes of a datagram are received; what lies behind them is cut off.
+const DATAGRAM_LIMIT: usize = 2048;
 
-/// A link over a UDP socket, which hears its peer alone. The socket is connected to the peer, so that the system drops what strangers send; where
-/// no way leads to the peer yet, that is tried again with each send. What the network loses is no fault.
+/// A link over a UDP socket, which receives from its peer alone. The socket is connected to the peer, so that the system drops what comes from other
+/// addresses; where there is no route to the peer yet, that is tried again with each send. What the network loses is no fault.
 #[derive(Drop)]
 pub struct UdpLink<'a, R> {
     system: &'a R,
     socket: UdpSocket,
     peer: SocketAddr,
     is_connected: bool,
-    // how many receives in a row brought nothing, with nothing sent between them
+    // of the socket and the waker, and what ended a sleep, which nobody reads
+    poll: Poll,
+    events: Events<Global>,
+    table: &'a WakeTable,
+    // how many links its ports had bound before, which is its number in the table
+    name: u64,
+    // how many receives in a row returned no datagram, with nothing sent between them
     idle: u32,
-    // whether the receive before brought something, so that more may be there
-    brought: bool,
-    room: [u8; DATAGRAM_ROOM],
+    // how many receives in a row returned a datagram, and the tail of the last
+    received: u32,
+    received_tail: u64,
+    // how many packets were sent since the socket was last empty, and the tail of the last
+    sent: u32,
+    sent_tail: u64,
+    is_busy: bool,
+    // when the socket was last found empty behind a datagram
+    empty_at: Duration,
+    datagram: [u8; DATAGRAM_LIMIT],
     faults: u64,
 }
 
 impl<'a, R: Net + time::Clock> UdpLink<'a, R> {
-    /// Binds a socket to the local address, for a link to the peer with no faults yet. The error is the system's, as where the address
-    /// is in use.
-    pub fn bind(system: &'a R, local: Address, peer: Address) -> io::Result<Self>
-        ensures { IfOk result (λ link. ⟦<UdpLink<'a, R> as Link>⟧.faults link ≡ 0) }
+    // Binds a socket to the local address, for a link of this name to the peer, with no faults yet. The error is the system's, as where the address is
+    // in use.
+    fn bind(
+        system: &'a R,
+        alloc: Global,
+        table: &'a WakeTable,
+        name: u64,
+        local: Address,
+        peer: Address,
+    ) -> io::Result<Self>
+        ensures faults { IfOk result (λ link. ⟦<UdpLink<'a, R> as Link>⟧.faults link ≡ 0) }
+        ensures name { IfOk result (λ link. ⟦<UdpLink<'a, R> as Link>⟧.name link ≡ name) }
     {
         let socket = UdpSocket::bind(system, socket_address(local))?;
         socket.set_nonblocking(true)?;
-        widen(&socket);
+        enlarge(&socket);
         let peer = socket_address(peer);
         let is_connected = connects(&socket, peer)?;
+        let poll = Poll::new(system)?;
+        let events = Events::with_capacity(alloc, 2)?;
+        let fd = socket.as_raw_fd();
+        poll.registry()
+            .register(&mut SourceFd(&fd), Token(0), Interest::READABLE)?;
+        table.bind(name, Waker::new(poll.registry(), Token(1))?);
         Ok(UdpLink {
             system,
             socket,
             peer,
             is_connected,
+            poll,
+            events,
+            table,
+            name,
             idle: 0,
-            brought: true,
-            room: [0; DATAGRAM_ROOM],
+            received: 0,
+            received_tail: 0,
+            sent: 0,
+            sent_tail: 0,
+            is_busy: false,
+            empty_at: Duration::ZERO,
+            datagram: [0; DATAGRAM_LIMIT],
             faults: 0,
         })
     }
 
-    // The length of the peer's next datagram, which then stands at the front of the room; none where none came, after a wait. Where the receive
-    // before brought nothing, this one looks only behind its wait.
-    fn wait(&mut self) -> io::Result<Option<usize>>
-        ensures room { IfOk result (λ found. IfSome found (λ count. count ≤ 2048)) }
+    // The length of the peer's next datagram, which is then in `datagram`; none where none came until the end of a sleep. Behind a receive that
+    // returned a datagram it looks before it sleeps.
+    fn next(&mut self) -> io::Result<Option<usize>>
+        ensures size { IfOk result (λ found. IfSome found (λ count. count ≤ 2048)) }
+        ensures name { self.new.name ≡ self.old.name }
         ensures faults { self.new.faults ≡ self.old.faults }
     {
-        if self.brought {
-            if let Some(count) = poll(&self.socket, self.peer, &mut self.room)? {
-                self.idle = 0;
+        if self.received > 0 {
+            if let Some(count) = self.look()? {
                 return Ok(Some(count));
             }
+            self.finish_batch();
         }
-        let is_quiet = self.idle >= QUIET_AFTER;
-        let wait = if is_quiet { QUIET_WAIT } else { RECEIVE_WAIT };
-        thread::sleep(self.system, Duration::from_micros(wait));
-        let found = poll(&self.socket, self.peer, &mut self.room)?;
-        self.brought = found.is_some();
-        self.idle = if self.brought {
-            0
-        } else {
-            self.idle.saturating_add(1)
-        };
+        if !self.finish_turn() {
+            self.sleep()?;
+        }
+        let found = self.look()?;
+        if found.is_none() {
+            self.idle = self.idle.saturating_add(1);
+            self.is_busy = false;
+        }
         Ok(found)
+    }
+
+    // The length of the peer's datagram that is there now, if one is.
+    fn look(&mut self) -> io::Result<Option<usize>>
+        ensures size { IfOk result (λ found. IfSome found (λ count. count ≤ 2048)) }
+        ensures name { self.new.name ≡ self.old.name }
+        ensures faults { self.new.faults ≡ self.old.faults }
+    {
+        let found = take(&self.socket, self.peer, &mut self.datagram)?;
+        if let Some(count) = found {
+            self.idle = 0;
+            self.received = self.received.saturating_add(1);
+            self.received_tail = tail_of(&self.datagram[..count]);
+            if self.received % ROW == 0 {
+                self.table.wake_followers(self.name, self.received_tail);
+            }
+        }
+        Ok(found)
+    }
+
+    // The socket is empty behind a datagram: what came may be sent now.
+    fn finish_batch(&mut self)
+        ensures name { self.new.name ≡ self.old.name }
+        ensures faults { self.new.faults ≡ self.old.faults }
+    {
+        self.received = 0;
+        self.table.wake_followers(self.name, self.received_tail);
+        let moment = self.system.monotonic().unwrap_or(Duration::ZERO);
+        self.is_busy = moment.saturating_sub(self.empty_at) < Duration::from_micros(BUSY_WITHIN);
+        self.empty_at = moment;
+    }
+
+    // From now on the link follows the one that received what it sent last. Returns whether so much was sent that more may have to be sent.
+    fn finish_turn(&mut self) -> bool
+        ensures name { self.new.name ≡ self.old.name }
+        ensures faults { self.new.faults ≡ self.old.faults }
+    {
+        let sent = self.sent;
+        if sent > 0 {
+            self.table.follow(self.name, self.sent_tail);
+        }
+        self.sent = 0;
+        sent >= MUCH
+    }
+
+    // Sleeps for a time, or until a datagram comes or another link wakes this one.
+    fn sleep(&mut self) -> io::Result<()>
+        ensures name { self.new.name ≡ self.old.name }
+        ensures faults { self.new.faults ≡ self.old.faults }
+    {
+        if self.is_busy {
+            thread::sleep(self.system, Duration::from_micros(BUSY_SLEEP));
+        } else if self.idle >= QUIET_AFTER {
+            thread::sleep(self.system, Duration::from_micros(QUIET_SLEEP));
+        } else {
+            if self.table.begin_sleep(self.name) {
+                self.poll.poll(&mut self.events, Some(Duration::from_millis(LONGEST_SLEEP)))?;
+            }
+            self.table.end_sleep(self.name);
+        }
+        Ok(())
     }
 
     // Hands the bytes to the system. An error that an earlier datagram met on its way may be told in place of sending this one, so that it is tried
     // once more; after that, and where the system's buffer stays full, it is lost.
     fn post(&mut self, bytes: &[u8]) -> io::Result<()>
+        ensures name { self.new.name ≡ self.old.name }
         ensures faults { self.new.faults ≡ self.old.faults }
     {
         self.idle = 0;
+        self.sent = self.sent.saturating_add(1);
+        self.sent_tail = tail_of(bytes);
         if !self.is_connected {
             self.is_connected = connects(&self.socket, self.peer)?;
         }
@@ -132,7 +248,7 @@ impl<'a, R: Net + time::Clock> UdpLink<'a, R> {
     }
 }
 
-// Whether the socket is connected to the peer now; it isn't where no way leads there yet.
+// Whether the socket is connected to the peer now; it isn't where there is no route yet.
 fn connects(socket: &UdpSocket, peer: SocketAddr) -> io::Result<bool> {
     match socket.connect(peer) {
         Ok(()) => Ok(true),
@@ -143,13 +259,13 @@ fn connects(socket: &UdpSocket, peer: SocketAddr) -> io::Result<bool> {
     }
 }
 
-// The length of the peer's next datagram, which then stands at the front of the room; none where none is there now. What strangers sent
-// before the socket was connected is passed over, and so is what an earlier datagram met on its way.
-fn poll(socket: &UdpSocket, peer: SocketAddr, room: &mut [u8]) -> io::Result<Option<usize>>
-    ensures { IfOk result (λ found. IfSome found (λ count. count ≤ length room.new)) }
+// The length of the peer's next datagram, which is then at the front of `buffer`; none where none is there now. What came from other addresses
+// before the socket was connected is passed over, and so is an error that an earlier datagram met on its way.
+fn take(socket: &UdpSocket, peer: SocketAddr, buffer: &mut [u8]) -> io::Result<Option<usize>>
+    ensures { IfOk result (λ found. IfSome found (λ count. count ≤ length buffer.new)) }
 {
-    for _ in 0..STRANGER_LIMIT {
-        match socket.recv_from(room) {
+    for _ in 0..OTHERS_LIMIT {
+        match socket.recv_from(buffer) {
             Ok((count, sender)) => {
                 if sender == peer {
                     return Ok(Some(count));
@@ -172,14 +288,16 @@ fn socket_address(address: Address) -> SocketAddr {
 impl<'a, R: Net + time::Clock> Link for UdpLink<'a, R> {
     ghost told = { λ _. None };
 
+    ghost name = { λ s. s.name };
+
     ghost faults = { λ s. s.faults };
 
-    /// Where no datagram of the peer's is there it waits less than a millisecond, or at most 5 where nothing came or went for a second, and looks once
-    /// more. Behind a receive that brought nothing it waits before it looks.
+    /// Where no datagram of the peer's is there it sleeps until one comes or another link wakes it, for at most 5 milliseconds. Behind a receive that
+    /// returned no datagram it sleeps before it looks.
     fn receive(&mut self, buf: &mut PacketBuf) -> Result<bool, Failed> {
-        match self.wait() {
+        match self.next() {
             Ok(Some(count)) => {
-                buf.fill(&self.room[..count]);
+                buf.fill(&self.datagram[..count]);
                 Ok(true)
             }
             Ok(None) => Ok(false),
@@ -206,6 +324,8 @@ impl<'a, R: Net + time::Clock> Link for UdpLink<'a, R> {
 #[derive(Drop)]
 pub struct UdpPorts<'a, R> {
     system: &'a R,
+    alloc: Global,
+    table: &'a WakeTable,
     bound: u64,
     back_count: u64,
     faults: u64,
@@ -213,14 +333,17 @@ pub struct UdpPorts<'a, R> {
 }
 
 impl<'a, R: Net + time::Clock + Sync> UdpPorts<'a, R> {
-    /// No port is bound yet. The system opens the sockets, and its clock is what they wait by.
-    pub fn new(system: &'a R) -> Self
+    /// No port is bound yet. The system opens the sockets, and its clock is what they wait by. The links wake each other by the table, which is for
+    /// these ports alone. Each takes three file descriptors.
+    pub fn new(system: &'a R, alloc: Global, table: &'a WakeTable) -> Self
         ensures bound { ⟦<UdpPorts<'a, R> as Ports>⟧.bound result ≡ 0 }
         ensures back_count { ⟦<UdpPorts<'a, R> as Ports>⟧.back_count result ≡ 0 }
         ensures faults { ⟦<UdpPorts<'a, R> as Ports>⟧.faults result ≡ 0 }
     {
         UdpPorts {
             system,
+            alloc,
+            table,
             bound: 0,
             back_count: 0,
             faults: 0,
@@ -240,7 +363,7 @@ impl<'a, R: Net + time::Clock + Sync> Ports for UdpPorts<'a, R> {
     ghost faults = { λ s. s.faults };
 
     fn bind(&mut self, local: Address, peer: Address) -> Result<UdpLink<'a, R>, Failed> {
-        match UdpLink::bind(self.system, local, peer) {
+        match UdpLink::bind(self.system, self.alloc, self.table, self.bound, local, peer) {
             Ok(link) => {
                 self.bound += 1;
                 Ok(link)

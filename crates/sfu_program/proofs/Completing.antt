@@ -142,14 +142,14 @@ wrote_all : (fault : Option ℕ) (text : List ℕ) (x : Exchange) (status : ℕ)
 wrote_all None text x status none zero end wrote = ((zero, end), subst (λ (t : List ℕ). Appends x.written x.written' t) (sym (append-nil text)) wrote)
 wrote_all (Some line) text x status none zero end wrote = absurd (cc none)
 
-module _ {L : Type 0} (told : L → Option Traffic) (faults : L → ℕ) (limit : ℕ) (x : Exchange) (old new : PortsSeen L) (status : ℕ) (none : NoneRose x old.faults new.faults) where
+module _ {L : Type 0} (told : L → Option Traffic) (faults name : L → ℕ) (limit : ℕ) (x : Exchange) (old new : PortsSeen L) (status : ℕ) (none : NoneRose x old.faults new.faults) where
   unread : ReadsNoSetup x.left x.left' x.written x.written' x.reads x.reads' x.writes x.writes' status → Finishes serve_due x status
   unread r = ⊎_elim (λ (six : status ≡ 6). inl six)
       (λ (h : IfSome x.left (λ bytes. EndsAs (read_due bytes).end x status × Appends x.written x.written' (full_text (read_due bytes)))).
       inr (if_some x.left _ _ (λ b e. read_nothing (configuration_of b).fault _ x status r.only e) h))
       (finishes read_due read_part x status r.statuses none.reads none.writes)
 
-  acted : ActsOn told faults limit x.left x.left' x.written x.written' x.writes x.writes' old new status → Finishes serve_due x status
+  acted : ActsOn told faults name limit x.left x.left' x.written x.written' x.writes x.writes' old new status → Finishes serve_due x status
   acted on = by on.acts.only
     where
       by : (status ≡ 0) ⊎ (status ≡ 4) ⊎ (status ≡ 6) ⊎ (status ≡ 7) → Finishes serve_due x status
@@ -164,10 +164,10 @@ module _ {L : Type 0} (told : L → Option Traffic) (faults : L → ℕ) (limit 
       by (inr (inr (inl six))) = inl six
       by (inr (inr (inr seven))) = absurd (none.ports (on.acts.ports seven))
 
-  pub serve_finishes : Serves told faults limit x old new status → Finishes serve_due x status
+  pub serve_finishes : Serves told faults name limit x old new status → Finishes serve_due x status
   serve_finishes s = ⊎_elim (λ (no : ReadsNoSetup x.left x.left' x.written x.written' x.reads x.reads' x.writes x.writes' status × (new ≡ old)). unread no.0) acted s.came
 
-  pub serve_inside : Serves told faults limit x old new status → IsInside status
+  pub serve_inside : Serves told faults name limit x old new status → IsInside status
   serve_inside s = by (s.complete none.reads none.writes none.ports)
     where
       by : (status ≡ 0) ⊎ (status ≡ 5) ⊎ (status ≡ 6) → IsInside status

@@ -9,3 +9,4 @@ pub mod ServeRoles
 pub mod Completing
 mod SimulcastServing
 mod SimulcastReplies
+mod SimulcastPromise

@@ -1,12 +1,12 @@
 -- Ports that are bound and come back, one after another.
-use Rattle.std.proofs.Common.{◌≡◌, ◌⊎◌, inl, inr, ◌<◌, ◌≤◌, ℕ, List, [], ◌∷◌, ◌++◌, map, refl, sym, ap, ◌∙◌, arith, Option, Some, None, append-nil, append_assoc}
+use Rattle.std.proofs.Common.{◌≡◌, ◌⊎◌, inl, inr, ◌<◌, ◌≤◌, ◌+◌, ℕ, List, [], ◌∷◌, ◌++◌, length, map, refl, sym, ap, ◌∙◌, arith, Option, Some, None, append-nil, append_assoc}
 use Rattle.sfu_base.specs.Faults.{Rose}
 use Rattle.sfu_base.specs.Ports.{CountsBack, after_back}
 use Rattle.sfu_script.specs.declared.ports.PortLine.{PortLine}
 use Rattle.sfu_base.specs.Links.{Traffic}
 use Rattle.sfu_serve.specs.declared.run.Job.{Job}
 use Rattle.sfu_serve.specs.Runs.{Before}
-use Rattle.sfu_program.specs.ServePorts.{AreFresh, IsFresh, NoFault, SomeFault, after_backs, befores}
+use Rattle.sfu_program.specs.ServePorts.{AreFresh, AreNamedFrom, IsFresh, NoFault, SomeFault, after_backs, befores}
 
 -- one line more, and its job
 pub fresh_more : (lines : List PortLine) (jobs : List Before) (line : PortLine) (job : Before) → AreFresh lines jobs → IsFresh line job → AreFresh (lines ++ line ∷ []) (jobs ++ job ∷ [])
@@ -14,6 +14,22 @@ fresh_more [] [] line job all one = (one, tt)
 fresh_more [] (j ∷ js) line job all one = absurd all
 fresh_more (l ∷ ls) [] line job all one = absurd all
 fresh_more (l ∷ ls) (j ∷ js) line job all one = (all.0, fresh_more ls js line job all.1 one)
+
+module _ {L : Type 0} (name : L → ℕ) where
+  -- one port more was bound
+  pub named_more : (n : ℕ) (links : List L) (link : L) → AreNamedFrom name n links → name link ≡ n + length links → AreNamedFrom name n (links ++ link ∷ [])
+  named_more n [] link all is = (omega (arith, is), tt)
+  named_more n (l ∷ ls) link all is = (all.0, named_more (n + 1) ls link all.1 (omega (arith, is)))
+
+  -- links that have the same names
+  pub named_as : {J E : Type 0} (f : J → L) (g : E → L) (n : ℕ) (js : List J) (es : List E) → map (λ e. name (g e)) es ≡ map (λ j. name (f j)) js → AreNamedFrom name n (map f js) → AreNamedFrom name n (map g es)
+  named_as f g n [] [] same all = tt
+  named_as f g n [] (e ∷ es) same all = absurd (cc same)
+  named_as f g n (j ∷ js) [] same all = absurd (cc same)
+  named_as f g n (j ∷ js) (e ∷ es) same all =
+      let here : name (g e) ≡ name (f j) = cc same in
+      let others : map (λ e. name (g e)) es ≡ map (λ j. name (f j)) js = cc same in
+      (here ∙ all.0, named_as f g (n + 1) js es others all.1)
 
 module _ {L : Type 0} where
   pub backs_none : (told : Option (List L)) → told ≡ after_backs [] told

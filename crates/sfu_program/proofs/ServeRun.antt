@@ -7,7 +7,7 @@ use Rattle.turn_lock.specs.declared.history.Entry.{Entry}
 use Rattle.turn_lock.specs.History.{entry}
 use Rattle.turn_lock.specs.Known.{Known}
 use Rattle.atomic_table.specs.Seated.{TableId}
-use Rattle.deeds.specs.Deeds.{Listen, Ask, Post, Over}
+use Rattle.session_steps.specs.Deeds.{Listen, Ask, Post, Over}
 use Rattle.room_core.specs.Content.{TakesMemory}
 use Rattle.room_core.specs.History.{accepted}
 use Rattle.room_core.specs.WellFormed.{AreWellFormed}
@@ -18,7 +18,7 @@ use Rattle.sfu_serve.specs.History.{entries_of}
 use Rattle.sfu_serve.specs.Parts.{MeetsEnd}
 use Rattle.sfu_serve.specs.Runs.{After, AllMayStarve, AreSessions, Before, HaveRun}
 use Rattle.sfu_serve.specs.Replies.{MayStarve}
-use Rattle.sfu_serve.specs.Sessions.{Doing}
+use Rattle.session_steps.specs.Sessions.{Doing}
 use Rattle.sfu_serve.proofs.Starving.{takers_only}
 use Rattle.sfu_program.specs.Serve.{HaveServed}
 use Rattle.sfu_program.specs.ServeEnds.{AreUnworn, IsUnworn}

@@ -9,5 +9,6 @@ pub mod SimulcastScript
 pub mod SimulcastTexts
 pub mod Simulcast
 pub mod SimulcastServing
+pub mod SimulcastPromise
 pub mod FirstFault
 pub mod Complete

@@ -17,7 +17,7 @@ use Rattle.sfu_driver.specs.Drive.{WritesPart}
 use Rattle.sfu_driver.specs.Statuses.{FirstFault}
 use Rattle.sfu_program.specs.ServeEnds.{AreUnworn, all_made, ends_of, ends_text}
 use Rattle.sfu_program.specs.ServeOpening.{first_text, made_first}
-use Rattle.sfu_program.specs.ServePorts.{AreFresh, PortsSeen, WasUnbound, after_backs}
+use Rattle.sfu_program.specs.ServePorts.{AreFresh, AreNamedFrom, PortsSeen, WasUnbound, after_backs}
 use Rattle.port_config.specs.Reading.{ReadsNoSetup}
 use Rattle.sfu_script.specs.declared.ports.PortLine.{PortLine}
 use Rattle.port_config.specs.Script.{configuration_of}
@@ -40,37 +40,40 @@ pub record HaveServed (limit : ℕ) (calls : List Call) (jobs : List Before) (en
   pub memory : AllMayStarve TakesMemory history
   pub headline : Headline (accepted (entries_of history))
 
--- All ports of these lines were bound, in their order, had their sessions, and came back in this order.
-pub record HasServed {L : Type 0} (told : L → Option Traffic) (faults : L → ℕ) (limit : ℕ) (calls : List Call) (lines : List PortLine)
+-- All ports of these lines were bound, in their order; the K-th port had the session of the K-th line, on its own link; and all came back in this
+-- order.
+pub record HasServed {L : Type 0} (told : L → Option Traffic) (faults name : L → ℕ) (limit : ℕ) (calls : List Call) (lines : List PortLine)
     (old new : PortsSeen L) (ended : List (Ended L)) : Type 0 where
   pub jobs : List Before
   pub fresh : AreFresh lines jobs
   pub served : HaveServed limit calls jobs (afters told faults ended)
+  -- the link of the K-th session is the K-th port that was bound
+  pub names : AreNamedFrom name 0 (map (λ session. session.link) ended)
   pub bound : new.bound ≡ length lines
   pub back : new.back ≡ length lines
   pub returned : new.returned ≡ after_backs (map (λ session. session.link) ended) old.returned
 
 -- Where memory was wanting no bind failed. So no port failed, but where all sessions had ended.
-abbrev pub Starved : {L : Type 0} → (L → Option Traffic) → (L → ℕ) → ℕ → List Call → List PortLine → PortsSeen L → PortsSeen L → Type 0
-Starved {L} told faults limit calls lines old new =
-    (new.faults ≡ old.faults) ⊎ ((ended : List (Ended L)) × HasServed told faults limit calls lines old new ended)
+abbrev pub Starved : {L : Type 0} → (L → Option Traffic) → (L → ℕ) → (L → ℕ) → ℕ → List Call → List PortLine → PortsSeen L → PortsSeen L → Type 0
+Starved {L} told faults name limit calls lines old new =
+    (new.faults ≡ old.faults) ⊎ ((ended : List (Ended L)) × HasServed told faults name limit calls lines old new ended)
 
 -- What came of the ports of these lines, behind these calls.
-pub record Ends {L : Type 0} (told : L → Option Traffic) (faults : L → ℕ) (limit : ℕ) (calls : List Call) (lines : List PortLine)
+pub record Ends {L : Type 0} (told : L → Option Traffic) (faults name : L → ℕ) (limit : ℕ) (calls : List Call) (lines : List PortLine)
     (written written' : Option (List ℕ)) (writes writes' : ℕ) (old new : PortsSeen L) (status : ℕ) : Type 0 where
   -- 0: each session made all its turns, and a line for each was written
-  pub done : status ≡ 0 → (ended : List (Ended L)) × HasServed told faults limit calls lines old new ended × (all_made (ends_of ended) ≡ true)
+  pub done : status ≡ 0 → (ended : List (Ended L)) × HasServed told faults name limit calls lines old new ended × (all_made (ends_of ended) ≡ true)
       × Appends written written' (ends_text 1 (ends_of ended))
   -- 4: the sink failed in these lines
   pub sink : status ≡ 4 → Rose writes writes'
-  pub unwritten : status ≡ 4 → (ended : List (Ended L)) × HasServed told faults limit calls lines old new ended
+  pub unwritten : status ≡ 4 → (ended : List (Ended L)) × HasServed told faults name limit calls lines old new ended
       × WritesPart written written' (ends_text 1 (ends_of ended))
   -- 6: memory was wanting, and nothing was written; no bind failed, and where a session's link did, all ports came back
-  pub memory : status ≡ 6 → Appends written written' [] × Starved told faults limit calls lines old new
+  pub memory : status ≡ 6 → Appends written written' [] × Starved told faults name limit calls lines old new
   -- 7: a port wasn't bound, so no session started; or the link of a session failed, and the lines were written
   pub ports : status ≡ 7 → Rose old.faults new.faults
-  pub failed : status ≡ 7 → (WasUnbound told faults lines old new × Appends written written' [])
-      ⊎ ((ended : List (Ended L)) × HasServed told faults limit calls lines old new ended × (all_made (ends_of ended) ≡ false)
+  pub failed : status ≡ 7 → (WasUnbound told faults name lines old new × Appends written written' [])
+      ⊎ ((ended : List (Ended L)) × HasServed told faults name limit calls lines old new ended × (all_made (ends_of ended) ≡ false)
       × Appends written written' (ends_text 1 (ends_of ended)))
   pub only : (status ≡ 0) ⊎ (status ≡ 4) ⊎ (status ≡ 6) ⊎ (status ≡ 7)
   -- no write failed but the one that ended the command, and at 0 no bind, receive or send
@@ -82,22 +85,22 @@ abbrev pub serve_text : {L : Type 0} → List Call → List (Ended L) → List �
 serve_text calls ended = first_text calls ++ ends_text 1 (ends_of ended)
 
 -- What was done for these calls and lines.
-pub record Acts {L : Type 0} (told : L → Option Traffic) (faults : L → ℕ) (limit : ℕ) (calls : List Call) (lines : List PortLine)
+pub record Acts {L : Type 0} (told : L → Option Traffic) (faults name : L → ℕ) (limit : ℕ) (calls : List Call) (lines : List PortLine)
     (written written' : Option (List ℕ)) (writes writes' : ℕ) (old new : PortsSeen L) (status : ℕ) : Type 0 where
   -- 0: each session made all its turns, and all that is due was written
-  pub done : status ≡ 0 → (ended : List (Ended L)) × HasServed told faults limit calls lines old new ended × (all_made (ends_of ended) ≡ true)
+  pub done : status ≡ 0 → (ended : List (Ended L)) × HasServed told faults name limit calls lines old new ended × (all_made (ends_of ended) ≡ true)
       × Appends written written' (serve_text calls ended)
   -- 4: the sink failed; what was written is a part of what is due, and not all of it. Before the replies were written no port was bound
   pub sink : status ≡ 4 → Rose writes writes'
   pub unwritten : status ≡ 4 → (WritesPart written written' (first_text calls) × (new ≡ old))
-      ⊎ ((ended : List (Ended L)) × HasServed told faults limit calls lines old new ended × WritesPart written written' (serve_text calls ended))
+      ⊎ ((ended : List (Ended L)) × HasServed told faults name limit calls lines old new ended × WritesPart written written' (serve_text calls ended))
   -- 6: memory was wanting; nothing was written, or the replies to the first calls. No bind failed, and where a session's link did, all ports came back
   pub memory : status ≡ 6 → (Appends written written' [] × (new ≡ old))
-      ⊎ (Appends written written' (first_text calls) × Starved told faults limit calls lines old new)
+      ⊎ (Appends written written' (first_text calls) × Starved told faults name limit calls lines old new)
   -- 7: a port wasn't bound, so no session started and the replies alone were written; or the link of a session failed, and all was written
   pub ports : status ≡ 7 → Rose old.faults new.faults
-  pub failed : status ≡ 7 → (WasUnbound told faults lines old new × Appends written written' (first_text calls))
-      ⊎ ((ended : List (Ended L)) × HasServed told faults limit calls lines old new ended × (all_made (ends_of ended) ≡ false)
+  pub failed : status ≡ 7 → (WasUnbound told faults name lines old new × Appends written written' (first_text calls))
+      ⊎ ((ended : List (Ended L)) × HasServed told faults name limit calls lines old new ended × (all_made (ends_of ended) ≡ false)
       × Appends written written' (serve_text calls ended))
   pub only : (status ≡ 0) ⊎ (status ≡ 4) ⊎ (status ≡ 6) ⊎ (status ≡ 7)
   -- no write failed but the one that ended the command, and at 0 no bind, receive or send
@@ -105,19 +108,19 @@ pub record Acts {L : Type 0} (told : L → Option Traffic) (faults : L → ℕ) 
   pub calm : status ≡ 0 → new.faults ≡ old.faults
 
 -- The source was read to its end, its bytes are a configuration, and this was done for its calls and its ports.
-pub record ActsOn {L : Type 0} (told : L → Option Traffic) (faults : L → ℕ) (limit : ℕ) (left left' written written' : Option (List ℕ))
+pub record ActsOn {L : Type 0} (told : L → Option Traffic) (faults name : L → ℕ) (limit : ℕ) (left left' written written' : Option (List ℕ))
     (writes writes' : ℕ) (old new : PortsSeen L) (status : ℕ) : Type 0 where
   pub bytes : List ℕ
   pub consumed : Consumes left left' bytes
   pub at_end : IsAtEnd left'
   pub whole : (configuration_of bytes).fault ≡ None
-  pub acts : Acts told faults limit (configuration_of bytes).setup.calls (configuration_of bytes).setup.ports written written' writes writes' old new status
+  pub acts : Acts told faults name limit (configuration_of bytes).setup.calls (configuration_of bytes).setup.ports written written' writes writes' old new status
 
 -- What `serve` does. Where the source fails (3), a line is outside the grammar (5) or memory is wanting for what the lines say (6), no call
 -- is made and no port bound.
-pub record Serves {L : Type 0} (told : L → Option Traffic) (faults : L → ℕ) (limit : ℕ) (x : Exchange) (old new : PortsSeen L) (status : ℕ) : Type 0 where
+pub record Serves {L : Type 0} (told : L → Option Traffic) (faults name : L → ℕ) (limit : ℕ) (x : Exchange) (old new : PortsSeen L) (status : ℕ) : Type 0 where
   pub came : (ReadsNoSetup x.left x.left' x.written x.written' x.reads x.reads' x.writes x.writes' status × (new ≡ old))
-      ⊎ ActsOn told faults limit x.left x.left' x.written x.written' x.writes x.writes' old new status
+      ⊎ ActsOn told faults name limit x.left x.left' x.written x.written' x.writes x.writes' old new status
   -- the first read or write that fails ends the command, and at 0 no bind, receive or send failed
   pub first_fault : FirstFault x.reads x.reads' x.writes x.writes' status
   pub calm : status ≡ 0 → new.faults ≡ old.faults

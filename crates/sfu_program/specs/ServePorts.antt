@@ -1,5 +1,5 @@
 -- Ports that are bound for sessions, and that come back. Own rule.
-use Rattle.std.specs.Prelude.{◌≡◌, ◌⊎◌, ◌<◌, ℕ, List, [], ◌∷◌, ◌++◌, length, map, take, Option}
+use Rattle.std.specs.Prelude.{◌≡◌, ◌⊎◌, ◌<◌, ◌+◌, ℕ, List, [], ◌∷◌, ◌++◌, length, map, take, Option}
 use Rattle.std.specs.Option.{option_map}
 use Rattle.sfu_base.specs.Faults.{raised}
 use Rattle.sfu_base.specs.Links.{Traffic}
@@ -37,6 +37,11 @@ AreFresh _ _ = ⊥
 abbrev pub befores : {L : Type 0} → (L → Option Traffic) → (L → ℕ) → List (Job L) → List Before
 befores told faults jobs = map (λ job. job_before job.role (told job.link) (faults job.link)) jobs
 
+-- the links are, in order, the ports that were bound n-th, n + 1-th and so on, counted from 0
+abbrev pub AreNamedFrom : {L : Type 0} → (L → ℕ) → ℕ → List L → Type 0
+AreNamedFrom name n [] = Unit {0}
+AreNamedFrom name n (link ∷ links) = (name link ≡ n) × AreNamedFrom name (n + 1) links
+
 -- ---- ports that come back
 
 -- these ports came back, in this order
@@ -64,10 +69,12 @@ abbrev pub seen_ports : {L : Type 0} → ℕ → ℕ → Option (List L) → ℕ
 seen_ports bound back returned faults = record { bound = bound; back = back; returned = returned; faults = faults }
 
 -- A port wasn't bound: one bind failed, and no other was made. Those of the lines before it were bound, in their order, and came back.
-pub record WasUnbound {L : Type 0} (told : L → Option Traffic) (faults : L → ℕ) (lines : List PortLine) (old new : PortsSeen L) : Type 0 where
+pub record WasUnbound {L : Type 0} (told : L → Option Traffic) (faults name : L → ℕ) (lines : List PortLine) (old new : PortsSeen L) : Type 0 where
   pub jobs : List (Job L)
   pub fewer : length jobs < length lines
   pub fresh : AreFresh (take (length jobs) lines) (befores told faults jobs)
+  -- the K-th job has the K-th port
+  pub names : AreNamedFrom name 0 (map (λ job. job.link) jobs)
   pub bound : new.bound ≡ length jobs
   pub back : new.back ≡ length jobs
   pub returned : new.returned ≡ after_backs (map (λ job. job.link) jobs) old.returned

@@ -13,9 +13,10 @@ ghost use Rattle.sfu_commands.specs.StreamWords.{IsCascade, IsTrial};
 ghost use Rattle.sfu_commands.specs.Trial.{Tries};
 ghost use Rattle.sfu_base.specs.Faults.{Rose};
 ghost use Rattle.sfu_commands.specs.Words.{IsForm, IsSimulcast};
-ghost use Rattle.sfu_program.specs.Complete.{IsInside};
+ghost use Rattle.sfu_program.specs.Complete.{Completes, IsInside};
 ghost use Rattle.sfu_program.specs.Forms.{IsStatus};
 ghost use Rattle.sfu_program.specs.Simulcast.{Simulcasts};
+ghost use Rattle.sfu_program.specs.SimulcastPromise.{AreBundlesServed};
 ghost use Rattle.sfu_driver.specs.Exchange.{exchange_of};
 ghost use Rattle.sfu_driver.specs.Statuses.{FirstFault};
 
@@ -25,20 +26,8 @@ use sfu_base::{Sink, Source};
 use sfu_commands::{Command, check, convert, help, read_words, record, refuse, run, trial};
 use std::alloc::Global;
 
-/// Does what the words say where the command waits for nobody, and answers the program's status. It always returns.
-///
-/// Status 0: the source was read to its end, where the command reads it, and all that is due was written. 2: the words are no command;
-/// nothing was read, and the usage line was written. 3 and 4: the source or the sink failed. 5: a line is outside the grammar; what is due
-/// before it and `line N` were written, or `record N` in a script of records; `convert` doesn't write which it is. 6: want of memory. 8: the
-/// strict receiver of `check` or `record` complains; `line N` and the complaint were written. 10: in `record` a packet ends a frame one of whose
-/// elements isn't an OBU; `line N obu` was written. The first that is met ends the call; 2, 5, 8 and 10 stay where the sink fails in their own
-/// text.
-pub fn sfu_alone<S: Source, K: Sink>(
-    alloc: Global,
-    words: &[String],
-    source: &mut S,
-    sink: &mut K,
-) -> u8
+// Does what the words say: one arm and one clause for each command.
+fn follow<S: Source, K: Sink>(alloc: Global, words: &[String], source: &mut S, sink: &mut K) -> u8
     ensures run { IsRun (map string_bytes words.now)
         → Runs (exchange_of S.left S.faults K.written K.faults source.old source.new sink.old sink.new) result }
     ensures headline { IsRun (map string_bytes words.now) → AreServed }
@@ -50,6 +39,7 @@ pub fn sfu_alone<S: Source, K: Sink>(
         → Converts (exchange_of S.left S.faults K.written K.faults source.old source.new sink.old sink.new) result }
     ensures simulcast { IsSimulcast (map string_bytes words.now)
         → Simulcasts (exchange_of S.left S.faults K.written K.faults source.old source.new sink.old sink.new) result }
+    ensures bundles { IsSimulcast (map string_bytes words.now) → AreBundlesServed }
     ensures help { IsHelp (map string_bytes words.now)
         → Helps source.old source.new (K.written sink.old) (K.written sink.new) (K.faults sink.old) (K.faults sink.new) result }
     ensures trial { (s : Stream) → IsTrial (map string_bytes words.now) s
@@ -86,4 +76,49 @@ pub fn sfu_alone<S: Source, K: Sink>(
         ) => cascade(alloc, frames, start, loss, sink).number(),
         None => refuse(sink).number(),
     }
+}
+
+/// Does what the words say where the command waits for nobody, and answers the program's status. It always returns.
+///
+/// Status 0: the source was read to its end, where the command reads it, and all that is due was written. 2: the words are no command;
+/// nothing was read, and the usage line was written. 3 and 4: the source or the sink failed. 5: a line is outside the grammar; what is due
+/// before it and `line N` were written, or `record N` in a script of records; `convert` doesn't write which it is. 6: want of memory. 8: the
+/// strict receiver of `check` or `record` complains; `line N` and the complaint were written. 10: in `record` a packet ends a frame one of whose
+/// elements isn't an OBU; `line N obu` was written. The first that is met ends the call; 2, 5, 8 and 10 stay where the sink fails in their own
+/// text.
+pub fn sfu_alone<S: Source, K: Sink>(
+    alloc: Global,
+    words: &[String],
+    source: &mut S,
+    sink: &mut K,
+) -> u8
+    ensures run { IsRun (map string_bytes words.now)
+        → Runs (exchange_of S.left S.faults K.written K.faults source.old source.new sink.old sink.new) result }
+    ensures headline { IsRun (map string_bytes words.now) → AreServed }
+    ensures check { (id : ℕ) → IsCheck (map string_bytes words.now) id
+        → Checks id (exchange_of S.left S.faults K.written K.faults source.old source.new sink.old sink.new) result }
+    ensures record { (id : ℕ) → IsRecord (map string_bytes words.now) id
+        → Records id (exchange_of S.left S.faults K.written K.faults source.old source.new sink.old sink.new) result }
+    ensures convert { IsConvert (map string_bytes words.now)
+        → Converts (exchange_of S.left S.faults K.written K.faults source.old source.new sink.old sink.new) result }
+    ensures simulcast { IsSimulcast (map string_bytes words.now)
+        → Simulcasts (exchange_of S.left S.faults K.written K.faults source.old source.new sink.old sink.new) result }
+    ensures bundles { IsSimulcast (map string_bytes words.now) → AreBundlesServed }
+    ensures help { IsHelp (map string_bytes words.now)
+        → Helps source.old source.new (K.written sink.old) (K.written sink.new) (K.faults sink.old) (K.faults sink.new) result }
+    ensures trial { (s : Stream) → IsTrial (map string_bytes words.now) s
+        → Tries source.old source.new s (K.written sink.old) (K.written sink.new) (K.faults sink.old) (K.faults sink.new) result }
+    ensures cascade { (s : Stream) → IsCascade (map string_bytes words.now) s
+        → PlaysCascade source.old source.new s (K.written sink.old) (K.written sink.new) (K.faults sink.old) (K.faults sink.new) result }
+    ensures other { ¬ (IsForm (map string_bytes words.now))
+        → Refuses source.old source.new (K.written sink.old) (K.written sink.new) (K.faults sink.old) (K.faults sink.new) result }
+    ensures form { (result ≡ 2) ↔ ¬ (IsForm (map string_bytes words.now)) }
+    ensures only { IsStatus result }
+    ensures first_fault { FirstFault (S.faults source.old) (S.faults source.new) (K.faults sink.old) (K.faults sink.new) result }
+    ensures inside { ¬ (Rose (S.faults source.old) (S.faults source.new)) → ¬ (Rose (K.faults sink.old) (K.faults sink.new)) → IsInside result }
+    ensures complete { IsForm (map string_bytes words.now) → ¬ (Rose (S.faults source.old) (S.faults source.new))
+        → ¬ (Rose (K.faults sink.old) (K.faults sink.new))
+        → Completes (map string_bytes words.now) (exchange_of S.left S.faults K.written K.faults source.old source.new sink.old sink.new) result }
+{
+    follow(alloc, words, source, sink)
 }

@@ -11,7 +11,7 @@ mod sfu;
 mod tests;
 
 use sfu_driver::Status;
-use sfu_edge::{StdSink, StdSource, SysClock, UdpPorts};
+use sfu_edge::{StdSink, StdSource, SysClock, UdpPorts, WakeTable};
 use std::process::ExitCode;
 use std::{env, io};
 
@@ -34,7 +34,10 @@ fn main(rt: HostRuntime) -> ExitCode {
     };
     let mut source = StdSource::new(&rt, rt.stdin());
     let mut sink = StdSink::new(&rt, rt.stdout());
-    let mut ports = UdpPorts::new(&rt);
+    let Ok(table) = WakeTable::new(rt.alloc()) else {
+        return ExitCode::from(Status::NoMemory.number());
+    };
+    let mut ports = UdpPorts::new(&rt, rt.alloc(), &table);
     let clock = SysClock::new(&rt);
     ExitCode::from(sfu::sfu(
         &rt,

@@ -13,6 +13,7 @@ ghost use Rattle.sfu_commands.specs.StreamWords.{IsCascade, IsTrial};
 ghost use Rattle.sfu_commands.specs.Trial.{Tries};
 ghost use Rattle.sfu_commands.specs.Words.{IsSimulcast};
 ghost use Rattle.sfu_program.specs.Simulcast.{Simulcasts};
+ghost use Rattle.sfu_program.specs.SimulcastPromise.{AreBundlesServed};
 ghost use Rattle.sfu_program.specs.Complete.{Completes, IsInside, NoneRose};
 ghost use Rattle.sfu_program.specs.FirstFault.{FailsOnce};
 ghost use Rattle.sfu_program.specs.Forms.{IsCommand, IsEnd, IsServing};
@@ -80,6 +81,7 @@ pub fn sfu<W: Threads + Wait + Sync, S: Source, K: Sink, P: Ports, C: Clock + Sy
         → Converts (exchange_of S.left S.faults K.written K.faults source.old source.new sink.old sink.new) result }
     ensures simulcast { IsSimulcast (map string_bytes words.now)
         → Simulcasts (exchange_of S.left S.faults K.written K.faults source.old source.new sink.old sink.new) result }
+    ensures bundles { IsSimulcast (map string_bytes words.now) → AreBundlesServed }
     ensures help { IsHelp (map string_bytes words.now)
         → Helps source.old source.new (K.written sink.old) (K.written sink.new) (K.faults sink.old) (K.faults sink.new) result }
     ensures trial { (s : Stream) → IsTrial (map string_bytes words.now) s
@@ -89,7 +91,7 @@ pub fn sfu<W: Threads + Wait + Sync, S: Source, K: Sink, P: Ports, C: Clock + Sy
     ensures together { IsTogether (map string_bytes words.now)
         → Plays (exchange_of S.left S.faults K.written K.faults source.old source.new sink.old sink.new) result }
     ensures serve { (turns : ℕ) → IsServe (map string_bytes words.now) turns
-        → Serves P.Port.told P.Port.faults turns (exchange_of S.left S.faults K.written K.faults source.old source.new sink.old sink.new)
+        → Serves P.Port.told P.Port.faults P.Port.name turns (exchange_of S.left S.faults K.written K.faults source.old source.new sink.old sink.new)
         (seen_ports (P.bound ports.old) (P.back_count ports.old) (P.returned ports.old) (P.faults ports.old))
         (seen_ports (P.bound ports.new) (P.back_count ports.new) (P.returned ports.new) (P.faults ports.new)) result }
     ensures unserved { ¬ (IsServing (map string_bytes words.now)) → ports.new ≡ ports.old }

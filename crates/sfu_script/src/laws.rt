@@ -26,7 +26,7 @@ pub fn lines_read_back()
     ensures { (call : Call) → HasLine call → call_of (line_of call) ≡ Some call }
 {}
 
-/// A reply's text says one answer.
+/// A reply's text says at most one answer.
 pub fn replies_say_one_answer()
     ensures { (one other : Answer) → HasText one → HasText other → answer_text one ≡ answer_text other → one ≡ other }
 {}

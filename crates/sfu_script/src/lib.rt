@@ -1,4 +1,4 @@
-//! The lines of scripts, read: each says a call of the room. What is written stands in `script_texts`, and is to be had here too.
+//! The lines of scripts, read: each says a call of the room. What is written is in `script_texts`, and is re-exported here.
 #![tactic(auto)]
 
 mod actor_line;

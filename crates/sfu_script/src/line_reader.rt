@@ -12,8 +12,8 @@ use crate::words::{leading32, number32, number64};
 use crate::{NoLine, read_call};
 use sfu_base::{Call, PacketBuf};
 
-/// Reads lines one after another, as [`read_call`] does, and keeps the room of the calls: the lines that come most often write no more
-/// than they say.
+/// Reads lines one after another, as [`read_call`] does, and reuses the memory of the calls: for the lines that come most often only the
+/// fields that they say are written.
 #[derive(Debug, Drop)]
 pub struct LineReader {
     room: [u8; MOST_BYTES],
@@ -96,7 +96,7 @@ impl LineReader {
         }
     }
 
-    // Apart, so that the other lines need no room for a call that is handed on.
+    // Out of line: the other lines need no stack space for a call that is returned by value.
     #[inline(never)]
     fn read_other(&mut self, line: &[u8]) -> Result<(), NoLine>
         ensures { MatchResult result (λ _. call_of line.now ≡ Some self.new.other) (λ _. call_of line.now ≡ None) }

@@ -20,7 +20,7 @@ use thiserror::Error;
 #[error("the line is outside the grammar")]
 pub struct NoLine;
 
-// The readers of single lines are inlined here: each function that hands a call on would clear and copy its 2 KB once more.
+// The readers of single lines are inlined here: each function that returns a call by value would clear and copy its 2 KB once more.
 #[inline(always)]
 fn behind(word: &[u8], rest: &[u8]) -> Result<Call, NoLine>
     ensures { result_ok result ≡ command_of word.now rest.now }

@@ -11,23 +11,23 @@ use crate::fields::read_fields;
 use crate::words::{number8, number16, split, split_at};
 use sfu_base::Address;
 
-/// What a port is for. SSRCs are the publisher's own, that of what goes out to the subscriber, and that of the stream on which its resends go
-/// out.
+/// What a port is for. SSRCs are the publisher's own, that of the packets forwarded to the subscriber, and that of the stream of its
+/// retransmissions.
 #[derive(Clone, Copy, Debug, PartialEq, Eq)]
 pub enum PortRole {
-    /// The packets of a track come in.
+    /// Receives the packets of a track.
     Publisher {
         track: u32,
         ssrc: u32,
     },
-    /// A subscriber's packets go out, and its feedback comes in.
+    /// Sends a subscriber's packets, and receives its feedback.
     Subscriber {
         subscriber: u32,
         ssrc: u32,
     },
-    /// Lines of calls come in, and their replies go out.
+    /// Receives lines of calls, and sends their replies.
     Control,
-    /// A subscriber's packets go out, its resends on a stream of their own (RFC 4588), and its feedback comes in.
+    /// Sends a subscriber's packets, with its retransmissions on a stream of their own (RFC 4588), and receives its feedback.
     Rtx {
         subscriber: u32,
         ssrc: u32,
@@ -88,7 +88,7 @@ fn subscriber(rest: &[u8]) -> Result<PortRole, NoLine>
     })
 }
 
-// Whether resent packets can be told from the others.
+// Whether retransmissions can be distinguished from the other packets.
 fn are_apart(ssrc: u32, rtx_ssrc: u32, payload_type: u8) -> bool
     ensures { (subscriber : ℕ) → result ≡ is_apart (Rtx subscriber ssrc rtx_ssrc payload_type) }
 {

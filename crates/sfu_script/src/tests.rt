@@ -78,7 +78,7 @@ fn numbers(call: &Call) -> [u64; 7] {
     }
 }
 
-// The lines of the grammar, each with its call. Numbers stand at 0 and at the end of their type.
+// The lines of the grammar, each with its call. Numbers are 0 and the greatest of their type.
 const LINES: [(&[u8], [u64; 7]); 33] = [
     (
         b"publish 1 plain 11111111 100",

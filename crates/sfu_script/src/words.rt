@@ -1,4 +1,4 @@
-// The words of a line from the left.
+// The words of a line, from left to right.
 ghost use Rattle.std.specs.Prelude.{◌≡◌, ◌≤◌, ◌^◌, ◌&&◌, if◌then◌else◌, length, nat_lt, IfSome, MatchResult, None, Some};
 ghost use Rattle.std.specs.Result.{result_ok};
 ghost use Rattle.std.specs.Str.{all_ascii_digits};
@@ -7,7 +7,7 @@ ghost use Rattle.sfu_script.specs.Reading.{cut, cut_at, field, number_of, ssrc_o
 
 use crate::NoLine;
 
-/// What stands before the first such byte and behind it.
+/// What precedes the first such byte, and what follows it.
 #[inline(always)]
 pub fn split_at(text: &[u8], mark: u8) -> Result<(&[u8], &[u8]), NoLine>
     ensures { MatchResult result (λ parts. cut_at mark text.now ≡ Some (parts.0.now, parts.1.now)) (λ _. cut_at mark text.now ≡ None) }
@@ -20,14 +20,14 @@ pub fn split_at(text: &[u8], mark: u8) -> Result<(&[u8], &[u8]), NoLine>
     Err(NoLine)
 }
 
-/// What stands before the first space and behind it; `NoLine` where there is none. Takes no memory.
+/// What precedes the first space, and what follows it; `NoLine` where there is none. Takes no memory.
 pub fn split(text: &[u8]) -> Result<(&[u8], &[u8]), NoLine>
     ensures { MatchResult result (λ parts. cut text.now ≡ Some (parts.0.now, parts.1.now)) (λ _. cut text.now ≡ None) }
 {
     split_at(text, b' ')
 }
 
-// The number that at most 19 digits are, which fits whatever they are.
+// The number that at most 19 digits spell, which fits whatever they are.
 fn short_decimal(word: &[u8]) -> Option<u64>
     requires { length word.now ≤ 19 }
     ensures { result ≡ (if all_ascii_digits word.now && nat_lt (digits_value 10 word.now) (2 ^ 64) then Some (digits_value 10 word.now) else None) }
@@ -42,7 +42,7 @@ fn short_decimal(word: &[u8]) -> Option<u64>
     Some(number)
 }
 
-// The number that digits are, where it fits.
+// The number that digits spell, where it fits.
 fn decimal(word: &[u8]) -> Option<u64>
     ensures { result ≡ (if all_ascii_digits word.now && nat_lt (digits_value 10 word.now) (2 ^ 64) then Some (digits_value 10 word.now) else None) }
 {
@@ -61,7 +61,7 @@ fn decimal(word: &[u8]) -> Option<u64>
     Some(number)
 }
 
-/// The number that a word is, in decimal digits without a leading zero.
+/// The number that a word spells in decimal digits without a leading zero.
 pub fn number64(word: &[u8]) -> Result<u64, NoLine>
     ensures { result_ok result ≡ number_of 64 word.now }
 {
@@ -95,8 +95,8 @@ pub fn number8(word: &[u8]) -> Result<u8, NoLine>
     u8::try_from(number64(word)?).ok().ok_or(NoLine)
 }
 
-// The number before the first space and what stands behind it, where the space is among the first 19 bytes: each byte is read once, and no sum
-// is checked. `None` says nothing of the text.
+// The number before the first space and what follows it, where the space is among the first 19 bytes: each byte is read once, and no sum is
+// checked. `None` says nothing about the text.
 #[inline(always)]
 fn short_leading(text: &[u8]) -> Option<(u64, &[u8])>
     ensures { IfSome result (λ x. field (number_of 64) text.now ≡ Some (x.0, x.1.now)) }
@@ -121,7 +121,7 @@ fn short_leading(text: &[u8]) -> Option<(u64, &[u8])>
     None
 }
 
-// As `leading64`, of numbers of any length. Apart, so that its callers hold the code of the others alone.
+// As `leading64`, for numbers of any length. Out of line: its callers hold only the code for the others.
 #[inline(never)]
 fn any_leading(text: &[u8]) -> Result<(u64, &[u8]), NoLine>
     ensures { MatchResult result (λ x. field (number_of 64) text.now ≡ Some (x.0, x.1.now)) (λ _. field (number_of 64) text.now ≡ None) }
@@ -130,7 +130,7 @@ fn any_leading(text: &[u8]) -> Result<(u64, &[u8]), NoLine>
     Ok((number64(word)?, rest))
 }
 
-/// The number that the word before the first space is, as `number64`, and what stands behind the space.
+/// The number that the word before the first space spells, as `number64`, and what follows the space.
 #[inline(always)]
 pub fn leading64(text: &[u8]) -> Result<(u64, &[u8]), NoLine>
     ensures { MatchResult result (λ x. field (number_of 64) text.now ≡ Some (x.0, x.1.now)) (λ _. field (number_of 64) text.now ≡ None) }
@@ -153,7 +153,7 @@ pub fn leading32(text: &[u8]) -> Result<(u32, &[u8]), NoLine>
     }
 }
 
-/// The number that eight hex digits are.
+/// The number that eight hex digits spell.
 pub fn ssrc(word: &[u8]) -> Result<u32, NoLine>
     ensures { result_ok result ≡ ssrc_of word.now }
 {

@@ -6,13 +6,13 @@ use Rattle.sfu_base.specs.declared.call.Call.{Call}
 use Rattle.sfu_base.specs.declared.call.Call.TheVariants.{Packet, Tick, Take, Missing, KeyWanted}
 use Rattle.rtcp_feedback.specs.declared.feedback.Feedback.{Feedback}
 use Rattle.rtx_stream.specs.declared.retransmission.Rtx.{Rtx}
-use Rattle.deeds.specs.Deeds.{Ask, Post}
-use Rattle.deeds.specs.Doing.{FitsBuffer}
-use Rattle.deeds.proofs.Counting.{AsksAtMost, asks_more, asks_one}
+use Rattle.session_steps.specs.Deeds.{Ask, Post}
+use Rattle.sfu_serve.specs.Doing.{FitsBuffer}
+use Rattle.sfu_serve.proofs.Counting.{AsksAtMost, asks_more, asks_one}
 use Rattle.sfu_serve.specs.declared.run.Role.{Role}
 use Rattle.sfu_serve.specs.declared.run.Role.TheVariants.{Publisher, Subscriber, Control, Rtx as OnRtx}
-use Rattle.sfu_serve.specs.Datagrams.{PliFor, is_rtcp, feedback_in, media_of, control_call, text_for}
-use Rattle.sfu_serve.specs.Sessions.{Doing, answers, controls, call_for, sends_on, resends, serves_one, serves, hears_feedback, takes, brings, nacks, is_due, wants_key, pleads, asks, control_deed, outgoing_deed, publisher_deed}
+use Rattle.session_steps.specs.Datagrams.{PliFor, is_rtcp, feedback_in, media_of, control_call, text_for}
+use Rattle.session_steps.specs.Sessions.{Doing, answers, controls, call_for, sends_on, resends, serves_one, serves, hears_feedback, takes, brings, nacks, is_due, wants_key, pleads, asks, control_deed, outgoing_deed, publisher_deed}
 use Rattle.sfu_serve.specs.Runs.{deed_of}
 use Rattle.sfu_serve.proofs.FewItems.{feedback_few}
 

@@ -8,14 +8,14 @@ use Rattle.sfu_base.specs.declared.call.Refusal.TheVariants.{NoMemory}
 use Rattle.turn_lock.specs.declared.history.Entry.{Entry}
 use Rattle.turn_lock.specs.History.{own_of}
 use Rattle.turn_lock.specs.Known.{Known}
-use Rattle.deeds.specs.Deeds.{Listen, Ask, Post, Over, Word, said_of}
-use Rattle.deeds.specs.Doing.{StarveWhereTheyMay}
-use Rattle.deeds.proofs.Words.{words_none, words_same}
-use Rattle.deeds.proofs.Counting.{AsksAtMost, few_said}
+use Rattle.session_steps.specs.Deeds.{Listen, Ask, Post, Over, Word, said_of}
+use Rattle.sfu_serve.specs.Doing.{StarveWhereTheyMay}
+use Rattle.sfu_serve.proofs.Words.{words_none, words_same}
+use Rattle.sfu_serve.proofs.Counting.{AsksAtMost, few_said}
 use Rattle.sfu_serve.specs.declared.ends.SessionEnd.{SessionEnd}
 use Rattle.sfu_serve.specs.declared.ends.SessionEnd.TheVariants.{AllTurns, LinkFault, Worn}
-use Rattle.sfu_serve.specs.Datagrams.{IsOne}
-use Rattle.sfu_serve.specs.Sessions.{Doing}
+use Rattle.session_steps.specs.Datagrams.{IsOne}
+use Rattle.session_steps.specs.Sessions.{Doing}
 use Rattle.sfu_serve.specs.Parts.{Keeps, MeetsEnd, reply_after, words_of}
 use Rattle.sfu_serve.specs.Runs.{IsSession}
 

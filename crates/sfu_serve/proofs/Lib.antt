@@ -1,10 +1,13 @@
+pub mod Words
+pub mod Steps
+pub mod Doing
+pub mod Counting
 pub mod Refusing
 pub mod Replying
 pub mod Rising
 pub mod Texts
-pub mod Choosing
-pub mod Parting
-pub mod Ending
+pub mod RoomReplies
+pub mod Stepping
 pub mod Later
 pub mod Starving
 pub mod Casting

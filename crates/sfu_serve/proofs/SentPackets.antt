@@ -14,11 +14,12 @@ use Rattle.rtx_stream.specs.declared.retransmission.Rtx.{Rtx}
 use Rattle.room_core.specs.History.{accepted}
 use Rattle.room_core.specs.Live.{Published, published}
 use Rattle.room_core.specs.Replies.{answer, of_track}
-use Rattle.deeds.specs.Deeds.{Step, Listen, Ask, Post, Over, Heard, Said, Posted, Word, Leads, said_of, sent_of, words_from}
+use Rattle.session_steps.specs.Deeds.{Step, Listen, Ask, Post, Over, Heard, Said, Posted, Word, Leads, said_of, sent_of}
+use Rattle.sfu_serve.specs.Words.{words_from}
 use Rattle.sfu_serve.specs.declared.ends.SessionEnd.{SessionEnd}
 use Rattle.sfu_serve.specs.History.{entries_of}
-use Rattle.sfu_serve.specs.Datagrams.{Datagram, Bytes, NackFor, PliFor, Wrapped, IsOne, feedback_in, media_of}
-use Rattle.sfu_serve.specs.Sessions.{Doing, call_for, sends_on, resends, resent, serves, hears_feedback, takes, outgoing_deed, subscriber_deed}
+use Rattle.session_steps.specs.Datagrams.{Datagram, Bytes, NackFor, PliFor, Wrapped, IsOne, feedback_in, media_of}
+use Rattle.session_steps.specs.Sessions.{Doing, call_for, sends_on, resends, resent, serves, hears_feedback, takes, outgoing_deed, subscriber_deed}
 use Rattle.sfu_serve.specs.Parts.{reply_after, words_of}
 use Rattle.sfu_serve.specs.Runs.{IsSession}
 use Rattle.sfu_serve.specs.Packets.{AreSent, datagram_given, datagrams_given, packet_of, packet_given, packets_given, resent_then, unsent, unsent_datagram}

@@ -16,7 +16,7 @@ use Rattle.room_core.specs.Live.{Published, Joined, published, joined, highest_t
 use Rattle.room_core.specs.Replies.{answer, done_or, of_track, of_subscriber, told, plain_refused, plead_answer, publish_refusal, join_refusal}
 use Rattle.room_core.specs.Views.{key_wanted_on}
 use Rattle.std.specs.Prelude.{is_some}
-use Rattle.sfu_serve.specs.Datagrams.{is_control, if_control}
+use Rattle.session_steps.specs.Datagrams.{is_control}
 
 -- an answer that is neither a packet nor names
 unfoldable pub is_short : Answer → Bool
@@ -82,12 +82,3 @@ has_text said reply.Done bytes numbers control is = tt
 has_text said (reply.Key wanted) bytes numbers control is = tt
 has_text said (reply.Cause verdict) bytes numbers control is = tt
 has_text said (reply.Refused why) bytes numbers control is = tt
-
-only_control : (b : Bool) (said other : Call) → is_control said ≡ b → cond b (Some said) None ≡ Some other → is_control other ≡ true
-only_control true said other e is = let same : said ≡ other = cc is in ap is_control (sym same) ∙ e
-only_control false said other e is = absurd (cc is)
-
--- a call that is read from a control line is one
-pub controls_only : (o : Option Call) (said : Call) → if_control o ≡ Some said → is_control said ≡ true
-controls_only None said is = absurd (cc is)
-controls_only (Some other) said is = only_control (is_control other) other said refl is

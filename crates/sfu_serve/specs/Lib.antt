@@ -1,8 +1,7 @@
+pub mod Words
+pub mod Doing
 pub mod History
 pub mod Replies
-pub mod Ends
-pub mod Datagrams
-pub mod Sessions
 pub mod Parts
 pub mod Runs
 pub mod Playing

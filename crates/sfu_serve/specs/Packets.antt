@@ -3,10 +3,10 @@ use Rattle.std.specs.Prelude.{◌≡◌, ℕ, ◌+◌, ◌%◌, List, [], ◌∷
 use Rattle.sfu_base.specs.Answer.{Answer, Sent}
 use Rattle.sfu_base.specs.declared.call.Call.{Call}
 use Rattle.sfu_base.specs.declared.call.Call.TheVariants.{Take, Resend}
-use Rattle.deeds.specs.Deeds.{Post, Word}
+use Rattle.session_steps.specs.Deeds.{Post, Word}
 use Rattle.rtx_stream.specs.declared.retransmission.Rtx.{Rtx}
-use Rattle.sfu_serve.specs.Datagrams.{Datagram, Bytes, IsOne}
-use Rattle.sfu_serve.specs.Sessions.{Doing, resent}
+use Rattle.session_steps.specs.Datagrams.{Datagram, Bytes, IsOne}
+use Rattle.session_steps.specs.Sessions.{Doing, resent}
 
 -- the packet that an answer is, if it is one
 abbrev pub packet_of : Answer → List (List ℕ)

@@ -1,5 +1,5 @@
 -- How far a session has come, and how it ends.
-use Rattle.std.specs.Prelude.{◌≡◌, ℕ, ◌+◌, ◌^◌, ◌<◌, ◌≤◌, List, Option, Result, Ok, Err}
+use Rattle.std.specs.Prelude.{◌≡◌, ℕ, ◌+◌, ◌^◌, ◌<◌, ◌≤◌, List, Option}
 use Rattle.sfu_base.specs.Answer.{Answer, Refused}
 use Rattle.sfu_base.specs.Faults.{raised}
 use Rattle.sfu_base.specs.Links.{Traffic}
@@ -9,16 +9,14 @@ use Rattle.turn_lock.specs.declared.history.Entry.{Entry}
 use Rattle.turn_lock.specs.Known.{Known}
 use Rattle.room_core.specs.Headline.{Headline}
 use Rattle.room_core.specs.History.{accepted, reply_of}
-use Rattle.deeds.specs.Deeds.{Deed, Listen, Ask, Post, Over, Word}
-use Rattle.deeds.specs.Deeds as deeds
-use Rattle.deeds.specs.Doing.{IsDone}
+use Rattle.session_steps.specs.Deeds.{Deed, Listen, Ask, Post, Over, Word}
+use Rattle.sfu_serve.specs.Words as words
+use Rattle.sfu_serve.specs.Doing.{IsDone}
 use Rattle.sfu_serve.specs.declared.ends.SessionEnd.{SessionEnd}
 use Rattle.sfu_serve.specs.declared.ends.SessionEnd.TheVariants.{AllTurns, LinkFault, Worn}
-use Rattle.sfu_serve.specs.declared.ends.TurnStop.{TurnStop}
-use Rattle.sfu_serve.specs.declared.ends.TurnStop.TheVariants.{Lost, Closed}
 use Rattle.sfu_serve.specs.History.{entries_of}
-use Rattle.sfu_serve.specs.Datagrams.{Datagram, IsOne}
-use Rattle.sfu_serve.specs.Sessions.{Doing}
+use Rattle.session_steps.specs.Datagrams.{IsOne}
+use Rattle.session_steps.specs.Sessions.{Doing}
 
 -- what the room answers to a call after these turns
 abbrev pub reply_after : List (Entry Call) → Call → Answer
@@ -26,7 +24,7 @@ reply_after history call = reply_of (entries_of history) call
 
 -- the calls of the seat n with their answers: those of the history before each, or want of memory where the entry found none
 abbrev pub words_of : ℕ → List (Entry Call) → List (Word Call Answer)
-words_of n history = deeds.words_of reply_after (Refused NoMemory) n history
+words_of n history = words.words_of reply_after (Refused NoMemory) n history
 
 -- Each subscriber was sent what it should be, by this history.
 pub record HasHeadline (history : List (Entry Call)) : Type 0 where
@@ -46,20 +44,6 @@ NoneMayStarve call = ⊥
 pub record FailedOnce (before after : ℕ) : Type 0 where
   pub never_falls : before ≤ after
   pub counts : after ≡ raised before
-
--- A part of a turn stopped where a datagram wasn't sent, since that call failed, the first one that did; or where a call wasn't made, since
--- all tickets of the lock are drawn.
-abbrev pub Stops : (Call → Type 0) → Doing → Known Call → Known Call → Option Traffic → Option Traffic → ℕ → ℕ → TurnStop → Type 0
-Stops MayStarve part old new told told' before after Lost =
-    (what : Datagram) × (rest : Doing) × Done MayStarve part (Post what rest) old new told told' before before 0 × FailedOnce before after
-Stops MayStarve part old new told told' before after Closed =
-    (call : Call) × (f : Answer → Doing) × Done MayStarve part (Ask call f) old new told told' before after 0 × (new.found ≡ 2 ^ 63)
-
--- A part of a turn is done and `next` is left, or it stopped.
-abbrev pub IsPart : {T : Type 0} → (Call → Type 0) → Doing → Doing → Known Call → Known Call → Option Traffic → Option Traffic → ℕ → ℕ
-    → Result T TurnStop → Type 0
-IsPart MayStarve part next old new told told' before after (Ok value) = Done MayStarve part next old new told told' before after 0
-IsPart MayStarve part next old new told told' before after (Err stop) = Stops MayStarve part old new told told' before after stop
 
 -- How a session of `limit` turns ends, by where it stands then and after how many receives. `AllTurns`: it is over, that was after `limit`
 -- receives, and no call on its link failed. `LinkFault`: in this turn its receive failed, or a send, and no other call did. `Worn`: a call

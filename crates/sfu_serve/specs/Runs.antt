@@ -6,13 +6,13 @@ use Rattle.sfu_base.specs.declared.call.Call.{Call}
 use Rattle.turn_lock.specs.declared.history.Entry.{Entry}
 use Rattle.turn_lock.specs.History.{own_of, AllBelow}
 use Rattle.turn_lock.specs.Known.{Known, Fits, AllJoinedIn}
-use Rattle.deeds.specs.Deeds.{Step, Leads, received_of, said_of, sent_of}
-use Rattle.deeds.specs.Doing.{AllFitBuffers}
+use Rattle.session_steps.specs.Deeds.{Step, Leads, received_of, said_of, sent_of}
+use Rattle.sfu_serve.specs.Doing.{AllFitBuffers}
 use Rattle.sfu_serve.specs.declared.ends.SessionEnd.{SessionEnd}
 use Rattle.sfu_serve.specs.declared.run.Role.{Role}
 use Rattle.sfu_serve.specs.declared.run.Role.TheVariants.{Publisher, Subscriber, Control, Rtx}
-use Rattle.sfu_serve.specs.Datagrams.{IsOne}
-use Rattle.sfu_serve.specs.Sessions.{Doing, publisher_deed, subscriber_deed, rtx_deed, control_deed}
+use Rattle.session_steps.specs.Datagrams.{IsOne}
+use Rattle.session_steps.specs.Sessions.{Doing, publisher_deed, subscriber_deed, rtx_deed, control_deed}
 use Rattle.sfu_serve.specs.Parts.{MeetsEnd, words_of}
 
 -- what a session of this role does in so many turns

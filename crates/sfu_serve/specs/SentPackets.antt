@@ -3,10 +3,10 @@ use Rattle.std.specs.Prelude.{◌≡◌, ℕ, List, ◌++◌, Option, Some}
 use Rattle.sfu_base.specs.Links.{Traffic}
 use Rattle.sfu_base.specs.declared.call.Call.{Call}
 use Rattle.turn_lock.specs.declared.history.Entry.{Entry}
-use Rattle.deeds.specs.Deeds.{sent_of}
+use Rattle.session_steps.specs.Deeds.{sent_of}
 use Rattle.sfu_serve.specs.declared.ends.SessionEnd.{SessionEnd}
 use Rattle.rtx_stream.specs.declared.retransmission.Rtx.{Rtx}
-use Rattle.sfu_serve.specs.Sessions.{subscriber_deed, rtx_deed}
+use Rattle.session_steps.specs.Sessions.{subscriber_deed, rtx_deed}
 use Rattle.sfu_serve.specs.Parts.{words_of}
 use Rattle.sfu_serve.specs.Runs.{IsSession}
 use Rattle.sfu_serve.specs.Packets.{AreSent, datagrams_given, packets_given, unsent, unsent_datagram}

@@ -7,12 +7,11 @@ ghost use Rattle.sfu_serve.specs.Runs.{CanBe, deed_of, job_after, job_before};
 ghost use Rattle.sfu_serve.specs.Playing.{ArePlayed, HaveJoined, counting, played_job, seated_from, seated_job};
 ghost use Rattle.sfu_serve.specs.Replies.{MayStarve};
 
-use crate::control::control_session;
+use crate::driver::Stage;
 use crate::ends::SessionEnd;
-use crate::publisher::publisher_session;
 use crate::run::{Ended, Job, Role};
+use crate::sessions::{control_session, publisher_session, rtx_session, subscriber_session};
 use crate::shared_room::SharedRoom;
-use crate::subscriber::{rtx_session, subscriber_session};
 use room_core::Recorder;
 use sfu_base::{Clock, Link, NoMemory, PacketBuf, Scratch, SeqList};
 use std::alloc::Global;
@@ -63,6 +62,7 @@ pub fn cast<R: Recorder, L: Link + Drop>(
     ensures fits { IfOk result (λ seated. Fits seat.new) }
     ensures seated { IfOk result (λ seated. map (λ s. seated_job s.seat (job_before s.job.role (L.told s.job.link) (L.faults s.job.link))) seated.items
         ≡ seated_from seat.old 1 (map (λ j. job_before j.role (L.told j.link) (L.faults j.link)) jobs.items)) }
+    ensures names { IfOk result (λ seated. map (λ s. L.name s.job.link) seated.items ≡ map (λ j. L.name j.link) jobs.items) }
 {
     let mut seated = Vec::new(alloc);
     for job in jobs {
@@ -74,20 +74,24 @@ pub fn cast<R: Recorder, L: Link + Drop>(
 
 /// Runs the session of a role.
 fn session<R: Recorder, L: Link, C: Clock, W: Wait + Sync>(
-    rt: &W,
-    turns: &Turns<SharedRoom<R>>,
+    stage: &Stage<'_, R, C, W>,
     seat: &mut Seat<SharedRoom<R>>,
     role: Role,
     link: &mut L,
-    clock: &C,
-    limit: u64,
     scratch: &mut Scratch,
 ) -> SessionEnd
-    requires lock { seat.old.lock ≡ turns.now }
+    requires lock { seat.old.lock ≡ stage.now.turns.now }
     requires role { CanBe role }
-    ensures keeps { Keeps (MayStarve R.may_refuse) (deed_of role limit) limit
+    ensures keeps { Keeps (MayStarve R.may_refuse) (deed_of role stage.now.limit) stage.now.limit
         seat.old seat.new (L.told link.old) (L.told link.new) (L.faults link.old) (L.faults link.new) result }
+    ensures name { L.name link.new ≡ L.name link.old }
 {
+    let Stage {
+        rt,
+        turns,
+        clock,
+        limit,
+    } = *stage;
     match role {
         Role::Publisher { track, ssrc } => {
             publisher_session(rt, turns, seat, track, ssrc, link, clock, limit, scratch)
@@ -108,16 +112,14 @@ fn session<R: Recorder, L: Link, C: Clock, W: Wait + Sync>(
 
 /// Runs a job's session, with a scratch of its own.
 fn perform<R: Recorder, L: Link, C: Clock, W: Wait + Sync>(
-    rt: &W,
-    turns: &Turns<SharedRoom<R>>,
-    clock: &C,
-    limit: u64,
+    stage: &Stage<'_, R, C, W>,
     seated: Seated<R, L>,
 ) -> Played<R, L>
-    requires lock { seated.seat.lock ≡ turns.now }
+    requires lock { seated.seat.lock ≡ stage.now.turns.now }
     requires role { CanBe seated.job.role }
-    ensures keeps { Keeps (MayStarve R.may_refuse) (deed_of seated.job.role limit) limit
+    ensures keeps { Keeps (MayStarve R.may_refuse) (deed_of seated.job.role stage.now.limit) stage.now.limit
         seated.seat result.seat (L.told seated.job.link) (L.told result.link) (L.faults seated.job.link) (L.faults result.link) result.end }
+    ensures name { L.name result.link ≡ L.name seated.job.link }
 {
     let mut scratch = Scratch {
         packet: PacketBuf::new(),
@@ -125,16 +127,7 @@ fn perform<R: Recorder, L: Link, C: Clock, W: Wait + Sync>(
     };
     let Seated { mut seat, job } = seated;
     let Job { role, mut link } = job;
-    let end = session(
-        rt,
-        turns,
-        &mut seat,
-        role,
-        &mut link,
-        clock,
-        limit,
-        &mut scratch,
-    );
+    let end = session(stage, &mut seat, role, &mut link, &mut scratch);
     Played { seat, end, link }
 }
 
@@ -147,18 +140,20 @@ pub fn play<R: Recorder + Send, L: Link + Send + Drop, C: Clock + Sync, W: Threa
     seated: Vec<Seated<R, L>>,
 ) -> Result<Vec<Played<R, L>>, NoMemory>
     requires ready { All (λ s. (s.seat.lock ≡ turns.now) × CanBe s.job.role) seated.items }
-    ensures { IfOk result (λ played. ArePlayed (MayStarve R.may_refuse) limit
+    ensures played { IfOk result (λ played. ArePlayed (MayStarve R.may_refuse) limit
         (map (λ s. seated_job s.seat (job_before s.job.role (L.told s.job.link) (L.faults s.job.link))) seated.items)
         (map (λ p. played_job p.seat (job_after p.end (L.told p.link) (L.faults p.link))) played.items)) }
+    ensures names { IfOk result (λ played. map (λ p. L.name p.link) played.items ≡ map (λ s. L.name s.job.link) seated.items) }
 {
     let Ok(played) = thread::map_vec(
         rt,
         seated,
         &move |one: Seated<R, L>| -> Played<R, L>
             requires { (one.seat.lock ≡ turns.now) × CanBe one.job.role }
-            ensures { Keeps (MayStarve R.may_refuse) (deed_of one.job.role limit) limit
+            ensures keeps { Keeps (MayStarve R.may_refuse) (deed_of one.job.role limit) limit
                 one.seat result.seat (L.told one.job.link) (L.told result.link) (L.faults one.job.link) (L.faults result.link) result.end }
-        { perform(rt, turns, clock, limit, one) },
+            ensures name { L.name result.link ≡ L.name one.job.link }
+        { perform(&Stage::new(rt, turns, clock, limit), one) },
     ) else {
         return Err(NoMemory);
     };
@@ -182,6 +177,7 @@ pub fn gather<R: Recorder, L: Link + Drop>(
     ensures joined { IfOk result (λ ended. HaveJoined seat.old (map (λ p. p.seat) played.items) seat.new) }
     ensures ended { IfOk result (λ ended. map (λ e. job_after e.end (L.told e.link) (L.faults e.link)) ended.items
         ≡ map (λ p. job_after p.end (L.told p.link) (L.faults p.link)) played.items) }
+    ensures names { IfOk result (λ ended. map (λ e. L.name e.link) ended.items ≡ map (λ p. L.name p.link) played.items) }
 {
     let mut ended = Vec::new(alloc);
     for one in played {

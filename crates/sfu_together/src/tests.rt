@@ -1,97 +1,179 @@
-// Two actors that are inside at the same time.
+// Eight actors that are inside at the same time, and what their gate hears.
 use crate::gate::Gate;
 use crate::running::run_together;
 use actor_script::read_actors;
 use sfu_base::{MemSink, MemSource};
-use std::sync::atomic::{AtomicBool, Ordering};
+use std::sync::atomic::{AtomicBool, AtomicU64, Ordering};
 use std::test::Fail;
 use std::thread;
 use std::time::{Clock, Duration};
 
-// How often an actor looks for the other one, with a millisecond between.
+// The opening part's call, two of each actor, and the closing part's.
+const SCRIPT: &[u8] =
+    b"take 9\n@1 take 1\n@1 take 1\n@2 take 2\n@2 take 2\n@3 take 3\n@3 take 3\n@4 take 4\n@4 take 4\n\
+    @5 take 5\n@5 take 5\n@6 take 6\n@6 take 6\n@7 take 7\n@7 take 7\n@8 take 8\n@8 take 8\ntake 9\n";
+
+// How often an actor looks for another one, with a millisecond between.
 const MOST_LOOKS: u32 = 10_000;
 
-// A flag of each of two actors.
+// What an actor's gate hears, two digits each in base 16: 1 before a call and 2 after it, and then the call's place.
+const BEFORE: u8 = 0x10;
+
+const AFTER: u8 = 0x20;
+
+const HEARD: u64 = 0x10_20_11_21;
+
+// What one actor does.
 #[derive(Drop)]
-struct Flags {
-    one: AtomicBool,
-    two: AtomicBool,
+struct Actor {
+    before: AtomicBool,
+    after: AtomicBool,
+    heard: AtomicU64,
 }
 
-impl Flags {
-    fn new() -> Flags {
-        Flags {
-            one: AtomicBool::new(false),
-            two: AtomicBool::new(false),
+impl Actor {
+    fn new() -> Actor {
+        Actor {
+            before: AtomicBool::new(false),
+            after: AtomicBool::new(false),
+            heard: AtomicU64::new(0),
         }
     }
 
-    // Raises the actor's flag and waits until the other one is up; whether it came up.
-    fn meet<R: Clock>(&self, clock: &R, actor: u8) -> bool {
-        let (own, other) = if actor == 1 {
-            (&self.one, &self.two)
+    // Notes what came, behind what came before.
+    fn hear(&self, kind: u8, line: u32) {
+        let place = u64::from(line.min(15));
+        let heard = self.heard.load(Ordering::SeqCst) % (1 << 48);
+        self.heard
+            .store(heard * 256 + u64::from(kind) + place, Ordering::SeqCst);
+    }
+
+    // Whether the flag that is raised before the first call, or the one behind it, is up.
+    fn is_up(&self, kind: u8) -> bool {
+        if kind == BEFORE {
+            self.before.load(Ordering::SeqCst)
         } else {
-            (&self.two, &self.one)
-        };
-        own.store(true, Ordering::SeqCst);
+            self.after.load(Ordering::SeqCst)
+        }
+    }
+
+    fn raise(&self, kind: u8) {
+        if kind == BEFORE {
+            self.before.store(true, Ordering::SeqCst);
+        } else {
+            self.after.store(true, Ordering::SeqCst);
+        }
+    }
+}
+
+// The eight actors, and what must not be.
+#[derive(Drop)]
+struct Actors {
+    each: [Actor; 8],
+    // An actor waited for another one in vain, or the gate heard of an actor that is none.
+    missed: AtomicBool,
+    strayed: AtomicBool,
+}
+
+impl Actors {
+    fn wait_for<R: Clock>(&self, clock: &R, actor: &Actor, kind: u8) {
         for _ in 0..MOST_LOOKS {
-            if other.load(Ordering::SeqCst) {
-                return true;
+            if actor.is_up(kind) {
+                return;
             }
             thread::sleep(clock, Duration::from_millis(1));
         }
-        false
+        self.missed.store(true, Ordering::SeqCst);
+    }
+
+    // Notes the call. At its first one an actor waits until all others are there too.
+    fn hear<R: Clock>(&self, clock: &R, kind: u8, actor: u8, line: u32) {
+        if actor < 1 || actor > 8 {
+            self.strayed.store(true, Ordering::SeqCst);
+            return;
+        }
+        let own = &self.each[usize::from(actor) - 1];
+        own.hear(kind, line);
+        if line == 0 {
+            own.raise(kind);
+            for other in 0..8usize {
+                self.wait_for(clock, &self.each[other], kind);
+            }
+        }
     }
 }
 
-// Holds each of two actors up, before its call and after it, until the other one is there too.
+// Holds each actor up, before its first call and after it, and notes what it hears.
 #[derive(Drop)]
 struct Meeting<'a, R> {
     clock: &'a R,
-    before: Flags,
-    after: Flags,
-    missed: AtomicBool,
+    actors: Actors,
 }
 
 impl<'a, R: Clock + Sync> Gate for Meeting<'a, R> {
-    fn before(&self, actor: u8, _line: u32) {
-        if !self.before.meet(self.clock, actor) {
-            self.missed.store(true, Ordering::SeqCst);
-        }
+    fn before(&self, actor: u8, line: u32) {
+        self.actors.hear(self.clock, BEFORE, actor, line);
     }
 
-    fn after(&self, actor: u8, _line: u32) {
-        if !self.after.meet(self.clock, actor) {
-            self.missed.store(true, Ordering::SeqCst);
-        }
+    fn after(&self, actor: u8, line: u32) {
+        self.actors.hear(self.clock, AFTER, actor, line);
     }
 }
 
 #[test]
-fn two_actors_are_inside_at_the_same_time(rt: HostRuntime) -> Result<(), Fail> {
+fn eight_actors_are_inside_at_the_same_time(rt: HostRuntime) -> Result<(), Fail> {
     let alloc = rt.alloc();
-    let text = b"@1 take 1\n@2 take 2\n".to_vec(alloc)?;
-    let mut source = MemSource::new(text, Vec::new(alloc));
+    let mut source = MemSource::new(SCRIPT.to_vec(alloc)?, Vec::new(alloc));
     let mut sink = MemSink::new(alloc, Vec::new(alloc));
     let Ok(script) = read_actors(alloc, &mut source, &mut sink) else {
         panic!(rt; "no script")
     };
     let meeting = Meeting {
         clock: &rt,
-        before: Flags::new(),
-        after: Flags::new(),
-        missed: AtomicBool::new(false),
+        actors: Actors {
+            each: [
+                Actor::new(),
+                Actor::new(),
+                Actor::new(),
+                Actor::new(),
+                Actor::new(),
+                Actor::new(),
+                Actor::new(),
+                Actor::new(),
+            ],
+            missed: AtomicBool::new(false),
+            strayed: AtomicBool::new(false),
+        },
     };
     let journal = run_together(&rt, alloc, &script, &meeting)?;
     assert!(rt;
-        !meeting.missed.load(Ordering::SeqCst),
-        "an actor waited for the other in vain"
+        !meeting.actors.missed.load(Ordering::SeqCst),
+        "an actor waited for another in vain"
     );
-    let mut actors = 0u8;
+    assert!(rt;
+        !meeting.actors.strayed.load(Ordering::SeqCst),
+        "the gate heard of a call of no actor"
+    );
+    for actor in &meeting.actors.each {
+        assert!(rt; actor.is_up(BEFORE), "an actor made no call");
+        assert!(rt;
+            actor.is_up(AFTER),
+            "the gate didn't hear of the end of a call"
+        );
+        assert_eq!(rt; actor.heard.load(Ordering::SeqCst), HEARD);
+    }
+    // Nobody makes its second call before all made their first.
+    let mut order = Vec::new(alloc);
     for entry in journal.entries() {
         assert_eq!(rt; entry.reply.bytes(), b"refused nosubscriber".as_slice());
-        actors |= entry.actor;
+        order.push(entry.actor)?;
     }
-    assert_eq!(rt; (journal.entries().len(), actors), (2, 3));
+    assert_eq!(rt; order.len(), 18);
+    order[1..9].sort(alloc)?;
+    order[9..17].sort(alloc)?;
+    assert_eq!(rt;
+        order.as_slice(),
+        [0, 1, 2, 3, 4, 5, 6, 7, 8, 1, 2, 3, 4, 5, 6, 7, 8, 0].as_slice()
+    );
     Ok(())
 }

@@ -18,3 +18,4 @@ pub mod OneMore
 pub mod LastPackets
 pub mod Changing
 pub mod Answers
+pub mod Keeping

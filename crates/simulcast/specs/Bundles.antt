@@ -5,6 +5,7 @@ use Rattle.std.specs.Option.{option_map}
 use Rattle.sfu_base.specs.declared.call.Call.TheVariants.{Leave, Plead, Take}
 use Rattle.sfu_base.specs.declared.call.Call.{Call}
 use Rattle.sfu_base.specs.declared.call.Reply.{Reply}
+use Rattle.sfu_base.specs.declared.call.Scratch.{Scratch}
 use Rattle.sfu_base.specs.Answer.{answer_of, is_starved}
 use Rattle.sfu_base.specs.declared.call.Refusal.TheVariants.{Empty, NoSubscriber, NotKept}
 use Rattle.sfu_base.specs.declared.call.Kind.{Kind}
@@ -17,7 +18,7 @@ use Rattle.room_core.specs.Formats.{format_of}
 use Rattle.room_core.specs.History.{Entry, accepted, reply_of}
 use Rattle.room_core.specs.Noted.{Noted}
 use Rattle.room_core.specs.Headline.{Headline}
-use Rattle.room_core.specs.Serves.{MemoryHasCause, Stands, recorder_may_refuse}
+use Rattle.room_core.specs.Serves.{MemoryHasCause, ServesInto, Stands, recorder_may_refuse}
 use Rattle.out_ring.specs.Ring.{oldest_in}
 use Rattle.out_ring.specs.History.{GaveLately, GaveNoneLately}
 use Rattle.leg_switch.specs.Marks.{marks_of}
@@ -111,6 +112,11 @@ abbrev pub CallStarvesBy : {R : Type 0} → (R → Bool) → Bundles R → Call 
 CallStarvesBy may_refuse b call (Ok reply) = MemoryHasCause may_refuse b.room call reply
 CallStarvesBy may_refuse b call (Err why) = Unit {0}
 
+-- Where it is answered, the room does and answers what its own `serve` does, into the scratch too; else nothing changes.
+abbrev pub CallsWhole : {R : Type 0} → (R → Option (List Noted)) → (R → Bool) → (old new : Bundles R) → ℕ → Call → (before after : Scratch) → Result Reply BundleFault → Type 0
+CallsWhole noted may_refuse old new seat call before after (Ok reply) = ServesInto noted may_refuse old.room new.room seat call reply before after
+CallsWhole noted may_refuse old new seat call before after (Err why) = (new ≡ old) × (after ≡ before)
+
 -- whatever the bundles stand for, the room's headline holds of its history
 abbrev pub BundlesHeadline : {R : Type 0} → (R → Option (List Noted)) → Bundles R → Type 0
 BundlesHeadline noted b = (h : Simulcast) → StandsFor noted b h → Headline (accepted h.history)
@@ -193,11 +199,13 @@ Chooses noted old new number leg result = (h : Simulcast) → StandsFor noted ol
 
 -- ---- what a strict receiver makes of it
 
--- A strict receiver of what a bundle sends, and of each front of it, has no complaint, whatever the bundles stand for.
+-- A strict receiver of what a bundle sends, and of each front of it, has no complaint.
+abbrev pub Pleases : Made → Type 0
+Pleases m = (sends queued : List (List ℕ)) → sends ++ queued ≡ outgoing (marks_of m.id) m.first m.ssrc m.events → complaint (format_of m.id) (map read_packet sends) ≡ None
+
+-- so it is of each bundle, whatever the bundles stand for
 abbrev pub PleasesReceivers : {R : Type 0} → (R → Option (List Noted)) → Bundles R → Type 0
-PleasesReceivers noted b = (h : Simulcast) (i : ℕ) (m : Made) → StandsFor noted b h → slice_get h.made i ≡ Some m
-    → (sends queued : List (List ℕ)) → sends ++ queued ≡ outgoing (marks_of m.id) m.first m.ssrc m.events
-    → complaint (format_of m.id) (map read_packet sends) ≡ None
+PleasesReceivers noted b = (h : Simulcast) (i : ℕ) (m : Made) → StandsFor noted b h → slice_get h.made i ≡ Some m → Pleases m
 
 -- ---- a bundle
 

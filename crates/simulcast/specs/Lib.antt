@@ -6,3 +6,4 @@ pub mod Bundles
 pub mod Drawn
 pub mod Changes
 pub mod Answers
+pub mod Kept

@@ -62,7 +62,7 @@ impl<R: Recorder> Bundles<R> {
     ghost use Rattle.simulcast.specs.Made.{has_leg, just_made};
     ghost use Rattle.room_core.specs.History.{Entry, accepted};
     ghost use Rattle.room_core.specs.Serves.{Stands, recorder_may_refuse};
-    ghost use Rattle.simulcast.specs.Bundles.{Bundled, BundlesHeadline, Calls, CallStarvesBy, Chooses, Draws, PleasesReceivers, PumpsOne, Redraws, Simulcast, StandsFor, StarvesBy};
+    ghost use Rattle.simulcast.specs.Bundles.{Bundled, BundlesHeadline, Calls, CallsWhole, CallStarvesBy, Chooses, Draws, PleasesReceivers, PumpsOne, Redraws, Simulcast, StandsFor, StarvesBy};
     ghost use Rattle.simulcast.specs.Bundles.{bound_leg, bundle_refusal, forbids_by, has_kind, is_live, may_starve, nothing_made};
 
     /// The room, and no bundle yet.
@@ -208,7 +208,8 @@ impl<R: Recorder> Bundles<R> {
         }
     }
 
-    /// Serves a call of a seat on the room. `Bound`: it is a `take` or a `leave` of a leg of that bundle; nothing changes then.
+    /// Serves a call of a seat on the room, as `Room::serve` does. `Bound`: it is a `take` or a `leave` of a leg of that bundle; nothing changes
+    /// then, in the scratch neither.
     pub fn call(
         &mut self,
         seat: u32,
@@ -216,6 +217,7 @@ impl<R: Recorder> Bundles<R> {
         scratch: &mut Scratch,
     ) -> Result<Reply, BundleFault>
         ensures calls { Calls R.noted self.old self.new seat call.now scratch.new.packet scratch.new.names result }
+        ensures whole { CallsWhole R.noted R.may_refuse self.old self.new seat call.now scratch.old scratch.new result }
         ensures memory { CallStarvesBy R.may_refuse self.old call.now result }
         ensures recorder { may_starve R.may_refuse self.new ≡ may_starve R.may_refuse self.old }
     {
@@ -229,6 +231,7 @@ impl<R: Recorder> Bundles<R> {
     /// from each until nothing waits for it or 512 packets of the bundle are queued. `NoBundle`; `NoMemory`: the room refused a take.
     pub fn pump(&mut self, number: u32, scratch: &mut Scratch) -> Result<Pumped, BundleFault>
         ensures pumps { PumpsOne R.noted self.old self.new number result }
+        ensures unchanged { result ≡ Err BundleFault.NoBundle → scratch.new ≡ scratch.old }
         ensures pleases { PleasesReceivers R.noted self.new }
         ensures headline { BundlesHeadline R.noted self.new }
         ensures memory { StarvesBy R.may_refuse self.old result }

@@ -12,7 +12,10 @@ mod taken;
 
 pub use bundles::Bundles;
 pub use fault::BundleFault;
-pub use laws::{key_starts_go_out_once_the_active_leg_is_drained, what_was_drawn_stays};
+pub use laws::{
+    every_call_keeps_what_is_promised, key_starts_go_out_once_the_active_leg_is_drained,
+    what_was_drawn_stays,
+};
 pub use pumped::Pumped;
 
 #[cfg(test)]

@@ -40,7 +40,7 @@ behind Once held p ends = held
 behind Held None p ends = if ends then held_after Held None p else None
 behind Held (Some q) p ends = Some q
 
--- the packet behind this one
+-- the packet after this one
 abbrev pub place_after : Place → Place
 place_after p =
     if ends_frame p then record { frame = p.frame + 1; part = 0; sequence = p.sequence + 1 }

@@ -1,4 +1,4 @@
--- The texts that tell of a stream: what was made of it, and what a receiver counted of what came. Own rule.
+-- The texts about a stream: what was made of it, and what a receiver counted of what came. Own rule.
 use Rattle.std.specs.Prelude.{ℕ, List, ◌++◌, reverse, codes, decimal}
 use Rattle.stream_maker.specs.declared.counts.Counts.{Counts}
 use Rattle.stream_maker.specs.Packets.{packets}

@@ -1,4 +1,4 @@
-// What is still to be given of a packet's turn.
+// What is still to be sent in a packet's turn.
 
 ghost use Rattle.std.specs.Prelude.{◌≡◌, ◌++◌, [], IfNone};
 ghost use Rattle.std.specs.Option.{option_to_list};
@@ -7,14 +7,14 @@ ghost use Rattle.stream_maker.specs.Left.{behind, copies, held_after, due_places
 use crate::fate::Fate;
 use crate::place::Place;
 
-/// A packet that is sent, the one behind it, and the tick behind both.
+/// A packet that is sent, the one after it, and the tick after both.
 #[derive(Clone, Copy, Debug)]
 pub(crate) struct Due {
     /// The packet whose turn it is.
     pub(crate) place: Place,
     /// How often it is still to be sent.
     pub(crate) copies: u8,
-    /// The packet that is sent behind it.
+    /// The packet that is sent after it.
     pub(crate) behind: Option<Place>,
     /// Whether a tick follows, at the moment of its unit.
     pub(crate) ticks: bool,
@@ -25,12 +25,12 @@ pub(crate) struct Due {
 pub(crate) struct Turn {
     /// How often the packet is sent.
     pub(crate) copies: u8,
-    /// What is sent behind it: the packet that was held back before it; or at the end of the stream the one that is then.
+    /// What is sent after it: the packet that was held back before it, or, at the end of the stream, the one that is held back then.
     pub(crate) behind: Option<Place>,
     pub(crate) held: Option<Place>,
 }
 
-// The turn of a packet of this fate, behind which the stream may end.
+// The turn of a packet of this fate, after which the stream may end.
 #[tactic(auto, unfolding(crate::specs::Left::behind, crate::specs::Left::held_after))]
 pub(crate) fn turn_of(fate: Fate, held: Option<Place>, place: Place, ends_stream: bool) -> Turn
     ensures copies { result.copies ≡ copies fate held }

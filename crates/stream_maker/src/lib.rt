@@ -1,5 +1,5 @@
 //! A layered AV1 stream over RTP made from a number, with packets lost, repeated and swapped by a random generator: the same number makes the
-//! same stream. It stands in for a publisher behind a bad network. Only the texts that tell of it take memory.
+//! same stream. It plays a publisher behind a bad network. Only the texts about it take memory.
 #![tactic(auto)]
 
 mod counts;

@@ -32,8 +32,8 @@ impl Model for Maker {
 }
 
 impl Maker {
-    /// The stream of so many frames that the number `start` makes: of a hundred packets about `loss` are lost, as many are sent twice, and as
-    /// many are held back behind the next.
+    /// The stream of `frames` frames that the number `start` makes: of a hundred packets about `loss` are lost, as many are sent twice, and
+    /// as many are held back and sent after the next.
     pub fn new(frames: u32, start: u64, loss: u8) -> Maker
         requires some_frames { 1 ≤ frames }
         requires few_frames { frames ≤ 1000000 }

@@ -1,4 +1,4 @@
-// Where a packet stands in the stream.
+// The place of a packet in the stream.
 
 ghost use Rattle.std.specs.Prelude.{◌≡◌, ◌<◌, ◌^◌, None, Some, if◌then◌else◌};
 ghost use Rattle.stream_maker.specs.Packets.{is_upper, is_key_unit, packet_count, moment_of};
@@ -6,7 +6,7 @@ ghost use Rattle.stream_maker.specs.Bytes.{ends_frame};
 ghost use Rattle.stream_maker.specs.Order.{ends_stream, tick_due};
 ghost use Rattle.stream_maker.specs.Left.{place_after};
 
-/// Every so many units one is a key unit.
+/// The distance from one key unit to the next, in units.
 const KEY_UNITS: u32 = 50;
 
 /// One packet of a frame.
@@ -65,7 +65,7 @@ impl Place {
         self.part == packet_count(self.frame) - 1
     }
 
-    // The packet behind this one.
+    // The packet after this one.
     pub(crate) fn following(self) -> Place
         requires frame { self.frame < 2 ^ 31 }
         requires part { self.part < packet_count self.frame }
@@ -88,7 +88,7 @@ impl Place {
         }
     }
 
-    // It is the last packet of a stream of so many frames.
+    // Whether it is the last packet of a stream of `frames` frames.
     pub(crate) fn ends_stream(self, frames: u32) -> bool
         requires { 0 < frames }
         ensures { result ≡ ends_stream frames self }
@@ -96,7 +96,7 @@ impl Place {
         self.frame == frames - 1 && self.ends_frame()
     }
 
-    // A tick comes behind it: it is the last of its unit.
+    // Whether a tick comes after it: it is the last of its unit.
     pub(crate) fn ends_unit(self, frames: u32) -> bool
         requires { 0 < frames }
         ensures { tick_due frames self ≡ (if result then Some (moment_of self.frame) else None) }

@@ -13,7 +13,7 @@ use crate::place::{Place, moment_of};
 use rand_pcg::Lcg64Xsh32;
 use sfu_base::PacketBuf;
 
-// How long behind the last unit the last tick comes.
+// How long after the last unit the last tick comes.
 const LAST_WAIT: u64 = 1000;
 
 /// The parts of a maker.
@@ -22,7 +22,7 @@ pub(crate) struct State {
     pub(crate) frames: u32,
     pub(crate) loss: u8,
     pub(crate) generator: Lcg64Xsh32,
-    /// The packet that is made next, with the frame behind the last where all are made.
+    /// The packet that is made next; where all are made, the first of the frame after the last.
     pub(crate) next: Place,
     /// The packet that is held back.
     pub(crate) held: Option<Place>,

@@ -1,4 +1,4 @@
-// The texts that tell of a stream.
+// The texts about a stream.
 
 ghost use Rattle.std.specs.Prelude.{◌≡◌, IfOk};
 ghost use Rattle.std.specs.String.{string_bytes};
@@ -7,7 +7,7 @@ ghost use Rattle.stream_maker.specs.Summary.{counts_text, made_text};
 use crate::counts::Counts;
 use std::alloc::{AllocError, Global};
 
-/// The two lines that say what was made of a stream. An error: there wasn't memory enough.
+/// The two lines that say what was made of a stream. Returns an error where there wasn't enough memory.
 pub fn made_text(alloc: Global, counts: Counts) -> Result<String, AllocError>
     ensures { IfOk result (λ text. string_bytes text ≡ made_text counts) }
 {
@@ -23,7 +23,8 @@ pub fn made_text(alloc: Global, counts: Counts) -> Result<String, AllocError>
     )
 }
 
-/// The line of a subscriber that got so many frames and packets of a stream, and has so many complaints. An error: there wasn't memory enough.
+/// The line of the subscriber `number`: it got `frames` frames and `packets` packets, and has `complaints` complaints. Returns an error where
+/// there wasn't enough memory.
 pub fn counts_text(
     alloc: Global,
     number: u32,

@@ -1,4 +1,4 @@
--- What the answers of receivers say of packets. Own statements. The definition's complaint is over packets; a receiver sees bytes.
+-- What the complaints of receivers say about packets. Own statements. The definition's complaint is over packets; a receiver sees bytes.
 use Rattle.std.specs.Prelude.{◌≡◌, ◌<◌, ◌^◌, ◌++◌, ℕ, Bool, List, map, None, Some}
 use Rattle.std.specs.List.{AllByRecursion}
 use Rattle.forwarding_model.specs.declared.complaint.Complaint.{Complaint}
@@ -11,7 +11,7 @@ use Rattle.strict_receiver.specs.Receivers.{Seen, StandsFor, complaint_over}
 
 -- ---- what was fed
 
--- a receiver tells the complaint of the packets that it stands for
+-- a receiver returns the complaint of the packets that it stands for
 abbrev pub TellsItsComplaint : Type 0
 TellsItsComplaint = (now : Seen) (history : List (List ℕ)) → StandsFor now history → complaint_of now.receiver ≡ complaint_over now.id history
 

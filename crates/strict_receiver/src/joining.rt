@@ -1,4 +1,4 @@
-// How a frame begins, and which packets go on with it.
+// How a frame begins, and which packets continue it.
 
 ghost use Rattle.std.specs.Prelude.{◌≡◌, ◌<◌, ◌&&◌, Bool, Option, not, true};
 ghost use Rattle.forwarding_model.specs.Receiver.{first_packet, header_of};
@@ -10,7 +10,7 @@ use crate::frame::{FrameStart, OpenFrame};
 use dd_descriptor::Descriptor;
 use packet_format::begins_epoch;
 
-/// A frame has at most so many packets.
+/// The most packets of a frame.
 const MOST_PACKETS: u16 = 512;
 
 /// Whether a frame begins with a packet with this descriptor, where none is open: it starts one, and continues no element.
@@ -46,7 +46,7 @@ fn start_of(first: &Descriptor) -> FrameStart
     }
 }
 
-/// Whether a packet with this descriptor goes on with the frame: it starts none, has the frame's number, continues an element where one was
+/// Whether a packet with this descriptor continues the frame: it starts none, has the frame's number, continues an element where one was
 /// left open, and isn't the 513th.
 pub fn goes_on(frame: &OpenFrame, descriptor: &Descriptor, continues: bool) -> bool
     ensures follows { (force : Option TemplateStructure) → result ≡ follows (frame_said frame.now) (said_by force descriptor.now) continues }

@@ -1,4 +1,4 @@
-//! A strict receiver: it sees the packets of one layered track and the id of its descriptors' header extension, and tells the first thing
+//! A strict receiver: it sees the packets of one layered track and the id of its descriptors' header extension, and returns the first thing
 //! that is wrong with them. What a forwarder sends is right where such a receiver has no complaint. Only its constructor takes memory.
 #![tactic(auto)]
 

@@ -32,13 +32,13 @@ impl Model for ReceivedFrames {
     ghost invariant = { λ frames. frames.newest < 2 ^ 24 + 65536 };
 }
 
-/// From here on numbers are lowered.
+/// From this number on, all numbers are lowered.
 const TOO_HIGH: u64 = 1 << 24;
 
-/// A number that lies further ahead is read as behind.
+/// A number that is further ahead is read as behind.
 const FARTHEST_AHEAD: u64 = 32767;
 
-/// A frame may refer so far back from the next one.
+/// How far back a frame may lie that the next one refers to.
 const SPAN: u64 = 4096;
 
 impl ReceivedFrames {
@@ -52,7 +52,7 @@ impl ReceivedFrames {
         }
     }
 
-    /// A whole frame begins so. Answers the first distance at which a frame isn't received that it refers to; where there is none, the
+    /// A whole frame begins so. Returns the first distance at which a frame isn't received that it refers to; where there is none, the
     /// frame counts as received.
     pub fn judge(&mut self, start: &FrameStart) -> Option<u16>
         ensures { (received : Received) → AreKeptOf self.old received

@@ -14,9 +14,9 @@ use sfu_base::NoMemory;
 use std::alloc::Global;
 use std::marker::Model;
 
-/// A strict receiver of the packets of one layered track (own rule): it sees them alone, and knows the id of the header extension that
-/// their dependency descriptors have. Clauses see the id, the receiver of `forwarding_model` with those received numbers that are kept, and
-/// both counts.
+/// A strict receiver of the packets of one layered track (own rule): it sees only them, and knows the id of the header extension that has
+/// their dependency descriptors. Clauses see the id, the receiver of `forwarding_model` with those received numbers that are kept, and both
+/// counts.
 #[derive(Drop)]
 pub struct Receiver {
     // On the heap, since it has two template structures, and a receiver is moved about.
@@ -38,7 +38,7 @@ impl Model for Receiver {
 }
 
 impl Receiver {
-    /// A receiver that no packet came to yet, of descriptors with this header extension id. All its memory is taken here.
+    /// A receiver that has seen no packet yet, for descriptors with this header extension id. All its memory is taken here.
     pub fn new(alloc: Global, id: u8) -> Result<Receiver, NoMemory>
         ensures id { IfOk result (λ receiver. receiver.id ≡ id) }
         ensures stands { IfOk result (λ receiver. StandsFor receiver []) }
@@ -50,8 +50,8 @@ impl Receiver {
         })
     }
 
-    /// The next packet's bytes. The complaint is the first thing that is wrong with them. From then on each call answers that complaint and
-    /// changes nothing.
+    /// Takes the next packet's bytes. The complaint is the first thing that is wrong with them. From then on each call returns that
+    /// complaint and changes nothing.
     pub fn feed(&mut self, packet: &[u8]) -> Result<(), Complaint>
         ensures id { self.new.id ≡ self.old.id }
         ensures stands { (history : List (List ℕ)) → StandsFor self.old history → StandsFor self.new (history ++ packet.now ∷ []) }

@@ -22,7 +22,7 @@ use forwarding_model::Complaint;
 use packet_format::{PayloadFlags, Shown, begins_epoch, show};
 use rtp_packet::Rtp;
 
-/// How far a receiver has come.
+/// The progress of a receiver.
 #[derive(Clone, Copy, Debug)]
 pub enum Stage {
     /// No packet came.
@@ -196,7 +196,7 @@ impl State {
         }
     }
 
-    // The newest packet begins a frame, where none is open, or goes on with the open one; else the frame isn't whole.
+    // The newest packet begins a frame, where none is open, or continues the open one; else the frame isn't whole.
     fn join(&mut self, continues: bool, carries: bool) -> bool
         requires { HasDistances self.old.newest }
         ensures rest { self.new ≡ record self.old { frame = self.new.frame } }
@@ -225,7 +225,7 @@ impl State {
         }
     }
 
-    // The open frame, with the newest packet's end bit: it goes on, or has ended, or isn't whole or lacks a reference.
+    // The open frame, with the newest packet's end bit: it continues, or has ended, or isn't whole or lacks a reference.
     fn finish(&mut self) -> Result<(), Complaint>
         requires { is_some self.old.frame ≡ true }
         ensures rest { self.new ≡ record self.old { frame = self.new.frame; received = self.new.received } }

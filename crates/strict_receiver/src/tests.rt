@@ -1,4 +1,4 @@
-// Rows of packets, and what a receiver answers to the last of them.
+// Rows of packets, and what a receiver returns for the last of them.
 
 ghost use Rattle.std.specs.Prelude.{◌≤◌};
 
@@ -8,7 +8,7 @@ use std::test::Fail;
 
 // ---- packets
 
-// A key frame and the next one, as they go out to a subscriber.
+// A key frame and the next one, as they are sent to a subscriber.
 const KEY_FRAME: [u8; 31] = [
     0x90, 0xe0, 0xff, 0xff, 0, 0, 0, 0, 0x22, 0x22, 0x22, 0x22, 0xbe, 0xde, 0x00, 0x03, 0x48, 0xc0,
     0x00, 0x01, 0x80, 0x00, 0x3a, 0x41, 0x01, 0x00, 0x00, 0x00, 0x18, 0x30, 0x00,
@@ -36,7 +36,7 @@ fn a_repeated_packet_is_complained_of_for_good(rt: HostRuntime) -> Result<(), Fa
 
 const SOURCE: u32 = 0x1111_1111;
 
-// A packet whose descriptor stands under id 4 in the one-byte form.
+// A packet that has its descriptor under id 4 in the one-byte form.
 #[derive(Drop)]
 struct Packet {
     bytes: [u8; 48],
@@ -68,7 +68,7 @@ fn packet_with(ssrc: u32, seq: u16, descriptor: &[u8], payload: &[u8]) -> Option
 // A sequence number, a descriptor and a payload.
 type Step<'a> = (u16, &'a [u8], &'a [u8]);
 
-// What is answered to such a packet; none where it is too long.
+// What is returned for such a packet; none where it is too long.
 fn answer_to(receiver: &mut Receiver, step: Step<'_>) -> Option<Result<(), Complaint>> {
     let (seq, descriptor, payload) = step;
     let Packet { bytes, len } = packet_with(SOURCE, seq, descriptor, payload)?;
@@ -126,7 +126,7 @@ const END_2: [u8; 3] = [0x41, 0x00, 0x02];
 
 const END_3: [u8; 3] = [0x41, 0x00, 0x03];
 
-// One element; one that goes on in the next packet; one that does so and comes from the one before; one that only does that.
+// One element; one that continues in the next packet; one that does so and comes from the one before; one that only does that.
 const CLOSED: [u8; 3] = [0x10, 0x30, 0x00];
 
 const CARRIES: [u8; 3] = [0x50, 0x30, 0x00];
@@ -140,8 +140,8 @@ const BROKEN: [u8; 1] = [0x20];
 
 // ---- rows
 
-// All but the last of these are accepted, and the last is answered so. The counts are those of what was accepted. After a complaint that
-// one is answered to whatever comes, and nothing changes.
+// All but the last of these are accepted, and this is returned for the last. The counts are those of what was accepted. After a complaint
+// that one is returned whatever comes, and nothing changes.
 fn answers_last(
     rt: &impl Abort,
     receiver: &mut Receiver,

@@ -1,14 +1,19 @@
 -- Which standings a selector stands for. Own rules.
 -- The standing of a timeline goes event by event, so a fact about every standing that a selector stands for is one about every timeline.
-use Rattle.std.specs.Prelude.{◌≡◌, ◌<◌, ℕ, Bool, true, false, Option}
+use Rattle.std.specs.Prelude.{◌≡◌, ◌<◌, ◌&&◌, ℕ, Bool, true, false, Option}
 use Rattle.std.specs.List.{AllByRecursion, list_any}
 use Rattle.std.specs.declared.option.Option.TheVariants.{None, Some}
 use Rattle.sfu_base.specs.declared.frame.FrameMeaning.{FrameMeaning}
-use Rattle.forwarding_model.specs.forwarding.Selection.{opening}
-use Rattle.forwarding_model.specs.forwarding.Standing.{Standing, has_passed, is_key, kept_target_at, key_passed, passed_at, target_at}
+use Rattle.forwarding_model.specs.forwarding.Selection.{candidate_verdict, has_room, is_present_in, opened_or, opening, reference_verdict, target_of, target_verdict}
+use Rattle.forwarding_model.specs.forwarding.Standing.{Standing, candidate_at, has_passed, is_key, kept_target_at, key_passed, passed_at, passes_at, target_at, verdict_at}
 use Rattle.ref_window.specs.Numbers.{held_of}
 use Rattle.chain_state.specs.Links.{numbers_of}
+use Rattle.sfu_base.specs.declared.frame.Wish.{Wish}
+use Rattle.sfu_base.specs.declared.frame.Verdict.{Verdict}
+use Rattle.forwarding_model.specs.declared.target.CurrentTarget.{CurrentTarget}
+use Rattle.forwarding_model.specs.Lists.{is_nothing}
 use Rattle.target_selector.specs.Seen.{Seen}
+use Rattle.target_selector.specs.declared.selector.Judgement.{Judgement}
 
 -- all but what is queued and what passed in earlier epochs
 pub record StandsFor (x : Seen) (s : Standing) : Type 0 where
@@ -26,6 +31,14 @@ pub record StandsAt (x : Seen) (s : Standing) (f : FrameMeaning) : Type 0 where
   pub key_passed : x.key_passed ≡ key_passed s f
   pub numbers : x.numbers ≡ held_of (numbers_of (passed_at s f))
 
+-- the same once the rules on the mask and the link were applied: what is left of the target stays where the frame doesn't pass
+pub record KeepsAt (x : Seen) (s : Standing) (f : FrameMeaning) : Type 0 where
+  pub wish : x.wish ≡ s.wish
+  pub epoch : x.epoch ≡ Some f.epoch
+  pub target : x.target ≡ kept_target_at s f
+  pub key_passed : x.key_passed ≡ key_passed s f
+  pub numbers : x.numbers ≡ held_of (numbers_of (passed_at s f))
+
 -- each frame that passed in the epoch lies below the frame
 abbrev pub IsAboveAll : FrameMeaning → Standing → Type 0
 IsAboveAll f s = AllByRecursion (λ g. g.number < f.number) s.epoch_passed
@@ -37,3 +50,19 @@ is_something (Some n) = true
 -- where f passes, it opens its target
 abbrev pub is_opening_at : Standing → FrameMeaning → Bool
 is_opening_at s f = is_something (opening (has_passed s f) (key_passed s f) s.wish f (kept_target_at s f))
+
+-- whether the frame passes, and the verdict on it, by its first reference that wasn't passed, what it opens, and what is left of the target
+abbrev pub passes_by : FrameMeaning → ℕ → ℕ → CurrentTarget → Option ℕ → Option ℕ → Bool
+passes_by f packets queued kept missing opened = is_present_in f (opened_or f opened kept) && (is_nothing missing && has_room queued packets)
+
+abbrev pub verdict_by : FrameMeaning → ℕ → ℕ → Wish → CurrentTarget → Option ℕ → Option ℕ → Verdict
+verdict_by f packets queued wish kept missing opened =
+    target_verdict f (target_of wish f (opened_or f opened kept))
+    (reference_verdict f missing (candidate_verdict queued packets (opened_or f opened kept)))
+
+-- what was found of a frame is what the rules say of it at the standing
+pub record IsJudged (s : Standing) (f : FrameMeaning) (packets queued : ℕ) (kept : CurrentTarget) (found : Judgement) : Type 0 where
+  pub candidate : opened_or f found.opening kept ≡ candidate_at s f
+  pub opens : is_something found.opening ≡ is_opening_at s f
+  pub passes : found.passes ≡ passes_at s f packets
+  pub verdict : verdict_by f packets queued s.wish kept found.missing found.opening ≡ verdict_at s f packets

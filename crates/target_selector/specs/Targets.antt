@@ -1,11 +1,13 @@
--- Facts that keep indexes within arrays, and tests as the code makes them.
-use Rattle.std.specs.Prelude.{◌<◌, ℕ, Bool, true, if◌then◌else◌, Option}
+-- Facts that keep indexes within arrays, and tests as the code makes them, by the layers of a frame's targets.
+use Rattle.std.specs.Prelude.{◌≡◌, ◌<◌, ◌/◌, ◌%◌, ◌^◌, ◌==◌, ◌&&◌, ◌+◌, ◌*◌, ℕ, zero, suc, List, Bool, true, false, if◌then◌else◌, slice_index_or}
+use Rattle.std.specs.declared.option.Option.{Option}
 use Rattle.std.specs.declared.option.Option.TheVariants.{None, Some}
-use Rattle.sfu_base.specs.declared.frame.FrameMeaning.{FrameMeaning}
 use Rattle.sfu_base.specs.declared.frame.Wish.{Wish}
 use Rattle.forwarding_model.specs.declared.target.CurrentTarget.{CurrentTarget}
 use Rattle.forwarding_model.specs.declared.target.CurrentTarget.TheVariants.{Open, Closed}
-use Rattle.forwarding_model.specs.forwarding.Targets.{is_allowed, is_better}
+use Rattle.forwarding_model.specs.declared.target.Reason.{Reason}
+use Rattle.forwarding_model.specs.forwarding.Targets.{is_better_of, is_within}
+use Rattle.target_selector.specs.declared.frame_targets.Ranked.{Ranked}
 
 abbrev pub IsIndexBelow : ℕ → CurrentTarget → Type 0
 IsIndexBelow n (Open target opened) = target < n
@@ -15,12 +17,50 @@ abbrev pub IsBelow : ℕ → Option ℕ → Type 0
 IsBelow n None = Unit {0}
 IsBelow n (Some target) = target < n
 
--- there is no other, or the target is better
-abbrev pub beats : FrameMeaning → ℕ → Option ℕ → Bool
-beats f target None = true
-beats f target (Some other) = is_better f target other
+-- closed, where there is a reason
+abbrev pub closed_or : Option Reason → CurrentTarget → CurrentTarget
+closed_or None target = target
+closed_or (Some reason) target = Closed reason
 
--- the open target, if the wish allows it
-abbrev pub allowed_one : Wish → FrameMeaning → CurrentTarget → Option ℕ
-allowed_one wish f (Open target opened) = if is_allowed wish f target then Some target else None
-allowed_one wish f (Closed reason) = None
+-- the target's bit is set in the mask, the lowest bit for target 0
+abbrev pub is_bit : ℕ → ℕ → Bool
+is_bit mask target = (mask / 2 ^ target) % 2 == 1
+
+-- ---- the definitions on a frame's targets, by their layers
+
+abbrev pub layers_in : List (Option Wish) → ℕ → Option Wish
+layers_in pairs target = slice_index_or pairs target None
+
+-- the target is one of these, and its layers are within the wish
+abbrev pub allows : Wish → ℕ → List (Option Wish) → ℕ → Bool
+allows wish among pairs target = is_bit among target && is_within wish (layers_in pairs target)
+
+abbrev pub better_in : List (Option Wish) → Bool → ℕ → Option ℕ → Option ℕ
+better_in pairs passes target None = if passes then Some target else None
+better_in pairs passes target (Some other) =
+    if passes && is_better_of (layers_in pairs target) (layers_in pairs other) target other then Some target else Some other
+
+abbrev pub best_in : List (Option Wish) → (ℕ → Bool) → ℕ → Option ℕ
+best_in pairs test zero = None
+best_in pairs test (suc target) = better_in pairs (test target) target (best_in pairs test target)
+
+-- ---- the best so far, with how high its layers are
+
+-- the spatial id decides, then the temporal
+abbrev pub height : Wish → ℕ
+height layers = layers.spatial * 256 + layers.temporal
+
+-- it lies below n, and a better one behind it is higher
+pub record IsHigh (pairs : List (Option Wish)) (n target least : ℕ) : Type 0 where
+  pub layers : Wish
+  pub before : target < n
+  pub layers_are : layers_in pairs target ≡ Some layers
+  pub least_is : least ≡ height layers + 1
+  pub small : layers.temporal < 256
+
+abbrev pub IsHighest : List (Option Wish) → ℕ → Option ℕ → ℕ → Type 0
+IsHighest pairs n None least = least ≡ 0
+IsHighest pairs n (Some target) least = IsHigh pairs n target least
+
+abbrev pub IsRanked : List (Option Wish) → ℕ → Ranked → Type 0
+IsRanked pairs n best = IsHighest pairs n best.target best.least

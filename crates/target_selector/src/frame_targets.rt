@@ -1,36 +1,23 @@
-// What a selector keeps of the last frame: its decode targets (RTP Payload Format For AV1, Appendix A), as far as questions between frames need.
-ghost use Rattle.std.specs.Prelude.{◌≡◌, ◌<◌, None, slice_index_or};
-ghost use Rattle.sfu_base.specs.Frame.{IsValid};
-ghost use Rattle.target_selector.specs.Reaching.{IsSmall, targets_of};
+// A frame's decode targets (AV1 RTP payload format, Appendix A: templates' layers, active_decode_targets_bitmask), and which of them is allowed
+// and best (own rules).
+ghost use Rattle.std.specs.Prelude.{◌≡◌, ◌+◌, ◌≤◌, ◌<◌, ◌^◌, ◌==◌, ◌||◌, ◌&&◌, nat_lt, if◌then◌else◌};
+ghost use Rattle.forwarding_model.specs.forwarding.Targets.{is_better_of, is_better_pair, is_within};
+ghost use Rattle.target_selector.specs.Masks.{targets_where};
+ghost use Rattle.target_selector.specs.Reaching.{targets_of};
+ghost use Rattle.target_selector.specs.Targets.{IsBelow, IsRanked, allows, best_in, better_in, height, is_bit, layers_in};
 
-use sfu_base::{Dti, FrameMeaning, Wish};
+use sfu_base::{FrameMeaning, Wish};
+
+/// The layers of each decode target: none where no template of the frame is present in it.
+pub type Pairs = [Option<Wish>; 32];
 
 /// A frame's decode targets: how many, which are active, and the layers of each.
 #[derive(Clone, Copy, Debug)]
 pub struct FrameTargets {
-    count: u8,
-    mask: u32,
-    pairs: [Option<Wish>; 32],
+    pub count: u8,
+    pub mask: u32,
+    pub pairs: Pairs,
 }
-
-// The meaning of a frame of which nothing is known.
-const NO_MEANING: FrameMeaning = FrameMeaning {
-    number: 0,
-    start: 0,
-    epoch: 0,
-    spatial: 0,
-    temporal: 0,
-    key: false,
-    mask: 0,
-    target_count: 0,
-    dtis: [Dti::NotPresent; 32],
-    pairs: [None; 32],
-    chain_count: 0,
-    guards: [0; 32],
-    links: [0; 32],
-    ref_count: 0,
-    refs: [0; 16],
-};
 
 impl FrameTargets {
     /// The frame's targets.
@@ -52,26 +39,137 @@ impl FrameTargets {
         self.mask = frame.mask;
         self.pairs = frame.pairs;
     }
+}
 
-    /// The layers of a target, where a template of the frame is present in it.
-    pub fn layers(&self, target: u8) -> Option<Wish>
-        requires { target < 32 }
-        ensures { result ≡ slice_index_or self.now.pairs target None }
-    {
-        self.pairs[usize::from(target)]
+/// The best target so far, if there is one, and the least height of a better one behind it.
+#[derive(Clone, Copy, Debug)]
+pub struct Ranked {
+    pub target: Option<u8>,
+    pub least: u32,
+}
+
+/// The best of these targets below `count` whose layers are within the wish.
+#[tactic(auto, using(crate::proofs::Bests::best_step))]
+pub fn best_of(wish: Wish, among: u32, count: u8, pairs: &Pairs) -> Option<u8>
+    requires { count ≤ 32 }
+    ensures value { result ≡ best_in pairs.now (allows wish among pairs.now) count }
+    ensures below { IsBelow 32 result }
+{
+    let mut best = Ranked {
+        target: None,
+        least: 0,
+    };
+    for target in 0..count {
+        best = better(wish, among, pairs, target, best);
     }
+    best.target
+}
 
-    /// The meaning of a frame with these targets, of which nothing else is known.
-    pub fn meaning(&self) -> FrameMeaning
-        requires { IsSmall self.now }
-        ensures targets { targets_of result ≡ self.now }
-        ensures valid { IsValid result }
-    {
-        FrameMeaning {
-            target_count: self.count,
-            mask: self.mask,
-            pairs: self.pairs,
-            ..NO_MEANING
+// The target, if it is one of these, its layers are within the wish, and it is better than the best of those before it; else that one.
+fn better(wish: Wish, among: u32, pairs: &Pairs, target: u8, best: Ranked) -> Ranked
+    requires target { target < 32 }
+    requires best { IsRanked pairs.now target best }
+    ensures value { result.target ≡ better_in pairs.now (allows wish among pairs.now target) target best.target }
+    ensures ranked { IsRanked pairs.now (target + 1) result }
+{
+    match layers(pairs, target) {
+        Some(own) => {
+            if has_bit(among, target) && is_within(wish, Some(own)) && best.least <= height(own) {
+                Ranked {
+                    target: Some(target),
+                    least: height(own) + 1,
+                }
+            } else {
+                best
+            }
         }
+        None => best,
+    }
+}
+
+// Of two targets that with the higher layers is better.
+fn height(layers: Wish) -> u32
+    ensures height { result ≡ height layers }
+    ensures temporal { layers.temporal < 256 }
+    ensures below { result < 65536 }
+{
+    u32::from(layers.spatial) * 256 + u32::from(layers.temporal)
+}
+
+/// The target's layers.
+pub fn layers(pairs: &Pairs, target: u8) -> Option<Wish>
+    requires { target < 32 }
+    ensures { result ≡ layers_in pairs.now target }
+{
+    pairs[usize::from(target)]
+}
+
+/// Whether the target is one of these, and its layers are within the wish.
+pub fn is_allowed(wish: Wish, among: u32, pairs: &Pairs, target: u8) -> bool
+    requires { target < 32 }
+    ensures { result ≡ allows wish among pairs.now target }
+{
+    has_bit(among, target) && is_within(wish, layers(pairs, target))
+}
+
+/// Whether the target is better than another.
+pub fn is_better(pairs: &Pairs, target: u8, other: u8) -> bool
+    requires target { target < 32 }
+    requires other { other < 32 }
+    ensures { result ≡ is_better_of (layers_in pairs.now target) (layers_in pairs.now other) target other }
+{
+    match (layers(pairs, target), layers(pairs, other)) {
+        (None, _) => false,
+        (Some(_), None) => true,
+        (Some(pair), Some(other_pair)) => is_better_pair(pair, other_pair, target, other),
+    }
+}
+
+// The greater spatial id first, then the greater temporal id, then the lower index.
+fn is_better_pair(pair: Wish, other_pair: Wish, target: u8, other: u8) -> bool
+    ensures { result ≡ is_better_pair pair other_pair target other }
+{
+    other_pair.spatial < pair.spatial
+        || (pair.spatial == other_pair.spatial
+            && (other_pair.temporal < pair.temporal
+                || (pair.temporal == other_pair.temporal && target < other)))
+}
+
+/// The mask of these targets below `count` whose layers are at most the given ones.
+pub fn mask_within(most: Wish, among: u32, count: u8, pairs: &Pairs) -> u32
+    requires { count ≤ 32 }
+    ensures { result ≡ targets_where (allows most among pairs.now) count }
+{
+    let mut mask = 0;
+    for target in 0..count {
+        mask = with_target(mask, target, is_allowed(most, among, pairs, target));
+    }
+    mask
+}
+
+/// The mask with the target's bit, if it is to have it.
+pub fn with_target(mask: u32, target: u8, has: bool) -> u32
+    requires target { target < 32 }
+    requires mask { mask < 2 ^ target }
+    ensures { result ≡ mask + (if has then 2 ^ target else 0) }
+{
+    if has { mask + (1 << target) } else { mask }
+}
+
+/// Whether the target's bit is set in the mask.
+pub fn has_bit(mask: u32, target: u8) -> bool
+    requires { target < 32 }
+    ensures { result ≡ is_bit mask target }
+{
+    (mask >> target) % 2 == 1
+}
+
+/// Whether there are layers, and both are at most the wish's.
+pub fn is_within(wish: Wish, pair: Option<Wish>) -> bool
+    ensures { result ≡ is_within wish pair }
+{
+    match pair {
+        None => false,
+        Some(pair) => pair.spatial <= wish.spatial && pair.temporal <= wish.temporal,
     }
 }

@@ -1,28 +1,35 @@
 // The standing of a subscriber, as far as it decides on frames.
-ghost use Rattle.std.specs.Prelude.{◌≡◌, ◌+◌, ◌≤◌, ◌||◌, ◌∷◌, Option, Some, false};
+ghost use Rattle.std.specs.Prelude.{◌≡◌, ◌+◌, ◌≤◌, ◌||◌, ◌&&◌, ◌∷◌, Option, Some, false};
 ghost use Rattle.std.specs.Option.{option_map};
 ghost use Rattle.sfu_base.specs.declared.frame.FrameMeaning.{FrameMeaning as Meaning};
 ghost use Rattle.sfu_base.specs.Frame.{IsValid};
 ghost use Rattle.sfu_base.specs.declared.frame.Verdict.TheVariants.{Passed};
+ghost use Rattle.forwarding_model.specs.Lists.{is_nothing};
 ghost use Rattle.forwarding_model.specs.forwarding.Outgoing.{is_top_layer};
-ghost use Rattle.forwarding_model.specs.forwarding.Selection.{open_target};
+ghost use Rattle.forwarding_model.specs.forwarding.Selection.{has_room, is_present_in, open_target, opened_or};
 ghost use Rattle.forwarding_model.specs.forwarding.Standing.{Standing, after_frame, candidate_at, joined, verdict_at};
 ghost use Rattle.ref_window.specs.Numbers.{IsAboveAll as IsAboveAllNumbers, held_of};
 ghost use Rattle.target_selector.specs.Reaching.{is_aimed, reaches, target_layers, targets_of};
 ghost use Rattle.target_selector.specs.Seen.{begun};
-ghost use Rattle.target_selector.specs.Shared.{IsSharedOn};
-ghost use Rattle.target_selector.specs.Stands.{IsAboveAll, StandsAt, StandsFor, is_opening_at};
-ghost use Rattle.target_selector.specs.Targets.{IsBelow, IsIndexBelow};
+ghost use Rattle.target_selector.specs.Stands.{IsAboveAll, IsJudged, KeepsAt, StandsAt, StandsFor, is_opening_at, is_something, passes_by, verdict_by};
+ghost use Rattle.target_selector.specs.Targets.{IsBelow, IsIndexBelow, closed_or};
 
-use crate::decision::{Decision, Stay, decide, stays};
-use crate::frame_targets::FrameTargets;
-use crate::opening::aim;
-use crate::shared_decision::SharedDecision;
-use crate::targets::is_top_layer;
+use crate::frame_offer::FrameOffer;
+use crate::frame_targets::{FrameTargets, best_of, layers};
+use crate::passed_frames::{closing, missing_reference};
+use crate::withheld::{has_room, withheld};
 use forwarding_model::{CurrentTarget, Reason};
 use ref_window::RefWindow;
 use sfu_base::{FrameMeaning, Verdict, Wish};
 use std::marker::Model;
+
+/// What is found of a frame: its first reference that wasn't passed, the best target that it can open, and whether it passes.
+#[derive(Clone, Copy, Debug)]
+pub struct Judgement {
+    pub missing: Option<u16>,
+    pub opening: Option<u8>,
+    pub passes: bool,
+}
 
 /// Which frames a subscriber is sent. Clauses see its wish, the epoch, the target or why there is none, which of the epoch's frames were
 /// passed, as far as a later frame can refer to them, the targets of the last frame, and two facts about it.
@@ -104,18 +111,23 @@ impl Selector {
         ensures layers { (newest : Option Meaning) → self.now.newest ≡ option_map targets_of newest → result ≡ target_layers newest self.now.target }
     {
         match (self.target, &self.newest) {
-            (CurrentTarget::Open { index, opened: _ }, Some(targets)) => targets.layers(index),
+            (CurrentTarget::Open { index, opened: _ }, Some(targets)) => {
+                layers(&targets.pairs, index)
+            }
             _ => None,
         }
     }
 
     /// Whether the open target is the best that the wish allows at the last frame: false where no target is open.
-    #[tactic(auto, using(crate::proofs::Reaching::reaches_kept))]
+    #[tactic(auto, using(crate::proofs::Bests::reaches_kept))]
     pub fn reaches_wish(&self) -> bool
         ensures reaches { (newest : Option Meaning) → self.now.newest ≡ option_map targets_of newest → result ≡ reaches newest self.now.wish self.now.target }
     {
         match &self.newest {
-            Some(targets) => is_aimed(aim(self.wish, &targets.meaning()), self.target),
+            Some(targets) => is_aimed(
+                best_of(self.wish, targets.mask, targets.count, &targets.pairs),
+                self.target,
+            ),
             None => false,
         }
     }
@@ -135,55 +147,32 @@ impl Selector {
         ensures not_opened { (result ≡ Passed → ⊥) → self.new.opened ≡ false }
         ensures newest { self.new.newest ≡ Some (targets_of frame.now) }
     {
-        self.admit_shared(frame, packets, queued, &mut SharedDecision::new())
+        self.admit_offered(&FrameOffer::new(frame, packets), queued)
     }
 
-    /// The same, where `shared` is what was found at this frame for other subscribers, and is left to the next.
+    /// The same of an offered frame, whose offer was made once for all subscribers.
     #[inline(always)]
-    pub fn admit_shared(
-        &mut self,
-        frame: &FrameMeaning,
-        packets: u16,
-        queued: u16,
-        shared: &mut SharedDecision,
-    ) -> Verdict
-        requires valid { IsValid frame.now }
-        requires shared { IsSharedOn frame.now shared.old }
-        ensures verdict { (s : Standing) → StandsFor self.old s → IsAboveAll frame.now s → s.queued ≡ queued → result ≡ verdict_at s frame.now packets }
-        ensures stands { (s : Standing) → StandsFor self.old s → IsAboveAll frame.now s → s.queued ≡ queued
-            → StandsFor self.new (after_frame s frame.now packets) }
-        ensures room { result ≡ Passed → queued + packets ≤ 512 }
-        ensures top { (s : Standing) → StandsFor self.old s → IsAboveAll frame.now s → s.queued ≡ queued → result ≡ Passed
-            → self.new.top ≡ is_top_layer frame.now (candidate_at s frame.now) }
-        ensures opened { (s : Standing) → StandsFor self.old s → IsAboveAll frame.now s → s.queued ≡ queued → result ≡ Passed
-            → self.new.opened ≡ is_opening_at s frame.now }
+    pub fn admit_offered(&mut self, offer: &FrameOffer<'_>, queued: u16) -> Verdict
+        ensures verdict { (s : Standing) → StandsFor self.old s → IsAboveAll offer.now.frame s → s.queued ≡ queued
+            → result ≡ verdict_at s offer.now.frame offer.now.packets }
+        ensures stands { (s : Standing) → StandsFor self.old s → IsAboveAll offer.now.frame s → s.queued ≡ queued
+            → StandsFor self.new (after_frame s offer.now.frame offer.now.packets) }
+        ensures room { result ≡ Passed → queued + offer.now.packets ≤ 512 }
+        ensures top { (s : Standing) → StandsFor self.old s → IsAboveAll offer.now.frame s → s.queued ≡ queued → result ≡ Passed
+            → self.new.top ≡ is_top_layer offer.now.frame (candidate_at s offer.now.frame) }
+        ensures opened { (s : Standing) → StandsFor self.old s → IsAboveAll offer.now.frame s → s.queued ≡ queued → result ≡ Passed
+            → self.new.opened ≡ is_opening_at s offer.now.frame }
         ensures not_top { (result ≡ Passed → ⊥) → self.new.top ≡ false }
         ensures not_opened { (result ≡ Passed → ⊥) → self.new.opened ≡ false }
-        ensures newest { self.new.newest ≡ Some (targets_of frame.now) }
-        ensures shared { IsSharedOn frame.now shared.new }
+        ensures newest { self.new.newest ≡ Some (targets_of offer.now.frame) }
     {
-        self.begin_epoch(frame);
-        match stays(
-            self.wish,
-            self.target,
-            self.key_passed,
-            &self.passed,
-            frame,
-            packets,
-            queued,
-            shared,
-        ) {
-            Stay::Passes => {
-                self.go_on(frame);
-                Verdict::Passed
-            }
-            Stay::NotOfTarget => {
-                self.stay_behind();
-                Verdict::NotOfTarget {
-                    target: self.target(),
-                }
-            }
-            Stay::Undecided => self.decide(frame, packets, queued),
+        self.meet(offer);
+        let found = self.judge(offer, queued);
+        if found.passes {
+            self.pass(offer, found.opening);
+            Verdict::Passed
+        } else {
+            self.withhold(offer, found.missing, found.opening, queued)
         }
     }
 
@@ -202,13 +191,25 @@ impl Selector {
         self.opened
     }
 
+    // What a frame leaves before it is judged: its epoch begins, where it is of another, and its target may be closed.
+    #[inline(always)]
+    fn meet(&mut self, offer: &FrameOffer<'_>)
+        ensures stands { (s : Standing) → StandsFor self.old s → IsAboveAll offer.now.frame s → KeepsAt self.new s offer.now.frame }
+        ensures newest { self.new.newest ≡ Some (targets_of offer.now.frame) }
+        ensures index { IsIndexBelow 32 self.new.target }
+    {
+        let frame = offer.frame();
+        self.begin_epoch(frame);
+        keep_targets(&mut self.newest, frame);
+        let reason = closing(frame, self.target, &self.passed);
+        close(&mut self.target, reason);
+    }
+
     // Where the frame is of another epoch, what was passed is forgotten, and no target is open.
     fn begin_epoch(&mut self, frame: &FrameMeaning)
-        requires { IsValid frame.now }
         ensures stands { (s : Standing) → StandsFor self.old s → StandsAt self.new s frame.now }
-        ensures newest { self.new.newest ≡ Some (targets_of frame.now) }
+        ensures newest { self.new.newest ≡ self.old.newest }
     {
-        keep_targets(&mut self.newest, frame);
         if self.epoch == Some(frame.epoch) {
             return;
         }
@@ -222,95 +223,69 @@ impl Selector {
         self.passed.reset();
     }
 
-    // The verdict on a frame of the epoch, by all rules. Apart, since few frames close or open a target.
-    #[inline(never)]
-    fn decide(&mut self, frame: &FrameMeaning, packets: u16, queued: u16) -> Verdict
-        requires { IsValid frame.now }
-        ensures verdict { (s : Standing) → StandsAt self.old s frame.now → IsAboveAll frame.now s → s.queued ≡ queued
-            → result ≡ verdict_at s frame.now packets }
-        ensures stands { (s : Standing) → StandsAt self.old s frame.now → IsAboveAll frame.now s → s.queued ≡ queued
-            → StandsFor self.new (after_frame s frame.now packets) }
-        ensures room { result ≡ Passed → queued + packets ≤ 512 }
-        ensures top { (s : Standing) → StandsAt self.old s frame.now → IsAboveAll frame.now s → s.queued ≡ queued → result ≡ Passed
-            → self.new.top ≡ is_top_layer frame.now (candidate_at s frame.now) }
-        ensures opened { (s : Standing) → StandsAt self.old s frame.now → IsAboveAll frame.now s → s.queued ≡ queued → result ≡ Passed
-            → self.new.opened ≡ is_opening_at s frame.now }
-        ensures not_top { (result ≡ Passed → ⊥) → self.new.top ≡ false }
-        ensures not_opened { (result ≡ Passed → ⊥) → self.new.opened ≡ false }
-        ensures newest { self.new.newest ≡ self.old.newest }
+    // What is found of the frame, with what is left of the target.
+    #[inline(always)]
+    fn judge(&self, offer: &FrameOffer<'_>, queued: u16) -> Judgement
+        ensures judged { (s : Standing) → KeepsAt self.now s offer.now.frame → IsAboveAll offer.now.frame s → s.queued ≡ queued
+            → IsJudged s offer.now.frame offer.now.packets queued self.now.target result }
+        ensures passes { result.passes ≡ passes_by offer.now.frame offer.now.packets queued self.now.target result.missing result.opening }
+        ensures below { IsBelow 32 result.opening }
+        ensures index { IsIndexBelow 32 self.now.target }
     {
-        let decision = decide(
-            self.wish,
-            self.target,
-            self.key_passed,
-            &self.passed,
-            frame,
-            packets,
-            queued,
-        );
-        match decision.verdict {
-            Verdict::Passed => self.pass(frame, &decision),
-            _ => self.withhold(&decision),
+        let frame = offer.frame();
+        let missing = missing_reference(frame, &self.passed);
+        let ready = is_ready(offer, missing, self.key_passed);
+        let opening = offer.opening(self.wish, ready, self.target);
+        Judgement {
+            missing,
+            opening,
+            passes: passes(offer, missing, opening, self.target, queued),
         }
-        decision.verdict
     }
 
-    // The frame passes, and the target stays open.
+    // The frame passes, and its target is the one that it opens, if it opens one.
     #[inline(always)]
-    fn go_on(&mut self, frame: &FrameMeaning)
+    fn pass(&mut self, offer: &FrameOffer<'_>, opening: Option<u8>)
+        requires opening { IsBelow 32 opening }
         ensures wish { self.new.wish ≡ self.old.wish }
         ensures epoch { self.new.epoch ≡ self.old.epoch }
-        ensures target { self.new.target ≡ self.old.target }
-        ensures key_passed { self.new.key_passed ≡ (frame.now.key || self.old.key_passed) }
-        ensures numbers { IsAboveAllNumbers frame.now.number self.old.numbers → self.new.numbers ≡ held_of (frame.now.number ∷ self.old.numbers) }
-        ensures top { self.new.top ≡ is_top_layer frame.now self.old.target }
-        ensures opened { self.new.opened ≡ false }
+        ensures target { self.new.target ≡ opened_or offer.now.frame opening self.old.target }
+        ensures key_passed { self.new.key_passed ≡ (offer.now.frame.key || self.old.key_passed) }
+        ensures numbers { IsAboveAllNumbers offer.now.frame.number self.old.numbers → self.new.numbers ≡ held_of (offer.now.frame.number ∷ self.old.numbers) }
+        ensures top { self.new.top ≡ is_top_layer offer.now.frame (opened_or offer.now.frame opening self.old.target) }
+        ensures opened { self.new.opened ≡ is_something opening }
         ensures newest { self.new.newest ≡ self.old.newest }
     {
-        self.key_passed |= frame.key;
-        self.passed.insert(frame.number);
-        self.top = is_top_layer(frame, self.target);
-        self.opened = false;
+        open(&mut self.target, opening, offer.number());
+        self.key_passed |= offer.frame().key;
+        self.passed.insert(offer.number());
+        self.top = offer.is_top_layer(self.target);
+        self.opened = opening.is_some();
     }
 
-    // The frame doesn't pass, and the target stays as it is.
-    #[inline(always)]
-    fn stay_behind(&mut self)
-        ensures { self.new ≡ record self.old { top = false; opened = false } }
+    // Why the frame doesn't pass. Out of line: most frames pass.
+    #[inline(never)]
+    fn withhold(
+        &mut self,
+        offer: &FrameOffer<'_>,
+        missing: Option<u16>,
+        opening: Option<u8>,
+        queued: u16,
+    ) -> Verdict
+        requires { passes_by offer.now.frame offer.now.packets queued self.old.target missing opening ≡ false }
+        ensures same { self.new ≡ record self.old { top = false; opened = false } }
+        ensures value { result ≡ verdict_by offer.now.frame offer.now.packets queued self.old.wish self.old.target missing opening }
+        ensures fails { result ≡ Passed → ⊥ }
     {
         self.top = false;
         self.opened = false;
-    }
-
-    fn pass(&mut self, frame: &FrameMeaning, decision: &Decision)
-        requires { IsIndexBelow 32 decision.now.candidate }
-        ensures wish { self.new.wish ≡ self.old.wish }
-        ensures epoch { self.new.epoch ≡ self.old.epoch }
-        ensures target { self.new.target ≡ decision.now.candidate }
-        ensures key_passed { self.new.key_passed ≡ (frame.now.key || self.old.key_passed) }
-        ensures numbers { IsAboveAllNumbers frame.now.number self.old.numbers → self.new.numbers ≡ held_of (frame.now.number ∷ self.old.numbers) }
-        ensures top { self.new.top ≡ is_top_layer frame.now decision.now.candidate }
-        ensures opened { self.new.opened ≡ decision.now.opens }
-        ensures newest { self.new.newest ≡ self.old.newest }
-    {
-        self.target = decision.candidate;
-        self.key_passed |= frame.key;
-        self.passed.insert(frame.number);
-        self.top = is_top_layer(frame, decision.candidate);
-        self.opened = decision.opens;
-    }
-
-    fn withhold(&mut self, decision: &Decision)
-        requires { IsIndexBelow 32 decision.now.kept }
-        ensures { self.new ≡ record self.old { target = decision.now.kept; top = false; opened = false } }
-    {
-        self.target = decision.kept;
-        self.top = false;
-        self.opened = false;
+        let candidate = opened_or(offer.frame(), opening, self.target);
+        withheld(offer, self.wish, missing, candidate, queued)
     }
 }
 
 // The targets of the last frame become this one's. They are written in place.
+#[inline(always)]
 fn keep_targets(newest: &mut Option<FrameTargets>, frame: &FrameMeaning)
     ensures { newest.new ≡ Some (targets_of frame.now) }
 {
@@ -318,6 +293,77 @@ fn keep_targets(newest: &mut Option<FrameTargets>, frame: &FrameMeaning)
         targets.set(frame);
     } else {
         *newest = Some(FrameTargets::of(frame));
+    }
+}
+
+// The target is closed, where there is a reason.
+#[inline(always)]
+fn close(target: &mut CurrentTarget, reason: Option<Reason>)
+    ensures { target.new ≡ closed_or reason target.old }
+{
+    if let Some(reason) = reason {
+        *target = CurrentTarget::Closed { reason };
+    }
+}
+
+// The target that is opened at this number, if one is.
+#[inline(always)]
+fn open(target: &mut CurrentTarget, opening: Option<u8>, number: u64)
+    requires opening { IsBelow 32 opening }
+    requires index { IsIndexBelow 32 target.old }
+    ensures opened { (f : Meaning) → f.number ≡ number → target.new ≡ opened_or f opening target.old }
+    ensures below { IsIndexBelow 32 target.new }
+{
+    if let Some(index) = opening {
+        *target = CurrentTarget::Open {
+            index,
+            opened: number,
+        };
+    }
+}
+
+// The target that the frame opens, if it opens one.
+fn opened_or(frame: &FrameMeaning, opening: Option<u8>, kept: CurrentTarget) -> CurrentTarget
+    ensures { result ≡ opened_or frame.now opening kept }
+{
+    match opening {
+        Some(index) => CurrentTarget::Open {
+            index,
+            opened: frame.number,
+        },
+        None => kept,
+    }
+}
+
+// Whether all references were passed, and it is a key frame or its epoch's was passed.
+fn is_ready(offer: &FrameOffer<'_>, missing: Option<u16>, key_passed: bool) -> bool
+    ensures { result ≡ (is_nothing missing && (offer.now.frame.key || key_passed)) }
+{
+    missing.is_none() && (offer.frame().key || key_passed)
+}
+
+// Whether the frame belongs to its target, all its references were passed, and there is room.
+#[inline(always)]
+fn passes(
+    offer: &FrameOffer<'_>,
+    missing: Option<u16>,
+    opening: Option<u8>,
+    kept: CurrentTarget,
+    queued: u16,
+) -> bool
+    ensures { result ≡ (is_present_in offer.now.frame (opened_or offer.now.frame opening kept) && (is_nothing missing && has_room queued offer.now.packets)) }
+{
+    is_present(offer, opening, kept) && missing.is_none() && has_room(offer.packets(), queued)
+}
+
+// Whether it belongs to the target that it opens, else to the one that is left, if one is.
+#[inline(always)]
+fn is_present(offer: &FrameOffer<'_>, opening: Option<u8>, kept: CurrentTarget) -> bool
+    ensures { result ≡ is_present_in offer.now.frame (opened_or offer.now.frame opening kept) }
+{
+    match opening {
+        Some(index) => offer.is_present(index),
+        None => offer.is_present_in(kept),
     }
 }
 

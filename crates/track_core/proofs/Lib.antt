@@ -11,4 +11,4 @@ pub mod Bounds
 pub mod Brought
 pub mod TakenPackets
 pub mod OfFrames
-pub mod Told
+pub mod WithMeaning

@@ -99,12 +99,12 @@ abbrev pub plain_packets : Piece → List (List ℕ)
 plain_packets (Got h) = h.bytes ∷ []
 plain_packets (Gone from to) = []
 
--- what an item made, told by the meaning that the track keeps
-abbrev pub told_with : FrameMeaning → Advance → Made
-told_with meaning advance.Idle = made.Idle
-told_with meaning advance.Nothing = made.Nothing
-told_with meaning advance.Packet = made.Packet
-told_with meaning advance.Frame = made.Frame meaning
+-- what an item made, with the meaning that the track keeps
+abbrev pub with_meaning : FrameMeaning → Advance → Made
+with_meaning meaning advance.Idle = made.Idle
+with_meaning meaning advance.Nothing = made.Nothing
+with_meaning meaning advance.Packet = made.Packet
+with_meaning meaning advance.Frame = made.Frame meaning
 
 -- what a step makes of the piece that waits first, if one does
 abbrev pub made_of : Option Layers → List Piece → Option Piece → Made

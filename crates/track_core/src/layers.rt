@@ -70,7 +70,7 @@ impl Layers {
         let _ = self.assembly.push(&Mark::Gone, &[]);
     }
 
-    /// The next packet, in a slot, which changes places with another where the packet is a frame's. Answers whether it made a frame whole, whose
+    /// The next packet, in a slot, which changes places with another where the packet is a frame's. Returns whether it made a frame whole, whose
     /// meaning is written then.
     pub fn take(&mut self, slot: &mut Box<PacketSlot>, meaning: &mut FrameMeaning) -> bool
         requires taken { IsTaken slot.old.value }
@@ -171,7 +171,7 @@ fn keep_head(mark: &Mark, table: &FrameTable, newest: &Descriptor, head: &mut Fr
     }
 }
 
-/// Works off one item of a layered track: the packet in this slot, or numbers that were given up. Answers whether it made a frame whole, whose
+/// Works off one item of a layered track: the packet in this slot, or numbers that were given up. Returns whether it made a frame whole, whose
 /// meaning is written then.
 pub fn work_off(
     layers: &mut Layers,

@@ -6,7 +6,7 @@ mod text;
 
 ghost use Rattle.std.specs.Prelude.{◌≡◌, [], IfOk};
 
-use crate::{Made, Track};
+use crate::{Advance, Made, Track};
 use real::REAL;
 use rows::{LAYERED, PLAIN};
 use sfu_base::{Kind, PacketBuf, SeqList};
@@ -69,15 +69,15 @@ fn drain(rt: &impl Abort, alloc: Global, track: &mut Track) -> Result<String, Fa
 {
     let mut said = String::new(alloc);
     loop {
-        match track.step() {
-            Made::Idle => {
+        match track.advance() {
+            Advance::Idle => {
                 assert!(rt; track.count() == 0);
                 return Ok(said);
             }
-            Made::Nothing => assert!(rt; track.count() == 0),
-            Made::Packet => say(&mut said, "packet")?,
-            Made::Frame(meaning) => {
-                let words = frame_words(rt, alloc, &meaning)?;
+            Advance::Nothing => assert!(rt; track.count() == 0),
+            Advance::Packet => say(&mut said, "packet")?,
+            Advance::Frame => {
+                let words = frame_words(rt, alloc, track.meaning())?;
                 say(&mut said, words.as_str())?;
                 say(&mut said, "of")?;
             }
@@ -297,14 +297,15 @@ fn descriptors_of_a_browsers_encoder_make_the_frames_that_they_say(
 #[test]
 fn a_plain_track_hands_out_what_it_takes(rt: HostRuntime) -> Result<(), Fail> {
     let mut track = Track::new(rt.alloc(), Kind::Plain, 0x11111111, 0)?;
-    assert!(rt; matches!(track.step(), Made::Idle));
+    assert!(rt; matches!(track.advance(), Advance::Idle));
     let bytes = [
         0x80, 0x60, 0, 1, 0, 0, 0, 0, 0x11, 0x11, 0x11, 0x11, 0xaa, 0xbb,
     ];
     assert_eq!(rt; track.arrive(0, &bytes), Ok(()));
-    assert!(rt; matches!(track.step(), Made::Packet));
+    assert!(rt; matches!(track.advance(), Advance::Packet));
     assert!(rt; track.count() == 1);
     assert_eq!(rt; track.packet(0), bytes.as_slice());
+    assert!(rt; matches!(track.step(), Made::Idle));
     assert!(rt; track.force().is_none());
     Ok(())
 }

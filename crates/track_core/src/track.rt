@@ -6,7 +6,7 @@ ghost use Rattle.reorder_window.specs.Missing.{missing_sequences};
 ghost use Rattle.rtp_packet.specs.Faults.{first_fault};
 ghost use Rattle.rtp_packet.specs.Fields.{sequence_of};
 ghost use Rattle.packet_format.specs.Packets.{packet_of};
-ghost use Rattle.track_core.specs.Track.{HasKind, IsMadeValid, StandsFor, Stays, and_piece, first_refusal, frames_packets, has_given, id_of, is_got, made_by, made_of, packets_of, refusal_of, refused, structure_after, structure_in, told_with};
+ghost use Rattle.track_core.specs.Track.{HasKind, IsMadeValid, StandsFor, Stays, and_piece, first_refusal, frames_packets, has_given, id_of, is_got, made_by, made_of, packets_of, refusal_of, refused, structure_after, structure_in, with_meaning};
 ghost use Rattle.track_core.specs.Layers.{HasStood, IsAfter};
 ghost use Rattle.track_core.specs.Pieces.{IsTaken, item_by};
 ghost use Rattle.forwarding_model.specs.frames.Frames.{Item};
@@ -15,9 +15,10 @@ ghost use Rattle.std.specs.Option.{option_map};
 
 use crate::layers::{Layers, work_off};
 use dd_structure::Structure;
+use frame_table::NO_MEANING;
 use packet_slot::{PACKET_BYTES, PacketSlot};
 use reorder_window::{Arrival, Item as OrderItem, Window};
-use sfu_base::{Dti, FrameMeaning, Kind, NoMemory, Refusal, SeqList};
+use sfu_base::{FrameMeaning, Kind, NoMemory, Refusal, SeqList};
 use std::alloc::Global;
 use std::marker::Model;
 
@@ -75,27 +76,8 @@ impl Model for Track {
     ghost invariant = { IsKept };
 }
 
-/// What stands where no frame was made yet.
-const NO_MEANING: FrameMeaning = FrameMeaning {
-    number: 0,
-    start: 0,
-    epoch: 0,
-    spatial: 0,
-    temporal: 0,
-    key: false,
-    mask: 0,
-    target_count: 0,
-    dtis: [Dti::NotPresent; 32],
-    pairs: [None; 32],
-    chain_count: 0,
-    guards: [0; 32],
-    links: [0; 32],
-    ref_count: 0,
-    refs: [0; 16],
-};
-
 impl Track {
-    /// A track before its first packet, that holds a packet behind a gap for so many milliseconds. All its memory is taken here.
+    /// A track before its first packet, that holds a packet behind a gap for `hold` milliseconds. All its memory is taken here.
     pub fn new(alloc: Global, kind: Kind, ssrc: u32, hold: u32) -> Result<Track, NoMemory>
         ensures stands { IfOk result (λ track. StandsFor track [] []) }
         ensures ssrc { IfOk result (λ track. track.ssrc ≡ ssrc) }
@@ -118,8 +100,8 @@ impl Track {
         })
     }
 
-    /// Takes in a packet that arrives at this moment, in milliseconds. The refusal is the first that stands, and changes nothing. All that
-    /// waited was worked off; what the last step made can still be had.
+    /// Takes in a packet that arrives at this moment, in milliseconds. The refusal is the first that applies, and changes nothing. All that
+    /// waited was worked off; what the last step made can still be read.
     pub fn arrive(&mut self, moment: u64, bytes: &[u8]) -> Result<(), Refusal>
         requires idle { self.old.window.waiting ≡ [] }
         requires length { length bytes.now ≤ 4294967295 }
@@ -151,7 +133,7 @@ impl Track {
         }
     }
 
-    /// Time has come to this moment, in milliseconds. All that waited was worked off; what the last step made can still be had.
+    /// Time has come to this moment, in milliseconds. All that waited was worked off; what the last step made can still be read.
     pub fn tick(&mut self, moment: u64)
         requires idle { self.old.window.waiting ≡ [] }
         ensures stands { (events : List Event) (worked : List Piece) → StandsFor self.old events worked → StandsFor self.new (Ticks moment ∷ events) worked }
@@ -188,7 +170,37 @@ impl Track {
         }
     }
 
-    /// Works off one item. `Idle` comes exactly where none waits.
+    /// Works off one item, and keeps what a frame means for [`Track::meaning`]. `Idle` comes exactly where no item waits.
+    pub fn advance(&mut self) -> Advance
+        ensures rest { self.new.window ≡ record self.old.window { waiting = drop 1 self.old.window.waiting } }
+        ensures idle { (result ≡ Advance.Idle) ↔ (self.old.window.waiting ≡ []) }
+        ensures stands { (events : List Event) (worked : List Piece) → StandsFor self.old events worked
+            → StandsFor self.new events (and_piece worked (slice_get self.old.window.waiting 0)) }
+        ensures made { (events : List Event) (worked : List Piece) → StandsFor self.old events worked
+            → with_meaning self.new.meaning result ≡ made_of self.old.layers worked (slice_get self.old.window.waiting 0) }
+        ensures packets { (events : List Event) (worked : List Piece) → StandsFor self.old events worked
+            → self.new.packets ≡ packets_of self.old.layers worked (slice_get self.old.window.waiting 0) }
+        ensures of_frame { (events : List Event) (worked : List Piece) → StandsFor self.old events worked
+            → map packet_of self.new.packets ≡ frames_packets self.old.layers worked (slice_get self.old.window.waiting 0) }
+        ensures one { result ≡ Advance.Packet → length self.new.packets ≡ 1 }
+        ensures valid { IsMadeValid (with_meaning self.new.meaning result) }
+        ensures stays { Stays self.old self.new }
+    {
+        self.given = false;
+        let Some(item) = self.window.next_slot(&mut self.slot) else {
+            return Advance::Idle;
+        };
+        let made = worked(
+            &mut self.layers,
+            is_packet(&item),
+            &mut self.slot,
+            &mut self.meaning,
+        );
+        self.given = is_given(made);
+        made
+    }
+
+    /// Works off one item as [`Track::advance`] does, and returns a copy of what a frame means.
     pub fn step(&mut self) -> Made
         ensures rest { self.new.window ≡ record self.old.window { waiting = drop 1 self.old.window.waiting } }
         ensures idle { (result ≡ Made.Idle) ↔ (self.old.window.waiting ≡ []) }
@@ -205,37 +217,7 @@ impl Track {
         ensures stays { Stays self.old self.new }
     {
         let advance = self.advance();
-        told(advance, self.meaning())
-    }
-
-    /// Works off one item as [`Track::step`] does, and keeps what a frame means for [`Track::meaning`].
-    pub fn advance(&mut self) -> Advance
-        ensures rest { self.new.window ≡ record self.old.window { waiting = drop 1 self.old.window.waiting } }
-        ensures idle { (result ≡ Advance.Idle) ↔ (self.old.window.waiting ≡ []) }
-        ensures stands { (events : List Event) (worked : List Piece) → StandsFor self.old events worked
-            → StandsFor self.new events (and_piece worked (slice_get self.old.window.waiting 0)) }
-        ensures made { (events : List Event) (worked : List Piece) → StandsFor self.old events worked
-            → told_with self.new.meaning result ≡ made_of self.old.layers worked (slice_get self.old.window.waiting 0) }
-        ensures packets { (events : List Event) (worked : List Piece) → StandsFor self.old events worked
-            → self.new.packets ≡ packets_of self.old.layers worked (slice_get self.old.window.waiting 0) }
-        ensures of_frame { (events : List Event) (worked : List Piece) → StandsFor self.old events worked
-            → map packet_of self.new.packets ≡ frames_packets self.old.layers worked (slice_get self.old.window.waiting 0) }
-        ensures one { result ≡ Advance.Packet → length self.new.packets ≡ 1 }
-        ensures valid { IsMadeValid (told_with self.new.meaning result) }
-        ensures stays { Stays self.old self.new }
-    {
-        self.given = false;
-        let Some(item) = self.window.next_slot(&mut self.slot) else {
-            return Advance::Idle;
-        };
-        let made = worked(
-            &mut self.layers,
-            is_packet(&item),
-            &mut self.slot,
-            &mut self.meaning,
-        );
-        self.given = is_given(made);
-        made
+        with_meaning(advance, self.meaning())
     }
 
     /// What the last frame means that was made.
@@ -310,9 +292,9 @@ fn structure_of(layers: &Option<Layers>) -> Option<&Structure>
     }
 }
 
-// What an item made, told by the meaning that the track keeps.
-fn told(advance: Advance, meaning: &FrameMeaning) -> Made
-    ensures { result ≡ told_with meaning.now advance }
+// What an item made, with the meaning that the track keeps.
+fn with_meaning(advance: Advance, meaning: &FrameMeaning) -> Made
+    ensures { result ≡ with_meaning meaning.now advance }
 {
     match advance {
         Advance::Idle => Made::Idle,
@@ -336,10 +318,10 @@ fn worked(
     ensures plain { layers.old ≡ None → slot.new.value ≡ slot.old.value }
     ensures near { (n : ℕ) → IfSome layers.old (λ l. l.table.newest ≤ n) → IfSome layers.new (λ l. l.table.newest ≤ n + 131072) }
     ensures stands { (past : List Item) → IfSome layers.old (λ l. IsAfter l past) → IfSome layers.new (λ l. IsAfter l (item_by came slot.old.value ∷ past)) }
-    ensures made { (past : List Item) → IfSome layers.old (λ l. IsAfter l past) → told_with meaning.new result ≡ made_by layers.old past came slot.old.value }
+    ensures made { (past : List Item) → IfSome layers.old (λ l. IsAfter l past) → with_meaning meaning.new result ≡ made_by layers.old past came slot.old.value }
     ensures some { result ≡ Advance.Idle → ⊥ }
     ensures came { has_given result ≡ true → came ≡ true }
-    ensures valid { IsMadeValid (told_with meaning.new result) }
+    ensures valid { IsMadeValid (with_meaning meaning.new result) }
 {
     match layers {
         None => {

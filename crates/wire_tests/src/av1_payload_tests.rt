@@ -61,7 +61,7 @@ const PAYLOADS: [Row; 20] = [
 
 const FAULTS: [(&[u8], PayloadFault); 20] = [
     (&[], PayloadFault::Empty),
-    // W = 0 and nothing behind the header, whatever its other bits
+    // W = 0 and nothing after the header, whatever its other bits
     (&[0x00], PayloadFault::NoElement),
     (&[0xCF], PayloadFault::NoElement),
     // the bytes end where a length is due

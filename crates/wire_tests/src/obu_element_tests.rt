@@ -42,7 +42,7 @@ fn each_header_says_its_fields(rt: HostRuntime) {
     }
 }
 
-// What the last of these packets, each with its Z and Y, is answered, and whether no element is open then.
+// What is returned for the last of these packets, each with its Z and Y, and whether no element is open then.
 fn fed(packets: &[(bool, bool)]) -> (Result<(), JoinFault>, bool) {
     let mut joiner = Joiner::new();
     let mut last = Ok(());

@@ -24,7 +24,7 @@ fn each_block_has_its_elements(rt: HostRuntime) {
             &[0x10, 0xAA, 0, 0xF0, 0x42, 0xC1, 0, 2],
             &[(1, &[0xAA])],
         ),
-        // the two-byte form, with an empty value and padding behind it
+        // the two-byte form, with an empty value and padding after it
         (
             0x1000,
             &[1, 2, 0xAA, 0xBB, 0, 4, 0, 0],
@@ -56,7 +56,7 @@ fn each_block_has_its_elements(rt: HostRuntime) {
         (0x1010, &[1, 1, 9, 0], &[]),
         (0x0FFF, &[1, 1, 9, 0], &[]),
         (0xBEDF, &[0x10, 9, 0, 0], &[]),
-        // an id that stands twice
+        // an id that occurs twice
         (0xBEDE, &[0x30, 1, 0x30, 2], &[(3, &[1]), (3, &[2])]),
     ];
     for (profile, block, wanted) in rows {
@@ -151,7 +151,7 @@ fn one_value_is_replaced(rt: HostRuntime) {
             b"\xc0\x00\x01\xc0\x00\x3a\x41\x01\x40",
             b"\xbe\xde\x00\x03\x48\xc0\x00\x01\xc0\x00\x3a\x41\x01\x40\x00\x00",
         ),
-        // padding between elements goes, and so does what stands from id 15 on
+        // padding between elements is dropped, and so is all from id 15 on
         (
             0xBEDE,
             b"\x10\xaa\x00\x20\xbb\xf0\x42\xc1",

@@ -1,12 +1,12 @@
-//! Sequence numbers and frame numbers are sent in 16 bits and wrap at 65,536 (RFC 3550, section 5.1). These two functions tell which
-//! number of wide range one stands for, given the newest number that is known. Neither takes memory.
+//! Sequence numbers and frame numbers are sent in 16 bits and wrap at 65,536 (RFC 3550, section 5.1). These two functions unwrap them: they
+//! return which number of wide range one stands for, given the newest number that is known. Neither takes memory.
 #![tactic(auto)]
 
 ghost use Rattle.std.specs.Prelude.{◌≡◌, ◌≤ℤ◌, ◌<◌, ◌^◌, neg_ℤ, pos};
 ghost use Rattle.wrap_number.specs.Number.{IsNearest, IsLeastAbove, IsOne, ahead_of, nearest_to, least_above};
 ghost use Rattle.wrap_number.specs.Number.{NearestIsNearest, LeastIsLeast, AboveIsNearest, NearestAboveIsFound, NearIsNearestAbove};
 
-// How many numbers there are of 16 bits.
+// How many numbers of 16 bits there are.
 const TURN: u32 = 65_536;
 
 /// The number that is `n` modulo 65,536 and nearest to `newest` (own rule). A distance of 32,768 is read as behind.
@@ -24,7 +24,7 @@ pub fn place(newest: i64, n: u16) -> i64
     }
 }
 
-// How far the next such number lies ahead, from 0 to 65,535.
+// How far ahead the next such number lies, from 0 to 65,535.
 fn ahead(newest: i64, n: u16) -> u32
     ensures value { result ≡ ahead_of newest n }
     ensures below { result < 65536 }

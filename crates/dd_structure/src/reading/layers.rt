@@ -14,7 +14,7 @@ pub const FIRST: Layer = Layer {
     temporal: 0,
 };
 
-/// The layer of the template after one of this layer, if there is one.
+/// The layer of the template that follows one of this layer, if there is one.
 #[tactic(auto, unfolding(crate::specs::Reading::next_layer_at))]
 fn next_layer(bits: &mut BitReader<'_>, layer: Layer) -> Result<Option<Layer>, StructureFault>
     ensures { Gives (λ v. v) result bits.new (next_layer_at layer (bits_left bits.old)) }

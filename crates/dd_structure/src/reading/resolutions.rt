@@ -52,7 +52,7 @@ fn told_resolutions(flag: u32, layers: &[Layer]) -> u8
     if flag == 0 { 0 } else { spatial_count(layers) }
 }
 
-/// The resolution of each spatial id, where they are told.
+/// The resolution of each spatial id, where the structure has them.
 #[tactic(auto, unfolding(crate::specs::Reading::resolutions_at))]
 pub fn resolutions(
     bits: &mut BitReader<'_>,

@@ -18,7 +18,7 @@ pub fn put_guards(out: &mut BitWriter, chains: u8, guards: &[u8]) -> Result<(), 
     Ok(())
 }
 
-/// A link of so many bits for each chain. Where they don't fit, a part of them may stand.
+/// A link of `width` bits for each chain. Where they don't fit, a part of them may have been appended.
 pub fn put_links(out: &mut BitWriter, width: u8, row: &[u8]) -> Result<(), NoRoom>
     requires width { width ≤ 32 }
     requires small { All (λ l. l < 2 ^ width) row.now }

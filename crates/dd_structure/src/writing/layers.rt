@@ -7,7 +7,7 @@ ghost use Rattle.dd_structure.specs.Spelling.{layer_code, layer_bits, layers_bit
 use crate::layer::Layer;
 use dd_bits::{BitWriter, NoRoom};
 
-/// What says that a template of one layer follows one of another.
+/// The code that says that a template of one layer follows one of another.
 fn code_of(before: Layer, layer: Layer) -> u32
     ensures value { result ≡ layer_code before layer }
     ensures small { result < 3 }

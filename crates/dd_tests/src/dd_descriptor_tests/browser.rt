@@ -112,7 +112,7 @@ fn low_bytes(numbers: &[u16; 16]) -> [u8; 16] {
     out
 }
 
-/// The numbers that digits stand for.
+/// The numbers that digits spell.
 fn digit_values(digits: &[u8]) -> [u8; 32] {
     let mut out = [0; 32];
     for (i, digit) in digits.iter().enumerate() {

@@ -1,4 +1,4 @@
-// Remasked packets, laid out by hand: RFC 3550, sections 5.1 and 5.3.1, RFC 8285, and AV1 RTP payload format, Appendix A.
+// Remasked packets, written by hand: RFC 3550, sections 5.1 and 5.3.1, RFC 8285, and AV1 RTP payload format, Appendix A.
 
 ghost use Rattle.std.specs.Prelude.{◌≤◌, ◌+◌, length};
 
@@ -132,7 +132,7 @@ fn key_packets_tell_the_new_mask(rt: HostRuntime) -> Result<(), Fail> {
 fn frames_of_a_structure_in_force_tell_the_new_mask(rt: HostRuntime) -> Result<(), Fail> {
     let structure = structure_of(&C)?;
     let force = Some(&structure);
-    // One word more. What stood behind the frame's definition goes, and so does the old mask.
+    // One word more. What followed the frame's definition is dropped, and so is the old mask.
     let short = [0xbe, 0xde, 0x00, 0x01, 0x42, 0xc1, 0x00, 0x03];
     let told = [
         0xbe, 0xde, 0x00, 0x02, 0x43, 0xc1, 0x00, 0x03, 0x44, 0, 0, 0,
@@ -142,7 +142,7 @@ fn frames_of_a_structure_in_force_tell_the_new_mask(rt: HostRuntime) -> Result<(
         0xbe, 0xde, 0x00, 0x02, 0x45, 0xc1, 0x00, 0x03, 0x47, 0xff, 0xff, 0,
     ];
     check(&HEADER, &behind, &PAYLOAD, force, 2, &told)?;
-    // A distance of the frame's own, a padding byte, and elements before and behind the descriptor's, one of them with its id again.
+    // A distance of the frame's own, a padding byte, and elements before and after the descriptor's, one of them with its id again.
     let among = [
         0xbe, 0xde, 0x00, 0x04, 0x31, 0xaa, 0xbb, 0x00, 0x44, 0xc3, 0x00, 0x06, 0x12, 0x00, 0x42,
         0xc1, 0x00, 0x03, 0x50, 0xcc,

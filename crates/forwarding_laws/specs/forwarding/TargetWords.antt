@@ -23,7 +23,7 @@ pub record IsAllowed (wish : Wish) (f : FrameMeaning) (target : ℕ) : Type 0 wh
   pub spatial : pair.spatial ≤ wish.spatial
   pub temporal : pair.temporal ≤ wish.temporal
 
--- a target is active where its bit stands in the mask
+-- a target is active where its bit is set in the mask
 abbrev pub ActiveInWords : Type 0
 ActiveInWords = (f : FrameMeaning) (target : ℕ) → (is_active f target ≡ true) ↔ HasBit f.mask target
 

@@ -29,11 +29,11 @@ FramesAreAdded S = (format : Format S) (items older : List Item)
 abbrev pub NewestAreTrack : Type 0 → Type 0
 NewestAreTrack S = (format : Format S) (newest older : List (Frame S)) → IsTrack format (newest ++ older) → IsTrack format newest
 
--- a run that ends is a whole cut, and stands at the end of the marks
+-- a run that ends is a whole cut, and is at the end of the marks
 abbrev pub EndedRunsAreWhole : Type 0 → Type 0
 EndedRunsAreWhole X = (marks : List (Mark X)) (run : Run X) → cut_of marks ≡ Some run → IsWholeCut (parts_of run) × EndsIn marks (parts_of run)
 
--- and a whole cut that stands at the end of the marks is a run that ends
+-- and a whole cut that is at the end of the marks is a run that ends
 abbrev pub WholeCutsAreFound : Type 0 → Type 0
 WholeCutsAreFound X = (marks : List (Mark X)) (part : Part X) (more : List (Part X)) → EndsIn marks (part ∷ more) → IsWholeCut (part ∷ more)
     → (run : Run X) × (cut_of marks ≡ Some run) × (parts_of run ≡ part ∷ more)

@@ -94,7 +94,7 @@ is_present_in f (Closed reason) = false
 abbrev pub has_room : ℕ → ℕ → Bool
 has_room queued packets = nat_le (queued + packets) 512
 
--- The rule on passing: f passes exactly when there is a candidate, f is present in it, all its references were passed, and there is room.
+-- The rule on passing: f passes exactly when there is a candidate, f is present in it, all its references were passed, and the queue has space.
 abbrev pub passes : (ℕ → Bool) → Bool → Wish → FrameMeaning → CurrentTarget → ℕ → ℕ → Bool
 passes has key_passed wish f current queued packets =
     is_present_in f (candidate has key_passed wish f current)

@@ -37,7 +37,7 @@ is_switch f target = says_switch (indication f target)
 abbrev pub is_present : FrameMeaning → ℕ → Bool
 is_present f target = nat_lt target f.target_count && says_present (indication f target)
 
--- the target's bit stands in the mask, the lowest bit for target 0
+-- the target's bit is set in the mask, the lowest bit for target 0
 abbrev pub is_active : FrameMeaning → ℕ → Bool
 is_active f target = (f.mask / 2 ^ target) % 2 == 1
 

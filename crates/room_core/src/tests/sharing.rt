@@ -10,7 +10,7 @@ use std::test::Fail;
 // For how many packets a track's store has room now.
 fn free(room: &Room<KeepNone>, track: u32) -> usize {
     match room.content.tracks.get(&track) {
-        Some(known) => known.frame_cache.store.room(),
+        Some(known) => known.frame_cache.store.spare(),
         None => 0,
     }
 }

@@ -7,15 +7,27 @@ use crate::{Failed, Link, PacketBuf};
 
 /// Brings no datagram, takes all that are sent, keeps nothing of them and tells nothing. It takes no memory.
 #[derive(Drop)]
-pub struct CalmLink;
+pub struct CalmLink {
+    name: u64,
+}
 
 impl CalmLink {
     /// A link that never fails.
     pub fn new() -> Self
         ensures told { ⟦<CalmLink as Link>⟧.told result ≡ None }
         ensures faults { ⟦<CalmLink as Link>⟧.faults result ≡ 0 }
+        ensures name { ⟦<CalmLink as Link>⟧.name result ≡ 0 }
     {
-        CalmLink
+        CalmLink { name: 0 }
+    }
+
+    /// The link that is bound behind so many others.
+    pub fn named(name: u64) -> Self
+        ensures told { ⟦<CalmLink as Link>⟧.told result ≡ None }
+        ensures faults { ⟦<CalmLink as Link>⟧.faults result ≡ 0 }
+        ensures name { ⟦<CalmLink as Link>⟧.name result ≡ name }
+    {
+        CalmLink { name }
     }
 }
 
@@ -24,6 +36,7 @@ impl Default for CalmLink {
     fn default() -> CalmLink
         ensures told { ⟦<CalmLink as Link>⟧.told result ≡ None }
         ensures faults { ⟦<CalmLink as Link>⟧.faults result ≡ 0 }
+        ensures name { ⟦<CalmLink as Link>⟧.name result ≡ 0 }
     {
         CalmLink::new()
     }
@@ -32,12 +45,15 @@ impl Default for CalmLink {
 impl Link for CalmLink {
     ghost told = { λ _. None };
 
+    ghost name = { λ s. s.name };
+
     ghost faults = { λ _. 0 };
 
     /// Always `Ok(false)`.
     fn receive(&mut self, buf: &mut PacketBuf) -> Result<bool, Failed>
         ensures buffer { FillsOnlyWhere result buf.old buf.new }
         ensures told { None ≡ after_receive result buf.new None }
+        ensures name { self.new.name ≡ self.old.name }
         ensures cause { HasCause 0 0 result }
 
         ensures nothing { result ≡ Ok false }

@@ -11,7 +11,7 @@ use std::alloc::Global;
 #[derive(Drop)]
 pub struct CalmPorts {
     returned: Vec<CalmLink>,
-    bound: usize,
+    bound: u64,
     ghost within: { vec_len returned ≤ bound },
     ghost limited: { bound ≤ 64 },
     ghost reserved: { 64 ≤ vec_capacity returned },
@@ -42,8 +42,9 @@ impl Ports for CalmPorts {
     ghost faults = { λ _. 0 };
 
     fn bind(&mut self, _local: Address, _peer: Address) -> Result<CalmLink, Failed> {
+        let link = CalmLink::named(self.bound);
         self.bound += 1;
-        Ok(CalmLink::new())
+        Ok(link)
     }
 
     fn back(&mut self, port: CalmLink) {

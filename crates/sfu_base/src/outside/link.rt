@@ -10,6 +10,9 @@ pub trait Link {
     /// Its receives and the datagrams that were sent, where it tells them.
     ghost told: { Self → Option Traffic };
 
+    /// Which link it is: how many its ports had bound before. No call changes it, so that links can't change places unseen.
+    ghost name: { Self → ℕ };
+
     /// How often a call has failed; at 2^64 - 1 it stays there.
     ghost faults: { Self → ℕ };
 
@@ -18,10 +21,12 @@ pub trait Link {
     fn receive(&mut self, buf: &mut PacketBuf) -> Result<bool, Failed>
         ensures buffer { FillsOnlyWhere result buf.old buf.new }
         ensures told { told self.new ≡ after_receive result buf.new (told self.old) }
+        ensures name { name self.new ≡ name self.old }
         ensures cause { HasCause (faults self.old) (faults self.new) result };
 
     /// Sends the packet's bytes as one datagram, and puts it last in what is told. After `Failed` none was sent.
     fn send(&mut self, packet: &PacketBuf) -> Result<(), Failed>
         ensures told { told self.new ≡ after_send result packet.now (told self.old) }
+        ensures name { name self.new ≡ name self.old }
         ensures cause { HasCause (faults self.old) (faults self.new) result };
 }

@@ -10,7 +10,7 @@ use std::marker::Model;
 
 /// Brings its prepared datagrams in order, keeps what is sent, and fails at the calls of two lists, each counted from 0, and where no
 /// memory is there to keep a datagram. Seen as the prepared datagrams that are left, its traffic, the two lists, how many calls of each
-/// kind were made, and the count of faults.
+/// kind were made, its name, and the count of faults.
 #[derive(Drop)]
 pub struct MemLink {
     prepared: Vec<PacketBuf>,
@@ -21,6 +21,7 @@ pub struct MemLink {
     send_fails: Vec<u64>,
     receives: u64,
     sends: u64,
+    name: u64,
     faults: u64,
 }
 
@@ -37,6 +38,7 @@ impl Model for MemLink {
       failing_sends = s.send_fails.items;
       receives = s.receives;
       sends = s.sends;
+      name = s.name;
       faults = s.faults;
     } };
 
@@ -62,8 +64,16 @@ impl MemLink {
             send_fails,
             receives: 0,
             sends: 0,
+            name: 0,
             faults: 0,
         }
+    }
+
+    /// The same link, as the one that is bound behind so many others.
+    pub fn named(self, name: u64) -> Self
+        ensures { result ≡ record self { name = name } }
+    {
+        MemLink { name, ..self }
     }
 
     /// All datagrams that were sent, in order.
@@ -102,6 +112,8 @@ fn give_next(prepared: &[PacketBuf], place: &mut usize, buf: &mut PacketBuf) -> 
 impl Link for MemLink {
     ghost told = { λ s. Some s.traffic };
 
+    ghost name = { λ s. s.name };
+
     ghost faults = { λ s. s.faults };
 
     /// Fails exactly when the call's place stands in the list; else it brings the next datagram, and `Ok(false)` exactly when none is
@@ -109,6 +121,7 @@ impl Link for MemLink {
     fn receive(&mut self, buf: &mut PacketBuf) -> Result<bool, Failed>
         ensures buffer { FillsOnlyWhere result buf.old buf.new }
         ensures told { Some self.new.traffic ≡ after_receive result buf.new (Some self.old.traffic) }
+        ensures name { self.new.name ≡ self.old.name }
         ensures cause { HasCause self.old.faults self.new.faults result }
 
         ensures fails { IsErr result ↔ IsTrue (is_listed self.old.receives self.old.failing_receives) }
@@ -131,6 +144,7 @@ impl Link for MemLink {
     /// there to keep it.
     fn send(&mut self, packet: &PacketBuf) -> Result<(), Failed>
         ensures told { Some self.new.traffic ≡ after_send result packet.now (Some self.old.traffic) }
+        ensures name { self.new.name ≡ self.old.name }
         ensures cause { HasCause self.old.faults self.new.faults result }
 
         ensures fails { IsTrue (is_listed self.old.sends self.old.failing_sends) → IsErr result }

@@ -2,16 +2,17 @@
 ghost use Rattle.std.specs.Prelude.{◌≡◌, ◌+◌, ◌<◌, ◌≤◌, ◌↔◌, [], All, Some, IsErr, IsTrue, IfOk, OnOk, OnErr, drop, length};
 ghost use Rattle.sfu_base.specs.Faults.{HasCause};
 ghost use Rattle.sfu_base.specs.Links.{IsFresh, is_listed};
-ghost use Rattle.sfu_base.specs.Ports.{CountsBack, after_back, after_bind, bound_one, came_back, failed_bind, next_link, tells_nothing_yet};
+ghost use Rattle.sfu_base.specs.Ports.{CountsBack, after_back, after_bind, bound_one, came_back, failed_bind, first_link, next_link, tells_nothing_yet};
 
 use crate::outside::ports::PORT_LIMIT;
 use crate::{Address, Failed, MemLink, NoMemory, Ports};
 use std::alloc::Global;
 use std::marker::Model;
 
-/// Gives its prepared links in order, and past them links with nothing prepared; fails at the binds of a list, counted from 0. What
-/// comes back is kept in places that are reserved when it is made, so that no later call takes memory. Seen as the prepared links that
-/// are left, the ports that came back, that list, how many binds were made, how many ports were bound, and the count of faults.
+/// Gives its prepared links in order, and past them links with nothing prepared, each named by how many were bound before; fails at the
+/// binds of a list, counted from 0. What comes back is kept in places that are reserved when it is made, so that no later call takes
+/// memory. Seen as the prepared links that are left, the ports that came back, that list, how many binds were made, how many ports were
+/// bound, and the count of faults.
 #[derive(Drop)]
 pub struct MemPorts {
     alloc: Global,
@@ -19,7 +20,7 @@ pub struct MemPorts {
     returned: Vec<MemLink>,
     bind_fails: Vec<u64>,
     binds: u64,
-    bound: usize,
+    bound: u64,
     faults: u64,
 }
 
@@ -78,7 +79,7 @@ impl MemPorts {
 
 // Takes the first link out, or makes one with nothing prepared.
 fn take_first(alloc: Global, prepared: &mut Vec<MemLink>) -> MemLink
-    ensures link { result ≡ next_link prepared.old.items }
+    ensures link { result ≡ first_link prepared.old.items }
     ensures rest { prepared.new.items ≡ drop 1 prepared.old.items }
 {
     if prepared.is_empty() {
@@ -108,11 +109,12 @@ impl Ports for MemPorts {
         ensures returned { Some self.new.returned ≡ Some self.old.returned }
         ensures quiet { IfOk result (λ port. port.faults ≡ 0) }
         ensures silent { IfOk result (λ port. tells_nothing_yet (Some port.traffic)) }
+        ensures name { IfOk result (λ port. port.name ≡ self.old.bound) }
         ensures cause { HasCause self.old.faults self.new.faults result }
 
         ensures fails { IsErr result ↔ IsTrue (is_listed self.old.binds self.old.failing) }
         ensures failed { OnErr result (self.new ≡ failed_bind self.old) }
-        ensures given { IfOk result (λ port. port ≡ next_link self.old.prepared) }
+        ensures given { IfOk result (λ port. port ≡ next_link self.old.bound self.old.prepared) }
         ensures after { OnOk result (self.new ≡ bound_one self.old) }
     {
         let call = self.binds;
@@ -121,8 +123,9 @@ impl Ports for MemPorts {
             self.faults = self.faults.saturating_add(1);
             return Err(Failed);
         }
+        let link = take_first(self.alloc, &mut self.prepared).named(self.bound);
         self.bound += 1;
-        Ok(take_first(self.alloc, &mut self.prepared))
+        Ok(link)
     }
 
     /// Keeps the port, and counts one fault where the port has any.

@@ -26,7 +26,7 @@ pub trait Ports {
     ghost faults: { Self → ℕ };
 
     /// Binds a port to the local address, which sends to the peer and hears it alone. It has no faults yet and, where it tells its
-    /// traffic, none yet. After `Failed` none was bound.
+    /// traffic, none yet; its name is how many were bound before. After `Failed` none was bound.
     fn bind(&mut self, local: Address, peer: Address) -> Result<Self::Port, Failed>
         requires { bound self.old < 64 }
         ensures bound { bound self.new ≡ after_bind result (bound self.old) }
@@ -34,6 +34,7 @@ pub trait Ports {
         ensures returned { returned self.new ≡ returned self.old }
         ensures quiet { IfOk result (λ port. Self.Port.faults port ≡ 0) }
         ensures silent { IfOk result (λ port. tells_nothing_yet (Self.Port.told port)) }
+        ensures name { IfOk result (λ port. Self.Port.name port ≡ bound self.old) }
         ensures cause { HasCause (faults self.old) (faults self.new) result };
 
     /// Takes a port back. The count of faults rises exactly when the port's own count is above 0.

@@ -75,7 +75,7 @@ fn serve_ports<P: Ports, K: Sink, C: Clock + Sync, W: Threads + Wait + Sync>(
     requires none_back { P.back_count ports.old ≡ 0 }
     ensures ports { P.faults ports.old ≤ P.faults ports.new }
     ensures sink { K.faults sink.old ≤ K.faults sink.new }
-    ensures ends { Ends P.Port.told P.Port.faults limit served.now.calls served.now.ports.items (K.written sink.old) (K.written sink.new)
+    ensures ends { Ends P.Port.told P.Port.faults P.Port.name limit served.now.calls served.now.ports.items (K.written sink.old) (K.written sink.new)
         (K.faults sink.old) (K.faults sink.new)
         (seen_ports (P.bound ports.old) (P.back_count ports.old) (P.returned ports.old) (P.faults ports.old))
         (seen_ports (P.bound ports.new) (P.back_count ports.new) (P.returned ports.new) (P.faults ports.new)) (number_of result) }
@@ -110,7 +110,7 @@ pub fn act<P: Ports, K: Sink, C: Clock + Sync, W: Threads + Wait + Sync>(
     requires none_back { P.back_count ports.old ≡ 0 }
     ensures ports { P.faults ports.old ≤ P.faults ports.new }
     ensures sink { K.faults sink.old ≤ K.faults sink.new }
-    ensures acts { Acts P.Port.told P.Port.faults limit served.now.calls served.now.ports.items (K.written sink.old) (K.written sink.new)
+    ensures acts { Acts P.Port.told P.Port.faults P.Port.name limit served.now.calls served.now.ports.items (K.written sink.old) (K.written sink.new)
         (K.faults sink.old) (K.faults sink.new)
         (seen_ports (P.bound ports.old) (P.back_count ports.old) (P.returned ports.old) (P.faults ports.old))
         (seen_ports (P.bound ports.new) (P.back_count ports.new) (P.returned ports.new) (P.faults ports.new)) (number_of result) }

@@ -27,7 +27,7 @@ pub fn serve<S: Source, K: Sink, P: Ports, C: Clock + Sync, W: Threads + Wait + 
     requires limited { limit ≤ 1000000000000 }
     requires unbound { P.bound ports.old ≡ 0 }
     requires none_back { P.back_count ports.old ≡ 0 }
-    ensures { Serves P.Port.told P.Port.faults limit (exchange_of S.left S.faults K.written K.faults source.old source.new sink.old sink.new)
+    ensures { Serves P.Port.told P.Port.faults P.Port.name limit (exchange_of S.left S.faults K.written K.faults source.old source.new sink.old sink.new)
         (seen_ports (P.bound ports.old) (P.back_count ports.old) (P.returned ports.old) (P.faults ports.old))
         (seen_ports (P.bound ports.new) (P.back_count ports.new) (P.returned ports.new) (P.faults ports.new)) (number_of result) }
 {

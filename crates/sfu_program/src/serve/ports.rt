@@ -4,7 +4,7 @@ ghost use Rattle.std.specs.Vec.{vec_capacity};
 ghost use Rattle.sfu_base.specs.Faults.{HasCause, Rose, raised};
 ghost use Rattle.sfu_base.specs.Ports.{after_bind};
 ghost use Rattle.sfu_serve.specs.Runs.{job_before};
-ghost use Rattle.sfu_program.specs.ServePorts.{AreFresh, IsFresh, NoFault, WasUnbound, SomeFault, after_backs, befores, role_of, seen_ports};
+ghost use Rattle.sfu_program.specs.ServePorts.{AreFresh, AreNamedFrom, IsFresh, NoFault, WasUnbound, SomeFault, after_backs, befores, role_of, seen_ports};
 ghost use Rattle.sfu_program.specs.declared.serve.ports.Unbound.TheVariants.{PortFault, Starved};
 
 use rtx_stream::Rtx;
@@ -50,6 +50,7 @@ fn role(line: PortRole) -> Role
 fn bind_one<P: Ports>(line: &PortLine, ports: &mut P) -> Result<Job<P::Port>, Failed>
     requires { P.bound ports.old < 64 }
     ensures fresh { IfOk result (λ job. IsFresh line.now (job_before job.role (P.Port.told job.link) (P.Port.faults job.link))) }
+    ensures name { IfOk result (λ job. P.Port.name job.link ≡ P.bound ports.old) }
     ensures bound { P.bound ports.new ≡ after_bind result (P.bound ports.old) }
     ensures back_count { P.back_count ports.new ≡ P.back_count ports.old }
     ensures returned { P.returned ports.new ≡ P.returned ports.old }
@@ -78,6 +79,7 @@ fn bind_each<P: Ports>(
     ensures kept { OnOk result (P.faults ports.new ≡ P.faults ports.old) }
     ensures never_falls { P.faults ports.old ≤ P.faults ports.new }
     ensures fresh { AreFresh (take (vec_len jobs.new) lines.now) (befores P.Port.told P.Port.faults jobs.new.items) }
+    ensures names { AreNamedFrom P.Port.name 0 (map (λ job. job.link) jobs.new.items) }
     ensures bound { P.bound ports.new ≡ vec_len jobs.new }
     ensures back_count { P.back_count ports.new ≡ P.back_count ports.old }
     ensures returned { P.returned ports.new ≡ P.returned ports.old }
@@ -131,13 +133,14 @@ pub fn bind_all<P: Ports>(
     requires unbound { P.bound ports.old ≡ 0 }
     requires none_back { P.back_count ports.old ≡ 0 }
     ensures fresh { IfOk result (λ jobs. AreFresh lines.now (befores P.Port.told P.Port.faults jobs.items)) }
+    ensures names { IfOk result (λ jobs. AreNamedFrom P.Port.name 0 (map (λ job. job.link) jobs.items)) }
     ensures bound { IfOk result (λ jobs. P.bound ports.new ≡ vec_len jobs) }
     ensures all { IfOk result (λ jobs. vec_len jobs ≡ length lines.now) }
     ensures none_came { OnOk result (P.back_count ports.new ≡ 0) }
     ensures returned { OnOk result (P.returned ports.new ≡ P.returned ports.old) }
     ensures kept { OnOk result (P.faults ports.new ≡ P.faults ports.old) }
     ensures never_falls { P.faults ports.old ≤ P.faults ports.new }
-    ensures failed { IfErr result (λ why. why ≡ PortFault → WasUnbound P.Port.told P.Port.faults lines.now
+    ensures failed { IfErr result (λ why. why ≡ PortFault → WasUnbound P.Port.told P.Port.faults P.Port.name lines.now
         (seen_ports (P.bound ports.old) (P.back_count ports.old) (P.returned ports.old) (P.faults ports.old))
         (seen_ports (P.bound ports.new) (P.back_count ports.new) (P.returned ports.new) (P.faults ports.new))) }
     ensures starved { IfErr result (λ why. why ≡ Starved → ports.new ≡ ports.old) }

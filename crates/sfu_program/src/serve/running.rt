@@ -41,8 +41,9 @@ pub fn run_all<L: Link + Send + Drop, C: Clock + Sync, W: Threads + Wait + Sync>
     requires few { vec_len jobs ≤ 64 }
     requires roles { All (λ j. CanBe j.role) jobs.items }
     requires limited { limit ≤ 1000000000000 }
-    ensures { IfOk result (λ ended. (calls : List Call) → HasMade turns calls seat → length calls < 2 ^ 32
+    ensures served { IfOk result (λ ended. (calls : List Call) → HasMade turns calls seat → length calls < 2 ^ 32
         → HaveServed limit calls (befores L.told L.faults jobs.items) (afters L.told L.faults ended.items)) }
+    ensures names { IfOk result (λ ended. map (λ e. L.name e.link) ended.items ≡ map (λ j. L.name j.link) jobs.items) }
 {
     let ended = run_sessions(rt, alloc, &turns, &mut seat, jobs, clock, limit)?;
     let _room = turns.close(seat);

@@ -37,6 +37,7 @@ struct GatedLink<'a, R> {
     was_brought: &'a AtomicBool,
     is_publishers: bool,
     is_first: bool,
+    name: u64,
     inner: MemLink,
 }
 
@@ -53,6 +54,8 @@ impl<'a, R: Clock> GatedLink<'a, R> {
 
 impl<'a, R: Clock> Link for GatedLink<'a, R> {
     ghost told = { λ s. ⟦<MemLink as Link>⟧.told s.inner };
+
+    ghost name = { λ s. s.name };
 
     ghost faults = { λ s. ⟦<MemLink as Link>⟧.faults s.inner };
 
@@ -102,12 +105,14 @@ impl<'a, R: Clock + Sync> Ports for GatedPorts<'a, R> {
             self.faults = self.faults.saturating_add(1);
             return Err(Failed);
         };
+        let name = self.bound;
         self.bound += 1;
         Ok(GatedLink {
             clock: self.clock,
             was_brought: self.was_brought,
             is_publishers,
             is_first: true,
+            name,
             inner,
         })
     }

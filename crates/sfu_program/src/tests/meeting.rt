@@ -1,4 +1,4 @@
-// Two sessions that are at work at the same time.
+// Three sessions that are at work at the same time.
 ghost use Rattle.std.specs.Prelude.{◌≤◌, None};
 
 use super::serve::{CONFIGURATION, served};
@@ -8,25 +8,41 @@ use std::test::Fail;
 use std::thread;
 use std::time::{Clock, Duration};
 
-// How often a link looks for the other one, with a millisecond between.
+// How often a link looks for the other ones, with a millisecond between.
 const MOST_LOOKS: u32 = 10_000;
 
-// A link whose first receive raises its flag and waits until the other link's is up. It brings nothing.
+// A flag of each link.
+type Flags = [AtomicBool; 3];
+
+fn are_up(flags: &Flags) -> bool {
+    for flag in flags {
+        if !flag.load(Ordering::SeqCst) {
+            return false;
+        }
+    }
+    true
+}
+
+// A link whose first receive raises its flag and waits until the other links' are up. It brings nothing.
 #[derive(Drop)]
 struct MeetingLink<'a, R> {
     clock: &'a R,
-    own: &'a AtomicBool,
-    other: &'a AtomicBool,
+    flags: &'a Flags,
+    place: usize,
     has_met: bool,
+    name: u64,
     faults: u64,
 }
 
 impl<'a, R: Clock> MeetingLink<'a, R> {
-    // Raises the flag and waits for the other one; whether it came up.
+    // Raises the flag and waits for the other ones; whether they came up.
     fn meet(&self) -> bool {
-        self.own.store(true, Ordering::SeqCst);
+        let flags = self.flags;
+        if let Some(own) = flags.get(self.place) {
+            own.store(true, Ordering::SeqCst);
+        }
         for _ in 0..MOST_LOOKS {
-            if self.other.load(Ordering::SeqCst) {
+            if are_up(flags) {
                 return true;
             }
             thread::sleep(self.clock, Duration::from_millis(1));
@@ -37,6 +53,8 @@ impl<'a, R: Clock> MeetingLink<'a, R> {
 
 impl<'a, R: Clock> Link for MeetingLink<'a, R> {
     ghost told = { λ _. None };
+
+    ghost name = { λ s. s.name };
 
     ghost faults = { λ s. s.faults };
 
@@ -60,12 +78,12 @@ fn is_local(address: Address, port: u64) -> bool {
     address.ip == 0x7f00_0001 && u64::from(address.port) == port
 }
 
-// Ports of two links that meet. The first is bound at 127.0.0.1:5000 for 127.0.0.1:6000, and the other one port further; any other fails.
+// Ports of three links that meet. The first is bound at 127.0.0.1:5000 for 127.0.0.1:6000, and each other one port further; any other fails.
 #[derive(Drop)]
 struct MeetingPorts<'a, R> {
     clock: &'a R,
-    one: &'a AtomicBool,
-    two: &'a AtomicBool,
+    flags: &'a Flags,
+    place: usize,
     bound: u64,
     back_count: u64,
     faults: u64,
@@ -88,17 +106,15 @@ impl<'a, R: Clock + Sync> Ports for MeetingPorts<'a, R> {
             self.faults = self.faults.saturating_add(1);
             return Err(Failed);
         }
-        let (own, other) = if self.bound == 0 {
-            (self.one, self.two)
-        } else {
-            (self.two, self.one)
-        };
+        let (place, name) = (self.place, self.bound);
+        self.place = place.saturating_add(1);
         self.bound += 1;
         Ok(MeetingLink {
             clock: self.clock,
-            own,
-            other,
+            flags: self.flags,
+            place,
             has_met: false,
+            name,
             faults: 0,
         })
     }
@@ -116,22 +132,30 @@ impl<'a, R: Clock + Sync> Ports for MeetingPorts<'a, R> {
 }
 
 #[test]
-fn two_sessions_are_at_work_at_the_same_time(rt: HostRuntime) -> Result<(), Fail> {
-    let one = AtomicBool::new(false);
-    let two = AtomicBool::new(false);
+fn three_sessions_are_at_work_at_the_same_time(rt: HostRuntime) -> Result<(), Fail> {
+    let alloc = rt.alloc();
+    let flags = [
+        AtomicBool::new(false),
+        AtomicBool::new(false),
+        AtomicBool::new(false),
+    ];
     let mut ports = MeetingPorts {
         clock: &rt,
-        one: &one,
-        two: &two,
+        flags: &flags,
+        place: 0,
         bound: 0,
         back_count: 0,
         faults: 0,
     };
-    let (status, written) = served(&rt, rt.alloc(), "1", CONFIGURATION.as_bytes(), &mut ports)?;
+    let configuration = format!(in alloc;
+        "{CONFIGURATION}port 127.0.0.1:5002 127.0.0.1:6002 control\n"
+    )?;
+    let (status, written) = served(&rt, alloc, "1", configuration.as_bytes(), &mut ports)?;
     assert_eq!(rt;
         written.as_slice(),
-        b"ok\nok\nsession 1 all\nsession 2 all\n".as_slice()
+        b"ok\nok\nsession 1 all\nsession 2 all\nsession 3 all\n".as_slice()
     );
     assert_eq!(rt; status, 0);
+    assert!(rt; are_up(&flags), "a session never began");
     Ok(())
 }

@@ -1,4 +1,4 @@
-// The lines that speak of a subscriber, behind their first word.
+// The lines about a subscriber, after their first word.
 ghost use Rattle.std.specs.Prelude.{◌≡◌};
 ghost use Rattle.std.specs.Result.{result_ok};
 ghost use Rattle.sfu_script.specs.ReadLines.{subscriber_call_of};
@@ -65,7 +65,7 @@ fn why(rest: &[u8]) -> Result<Call, NoLine>
     })
 }
 
-/// The call that a command says with the words behind it.
+/// The call that a command says with the words after it.
 #[inline(always)]
 pub fn read(command: SubscriberCommand, rest: &[u8]) -> Result<Call, NoLine>
     ensures { result_ok result ≡ subscriber_call_of command rest.now }

@@ -9,11 +9,11 @@ loop-own-preserved c =
     let place = c.requires.place in
     let size = c.len.ensures in
     let more = c.push_reserved.ensures.len in
-    let room = c.push_reserved.ensures.capacity in
-    let before = c.loop-own.invariant.room in
+    let capacity = c.push_reserved.ensures.capacity in
+    let before = c.loop-own.invariant.capacity in
     record {
       few = omega (arith, test, place, size, more);
-      room = omega (arith, room, before);
+      capacity = omega (arith, capacity, before);
       same = λ shared place.
           ap (λ (own : List (List ℕ)). bytes_by shared (slice_get own place))
           (c.push_reserved.ensures.items ∙ ap (λ (p : List ℕ). c.loop-own.own.items ++ p ∷ []) c.new.ensures)

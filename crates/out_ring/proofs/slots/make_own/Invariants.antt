@@ -6,7 +6,7 @@ use Rattle.out_ring.proofs.slots.make_own.Given as goal
 abbrev pub invariant-loop-own : goal.invariant-loop-own
 invariant-loop-own l = record {
   few : vec_len l.own ≤ 1536;
-  room : 1536 ≤ vec_capacity l.own;
+  capacity : 1536 ≤ vec_capacity l.own;
   same : AreAlike l.initial.own.items l.own.items;
 }
 

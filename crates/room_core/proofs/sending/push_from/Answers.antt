@@ -9,8 +9,8 @@ use Rattle.room_core.proofs.sending.push_from.Goals as goal
 pub loop-place-init : goal.loop-place-init
 loop-place-init c = record { above = omega arith; so_far = push_begins c.args.from c.args.is_top c.args.track.now.packets c.args.ring.now; of_frame = c.requires.of_frame; mask = refl; grown = omega arith }
 
-pub queue-requires-clause-room : goal.queue-requires-clause-room
-queue-requires-clause-room c =
+pub queue-requires-clause-capacity : goal.queue-requires-clause-capacity
+queue-requires-clause-capacity c =
     push_room c.args.track.now.packets c.args.is_top c.args.from c.loop-place.place c.loop-place.ring c.args.ring.now c.loop-place.invariant.above
     (let lt = c.loop-place-test.true in omega (arith, lt, c.requires.count)) c.requires.room c.loop-place.invariant.so_far
 

@@ -5,17 +5,17 @@ use Rattle.out_ring.specs.Ring.{pushed}
 use Rattle.room_core.proofs.Pushing.{telling_fits, telling_pushed, telling_reads}
 use Rattle.room_core.proofs.sending.push_told.Goals as goal
 
-pub queue_told-requires-clause-reads : goal.queue_told-requires-clause-reads
-queue_told-requires-clause-reads c =
-    subst (λ (b : List ℕ). first_fault b ≡ None) (sym c.tell.ensures.packet)
+pub queue_remasked-requires-clause-reads : goal.queue_remasked-requires-clause-reads
+queue_remasked-requires-clause-reads c =
+    subst (λ (b : List ℕ). first_fault b ≡ None) (sym c.remask.ensures.packet)
     (telling_reads c.args.id c.args.mask (option_copied c.args.force) c.args.packet.now c.requires.reads)
 
-pub queue_told-requires-clause-fits : goal.queue_told-requires-clause-fits
-queue_told-requires-clause-fits c =
-    subst (λ (b : List ℕ). length b ≤ 1536) (sym c.tell.ensures.packet)
+pub queue_remasked-requires-clause-fits : goal.queue_remasked-requires-clause-fits
+queue_remasked-requires-clause-fits c =
+    subst (λ (b : List ℕ). length b ≤ 1536) (sym c.remask.ensures.packet)
     (telling_fits c.args.id c.args.mask (option_copied c.args.force) c.args.packet.now c.requires.fits)
 
 pub returns-clause-pushed : goal.returns-clause-pushed
 returns-clause-pushed c =
-    telling_pushed c.args.id c.args.mask (option_copied c.args.force) c.args.packet.now c.args.marker c.args.ring.now c.queue_told.new.ring c.requires.reads
-    (c.queue_told.ensures.pushed ∙ ap (λ (b : List ℕ). pushed b c.args.marker c.args.ring.now) c.tell.ensures.packet)
+    telling_pushed c.args.id c.args.mask (option_copied c.args.force) c.args.packet.now c.args.marker c.args.ring.now c.queue_remasked.new.ring c.requires.reads
+    (c.queue_remasked.ensures.pushed ∙ ap (λ (b : List ℕ). pushed b c.args.marker c.args.ring.now) c.remask.ensures.packet)

@@ -3,7 +3,7 @@ use Rattle.std.proofs.lemmas.List.{take_rest}
 use Rattle.std.proofs.lemmas.Result.{err_from_is_err_and}
 use Rattle.rtcp_feedback.specs.Faults.{fault_among, packets_in}
 use Rattle.rtcp_feedback.proofs.Cutting.{fault_here, fault_behind, fault_of_some, no_packet_fault, some_bytes, no_bytes}
-use Rattle.rtcp_feedback.proofs.Marks.{no_pair_names}
+use Rattle.rtcp_feedback.proofs.Placing.{left_first, stands_first}
 use Rattle.rtcp_feedback.specs.Datagram.{IsDatagram}
 use Rattle.rtcp_feedback.specs.declared.feedback.Feedback.{Feedback}
 use Rattle.rtcp_feedback.proofs.Datagrams.{is_datagram}
@@ -26,11 +26,10 @@ loop-rest-preserved c =
 
 pub invariant_of-result : goal.invariant_of-result
 invariant_of-result c =
-    ap (λ (xs : List ℕ). fault_among (packets_in xs)) c.at_pairs-place.ensures.packets
-    ∙ sym c.loop-rest.invariant ∙ no_packet_fault c.loop-rest.rest.now (no_bytes _ c.loop-rest-test.ensures)
+    stands_first c.args.bytes.now c.cursor_at-cursor.result c.cursor_at-cursor.ensures.fields (sym c.loop-rest.invariant ∙ no_packet_fault c.loop-rest.rest.now (no_bytes _ c.loop-rest-test.ensures))
 
 pub returns-clause-items : goal.returns-clause-items
-returns-clause-items c = c.at_pairs-place.ensures.left ∙ no_pair_names 0 c.args.bytes.now
+returns-clause-items c = left_first c.args.bytes.now c.cursor_at-cursor.result (c.cursor_at-cursor.ensures.left c.args.bytes.now)
 
 pub returns-clause-ok : goal.returns-clause-ok
 returns-clause-ok c =

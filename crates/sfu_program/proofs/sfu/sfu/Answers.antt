@@ -29,6 +29,9 @@ returns-then-are_together-clause-convert g c = λ is. absurd (not_convert _ (c.i
 pub returns-then-are_together-clause-simulcast : goal.returns-then-are_together-clause-simulcast
 returns-then-are_together-clause-simulcast g c = λ is. absurd (not_simulcast _ (c.if-are_together.ensures.0 refl) is)
 
+pub returns-then-are_together-clause-bundles : goal.returns-then-are_together-clause-bundles
+returns-then-are_together-clause-bundles g c = λ is. absurd (not_simulcast _ (c.if-are_together.ensures.0 refl) is)
+
 pub returns-then-are_together-clause-help : goal.returns-then-are_together-clause-help
 returns-then-are_together-clause-help g c = λ is. absurd (not_help _ (c.if-are_together.ensures.0 refl) is)
 
@@ -71,6 +74,9 @@ returns-in-Some-clause-convert g c = λ is. absurd (serve.not_convert _ (_, c.in
 pub returns-in-Some-clause-simulcast : goal.returns-in-Some-clause-simulcast
 returns-in-Some-clause-simulcast g c = λ is. absurd (serve.not_simulcast _ (_, c.in-Some.ensures) is)
 
+pub returns-in-Some-clause-bundles : goal.returns-in-Some-clause-bundles
+returns-in-Some-clause-bundles g c = λ is. absurd (serve.not_simulcast _ (_, c.in-Some.ensures) is)
+
 pub returns-in-Some-clause-help : goal.returns-in-Some-clause-help
 returns-in-Some-clause-help g c = λ is. absurd (serve.not_help _ (_, c.in-Some.ensures) is)
 
@@ -85,7 +91,7 @@ returns-in-Some-clause-other g c = λ none. absurd (none (inr (inr (_, c.in-Some
 
 pub returns-in-Some-clause-serve : goal.returns-in-Some-clause-serve
 returns-in-Some-clause-serve g c = λ turns is.
-    rw c.number-in-Some.ensures (subst (λ (n : ℕ). Serves g.P.Port.Link.told g.P.Port.Link.faults n (exchange_by (g.S.Source.left c.args.source.now) (g.S.Source.left c.serve.new.source)
+    rw c.number-in-Some.ensures (subst (λ (n : ℕ). Serves g.P.Port.Link.told g.P.Port.Link.faults g.P.Port.Link.name n (exchange_by (g.S.Source.left c.args.source.now) (g.S.Source.left c.serve.new.source)
     (g.K.Sink.written c.args.sink.now) (g.K.Sink.written c.serve.new.sink) (g.S.Source.faults c.args.source.now) (g.S.Source.faults c.serve.new.source)
     (g.K.Sink.faults c.args.sink.now) (g.K.Sink.faults c.serve.new.sink))
     (seen_ports (g.P.Ports.bound c.args.ports.now) (g.P.Ports.back_count c.args.ports.now) (g.P.Ports.returned c.args.ports.now) (g.P.Ports.faults c.args.ports.now))
@@ -134,14 +140,14 @@ returns-in-Some-clause-complete g c = λ none.
       check = λ id r. absurd (serve.not_check _ id is r);
       recorded = λ id r. absurd (serve.not_record _ id is r);
       together = λ r. absurd (serve.not_together _ is r);
-      serve = λ turns r. rw c.number-in-Some.ensures (serve_finishes _ _ _ _ _ _ _ none c.serve.ensures);
+      serve = λ turns r. rw c.number-in-Some.ensures (serve_finishes _ _ _ _ _ _ _ _ none c.serve.ensures);
       trial = λ s r. absurd (serve.not_trial _ s is r);
       cascade = λ s r. absurd (serve.not_cascade _ s is r);
       help = λ r. absurd (serve.not_help _ is r);
     }
 
 pub returns-in-Some-clause-inside : goal.returns-in-Some-clause-inside
-returns-in-Some-clause-inside g c = λ none. rw c.number-in-Some.ensures (serve_inside _ _ _ _ _ _ _ none c.serve.ensures)
+returns-in-Some-clause-inside g c = λ none. rw c.number-in-Some.ensures (serve_inside _ _ _ _ _ _ _ _ none c.serve.ensures)
 
 pub returns-clause-complete : goal.returns-clause-complete
 returns-clause-complete g c = λ none.

@@ -6,7 +6,7 @@ use Rattle.out_ring.proofs.heads.Heads.new.Given as goal
 abbrev pub invariant-loop-ring : goal.invariant-loop-ring
 invariant-loop-ring l = record {
   few : vec_len l.ring ≤ 1536;
-  room : 1536 ≤ vec_capacity l.ring;
+  capacity : 1536 ≤ vec_capacity l.ring;
   unshared : All (λ head. head.shared ≡ None) l.ring.items;
 }
 

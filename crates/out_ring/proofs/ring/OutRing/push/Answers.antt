@@ -11,7 +11,7 @@ pub spent_in-self-inside-requires-clause-queued : goal.spent_in-self-inside-requ
 spent_in-self-inside-requires-clause-queued c =
     let a = c.self.inside in
     let i = c.self.invariant in
-    let few = few_queued a.slots a.ssrc a.next a.queued a.kept c.args.self.now i.slots i.queued i.kept c.self.view_is c.requires.room in
+    let few = few_queued a.slots a.ssrc a.next a.queued a.kept c.args.self.now i.slots i.queued i.kept c.self.view_is c.requires.capacity in
     omega (arith, few)
 
 abbrev packet : goal.Joined-fill → Pushed
@@ -21,7 +21,7 @@ few : (c : goal.Joined-fill) → c.self.inside.queued < 512
 few c =
     let a = c.self.inside in
     let i = c.self.invariant in
-    few_queued a.slots a.ssrc a.next a.queued a.kept c.args.self.now i.slots i.queued i.kept c.self.view_is c.requires.room
+    few_queued a.slots a.ssrc a.next a.queued a.kept c.args.self.now i.slots i.queued i.kept c.self.view_is c.requires.capacity
 
 pub invariant_of-self : goal.invariant_of-self
 invariant_of-self c =

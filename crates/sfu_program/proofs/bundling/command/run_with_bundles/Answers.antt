@@ -6,6 +6,7 @@ use Rattle.sfu_driver.proofs.Cutting.{at}
 use Rattle.sfu_driver.proofs.Meanings.{statuses_same}
 use Rattle.simulcast.specs.Bundles.{nothing_made}
 use Rattle.sfu_program.specs.Simulcast.{simulcast_due, simulcast_part}
+use Rattle.sfu_program.proofs.SimulcastPromise.{are_bundles_served}
 use Rattle.sfu_program.proofs.SimulcastReplies.{bundle_rule, bundles_are_due, bundles_are_part, simulcast_only}
 use Rattle.sfu_program.proofs.bundling.command.run_with_bundles.Goals as goal
 
@@ -19,3 +20,6 @@ returns-clause-simulcasts g c =
 
 pub returns-clause-only : goal.returns-clause-only
 returns-clause-only g c = let status = returns-clause-simulcasts g c in simulcast_only (number_of c.answer.result) status.only
+
+pub returns-clause-headline : goal.returns-clause-headline
+returns-clause-headline g c = are_bundles_served

@@ -38,6 +38,7 @@ returns-in-Ok g c =
     let acts = c.act.ensures.acts in
     let told = g.P.Port.Link.told in
     let faults = g.P.Port.Link.faults in
+    let name = g.P.Port.Link.name in
     let setup = (configuration_of read.bytes).setup in
     let old = seen_ports (g.P.Ports.bound c.args.ports.now) (g.P.Ports.back_count c.args.ports.now) (g.P.Ports.returned c.args.ports.now) (g.P.Ports.faults c.args.ports.now) in
     let new = seen_ports (g.P.Ports.bound c.act.new.ports) (g.P.Ports.back_count c.act.new.ports) (g.P.Ports.returned c.act.new.ports) (g.P.Ports.faults c.act.new.ports) in
@@ -48,10 +49,10 @@ returns-in-Ok g c =
     let f1 = g.K.Sink.faults c.read_served.new.sink in
     let f' = g.K.Sink.faults c.act.new.sink in
     let status = (number_of c.act.result) in
-    let said : Acts told faults c.args.limit setup.calls setup.ports w1 w' f1 f' old new status =
-    subst (λ (calls : List Call). Acts told faults c.args.limit calls setup.ports w1 w' f1 f' old new status) read.setup.calls
-    (subst (λ (lines : List PortLine). Acts told faults c.args.limit c.in-Ok.served.calls lines w1 w' f1 f' old new status) read.setup.ports acts) in
-    let all = acts_before told faults c.args.limit setup.calls setup.ports w w1 w' f f1 f' old new status c.in-Ok.ensures.kept.1 read.unwritten said in
+    let said : Acts told faults name c.args.limit setup.calls setup.ports w1 w' f1 f' old new status =
+    subst (λ (calls : List Call). Acts told faults name c.args.limit calls setup.ports w1 w' f1 f' old new status) read.setup.calls
+    (subst (λ (lines : List PortLine). Acts told faults name c.args.limit c.in-Ok.served.calls lines w1 w' f1 f' old new status) read.setup.ports acts) in
+    let all = acts_before told faults name c.args.limit setup.calls setup.ports w w1 w' f f1 f' old new status c.in-Ok.ensures.kept.1 read.unwritten said in
     record {
       came = inr (record { bytes = read.bytes; consumed = read.consumed; at_end = read.at_end; whole = read.whole; acts = all });
       first_fault = with_reads (g.S.Source.faults c.args.source.now) (g.S.Source.faults c.read_served.new.source) f f' status c.in-Ok.ensures.kept.0 all.first_fault;

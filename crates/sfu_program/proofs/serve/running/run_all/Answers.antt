@@ -6,8 +6,8 @@ use Rattle.sfu_program.specs.Serve.{afters}
 use Rattle.sfu_program.proofs.ServeRun.{served}
 use Rattle.sfu_program.proofs.serve.running.run_all.Goals as goal
 
-pub returns : goal.returns
-returns g c = λ calls made few.
+pub returns-clause-served : goal.returns-clause-served
+returns-clause-served g c = λ calls made few.
     let told = g.L.Link.told in
     let faults = g.L.Link.faults in
     let many : length (befores told faults c.args.jobs.items) ≤ 64 = (let k = length-map c.args.jobs.items (λ job. job_before job.role (told job.link) (faults job.link)) in let n = c.args.jobs.ok.0 in let m = c.requires.few in omega arith) in

@@ -5,10 +5,10 @@ use Rattle.reorder_window.specs.Events.{Piece}
 use Rattle.forwarding_model.specs.frames.Frames.{Item}
 use Rattle.track_core.specs.Layers.{IsAfter}
 use Rattle.track_core.specs.Pieces.{IsTaken, item_by, items_of}
-use Rattle.track_core.specs.Track.{Seen, StandsFor, gives, made_by, made_of, packets_of, and_piece, told_with}
+use Rattle.track_core.specs.Track.{Seen, StandsFor, gives, made_by, made_of, packets_of, and_piece, with_meaning}
 use Rattle.track_core.specs.Kept.{seen}
 use Rattle.track_core.proofs.OfFrames.{made_alone, of_frame}
-use Rattle.track_core.proofs.Told.{given_told}
+use Rattle.track_core.proofs.WithMeaning.{given_with_meaning}
 use Rattle.track_core.proofs.Orders.{bound_step, fetched, item_here, made_with, packets_given, packets_same, plain_before, made_step, some_stood, step_stands, taken_step, worked_step}
 use Rattle.track_core.proofs.track.Track.advance.Goals as goal
 
@@ -78,7 +78,7 @@ returns-clause-packets c events worked stands =
     ∙ packets_given worked f.piece c.in-Some.item c.self.inside.slot.value c.next_slot.new.slot.value f.told f.bytes c.self.inside.layers c.worked-made.new.layers c.is_given-self-inside.result
     c.worked-made.ensures.kind
     (subst (λ (x : Item). IfSome c.worked-made.new.layers (λ l. IsAfter l (x ∷ items_of worked))) item (c.worked-made.ensures.stands (items_of worked) before.layers))
-    (c.is_given-self-inside.ensures ∙ given_told c.worked-made.new.meaning c.worked-made.result ∙ ap gives made)
+    (c.is_given-self-inside.ensures ∙ given_with_meaning c.worked-made.new.meaning c.worked-made.result ∙ ap gives made)
     ∙ ap (λ (xs : List Piece). packets_of c.self.inside.layers worked (slice_get xs 0)) (sym f.is)
     ∙ ap (λ (t : Seen). packets_of t.layers worked (slice_get t.window.waiting 0)) c.self.view_is
 
@@ -90,5 +90,5 @@ pub returns-clause-one : goal.returns-clause-one
 returns-clause-one c packet =
     let h = c.self.invariant.stood in
     let stands : StandsFor c.args.self.now h.events h.worked = subst (λ (t : Seen). StandsFor t h.events h.worked) c.self.view_is h.stands in
-    made_alone c.args.self.now.layers h.worked (slice_get c.args.self.now.window.waiting 0) _ (sym (returns-clause-made c h.events h.worked stands) ∙ ap (told_with c.worked-made.new.meaning) packet)
+    made_alone c.args.self.now.layers h.worked (slice_get c.args.self.now.window.waiting 0) _ (sym (returns-clause-made c h.events h.worked stands) ∙ ap (with_meaning c.worked-made.new.meaning) packet)
     (returns-clause-packets c h.events h.worked stands)

@@ -1,4 +1,0 @@
-pub mod Words
-pub mod Steps
-pub mod Doing
-pub mod Counting

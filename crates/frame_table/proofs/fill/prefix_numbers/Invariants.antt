@@ -1,0 +1,6 @@
+use Rattle.std.proofs.Common.{◌≡◌, length, take}
+use Rattle.frame_table.proofs.Fronts.{front}
+use Rattle.frame_table.proofs.fill.prefix_numbers.Given as goal
+
+abbrev pub invariant-loop-place : goal.invariant-loop-place
+invariant-loop-place l = record { whole : length l.out ≡ 32; done : take l.place l.out ≡ take l.place (front 32 0 l.count l.row) }

@@ -1,0 +1,4 @@
+pub mod Choosing
+pub mod PublisherSteps
+pub mod SubscriberSteps
+pub mod ControlSteps

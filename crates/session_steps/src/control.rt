@@ -1,0 +1,90 @@
+// The session of a controller.
+ghost use Rattle.std.specs.Prelude.{◌≡◌, ℕ, Option};
+ghost use Rattle.session_steps.specs.Datagrams.{control_call, if_control, is_control};
+ghost use Rattle.session_steps.specs.Sessions.{Doing, control_deed};
+
+use crate::session::{Output, Session};
+use sfu_base::{Call, Reply, Scratch};
+use sfu_script::{read_call, write_short};
+
+/// The reply to a datagram that is no control line.
+const FAULT_LINE: &[u8] = b"fault line";
+
+/// The session of a controller. Each datagram that is one line of publish, unpublish, join, leave, aim, key, plead or why, without a line end,
+/// is a call, and the text of its reply is sent, without a line end; any other datagram is answered `fault line`.
+#[derive(Debug, Drop)]
+pub struct ControlSession {
+    /// The call of the line that came.
+    said: Option<Call>,
+    ghost control: { if_control said ≡ said },
+}
+
+/// Whether a control line may make the call.
+fn is_control(call: &Call) -> bool
+    ensures { result ≡ is_control call.now }
+{
+    match call {
+        Call::Packet { .. }
+        | Call::Tick { .. }
+        | Call::Take { .. }
+        | Call::Resend { .. }
+        | Call::Missing { .. } => false,
+        _ => true,
+    }
+}
+
+/// The call of a control line. None: the datagram is no control line.
+fn read_control(line: &[u8]) -> Option<Call>
+    ensures { result ≡ control_call line.now }
+{
+    match read_call(line) {
+        Ok(call) => { if is_control(&call) { Some(call) } else { None } }
+        Err(_no_line) => None,
+    }
+}
+
+impl ControlSession {
+    ghost use Rattle.session_steps.specs.Controlling.{controlling};
+    ghost use Rattle.session_steps.specs.Stepping.{Waits};
+
+    /// The session of a controller, before its first datagram.
+    pub fn new() -> ControlSession
+        ensures left { (turns : ℕ) → controlling result.said turns ≡ control_deed turns }
+        ensures waits { (turns : ℕ) → Waits (controlling result.said turns) turns }
+    {
+        ControlSession { said: None }
+    }
+}
+
+impl Session for ControlSession {
+    ghost use Rattle.session_steps.specs.Controlling.{controlling, controlling_calls};
+
+    ghost left = { λ c. controlling c.said };
+
+    ghost calls = { λ c. controlling_calls c.said };
+
+    fn call(&self) -> Option<&Call> {
+        match &self.said {
+            Some(call) => Some(call),
+            None => None,
+        }
+    }
+
+    fn received(&mut self, came: bool, _moment: u64, scratch: &mut Scratch) -> Output {
+        if !came {
+            return Output::Nothing;
+        }
+        self.said = read_control(scratch.packet.bytes());
+        if self.said.is_some() {
+            return Output::Nothing;
+        }
+        scratch.packet.fill(FAULT_LINE);
+        Output::Packet
+    }
+
+    fn replied(&mut self, reply: Reply, scratch: &mut Scratch) -> Output {
+        self.said = None;
+        write_short(&reply, &mut scratch.packet);
+        Output::Packet
+    }
+}

@@ -1,0 +1,220 @@
+// The session of a publisher.
+ghost use Rattle.std.specs.Prelude.{◌≡◌, ◌&&◌, not, ℕ, ◌<◌, List, Option, None, length};
+ghost use Rattle.sfu_base.specs.Answer.{answer_of};
+ghost use Rattle.sfu_base.specs.declared.call.Call.TheVariants as call;
+ghost use Rattle.rtcp_feedback.specs.Writing.{Rise};
+ghost use Rattle.session_steps.specs.Datagrams.{bytes_in, is_rtcp, moment_in};
+ghost use Rattle.session_steps.specs.Sessions.{Doing, is_due, nacks, pleads, publisher_deed};
+ghost use Rattle.session_steps.specs.Stepping.{GoesOn, Waits};
+
+use crate::rtcp::is_rtcp;
+use crate::session::{Output, Session};
+use rtcp_feedback::{write_nack, write_pli};
+use sfu_base::{Call, PacketBuf, Reply, Scratch};
+
+/// The sender's SSRC in the feedback.
+const SENDER: u32 = 1;
+
+/// The least distance between two questions for missing packets, in milliseconds.
+const ASKING_APART: u64 = 20;
+
+/// The least distance between two picture loss indications, in milliseconds.
+const PLIS_APART: u64 = 500;
+
+/// What comes next in a publisher's session.
+#[derive(Clone, Copy, Debug)]
+enum Next {
+    /// A datagram is waited for.
+    Datagram,
+    /// The packet that came.
+    Packet,
+    /// The moment of this turn.
+    Tick,
+    /// The question for missing packets, then the one for a key frame.
+    Missing,
+    /// The question for a key frame.
+    KeyWanted,
+}
+
+/// The session of a publisher of one track. In each turn an RTP packet that came is brought to the track, and the moment passes. At the first
+/// turn, and then at least 20 milliseconds apart, it asks the room what is missing, and sends one NACK (RFC 4585, section 6.2.1) for all of it;
+/// and whether a key frame is wanted, for which it sends a picture loss indication (section 6.3.1), at least 500 milliseconds apart.
+///
+/// It keeps its calls from turn to turn, since a [`Call`] has a buffer for a packet, which is cleared where one is made.
+#[derive(Debug, Drop)]
+pub struct PublisherSession {
+    track: u32,
+    ssrc: u32,
+    /// The moment of the last turn that asked.
+    asked: Option<u64>,
+    /// The moment of the last picture loss indication.
+    pleaded: Option<u64>,
+    /// The moment of this turn.
+    moment: u64,
+    next: Next,
+    packet: Call,
+    tick: Call,
+    missing: Call,
+    key_wanted: Call,
+    ghost packet_is: { packet ≡ call.Packet track (moment_in packet) (bytes_in packet) },
+    ghost tick_is: { tick ≡ call.Tick track (moment_in tick) },
+    ghost missing_is: { missing ≡ call.Missing track },
+    ghost key_wanted_is: { key_wanted ≡ call.KeyWanted track },
+}
+
+/// Whether the moment is at least `apart` behind the last one, or there was none.
+fn is_due(apart: u64, moment: u64, last: Option<u64>) -> bool
+    ensures { result ≡ is_due apart moment last }
+{
+    match last {
+        None => true,
+        Some(last) => moment >= last && moment - last >= apart,
+    }
+}
+
+/// Whether a receive brought an RTP packet: a datagram that isn't RTCP.
+fn is_packet(came: bool, datagram: &PacketBuf) -> bool
+    ensures { result ≡ (came && not (is_rtcp datagram.now)) }
+{
+    came && !is_rtcp(datagram.bytes())
+}
+
+/// Writes a packet and its moment into the call that brings it.
+fn set_packet(kept: &mut Call, now: u64, packet: &PacketBuf)
+    ensures { (track before : ℕ) (old : List ℕ) → kept.old ≡ call.Packet track before old → kept.new ≡ call.Packet track now packet.now }
+{
+    if let Call::Packet { moment, bytes, .. } = kept {
+        *moment = now;
+        bytes.fill(packet.bytes());
+    }
+}
+
+/// Writes a moment into the call of a tick.
+fn set_moment(kept: &mut Call, now: u64)
+    ensures { (track before : ℕ) → kept.old ≡ call.Tick track before → kept.new ≡ call.Tick track now }
+{
+    if let Call::Tick { moment, .. } = kept {
+        *moment = now;
+    }
+}
+
+/// Writes one NACK of the missing packets that were replied, if there are any.
+fn nack(ssrc: u32, reply: Reply, scratch: &mut Scratch) -> Output
+    requires rise { reply ≡ Reply.Names → 0 < length scratch.old.names → Rise 1023 scratch.old.names }
+    ensures { (rest : Doing) → GoesOn (nacks ssrc (answer_of reply scratch.old.packet scratch.old.names) rest) rest scratch.new.packet result }
+{
+    let Reply::Names = reply else {
+        return Output::Nothing;
+    };
+    if scratch.names.numbers().is_empty() {
+        return Output::Nothing;
+    }
+    write_nack(SENDER, ssrc, &scratch.names, &mut scratch.packet);
+    Output::Packet
+}
+
+/// Writes a picture loss indication, if a key frame is wanted and an indication is due.
+fn plead(
+    ssrc: u32,
+    moment: u64,
+    pleaded: &mut Option<u64>,
+    reply: Reply,
+    scratch: &mut Scratch,
+) -> Output
+    ensures { (next : Option ℕ → Doing) → GoesOn (pleads ssrc moment pleaded.old (answer_of reply scratch.old.packet scratch.old.names) next) (next pleaded.new)
+        scratch.new.packet result }
+{
+    let Reply::Key { wanted } = reply else {
+        return Output::Nothing;
+    };
+    if !wanted {
+        return Output::Nothing;
+    }
+    if !is_due(PLIS_APART, moment, *pleaded) {
+        return Output::Nothing;
+    }
+    *pleaded = Some(moment);
+    write_pli(SENDER, ssrc, &mut scratch.packet);
+    Output::Packet
+}
+
+impl PublisherSession {
+    ghost use Rattle.session_steps.specs.Publishing.{publishing};
+
+    /// The session of the publisher of a track, before its first datagram. `ssrc` is the SSRC of the packets that the publisher sends.
+    pub fn new(track: u32, ssrc: u32) -> PublisherSession
+        ensures left { (turns : ℕ) → publishing result turns ≡ publisher_deed track ssrc turns None None }
+        ensures waits { (turns : ℕ) → Waits (publishing result turns) turns }
+    {
+        PublisherSession {
+            track,
+            ssrc,
+            asked: None,
+            pleaded: None,
+            moment: 0,
+            next: Next::Datagram,
+            packet: Call::Packet {
+                track,
+                moment: 0,
+                bytes: PacketBuf::new(),
+            },
+            tick: Call::Tick { track, moment: 0 },
+            missing: Call::Missing { track },
+            key_wanted: Call::KeyWanted { track },
+        }
+    }
+}
+
+impl Session for PublisherSession {
+    ghost use Rattle.session_steps.specs.Publishing.{publishing, publishing_calls};
+
+    ghost left = { publishing };
+
+    ghost calls = { λ p. publishing_calls p.next };
+
+    fn call(&self) -> Option<&Call> {
+        match self.next {
+            Next::Datagram => None,
+            Next::Packet => Some(&self.packet),
+            Next::Tick => Some(&self.tick),
+            Next::Missing => Some(&self.missing),
+            Next::KeyWanted => Some(&self.key_wanted),
+        }
+    }
+
+    fn received(&mut self, came: bool, moment: u64, scratch: &mut Scratch) -> Output {
+        self.moment = moment;
+        set_moment(&mut self.tick, moment);
+        if is_packet(came, &scratch.packet) {
+            set_packet(&mut self.packet, moment, &scratch.packet);
+            self.next = Next::Packet;
+            return Output::Nothing;
+        }
+        self.next = Next::Tick;
+        Output::Nothing
+    }
+
+    fn replied(&mut self, reply: Reply, scratch: &mut Scratch) -> Output {
+        match self.next {
+            Next::Datagram => unreachable!(),
+            Next::Packet => {
+                self.next = Next::Tick;
+                Output::Nothing
+            }
+            Next::Tick => {
+                let due = is_due(ASKING_APART, self.moment, self.asked);
+                self.next = if due { Next::Missing } else { Next::Datagram };
+                Output::Nothing
+            }
+            Next::Missing => {
+                self.next = Next::KeyWanted;
+                nack(self.ssrc, reply, scratch)
+            }
+            Next::KeyWanted => {
+                self.next = Next::Datagram;
+                self.asked = Some(self.moment);
+                plead(self.ssrc, self.moment, &mut self.pleaded, reply, scratch)
+            }
+        }
+    }
+}

@@ -1,0 +1,193 @@
+// The session of a subscriber.
+ghost use Rattle.std.specs.Prelude.{◌≡◌, ℕ, ◌+◌, ◌<◌, ◌≤◌, [], if◌then◌else◌, length, Option, IfSome, MatchOption};
+ghost use Rattle.std.proofs.Props.{props};
+ghost use Rattle.sfu_base.specs.declared.call.Call.TheVariants as call;
+ghost use Rattle.rtx_stream.specs.declared.retransmission.Rtx.{Rtx as RtxData};
+ghost use Rattle.session_steps.specs.Deeds.{Ask};
+ghost use Rattle.session_steps.specs.Datagrams.{feedback_in, media_of};
+ghost use Rattle.session_steps.specs.Sessions.{Doing, call_for, outgoing_deed, resends, serves, takes};
+ghost use Rattle.session_steps.specs.Stepping.{Waits};
+
+use crate::resending::resend;
+use crate::rtcp::is_rtcp;
+use crate::session::{Output, Session};
+use rtcp_feedback::{Feedback, FeedbackQueue};
+use rtx_stream::Rtx;
+use sfu_base::{Call, PacketBuf, Reply, Scratch};
+
+/// How many packets a turn takes at most.
+const MOST_TAKES: u32 = 32;
+
+/// What comes next in a subscriber's session.
+#[derive(Clone, Copy, Debug)]
+enum Next {
+    /// A datagram is waited for.
+    Datagram,
+    /// The call of an item of feedback.
+    Feedback,
+    /// A take, with at most `behind` more in this turn.
+    Take { behind: u32 },
+}
+
+/// The session of a subscriber. In each turn it works off the RTCP feedback that came, item by item: a NACK whose media source is its SSRC
+/// (RFC 4585, section 6.2.1) is a resend, whose packet is sent; a picture loss indication (section 6.3.1) is a plea for a key frame; items on
+/// other SSRCs are passed over. Then it takes packets and sends them, until a take gives none or 32 were taken.
+///
+/// It keeps its calls from turn to turn, since a [`Call`] has a buffer for a packet, which is cleared where one is made.
+#[derive(Debug, Drop)]
+pub struct SubscriberSession {
+    subscriber: u32,
+    ssrc: u32,
+    /// The stream of the retransmissions. None: they go out as the packets were sent.
+    rtx: Option<Rtx>,
+    /// The number of the next retransmission on that stream.
+    number: u16,
+    /// The feedback of this turn that is left.
+    feedback: FeedbackQueue,
+    next: Next,
+    asked: Call,
+    take: Call,
+    ghost take_is: { take ≡ call.Take subscriber },
+    ghost payload_type: { IfSome rtx (λ stream. stream.payload_type < 128) } by { Prim.hlevel props },
+}
+
+/// The call that an item of feedback asks for.
+fn call_of(subscriber: u32, item: Feedback) -> Call
+    ensures { result ≡ call_for subscriber item }
+{
+    match item {
+        Feedback::Nack { media: _, seq } => Call::Resend { subscriber, seq },
+        Feedback::Pli { media: _ } => Call::Plead { subscriber },
+    }
+}
+
+/// The SSRC of an item's media source.
+fn media(item: Feedback) -> u32
+    ensures { result ≡ media_of item }
+{
+    match item {
+        Feedback::Nack { media, seq: _ } => media,
+        Feedback::Pli { media } => media,
+    }
+}
+
+/// Fills the queue with the feedback that a receive brought: none where nothing came, or no RTCP, or RTCP with a fault.
+fn read_feedback(feedback: &mut FeedbackQueue, came: bool, datagram: &PacketBuf)
+    ensures { feedback.new ≡ (if came then feedback_in datagram.now else []) }
+{
+    let bytes = datagram.bytes();
+    if !came {
+        return feedback.clear();
+    }
+    if !is_rtcp(bytes) {
+        return feedback.clear();
+    }
+    let _fault = feedback.fill(bytes);
+}
+
+/// The next item of feedback on this SSRC, if there is one. Drops items on other SSRCs.
+fn next_item(feedback: &mut FeedbackQueue, ssrc: u32) -> Option<Feedback>
+    ensures serves { (subscriber number : ℕ) (rtx : Option RtxData) (next : ℕ → Doing) → MatchOption result
+        (serves subscriber ssrc rtx feedback.old number next ≡ next number)
+        (λ item. serves subscriber ssrc rtx feedback.old number next
+        ≡ Ask (call_for subscriber item) (λ answer. resends rtx number answer (λ later. serves subscriber ssrc rtx feedback.new later next))) }
+    ensures fewer { IfSome result (λ item. length feedback.new < length feedback.old) }
+{
+    while let Some(item) = feedback.pop() {
+        if media(item) == ssrc {
+            return Some(item);
+        }
+    }
+    None
+}
+
+impl SubscriberSession {
+    ghost use Rattle.session_steps.specs.declared.subscriber.SubscriberSession.{SubscriberSession as SubscriberData};
+    ghost use Rattle.session_steps.specs.Subscribing.{calls_at, subscribing, subscribing_at, subscribing_calls, then_takes};
+
+    /// The session of a subscriber before its first datagram. `ssrc` is the SSRC of the media that go out to it; `rtx` the stream on which its
+    /// retransmissions go out (RFC 4588), numbered 0, 1 and so on modulo 65,536. Without one they go out as the packets were sent.
+    pub fn new(subscriber: u32, ssrc: u32, rtx: Option<Rtx>) -> SubscriberSession
+        requires payload_type { IfSome rtx (λ stream. stream.payload_type < 128) }
+        ensures left { (turns : ℕ) → subscribing result turns ≡ outgoing_deed subscriber ssrc rtx turns 0 }
+        ensures waits { (turns : ℕ) → Waits (subscribing result turns) turns }
+    {
+        SubscriberSession {
+            subscriber,
+            ssrc,
+            rtx,
+            number: 0,
+            feedback: FeedbackQueue::new(),
+            next: Next::Datagram,
+            asked: Call::Plead { subscriber },
+            take: Call::Take { subscriber },
+        }
+    }
+
+    /// What comes next where `left` takes are left in this turn.
+    fn next_take(left: u32) -> Next
+        ensures left { (s : SubscriberData) (turns : ℕ) → subscribing_at result s turns ≡ takes s.subscriber left (outgoing_deed s.subscriber s.ssrc s.rtx turns s.number) }
+        ensures calls { (items : ℕ) → calls_at result items ≡ left }
+    {
+        if left == 0 {
+            Next::Datagram
+        } else {
+            Next::Take { behind: left - 1 }
+        }
+    }
+
+    /// Goes on to the next item of feedback on its SSRC, or to the takes where none is left.
+    fn advance(&mut self)
+        ensures left { (turns : ℕ) → subscribing self.new turns ≡ serves self.old.subscriber self.old.ssrc self.old.rtx self.old.feedback self.old.number (then_takes self.old turns) }
+        ensures fewer { subscribing_calls self.new ≤ length self.old.feedback + 32 }
+    {
+        match next_item(&mut self.feedback, self.ssrc) {
+            Some(item) => {
+                self.asked = call_of(self.subscriber, item);
+                self.next = Next::Feedback;
+            }
+            None => self.next = SubscriberSession::next_take(MOST_TAKES),
+        }
+    }
+}
+
+impl Session for SubscriberSession {
+    ghost use Rattle.session_steps.specs.Subscribing.{subscribing, subscribing_calls};
+
+    ghost left = { subscribing };
+
+    ghost calls = { subscribing_calls };
+
+    fn call(&self) -> Option<&Call> {
+        match self.next {
+            Next::Datagram => None,
+            Next::Feedback => Some(&self.asked),
+            Next::Take { .. } => Some(&self.take),
+        }
+    }
+
+    fn received(&mut self, came: bool, _moment: u64, scratch: &mut Scratch) -> Output {
+        read_feedback(&mut self.feedback, came, &scratch.packet);
+        self.advance();
+        Output::Nothing
+    }
+
+    fn replied(&mut self, reply: Reply, scratch: &mut Scratch) -> Output {
+        match self.next {
+            Next::Datagram => unreachable!(),
+            Next::Feedback => {
+                let output = resend(self.rtx, &mut self.number, reply, scratch);
+                self.advance();
+                output
+            }
+            Next::Take { behind } => {
+                let Reply::Packet = reply else {
+                    self.next = Next::Datagram;
+                    return Output::Nothing;
+                };
+                self.next = SubscriberSession::next_take(behind);
+                Output::Packet
+            }
+        }
+    }
+}

@@ -1,0 +1,109 @@
+// Which links wake which: the table by itself, and under links of this machine.
+use super::{heard, heard_soon, open, packet};
+use crate::{UdpPorts, WakeTable};
+use mio::{Events, Poll, Token, Waker};
+use sfu_base::{Link, PacketBuf, Ports};
+use std::alloc::Global;
+use std::io;
+use std::test::Fail;
+use std::time::Duration;
+
+// Whether a waker of the poll was called since the last look.
+fn is_called(poll: &mut Poll, events: &mut Events<Global>) -> io::Result<bool> {
+    poll.poll(events, Some(Duration::ZERO))?;
+    Ok(!events.is_empty())
+}
+
+// Whether a link would sleep now, which runs again then.
+fn sleeps(table: &WakeTable, number: u64) -> bool {
+    let sleeps = table.begin_sleep(number);
+    table.end_sleep(number);
+    sleeps
+}
+
+#[test]
+fn a_follower_is_woken_before_its_sleep_in_it_and_when_it_is_gone(
+    rt: HostRuntime,
+) -> Result<(), Fail> {
+    let table = WakeTable::new(rt.alloc())?;
+    let mut poll = Poll::new(&rt)?;
+    let mut events = Events::with_capacity(rt.alloc(), 2)?;
+    table.bind(1, Waker::new(poll.registry(), Token(1))?);
+    // It follows nobody: it sent nothing, then what nobody received, and what was too short to be known.
+    table.wake_followers(0, 70);
+    table.follow(1, 71);
+    table.follow(1, 0);
+    table.wake_followers(0, 70);
+    assert_eq!(rt; sleeps(&table, 1), true);
+    // It follows link 0. Before its sleep it is woken without its waker.
+    table.follow(1, 70);
+    table.wake_followers(0, 72);
+    assert_eq!(rt; is_called(&mut poll, &mut events)?, false);
+    assert_eq!(rt; sleeps(&table, 1), false);
+    assert_eq!(rt; sleeps(&table, 1), true);
+    // Between its last look and the system's wait, by the waker, once.
+    assert_eq!(rt; table.begin_sleep(1), true);
+    table.wake_followers(0, 73);
+    table.wake_followers(0, 74);
+    assert_eq!(rt; is_called(&mut poll, &mut events)?, true);
+    assert_eq!(rt; is_called(&mut poll, &mut events)?, false);
+    table.end_sleep(1);
+    assert_eq!(rt; sleeps(&table, 1), true);
+    // It follows link 2 from now on, and itself never.
+    table.wake_followers(2, 75);
+    table.follow(1, 75);
+    table.wake_followers(0, 76);
+    assert_eq!(rt; sleeps(&table, 1), true);
+    table.wake_followers(1, 77);
+    table.follow(1, 77);
+    table.wake_followers(1, 78);
+    assert_eq!(rt; sleeps(&table, 1), true);
+    // It is gone in its sleep.
+    assert_eq!(rt; table.begin_sleep(1), true);
+    drop(poll);
+    table.wake_followers(2, 79);
+    table.wake_followers(2, 80);
+    assert_eq!(rt; sleeps(&table, 1), false);
+    Ok(())
+}
+
+#[test]
+fn a_link_that_sends_what_another_received_is_woken_by_it(rt: HostRuntime) -> Result<(), Fail> {
+    let table = WakeTable::new(rt.alloc())?;
+    let mut ports = UdpPorts::new(&rt, rt.alloc(), &table);
+    let (far, _, peer) = open(&rt)?;
+    let (free, at, local) = open(&rt)?;
+    drop(free);
+    let mut publisher = ports.bind(local, peer)?;
+    let (_taker, _, peer) = open(&rt)?;
+    let (free, _, local) = open(&rt)?;
+    drop(free);
+    let mut subscriber = ports.bind(local, peer)?;
+    let mut forwarded = PacketBuf::new();
+    for (bytes, wakes) in [([1u8; 20], false), ([2u8; 20], true), ([3u8; 20], true)] {
+        far.send_to(&bytes, at)?;
+        assert_eq!(rt; heard_soon(&mut publisher), (Ok(true), Some(bytes[0])));
+        assert_eq!(rt; heard(&mut publisher), (Ok(false), Some(9)));
+        assert_eq!(rt; sleeps(&table, 1), !wakes);
+        // What is forwarded has another header and the same payload.
+        forwarded.fill(&[0u8; 12]);
+        forwarded.append(&bytes[12..]);
+        assert_eq!(rt; subscriber.send(&forwarded), Ok(()));
+        assert_eq!(rt; heard(&mut subscriber), (Ok(false), Some(9)));
+    }
+    Ok(())
+}
+
+#[test]
+fn a_link_beyond_the_64th_wakes_none_and_is_woken_by_none(rt: HostRuntime) -> Result<(), Fail> {
+    let table = WakeTable::new(rt.alloc())?;
+    table.wake_followers(63, 70);
+    table.follow(64, 70);
+    table.wake_followers(63, 71);
+    assert_eq!(rt; sleeps(&table, 64), true);
+    table.wake_followers(64, 72);
+    table.follow(63, 72);
+    table.wake_followers(64, 73);
+    assert_eq!(rt; sleeps(&table, 63), true);
+    Ok(())
+}

@@ -1,0 +1,117 @@
+// The sessions of publishers, subscribers and controllers over links.
+ghost use Rattle.std.specs.Prelude.{◌≡◌, ◌≢◌, ◌<◌, None};
+ghost use Rattle.session_steps.specs.Sessions.{control_deed, publisher_deed, rtx_deed, subscriber_deed};
+ghost use Rattle.sfu_serve.specs.Parts.{Keeps};
+ghost use Rattle.sfu_serve.specs.Replies.{MayStarve};
+
+use crate::driver::{Stage, run_session};
+use crate::ends::SessionEnd;
+use crate::shared_room::SharedRoom;
+use room_core::Recorder;
+use rtx_stream::Rtx;
+use session_steps::{ControlSession, PublisherSession, SubscriberSession};
+use sfu_base::{Clock, Link, Scratch};
+use std::sync::Wait;
+use turn_lock::{Seat, Turns};
+
+/// A publisher's session of `limit` turns. In each, an RTP packet that came is brought to the track and the moment passes. At the first turn,
+/// and then at least 20 milliseconds apart, the publisher is asked for the missing packets by one NACK (RFC 4585, section 6.2.1), and where
+/// a key frame is wanted by a picture loss indication (section 6.3.1), these at least 500 milliseconds apart. Ends early where a call on the
+/// link failed or the lock is worn.
+pub fn publisher_session<R: Recorder, L: Link, C: Clock, W: Wait + Sync>(
+    rt: &W,
+    turns: &Turns<SharedRoom<R>>,
+    seat: &mut Seat<SharedRoom<R>>,
+    track: u32,
+    ssrc: u32,
+    link: &mut L,
+    clock: &C,
+    limit: u64,
+    scratch: &mut Scratch,
+) -> SessionEnd
+    requires lock { seat.old.lock ≡ turns.now }
+    ensures keeps { Keeps (MayStarve R.may_refuse) (publisher_deed track ssrc limit None None) limit
+        seat.old seat.new (L.told link.old) (L.told link.new) (L.faults link.old) (L.faults link.new) result }
+    ensures name { L.name link.new ≡ L.name link.old }
+{
+    let stage = Stage::new(rt, turns, clock, limit);
+    run_session(
+        &stage,
+        seat,
+        &mut PublisherSession::new(track, ssrc),
+        link,
+        scratch,
+    )
+}
+
+/// A subscriber's session of `limit` turns. In each, RTCP feedback that came is worked off item by item: a NACK whose media source is `ssrc`
+/// (RFC 4585, section 6.2.1) is a resend, whose packet is sent; a picture loss indication (section 6.3.1) a plea for a key frame. Then
+/// packets are taken and sent, at most 32. Ends early where a call on the link failed or the lock is worn.
+pub fn subscriber_session<R: Recorder, L: Link, C: Clock, W: Wait + Sync>(
+    rt: &W,
+    turns: &Turns<SharedRoom<R>>,
+    seat: &mut Seat<SharedRoom<R>>,
+    subscriber: u32,
+    ssrc: u32,
+    link: &mut L,
+    clock: &C,
+    limit: u64,
+    scratch: &mut Scratch,
+) -> SessionEnd
+    requires lock { seat.old.lock ≡ turns.now }
+    ensures keeps { Keeps (MayStarve R.may_refuse) (subscriber_deed subscriber ssrc limit) limit
+        seat.old seat.new (L.told link.old) (L.told link.new) (L.faults link.old) (L.faults link.new) result }
+    ensures name { L.name link.new ≡ L.name link.old }
+{
+    let stage = Stage::new(rt, turns, clock, limit);
+    let mut session = SubscriberSession::new(subscriber, ssrc, None);
+    run_session(&stage, seat, &mut session, link, scratch)
+}
+
+/// A subscriber's session of `limit` turns as [`subscriber_session`] makes it, but for what is resent: that goes out on the stream `rtx`
+/// (RFC 4588, section 4), numbered there 0, 1 and so on modulo 65,536, one for each packet that was sent. NACKs still name numbers of the
+/// media's own stream; one whose media source is the SSRC of `rtx` is passed over, as any other.
+pub fn rtx_session<R: Recorder, L: Link, C: Clock, W: Wait + Sync>(
+    rt: &W,
+    turns: &Turns<SharedRoom<R>>,
+    seat: &mut Seat<SharedRoom<R>>,
+    subscriber: u32,
+    ssrc: u32,
+    rtx: &Rtx,
+    link: &mut L,
+    clock: &C,
+    limit: u64,
+    scratch: &mut Scratch,
+) -> SessionEnd
+    requires lock { seat.old.lock ≡ turns.now }
+    requires apart { rtx.now.ssrc ≢ ssrc }
+    requires payload_type { rtx.now.payload_type < 128 }
+    ensures keeps { Keeps (MayStarve R.may_refuse) (rtx_deed subscriber ssrc rtx.now limit) limit
+        seat.old seat.new (L.told link.old) (L.told link.new) (L.faults link.old) (L.faults link.new) result }
+    ensures name { L.name link.new ≡ L.name link.old }
+{
+    let stage = Stage::new(rt, turns, clock, limit);
+    let mut session = SubscriberSession::new(subscriber, ssrc, Some(*rtx));
+    run_session(&stage, seat, &mut session, link, scratch)
+}
+
+/// A controller's session of `limit` turns: each datagram that is one line of publish, unpublish, join, leave, aim, key, plead or why is a
+/// call, and its reply's text is sent, without a line end; any other datagram is answered `fault line`. Ends early where a call on the link
+/// failed or the lock is worn.
+pub fn control_session<R: Recorder, L: Link, C: Clock, W: Wait + Sync>(
+    rt: &W,
+    turns: &Turns<SharedRoom<R>>,
+    seat: &mut Seat<SharedRoom<R>>,
+    link: &mut L,
+    clock: &C,
+    limit: u64,
+    scratch: &mut Scratch,
+) -> SessionEnd
+    requires lock { seat.old.lock ≡ turns.now }
+    ensures keeps { Keeps (MayStarve R.may_refuse) (control_deed limit) limit
+        seat.old seat.new (L.told link.old) (L.told link.new) (L.faults link.old) (L.faults link.new) result }
+    ensures name { L.name link.new ≡ L.name link.old }
+{
+    let stage = Stage::new(rt, turns, clock, limit);
+    run_session(&stage, seat, &mut ControlSession::new(), link, scratch)
+}

@@ -1,0 +1,91 @@
+// Why a frame is withheld. Own rules; the first that fits.
+ghost use Rattle.std.specs.Prelude.{◌≡◌, ◌+◌, ◌-◌, ◌&&◌, false, if◌then◌else◌, nat_lt};
+ghost use Rattle.sfu_base.specs.Frame.{IsValid};
+ghost use Rattle.sfu_base.specs.declared.frame.Verdict.TheVariants.{Behind, Passed, Reference};
+ghost use Rattle.forwarding_model.specs.Lists.{is_nothing};
+ghost use Rattle.forwarding_model.specs.forwarding.Selection.{candidate_verdict, has_room, is_present_in, reason_verdict, reference_verdict, target_of, target_verdict};
+
+use crate::frame_offer::FrameOffer;
+use forwarding_model::{CurrentTarget, Reason};
+use sfu_base::{FrameMeaning, Verdict, Wish};
+
+/// How many packets a subscriber's queue has at most (own rule).
+pub const MOST_QUEUED: u16 = 512;
+
+/// Why a frame doesn't pass, by its first reference that wasn't passed, if there is one, and the best target that it can open, else the one that is
+/// open. Out of line: most frames pass.
+#[inline(never)]
+pub fn withheld(
+    offer: &FrameOffer<'_>,
+    wish: Wish,
+    missing: Option<u16>,
+    candidate: CurrentTarget,
+    queued: u16,
+) -> Verdict
+    requires fails { (is_present_in offer.now.frame candidate && (is_nothing missing && has_room queued offer.now.packets)) ≡ false }
+    ensures value { result ≡ target_verdict offer.now.frame (target_of wish offer.now.frame candidate)
+        (reference_verdict offer.now.frame missing (candidate_verdict queued offer.now.packets candidate)) }
+    ensures fails { result ≡ Passed → ⊥ }
+{
+    let Some(target) = target_of(offer, wish, candidate) else {
+        return Verdict::NotOfTarget { target: None };
+    };
+    if !offer.is_present(target) {
+        return Verdict::NotOfTarget {
+            target: Some(target),
+        };
+    }
+    match missing {
+        Some(fdiff) => reference_verdict(offer.frame(), fdiff),
+        None => match candidate {
+            CurrentTarget::Open { .. } => Verdict::Full {
+                queued,
+                needed: offer.packets(),
+            },
+            CurrentTarget::Closed { reason } => reason_verdict(reason),
+        },
+    }
+}
+
+// The candidate, or the aim where there is none.
+fn target_of(offer: &FrameOffer<'_>, wish: Wish, candidate: CurrentTarget) -> Option<u8>
+    ensures { result ≡ target_of wish offer.now.frame candidate }
+{
+    match candidate {
+        CurrentTarget::Open { index, opened: _ } => Some(index),
+        CurrentTarget::Closed { reason: _ } => offer.aim(wish),
+    }
+}
+
+fn reference_verdict(frame: &FrameMeaning, fdiff: u16) -> Verdict
+    requires { IsValid frame.now }
+    ensures { result ≡ (if nat_lt frame.now.number (frame.now.start + fdiff) then Behind fdiff frame.now.start else Reference (frame.now.number - fdiff)) }
+{
+    let distance = u64::from(fdiff);
+    if frame.number - frame.start < distance {
+        Verdict::Behind {
+            fdiff,
+            start: frame.start,
+        }
+    } else {
+        Verdict::Reference {
+            number: frame.number - distance,
+        }
+    }
+}
+
+fn reason_verdict(reason: Reason) -> Verdict
+    ensures { result ≡ reason_verdict reason }
+{
+    match reason {
+        Reason::BrokenLink { at, number } => Verdict::Link { at, number },
+        Reason::NotOpened { since } => Verdict::Unopened { since },
+    }
+}
+
+/// Whether a frame of so many packets has room in the queue.
+pub fn has_room(packets: u16, queued: u16) -> bool
+    ensures { result ≡ has_room queued packets }
+{
+    u32::from(queued) + u32::from(packets) <= u32::from(MOST_QUEUED)
+}
