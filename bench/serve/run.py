@@ -29,7 +29,7 @@ from pathlib import Path
 sys.path.insert(0, str(Path(__file__).resolve().parent.parent.parent / 'tests/peers'))
 import common
 from common import (
-    LOCAL, NEVER, PEER, SIZE, TRACKS, Serving, check, drops, kind_of, memory, milliseconds, prepared, problems, processor_seconds, receivers, room_of,
+    LOCAL, PEER, SIZE, TRACKS, Serving, check, drops, kind_of, memory, milliseconds, prepared, problems, processor_seconds, receivers, room_of,
     sender, sound, tool, wait_for, waits,
 )
 
