@@ -8,7 +8,7 @@ use sfu_base::{CalmPorts, MemSink, MemSource};
 use std::alloc::{AllocError, Global};
 use std::test::Fail;
 
-// What `bench/trial_model.py`, which shares nothing with the program, makes of 100,000 frames.
+// What `tests/models/trial_model.py`, which shares nothing with the program, makes of 100,000 frames.
 const TRIAL: &str = "made 100000 frames 152000 packets\nlost 1477 repeated 1418 swapped 1473\n\
     subscriber 1 frames 75898 packets 111107 complaints 0\nsubscriber 2 frames 38446 packets 57253 complaints 0\n\
     subscriber 3 frames 21587 packets 23535 complaints 0\n";

@@ -15,7 +15,7 @@ pub const ONE_UNIT: &str = "made 2 frames 5 packets\nlost 0 repeated 0 swapped 0
     subscriber 1 frames 2 packets 5 complaints 0\nsubscriber 2 frames 2 packets 5 complaints 0\n\
     subscriber 3 frames 1 packets 3 complaints 0\n";
 
-// Worked out by `bench/trial_model.py`, which shares nothing with the program: here the last unit has no upper frame.
+// Worked out by `tests/models/trial_model.py`, which shares nothing with the program: here the last unit has no upper frame.
 const SOME_LOST: &str = "made 401 frames 611 packets\nlost 23 repeated 11 swapped 26\n\
     subscriber 1 frames 280 packets 390 complaints 0\nsubscriber 2 frames 148 packets 212 complaints 0\n\
     subscriber 3 frames 94 packets 104 complaints 0\n";
