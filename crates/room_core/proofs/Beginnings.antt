@@ -18,7 +18,9 @@ use Rattle.forwarding_model.specs.History.Entry.{Joined as HasJoined}
 use Rattle.forwarding_model.specs.forwarding.Outgoing.{Subscriber}
 use Rattle.room_core.specs.declared.feed.Feed.{Feed}
 use Rattle.track_core.specs.declared.track.Track.{Track}
-use Rattle.room_core.specs.Stepping.{IsAt, IsBegun}
+use Rattle.room_core.specs.Stepping.{IsAt, IsBegun, kind_by}
+use Rattle.track_core.specs.Track.{Seen}
+use Rattle.room_core.specs.Indexed.{AreSame, IsSameTrack}
 use Rattle.out_ring.specs.Ring.{Ring}
 use Rattle.room_core.specs.declared.content.Content.{Content}
 use Rattle.room_core.specs.declared.live.LiveTrack.{LiveTrack}
@@ -34,7 +36,7 @@ use Rattle.room_core.specs.Content.{Does, IsAfter, IsFeedReady, IsFreshOn, IsPip
 use Rattle.room_core.specs.declared.live.Ready.{Ready}
 use Rattle.frame_cache.specs.declared.cache.FrameCache.{FrameCache}
 use Rattle.room_core.specs.declared.live.Ready.TheVariants.{Nothing, Pipeline as ReadyPipeline, Sent as ReadySent}
-use Rattle.room_core.proofs.TableSteps.{table_after, table_same}
+use Rattle.room_core.proofs.TableSteps.{table_after, table_mapped, table_same}
 use Rattle.room_core.proofs.Stepping.{begun_at, kind_begun}
 
 -- ---- no number comes twice
@@ -267,14 +269,26 @@ fresh_kind past track feed ssrc first wish None p h f = absurd f
 fresh_kind past track feed ssrc first wish (Some a) None h f = absurd h
 fresh_kind past track feed ssrc first wish (Some a) (Some p) h f = subst (λ (k : Kind). IsFresh feed k ssrc first wish) (h.kind_is ∙ h.published_kind) f
 
+-- a track that is as it was but for its places
+pub same_track : (past : List Call) (n : ℕ) (a a' : LiveTrack) (p : Published) → IsSameTrack a a' → IsTrackAfter past n a p → IsTrackAfter past n a' p
+same_track past n a a' p s x = record {
+  kind_is = s.kind_is ∙ x.kind_is;
+  published_kind = x.published_kind;
+  pipeline_kind = ap (λ (t : Seen). kind_by t.layers) s.pipeline_is ∙ x.pipeline_kind;
+  ssrc_is = ap (λ (t : Seen). t.ssrc) s.pipeline_is ∙ x.ssrc_is;
+  hold_is = ap (λ (t : Seen). t.window.hold) s.pipeline_is ∙ x.hold_is;
+  at = subst (λ (t : Seen). IsAt (events_of n past) t (items_of (entries_of n past))) (sym s.pipeline_is) x.at;
+  pleaded_is = s.pleaded_is ∙ x.pleaded_is;
+}
+
 pub join_does : (old new : Content) (subscriber track ssrc first : ℕ) (wish : Wish) (live : LiveSubscriber) (was : Option LiveSubscriber) → first < 65536
     → join_refusal (is_some (get nat_eq old.tracks track)) old.highest_subscriber (index_map_len old.subscribers) subscriber ≡ None
     → live.track ≡ track → IsFreshOn (get nat_eq old.tracks track) live.feed.value ssrc first wish
     → Updates nat_eq old.subscribers new.subscribers subscriber (Some live) → was ≡ get nat_eq old.subscribers subscriber
     → index_map_len new.subscribers ≡ index_map_len old.subscribers + cond (is_some was) 0 1
-    → new.tracks ≡ old.tracks → new.highest_track ≡ old.highest_track → new.highest_subscriber ≡ subscriber
+    → AreSame (get nat_eq old.tracks) (get nat_eq new.tracks) → index_map_len new.tracks ≡ index_map_len old.tracks → new.highest_track ≡ old.highest_track → new.highest_subscriber ≡ subscriber
     → (bytes numbers : List ℕ) → Does old new (call.Join subscriber track ssrc first wish) reply.Done bytes numbers
-join_does old new subscriber track ssrc first wish live was small none tracks fresh updates wases len tables highest highest' bytes numbers =
+join_does old new subscriber track ssrc first wish live was small none tracks fresh updates wases len same count highest highest' bytes numbers =
     let found : (past : List Call) → IsAfter old past → is_some (get nat_eq old.tracks track) ≡ is_some (published track past) = λ past h.
     some_found past track (get nat_eq old.tracks track) (published track past) (h.tracks track) in
     let done : (past : List Call) → IsAfter old past → answer past (call.Join subscriber track ssrc first wish) ≡ Done = λ past h.
@@ -308,17 +322,17 @@ join_does old new subscriber track ssrc first wish live was small none tracks fr
           }) in
           subst (λ (a : Answer). IsAfter new (afterwards a (call.Join subscriber track ssrc first wish) past)) (sym (done past h))
           (record {
-            tracks = subst (λ t. (n : ℕ) → Both (IsTrackAfter next n) (get nat_eq t n) (published n next)) (sym tables)
-                (table_same (IsTrackAfter past) (IsTrackAfter next) (get nat_eq old.tracks) (λ n. published n past) (λ n. published n next) h.tracks (λ n. refl)
-                (λ n a p x. record {
+            tracks = table_mapped (IsTrackAfter past) (IsTrackAfter next) IsSameTrack (get nat_eq old.tracks) (get nat_eq new.tracks) (λ n. published n past) (λ n. published n next)
+                h.tracks same (λ n. refl)
+                (λ n a a' p s y. let x = same_track past n a a' p s y in record {
                   kind_is = x.kind_is;
                   published_kind = x.published_kind;
                   pipeline_kind = x.pipeline_kind;
                   ssrc_is = x.ssrc_is;
                   hold_is = x.hold_is;
                   pleaded_is = x.pleaded_is;
-                  at = subst (λ items. IsAt (events_of n past) a.pipeline.value items) (sym (items_where subscriber to (entries_of n past) (eqb track n))) x.at;
-                }));
+                  at = subst (λ items. IsAt (events_of n past) a'.pipeline.value items) (sym (items_where subscriber to (entries_of n past) (eqb track n))) x.at;
+                });
             subscribers = table_after (IsSubscriberAfter past) (IsSubscriberAfter next) (get nat_eq old.subscribers) (get nat_eq new.subscribers) (λ n. joined n past) (λ n. joined n next) subscriber (Some live)
                 h.subscribers updates.0 (λ n e. ap (λ (b : Bool). cond b (Some j) (joined n past)) e) this
                 (λ n a i e x. record {
@@ -327,7 +341,7 @@ join_does old new subscriber track ssrc first wish live was small none tracks fr
                   joined_is = joins_where subscriber track i.track to n (entries_of i.track past) (eqb track i.track) e ∙ x.joined_is;
                   follows = subst (λ (l : List Happened). Follows (kind_of i.track past) a.feed.value (subscriber_by i) l) (sym (timeline_where subscriber to (kind_of i.track past) n (entries_of i.track past) (eqb track i.track) e)) x.follows;
                 });
-            track_count = ap index_map_len tables ∙ h.track_count;
+            track_count = count ∙ h.track_count;
             subscriber_count = let c = h.subscriber_count in omega (arith, len, one, c);
             highest_track_is = highest ∙ h.highest_track_is;
             highest_subscriber_is = highest' ∙ (let m : subscriber ≡ max subscriber (highest_subscriber past) = omega arith in m);
@@ -335,6 +349,21 @@ join_does old new subscriber track ssrc first wish live was small none tracks fr
     }
 
 -- ---- what was ready
+
+-- the track of a subscriber that was made ready is live
+pub track_live : (o : Option LiveTrack) (feed : Feed) (ssrc first : ℕ) (wish : Wish) → IsFreshOn o feed ssrc first wish → (t : LiveTrack) × (o ≡ Some t)
+track_live None feed ssrc first wish h = absurd h
+track_live (Some t) feed ssrc first wish h = (t, refl)
+
+at_most_one : (b : Bool) → (let n : ℕ = cond b 0 1 in n) ≤ 1
+at_most_one true = omega arith
+at_most_one false = omega arith
+
+-- and one more is at most 256
+pub few_joined : (found : Bool) (highest before subscriber now : ℕ) (was : Option LiveSubscriber) → join_refusal found highest before subscriber ≡ None
+    → now ≡ before + cond (is_some was) 0 1 → now ≤ 256
+few_joined found highest before subscriber now was none len =
+    let ok = (accepted_subscriber found highest before subscriber none).2 in let one = at_most_one (is_some was) in omega (arith, ok, len, one)
 
 pub ready_pipeline : (o : Option Refusal) (content : Content) (kind : Kind) (ssrc hold : ℕ) (ready : Ready) (pipeline : Box Track Global) (told : Box FrameCache Global) → ready ≡ ReadyPipeline pipeline told
     → IsPipelineReady o content kind ssrc hold ready → (o ≡ None) × IsBegun pipeline.value kind ssrc hold × (0 < spare content.tracks)

@@ -5,6 +5,7 @@ pub mod Pushing
 pub mod Sharing
 pub mod Feeding
 pub mod HandingOut
+pub mod Indexed
 pub mod Stepping
 pub mod Changing
 pub mod Working
@@ -21,5 +22,6 @@ pub mod Giving
 pub mod Resending
 pub mod Asking
 pub mod Promising
+pub mod Reindexed
 pub mod Served
 pub mod Waiting

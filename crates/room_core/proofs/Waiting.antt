@@ -1,5 +1,5 @@
 -- Whether a subscriber of a track waits for a target, in the table and in the history.
-use Rattle.std.proofs.Common.{◌≡◌, ◌≤◌, ℕ, zero, suc, ◌+◌, Bool, true, false, cond, ◌&&◌, ◌||◌, List, [], ◌∷◌, length, refl, sym, ap, subst, ◌∙◌, arith, Option, Some, None, slice_get, eqb, nat_eq}
+use Rattle.std.proofs.Common.{◌≡◌, ◌<◌, ◌≤◌, ℕ, zero, suc, ◌+◌, Bool, true, false, cond, ◌&&◌, ◌||◌, List, [], ◌∷◌, length, refl, sym, ap, subst, ◌∙◌, arith, Option, Some, None, slice_get, eqb, nat_eq}
 use Rattle.std.proofs.lemmas.Bool.{eqb-true, eq-eqb}
 use Rattle.std.specs.List.{list_any}
 use Rattle.std.specs.Map.{lookup}
@@ -33,6 +33,14 @@ module _ {V : Type 0} (P : V → Type 0) where
 
   pub all_next : (i : ℕ) (es : List (ℕ × V)) (e : ℕ × V) → AllFirst P i es → slice_get es i ≡ Some e → P e.1 → AllFirst P (i + 1) es
   all_next i es e h at p = subst (λ (k : ℕ). AllFirst P k es) (let e : suc i ≡ i + 1 = omega arith in e) (all_suc i es e h at p)
+
+  -- entries that have it anyway
+  pub all_gap : (i p : ℕ) (es : List (ℕ × V)) → AllFirst P i es → i ≤ p → ((q : ℕ) (e : ℕ × V) → i ≤ q → q < p → slice_get es q ≡ Some e → P e.1) → AllFirst P p es
+  all_gap i zero es h le own = tt
+  all_gap i (suc p) [] h le own = tt
+  all_gap zero (suc p) (e ∷ es) h le own = (own 0 e (omega arith) (omega arith) refl, all_gap zero p es tt (omega arith) (λ q d above below at. own (suc q) d (omega arith) (omega (arith, below)) at))
+  all_gap (suc i) (suc p) (e ∷ es) h le own =
+      (h.0, all_gap i p es h.1 (omega (arith, le)) (λ q d above below at. own (suc q) d (omega (arith, above)) (omega (arith, below)) at))
 
   found_by : (b : Bool) (v s : V) (o : Option V) → P v → (o ≡ Some s → P s) → cond b (Some v) o ≡ Some s → P s
   found_by true v s o p rest e = let same : v ≡ s = cc in subst P same p

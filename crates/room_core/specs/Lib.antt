@@ -15,6 +15,7 @@ pub mod WellFormed
 pub mod SentBytes
 pub mod Given
 pub mod Headline
+pub mod Indexed
 pub mod Serves
 pub mod Silent
 pub mod Sendable

@@ -11,8 +11,10 @@ ghost use Rattle.room_core.specs.WellFormed.{IsValue};
 use crate::content::Content;
 use crate::feed::Feed;
 use crate::live::{LiveSubscriber, LiveTrack, Ready, count_on};
+use crate::track_places::put_place;
 use frame_cache::FrameCache;
 use indexmap::IndexMap;
+use place_set::PlaceSet;
 use sfu_base::{Call, Kind, NoMemory, Refusal, Reply, Wish};
 use std::alloc::Global;
 use track_core::Track;
@@ -139,6 +141,7 @@ impl Content {
                     pleaded: false,
                     pipeline,
                     frame_cache: cache,
+                    places: PlaceSet::new(),
                 };
                 match self.tracks.insert(track, live) {
                     Ok(_) => {
@@ -169,10 +172,11 @@ impl Content {
         match ready {
             Ready::Sent(feed) => match self
                 .subscribers
-                .insert(subscriber, LiveSubscriber { track, feed })
+                .insert_full(subscriber, LiveSubscriber { track, feed })
             {
-                Ok(_) => {
+                Ok((place, _)) => {
                     self.highest_subscriber = subscriber;
+                    put_place(&mut self.tracks, track, place);
                     Reply::Done
                 }
                 // There was room in the table.

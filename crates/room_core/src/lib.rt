@@ -20,6 +20,7 @@ mod subscribers;
 mod table;
 #[cfg(test)]
 mod tests;
+mod track_places;
 mod tracks;
 
 pub use current_target::DecodeTarget;

@@ -5,17 +5,19 @@ ghost use Rattle.indexmap.specs.IndexMap.{index_map_len};
 use crate::feed::Feed;
 use frame_cache::FrameCache;
 use indexmap::IndexMap;
+use place_set::PlaceSet;
 use sfu_base::Kind;
 use track_core::Track;
 
-/// A live track: its kind, whether a plea for a key frame stands, its pipeline, and its frames' cache. No item waits between calls. The
-/// long parts lie on the heap, so that a room is small: a lock that holds one moves it twice a turn.
+/// A live track: its kind, whether a plea for a key frame stands, its pipeline, its frames' cache, and the places of its subscribers in their
+/// table. No item waits between calls. The long parts lie on the heap, so that a room is small: a lock that holds one moves it twice a turn.
 #[derive(Drop)]
 pub struct LiveTrack {
     pub kind: Kind,
     pub pleaded: bool,
     pub pipeline: Box<Track>,
     pub frame_cache: Box<FrameCache>,
+    pub places: PlaceSet,
     ghost idle: { pipeline.value.window.waiting ≡ [] },
 }
 

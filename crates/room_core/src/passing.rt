@@ -5,6 +5,7 @@ ghost use Rattle.rtp_packet.specs.Faults.{first_fault};
 ghost use Rattle.sfu_base.specs.Frame.{IsValid};
 ghost use Rattle.track_core.specs.Track.{with_meaning};
 ghost use Rattle.room_core.specs.Follows.{FollowsFrame, FollowsPacket, tells_by};
+ghost use Rattle.room_core.specs.Indexed.{HasPlaces, tracks_of};
 ghost use Rattle.room_core.specs.Passing.{IsPassed, PassedTo, WaitsIn, WaitsOne, WorkedIf, WorkedOff};
 ghost use Rattle.room_core.specs.Stepping.{IsMadeValid, Steps};
 ghost use Rattle.frame_cache.specs.Sharing.{AreFirst};
@@ -14,6 +15,7 @@ use crate::live::LiveSubscriber;
 use crate::sending::first_tells;
 use frame_cache::FrameCache;
 use indexmap::IndexMap;
+use place_set::PlaceSet;
 use sfu_base::FrameMeaning;
 use target_selector::FrameOffer;
 use track_core::{Advance, Track};
@@ -24,12 +26,15 @@ pub fn work_off(
     pleaded: &mut bool,
     number: u32,
     subscribers: &mut IndexMap<u32, LiveSubscriber>,
+    places: &PlaceSet,
     cache: &mut FrameCache,
 )
+    requires { HasPlaces places.now number (tracks_of subscribers.old.entries) }
     ensures worked { WorkedOff pipeline.old pipeline.new number (get nat_eq subscribers.old) (get nat_eq subscribers.new) pleaded.old pleaded.new }
     ensures count { index_map_len subscribers.new ≡ index_map_len subscribers.old }
+    ensures tracks { tracks_of subscribers.new.entries ≡ tracks_of subscribers.old.entries }
 {
-    while work_off_one(pipeline, pleaded, number, subscribers, cache) {}
+    while work_off_one(pipeline, pleaded, number, subscribers, places, cache) {}
 }
 
 // Works off one item, if one waits.
@@ -38,22 +43,25 @@ fn work_off_one(
     pleaded: &mut bool,
     number: u32,
     subscribers: &mut IndexMap<u32, LiveSubscriber>,
+    places: &PlaceSet,
     cache: &mut FrameCache,
 ) -> bool
+    requires { HasPlaces places.now number (tracks_of subscribers.old.entries) }
     ensures worked { WorkedIf result pipeline.old pipeline.new number (get nat_eq subscribers.old) (get nat_eq subscribers.new) pleaded.old pleaded.new }
     ensures count { index_map_len subscribers.new ≡ index_map_len subscribers.old }
+    ensures tracks { tracks_of subscribers.new.entries ≡ tracks_of subscribers.old.entries }
 {
     match step(pipeline) {
         Advance::Idle => false,
         Advance::Nothing => true,
         Advance::Packet => {
-            pass_packet_to_all(subscribers, number, pipeline.packet(0), cache);
+            pass_packet_to_all(subscribers, places, number, pipeline.packet(0), cache);
             true
         }
         Advance::Frame => {
             let frame = pipeline.meaning();
             *pleaded = still_pleaded(*pleaded, frame.key);
-            pass_frame_to_all(subscribers, number, pipeline, frame, cache);
+            pass_frame_to_all(subscribers, places, number, pipeline, frame, cache);
             true
         }
     }
@@ -77,21 +85,25 @@ fn still_pleaded(pleaded: bool, key: bool) -> bool
 // The packet that a plain track made last goes to each of its subscribers.
 fn pass_packet_to_all(
     subscribers: &mut IndexMap<u32, LiveSubscriber>,
+    places: &PlaceSet,
     number: u32,
     packet: &[u8],
     cache: &mut FrameCache,
 )
     requires reads { first_fault packet.now ≡ None }
     requires fits { length packet.now ≤ 1500 }
+    requires places { HasPlaces places.now number (tracks_of subscribers.old.entries) }
     ensures passed { PassedTo (λ old new. FollowsPacket old new packet.now) number (get nat_eq subscribers.old) (get nat_eq subscribers.new) }
     ensures count { index_map_len subscribers.new ≡ index_map_len subscribers.old }
+    ensures tracks { tracks_of subscribers.new.entries ≡ tracks_of subscribers.old.entries }
 {
     cache.forget();
-    let count = subscribers.len();
-    for place in 0..count {
+    let mut from = 0;
+    while let Some(place) = places.first_from(from) {
         if let Some(subscriber) = subscribers.get_index_mut(place) {
             pass_packet(subscriber, number, packet, cache);
         }
+        from = place + 1;
     }
 }
 
@@ -112,23 +124,27 @@ fn pass_packet(subscriber: &mut LiveSubscriber, number: u32, packet: &[u8], cach
 #[inline(never)]
 fn pass_frame_to_all(
     subscribers: &mut IndexMap<u32, LiveSubscriber>,
+    places: &PlaceSet,
     number: u32,
     track: &Track,
     frame: &FrameMeaning,
     cache: &mut FrameCache,
 )
-    requires { IsValid frame.now }
+    requires valid { IsValid frame.now }
+    requires places { HasPlaces places.now number (tracks_of subscribers.old.entries) }
     ensures passed { PassedTo (λ old new. FollowsFrame old new frame.now track.now) number (get nat_eq subscribers.old) (get nat_eq subscribers.new) }
     ensures count { index_map_len subscribers.new ≡ index_map_len subscribers.old }
+    ensures tracks { tracks_of subscribers.new.entries ≡ tracks_of subscribers.old.entries }
 {
     let offer = FrameOffer::new(frame, track.count());
     let tells = first_tells(track);
     cache.forget();
-    let count = subscribers.len();
-    for place in 0..count {
+    let mut from = 0;
+    while let Some(place) = places.first_from(from) {
         if let Some(subscriber) = subscribers.get_index_mut(place) {
             pass_frame(subscriber, number, track, &offer, tells, cache);
         }
+        from = place + 1;
     }
 }
 
@@ -153,16 +169,18 @@ fn pass_frame(
 }
 
 /// Whether one of the subscribers of a track has no current target.
-pub fn waits(subscribers: &IndexMap<u32, LiveSubscriber>, number: u32) -> bool
+pub fn waits(subscribers: &IndexMap<u32, LiveSubscriber>, places: &PlaceSet, number: u32) -> bool
+    requires { HasPlaces places.now number (tracks_of subscribers.now.entries) }
     ensures { WaitsIn result number (get nat_eq subscribers.now) }
 {
-    let count = subscribers.len();
-    for place in 0..count {
+    let mut from = 0;
+    while let Some(place) = places.first_from(from) {
         if let Some((_, subscriber)) = subscribers.get_index(place) {
             if waits_one(subscriber, number) {
                 return true;
             }
         }
+        from = place + 1;
     }
     false
 }

@@ -1,17 +1,22 @@
 // Calls on a live subscriber.
-ghost use Rattle.std.specs.Prelude.{◌≡◌, ◌≢◌, List, false, ℕ};
+ghost use Rattle.std.specs.Prelude.{◌≡◌, ◌≢◌, ◌<◌, List, false, nat_eq, ℕ};
+ghost use Rattle.indexmap.specs.IndexMap.{get, index_map_len};
 ghost use Rattle.sfu_base.specs.Answer.{is_starved};
 ghost use Rattle.sfu_base.specs.declared.call.Call.TheVariants as call;
 ghost use Rattle.sfu_base.specs.declared.call.Reply.TheVariants as reply;
 ghost use Rattle.sfu_base.specs.declared.call.Call.{Call};
 ghost use Rattle.room_core.specs.Content.{Does, DoesSilently, IsAfter};
+ghost use Rattle.room_core.specs.Indexed.{AreSameBut};
 ghost use Rattle.room_core.specs.Kinds.{kind_joined};
 ghost use Rattle.room_core.specs.Live.{joined};
 ghost use Rattle.room_core.specs.Sendable.{IsSendable};
 
 use crate::content::Content;
-use crate::live::{LiveSubscriber, count_on};
+use crate::feed::Feed;
+use crate::live::{LiveSubscriber, LiveTrack, count_on};
 use crate::table::place_of;
+use crate::track_places::move_last;
+use indexmap::IndexMap;
 use sfu_base::{Kind, PacketBuf, Refusal, Reply, Wish};
 
 impl Content {
@@ -21,12 +26,11 @@ impl Content {
         ensures fed { is_starved result ≡ false }
         ensures sends_none { result ≢ reply.Packet }
     {
-        match self.subscribers.swap_remove(&subscriber) {
-            Some(LiveSubscriber { track, feed }) => {
+        match self.subscribers.swap_remove_full(&subscriber) {
+            Some((place, _, LiveSubscriber { track, feed })) => {
                 let left = count_on(&self.subscribers, track);
-                if let Some(known) = self.tracks.get_mut(&track) {
-                    Box::into_inner(feed).give_back(&mut *known.frame_cache, left);
-                }
+                end_feed(&mut self.tracks, track, place, feed, left);
+                move_last(&mut self.tracks, &self.subscribers, place);
                 Reply::Done
             }
             None => Reply::Refused(Refusal::NoSubscriber),
@@ -133,5 +137,23 @@ impl Content {
         self.subscribers
             .get(&subscriber)
             .map(|known| known.feed.kind)
+    }
+}
+
+// The subscriber of this place ended: what it shares goes back to its track, where so many subscribers are left.
+fn end_feed(
+    tracks: &mut IndexMap<u32, LiveTrack>,
+    track: u32,
+    place: usize,
+    feed: Box<Feed>,
+    left: usize,
+)
+    requires { place < 256 }
+    ensures changed { AreSameBut place (get nat_eq tracks.old) (get nat_eq tracks.new) }
+    ensures count { index_map_len tracks.new ≡ index_map_len tracks.old }
+{
+    if let Some(known) = tracks.get_mut(&track) {
+        known.places.take(place);
+        Box::into_inner(feed).give_back(&mut *known.frame_cache, left);
     }
 }

@@ -5,11 +5,13 @@ ghost use Rattle.sfu_base.specs.declared.call.Call.{Call};
 ghost use Rattle.sfu_base.specs.declared.call.Call.TheVariants as call;
 ghost use Rattle.sfu_base.specs.declared.call.Reply.TheVariants as reply;
 ghost use Rattle.room_core.specs.Content.{Does, DoesSilently, IsAfter};
+ghost use Rattle.room_core.specs.Indexed.{HasPlaces, tracks_of};
 ghost use Rattle.room_core.specs.Views.{has_waiting};
 
 use crate::content::Content;
 use crate::passing::{waits, work_off};
 use crate::table::place_of;
+use place_set::PlaceSet;
 use sfu_base::{Kind, PacketBuf, Refusal, Reply, SeqList};
 
 impl Content {
@@ -43,6 +45,7 @@ impl Content {
                         &mut known.pleaded,
                         track,
                         &mut self.subscribers,
+                        &known.places,
                         &mut *known.frame_cache,
                     );
                     Reply::Done
@@ -72,6 +75,7 @@ impl Content {
                     &mut known.pleaded,
                     track,
                     &mut self.subscribers,
+                    &known.places,
                     &mut *known.frame_cache,
                 );
                 Reply::Done
@@ -107,7 +111,7 @@ impl Content {
             Some(known) => match known.kind {
                 Kind::Plain => Reply::Key { wanted: false },
                 Kind::Layered { .. } => Reply::Key {
-                    wanted: known.pleaded || self.has_waiting(track),
+                    wanted: known.pleaded || self.has_waiting(track, &known.places),
                 },
             },
             None => Reply::Refused(Refusal::NoTrack),
@@ -115,9 +119,10 @@ impl Content {
     }
 
     // Whether a live subscriber of the track has no current target.
-    fn has_waiting(&self, track: u32) -> bool
+    fn has_waiting(&self, track: u32, places: &PlaceSet) -> bool
+        requires { HasPlaces places.now track (tracks_of self.now.subscribers.entries) }
         ensures { (past : List Call) → IsAfter self.now past → result ≡ has_waiting track past }
     {
-        waits(&self.subscribers, track)
+        waits(&self.subscribers, places, track)
     }
 }

@@ -1,39 +1,46 @@
-use Rattle.std.proofs.Common.{◌≡◌, ◌<◌, ◌+◌, ◌∷◌, [], List, ℕ, sym, subst, arith, length, refl, true≢false}
-use Rattle.indexmap.specs.IndexMap.{index_map_len}
+use Rattle.std.proofs.Common.{◌≡◌, ◌+◌, ◌∷◌, [], List, ℕ, sym, subst, length, refl, true≢false}
 use Rattle.room_core.specs.Follows.{FollowsPacket}
 use Rattle.frame_cache.specs.declared.cache.FrameCache.{FrameCache}
 use Rattle.frame_cache.specs.Sharing.{AreFirst}
 use Rattle.room_core.specs.Passing.{IsPassed}
 use Rattle.room_core.specs.Tables.{ChangedFirst}
-use Rattle.room_core.proofs.Changing.{changed_all, changed_length, changed_next}
+use Rattle.room_core.proofs.Changing.{changed_length}
+use Rattle.room_core.proofs.Indexed.{not_within, passed_all, passed_next, passed_over, passed_tracks}
 use Rattle.room_core.proofs.passing.pass_packet_to_all.Goals as goal
-use Rattle.room_core.proofs.passing.pass_packet_to_all.Goals.{in-Some, in_default}
+use Rattle.room_core.proofs.passing.pass_packet_to_all.Goals.{in-Some-get_index_mut, in_default-get_index_mut}
 
 pub loop-place-init : goal.loop-place-init
 loop-place-init c = record { changed = refl; shared = subst (λ (l : List (List ℕ)). AreFirst l (c.args.packet.now ∷ [])) (sym c.forget.ensures.shared) refl }
 
 pub loop-place-preserved : goal.loop-place-preserved
 loop-place-preserved c = elim c.match-get_index_mut.branch [
-  | in-Some w ↦ record {
-    changed = subst (λ m. ChangedFirst (IsPassed (λ old new. FollowsPacket old new c.args.packet.now) c.args.number) (c.loop-place.place + 1) c.args.subscribers.now.entries m.entries) (sym w.subscribers-is)
-        (changed_next (IsPassed (λ old new. FollowsPacket old new c.args.packet.now) c.args.number) c.loop-place.place c.args.subscribers.now.entries c.loop-place.subscribers.entries w.in-Some.subscriber.now w.pass_packet.new.subscriber
-        c.loop-place.invariant.changed (sym w.in-Some.ensures.value) w.pass_packet.ensures.passed);
+  | in-Some-get_index_mut w ↦ record {
+    changed = subst (λ m. ChangedFirst (IsPassed (λ old new. FollowsPacket old new c.args.packet.now) c.args.number) (c.in-Some.place + 1) c.args.subscribers.now.entries m.entries) (sym w.subscribers-is)
+        (passed_next (λ old new. FollowsPacket old new c.args.packet.now) c.args.number c.args.places.now c.args.subscribers.now.entries c.requires.places
+        c.loop-place.from c.in-Some.place c.loop-place.subscribers.entries w.in-Some-get_index_mut.subscriber.now w.pass_packet.new.subscriber c.in-Some.ensures.first c.loop-place.invariant.changed
+        (sym w.in-Some-get_index_mut.ensures.value) w.pass_packet.ensures.passed);
     shared = subst (λ (t : FrameCache). AreFirst t.shared.items (c.args.packet.now ∷ [])) (sym w.cache-is) w.pass_packet.ensures.shared;
   }
-  | in_default w ↦
-      (let size : length c.loop-place.subscribers.entries ≡ length c.args.subscribers.now.entries =
-      changed_length (IsPassed (λ old new. FollowsPacket old new c.args.packet.now) c.args.number) c.loop-place.place c.args.subscribers.now.entries c.loop-place.subscribers.entries c.loop-place.invariant.changed in
-      let l = c.len-count.ensures.len in
-      let t = c.loop-place-test.true in
-      let lt : c.loop-place.place < index_map_len c.loop-place.subscribers = omega (arith, size, l, t) in
-      absurd (true≢false (sym (w.in_default.ensures.found.1 lt))))
+  | in_default-get_index_mut w ↦ record {
+    changed = subst (λ m. ChangedFirst (IsPassed (λ old new. FollowsPacket old new c.args.packet.now) c.args.number) (c.in-Some.place + 1) c.args.subscribers.now.entries m.entries) (sym w.subscribers-is)
+        (passed_over (λ old new. FollowsPacket old new c.args.packet.now) c.args.number c.args.places.now c.args.subscribers.now.entries c.requires.places
+        c.loop-place.from c.in-Some.place c.loop-place.subscribers.entries c.in-Some.ensures.first c.loop-place.invariant.changed
+        (let size : length c.loop-place.subscribers.entries ≡ length c.args.subscribers.now.entries =
+        changed_length (IsPassed (λ old new. FollowsPacket old new c.args.packet.now) c.args.number) c.loop-place.from c.args.subscribers.now.entries c.loop-place.subscribers.entries c.loop-place.invariant.changed in
+        not_within (length c.args.subscribers.now.entries) (length c.loop-place.subscribers.entries) c.in-Some.place size (λ lt. true≢false (sym (w.in_default-get_index_mut.ensures.found.1 lt)))));
+    shared = subst (λ (t : FrameCache). AreFirst t.shared.items (c.args.packet.now ∷ [])) (sym w.cache-is) c.loop-place.invariant.shared;
+  }
 ]
 
 pub returns-clause-passed : goal.returns-clause-passed
 returns-clause-passed c =
-    changed_all (IsPassed (λ old new. FollowsPacket old new c.args.packet.now) c.args.number) c.loop-place.place c.args.subscribers.now.entries c.loop-place.subscribers.entries
-    c.loop-place.invariant.changed (let ge = c.loop-place-test.false in let l = c.len-count.ensures.len in omega (arith, ge, l))
+    passed_all (λ old new. FollowsPacket old new c.args.packet.now) c.args.number c.args.places.now c.args.subscribers.now.entries c.requires.places
+    c.loop-place.from c.loop-place.subscribers.entries c.in_default.ensures.first c.loop-place.invariant.changed
 
 pub returns-clause-count : goal.returns-clause-count
 returns-clause-count c =
-    changed_length (IsPassed (λ old new. FollowsPacket old new c.args.packet.now) c.args.number) c.loop-place.place c.args.subscribers.now.entries c.loop-place.subscribers.entries c.loop-place.invariant.changed
+    changed_length (IsPassed (λ old new. FollowsPacket old new c.args.packet.now) c.args.number) c.loop-place.from c.args.subscribers.now.entries c.loop-place.subscribers.entries c.loop-place.invariant.changed
+
+pub returns-clause-tracks : goal.returns-clause-tracks
+returns-clause-tracks c =
+    passed_tracks (λ old new. FollowsPacket old new c.args.packet.now) c.args.number c.loop-place.from c.args.subscribers.now.entries c.loop-place.subscribers.entries c.loop-place.invariant.changed

@@ -1,22 +1,19 @@
-use Rattle.std.proofs.Common.{◌<◌, sym, arith, false, true≢false}
-use Rattle.indexmap.specs.IndexMap.{index_map_len}
-use Rattle.room_core.specs.Passing.{WaitsOne}
-use Rattle.room_core.proofs.Waiting.{all_found, all_next}
+use Rattle.std.proofs.Common.{length, refl, sym, true≢false}
+use Rattle.room_core.proofs.Indexed.{not_within, waits_all, waits_next, waits_over}
 use Rattle.room_core.proofs.passing.waits.Goals as goal
-use Rattle.room_core.proofs.passing.waits.Goals.{in-Some+else-waits_one, in_default}
+use Rattle.room_core.proofs.passing.waits.Goals.{in-Some-get_index+else-waits_one, in_default-get_index}
 
 pub loop-place-preserved : goal.loop-place-preserved
 loop-place-preserved c = elim c.match-get_index.branch [
-  | in-Some+else-waits_one w ↦
-      all_next (WaitsOne false c.args.number) c.loop-place.place c.args.subscribers.now.entries _ c.loop-place.invariant (sym w.in-Some.ensures.entry) w.if-waits_one.ensures
-  | in_default w ↦
-      (let l = c.len-count.ensures.len in
-      let t = c.loop-place-test.true in
-      let lt : c.loop-place.place < index_map_len c.args.subscribers.now = omega (arith, l, t) in
-      absurd (true≢false (sym (w.in_default.ensures.found.1 lt))))
+  | in-Some-get_index+else-waits_one w ↦
+      waits_next c.args.number c.args.places.now c.args.subscribers.now.entries c.requires c.loop-place.from c.in-Some.place _ c.in-Some.ensures.first c.loop-place.invariant
+      (sym w.in-Some-get_index.ensures.entry) w.if-waits_one.ensures
+  | in_default-get_index w ↦
+      waits_over c.args.number c.args.places.now c.args.subscribers.now.entries c.requires c.loop-place.from c.in-Some.place c.in-Some.ensures.first c.loop-place.invariant
+      (not_within (length c.args.subscribers.now.entries) (length c.args.subscribers.now.entries) c.in-Some.place refl
+      (λ lt. true≢false (sym (w.in_default-get_index.ensures.found.1 lt))))
 ]
 
 pub returns : goal.returns
 returns c =
-    all_found (WaitsOne false c.args.number) c.loop-place.place c.args.subscribers.now.entries c.loop-place.invariant
-    (let ge = c.loop-place-test.false in let l = c.len-count.ensures.len in omega (arith, ge, l))
+    waits_all c.args.number c.args.places.now c.args.subscribers.now.entries c.requires c.loop-place.from c.in_default.ensures.first c.loop-place.invariant

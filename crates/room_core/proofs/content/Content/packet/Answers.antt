@@ -5,8 +5,10 @@ use Rattle.reorder_window.specs.Events.{Arrives}
 use Rattle.rtp_packet.specs.Fields.{sequence_of}
 use Rattle.sfu_base.specs.declared.call.Call.TheVariants as call
 use Rattle.track_core.specs.Track.{Seen, StandsFor, first_refusal}
+use Rattle.room_core.specs.Indexed.{tracks_of}
 use Rattle.room_core.specs.Passing.{WorkedOff}
 use Rattle.room_core.proofs.Places.{known_there, not_there, written_at}
+use Rattle.room_core.proofs.Reindexed.{track_written}
 use Rattle.room_core.proofs.Releasing.{packet_answers, packet_refused, packet_release, release_does}
 use Rattle.room_core.proofs.Stepping.{brought_by}
 use Rattle.room_core.proofs.content.Content.packet.Goals as goal
@@ -15,10 +17,20 @@ pub invariant_of-self-in-Ok-clause-few_tracks : goal.invariant_of-self-in-Ok-cla
 invariant_of-self-in-Ok-clause-few_tracks c =
     subst (λ (n : ℕ). n ≤ 64) (sym (index_map_len-with_value_at c.args.self.now.tracks c.in-Some.place _)) c.args.self.now.few_tracks
 
+pub invariant_of-self-in-Ok-clause-indexed : goal.invariant_of-self-in-Ok-clause-indexed
+invariant_of-self-in-Ok-clause-indexed c =
+    let there = known_there c.args.self.now.tracks c.args.track c.in-Some.place c.in-Some-get_index_mut.known.now c.in-Some.ensures c.in-Some-get_index_mut.ensures.value in
+    track_written c.args.self.now.tracks c.args.track c.in-Some.place c.in-Some-get_index_mut.known.now _ (tracks_of c.args.self.now.subscribers.entries) (tracks_of c.work_off.new.subscribers.entries)
+    c.args.self.now.highest_track c.get_index_mut.ensures.unique there.0 there.1 refl c.work_off.ensures.tracks c.args.self.now.indexed
+
 pub invariant_of-self-in-Err-1 : goal.invariant_of-self-in-Err-1
 invariant_of-self-in-Err-1 c = record {
   few_tracks = subst (λ (n : ℕ). n ≤ 64) (sym (index_map_len-with_value_at c.args.self.now.tracks c.in-Some.place _)) c.args.self.now.few_tracks;
   few_subscribers = c.args.self.now.few_subscribers;
+  indexed =
+      let there = known_there c.args.self.now.tracks c.args.track c.in-Some.place c.in-Some-get_index_mut.known.now c.in-Some.ensures c.in-Some-get_index_mut.ensures.value in
+      track_written c.args.self.now.tracks c.args.track c.in-Some.place c.in-Some-get_index_mut.known.now _ (tracks_of c.args.self.now.subscribers.entries) (tracks_of c.args.self.now.subscribers.entries)
+      c.args.self.now.highest_track c.get_index_mut.ensures.unique there.0 there.1 refl refl c.args.self.now.indexed;
 }
 
 pub returns-in-Ok-clause-does : goal.returns-in-Ok-clause-does

@@ -1,14 +1,21 @@
-use Rattle.std.proofs.Common.{◌≤◌, Bool, ℕ, false, refl, subst, sym, true}
+use Rattle.std.proofs.Common.{◌≤◌, Bool, ℕ, false, nat_eq, refl, subst, sym, true}
 use Rattle.indexmap.proofs.CallerLemmas.{index_map_len-with_value_at}
+use Rattle.indexmap.specs.IndexMap.{get}
 use Rattle.room_core.specs.Follows.{FollowsTake}
 use Rattle.room_core.specs.declared.feed.Feed.{Feed}
 use Rattle.room_core.proofs.Owning.{take_does, take_finds_none}
 use Rattle.room_core.proofs.Places.{known_there, not_there, written_at}
+use Rattle.room_core.proofs.Reindexed.{subscriber_set}
 use Rattle.room_core.proofs.content.Content.take.Goals as goal
 
 pub invariant_of-self-in-Some-get_index_mut-clause-few_subscribers : goal.invariant_of-self-in-Some-get_index_mut-clause-few_subscribers
 invariant_of-self-in-Some-get_index_mut-clause-few_subscribers c =
     subst (λ (n : ℕ). n ≤ 256) (sym (index_map_len-with_value_at c.args.self.now.subscribers c.in-Some.place _)) c.args.self.now.few_subscribers
+
+pub invariant_of-self-in-Some-get_index_mut-clause-indexed : goal.invariant_of-self-in-Some-get_index_mut-clause-indexed
+invariant_of-self-in-Some-get_index_mut-clause-indexed c =
+    subscriber_set (get nat_eq c.args.self.now.tracks) c.args.self.now.subscribers.entries c.in-Some.place c.args.self.now.highest_track c.in-Some-get_index_mut.known.now _
+    (sym c.in-Some-get_index_mut.ensures.value) refl c.args.self.now.indexed
 
 pub returns-then-take-clause-does : goal.returns-then-take-clause-does
 returns-then-take-clause-does c =

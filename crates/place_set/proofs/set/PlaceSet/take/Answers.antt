@@ -1,0 +1,6 @@
+use Rattle.std.proofs.Common.{arith}
+use Rattle.place_set.proofs.Words.{takes}
+use Rattle.place_set.proofs.set.PlaceSet.take.Goals as goal
+
+pub returns : goal.returns
+returns c = takes c.args.self.now c.self.inside.words c.args.place c.self.view_is (let n = c.self.told in omega (arith, n))

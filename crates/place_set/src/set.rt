@@ -1,0 +1,94 @@
+// A set of places.
+ghost use Rattle.std.specs.Prelude.{◌≡◌, ◌<◌, ◌*◌, ℕ, IfSome, true, false};
+ghost use Rattle.place_set.specs.Places.{ChangesPlace, IsFirstFrom, IsLowest, has_place};
+
+use std::marker::Model;
+
+/// Places that a set can have: those below.
+const PLACES: usize = 256;
+
+/// Words of a set, of `WORD_BITS` bits each.
+const WORDS: usize = 4;
+
+const WORD_BITS: usize = 64;
+
+/// A set of places below 256. Clauses see its four words, and ask them by `has_place`.
+#[derive(Debug, Drop)]
+pub struct PlaceSet {
+    words: [u64; WORDS],
+}
+
+impl Model for PlaceSet {
+    ghost use Rattle.std.specs.Prelude.{List, ℕ};
+
+    ghost Value = { List ℕ };
+
+    ghost view = { λ s. s.words };
+}
+
+impl PlaceSet {
+    /// The empty set.
+    pub fn new() -> PlaceSet
+        ensures { (place : ℕ) → has_place result place ≡ false }
+    {
+        PlaceSet { words: [0; WORDS] }
+    }
+
+    /// Puts a place into the set.
+    pub fn put(&mut self, place: usize)
+        requires { place < 256 }
+        ensures { ChangesPlace self.old self.new place true }
+    {
+        self.words[place / WORD_BITS] |= 1 << (place % WORD_BITS);
+    }
+
+    /// Takes a place out of the set.
+    pub fn take(&mut self, place: usize)
+        requires { place < 256 }
+        ensures { ChangesPlace self.old self.new place false }
+    {
+        self.words[place / WORD_BITS] &= !(1 << (place % WORD_BITS));
+    }
+
+    /// The least place of the set that is at least `from`.
+    #[inline(always)]
+    pub fn first_from(&self, from: usize) -> Option<usize>
+        ensures first { IsFirstFrom self.now from result }
+        ensures below { IfSome result (λ place. place < 256) }
+    {
+        let words = &self.words;
+        if from >= PLACES {
+            return None;
+        }
+        let at = from / WORD_BITS;
+        if let Some(bit) = lowest(words[at] & (u64::MAX << (from % WORD_BITS))) {
+            return Some(at * WORD_BITS + bit);
+        }
+        first_behind(words, at + 1)
+    }
+}
+
+// The least place of the words from this one on.
+fn first_behind(words: &[u64; WORDS], from: usize) -> Option<usize>
+    ensures first { IsFirstFrom words.now (64 * from) result }
+    ensures below { IfSome result (λ place. place < 256) }
+{
+    for at in from..WORDS {
+        if let Some(bit) = lowest(words[at]) {
+            return Some(at * WORD_BITS + bit);
+        }
+    }
+    None
+}
+
+// The lowest bit of a word that is 1.
+#[inline(always)]
+fn lowest(word: u64) -> Option<usize>
+    ensures { IsLowest word result }
+{
+    if word == 0 {
+        None
+    } else {
+        Some(word.trailing_zeros() as usize)
+    }
+}

@@ -1,0 +1,12 @@
+use Rattle.std.proofs.Common.{◌≤◌, ℕ, refl, subst, sym}
+use Rattle.room_core.specs.Indexed.{tracks_of}
+use Rattle.room_core.proofs.Reindexed.{track_got}
+use Rattle.room_core.proofs.content.Content.prepare_feed.Goals as goal
+
+pub invariant_of-self-in_default-new : goal.invariant_of-self-in_default-new
+invariant_of-self-in_default-new c = record {
+  few_tracks = subst (λ (n : ℕ). n ≤ 64) (sym (c.get_mut.follows.holds _).2) c.args.self.now.few_tracks;
+  few_subscribers = c.args.self.now.few_subscribers;
+  indexed = track_got c.args.self.now.tracks _ c.args.track c.in-Some.known.now _ (tracks_of c.args.self.now.subscribers.entries) c.args.self.now.highest_track c.in-Some.ensures.value
+      (c.get_mut.follows.holds _) refl c.args.self.now.indexed;
+}
