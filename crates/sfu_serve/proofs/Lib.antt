@@ -4,9 +4,6 @@ pub mod Doing
 pub mod Counting
 pub mod Refusing
 pub mod Replying
-pub mod Rising
-pub mod Texts
-pub mod RoomReplies
 pub mod Stepping
 pub mod Later
 pub mod Starving
