@@ -5,7 +5,6 @@
 #include <poll.h>
 #include <stdio.h>
 #include <stdlib.h>
-#include <string.h>
 #include <sys/socket.h>
 #include <time.h>
 #include "zoftemar.h"
@@ -41,23 +40,23 @@ static void flush(uint64_t moment) {
         do zoftemar_session_waited(&peers[peer].session, moment); while (work(peer) == TURN);
 }
 
-/* Each datagram goes to the session of the peer that it came from; the publisher is whoever sends RTP of the track's SSRC. */
-static void receive(uint32_t media) {
+/* Each datagram goes to the session of the peer that it came from; the publisher is who last sent a packet that the room took. */
+static void receive(void) {
     static uint8_t bytes[ZOFTEMAR_PACKET_ROOM];
     struct sockaddr_in from;
     socklen_t size = sizeof from;
-    uint32_t peer = 1;
+    uint32_t peer = 0;
     ssize_t length = recvfrom(port, bytes, sizeof bytes, 0, (struct sockaddr *)&from, &size);
-    if (length < 0) return;
+    if (length < 2) return;
     while (peer <= count && (peers[peer].address.sin_port != from.sin_port || peers[peer].address.sin_addr.s_addr != from.sin_addr.s_addr)) peer++;
-    if (peer > count) {
-        if (length < 12 || (bytes[1] >= 192 && bytes[1] < 224) || memcmp(bytes + 8, &media, 4) != 0) return; /* RTCP has 192 to 223 there (RFC 5761) */
-        peers[0].address = from;
-        peer = 0;
+    if (peer <= count) {
+        zoftemar_session_received(&peers[peer].session, now(), bytes, (size_t)length);
+        work(peer);
+    } else {
+        if (bytes[1] >= 192 && bytes[1] < 224) return; /* RTCP (RFC 5761, section 4) */
+        if (zoftemar_packet(&room, 0, TRACK, now(), bytes, (size_t)length).code == ZOFTEMAR_DONE) peers[0].address = from;
     }
-    zoftemar_session_received(&peers[peer].session, now(), bytes, (size_t)length);
-    work(peer);
-    if (peer == 0) flush(now());
+    flush(now());
 }
 
 int main(int argc, char **argv) {
@@ -80,7 +79,7 @@ int main(int argc, char **argv) {
     if (port < 0 || bind(port, (struct sockaddr *)&own, sizeof own) != 0) return 1;
     for (uint64_t tick = 0;;) {
         struct pollfd ready = { .fd = port, .events = POLLIN };
-        if (poll(&ready, 1, 20) > 0) receive(htonl(ssrc));
+        if (poll(&ready, 1, 20) > 0) receive();
         if (now() < tick + 20) continue;
         tick = now();
         zoftemar_target target;
