@@ -1,5 +1,5 @@
 -- What the functions on a session do.
-use Rattle.std.specs.Prelude.{◌≡◌, ◌⊎◌, ◌≤◌, ◌<◌, ℕ, suc, List, length, take, Option, Some, None}
+use Rattle.std.specs.Prelude.{◌≡◌, ◌⊎◌, ℕ, suc, List, length, take, Option, Some, None}
 use Rattle.sfu_base.specs.declared.call.Call.{Call}
 use Rattle.session_steps.specs.Sessions.{Doing}
 use Rattle.session_steps.specs.Stepping.{Asks, Waits, heard}
@@ -33,11 +33,11 @@ Opens rule None (Some new) told = (told ≡ code_number code.Done) × Begins rul
 
 -- ---- a datagram, or none
 
--- The session was busy, since it had a call to make, and is as it was; or what came at this moment was worked off as its rule says.
+-- The session was busy, since it had a call to make, and is as it was; or it waited, and what came at this moment was worked off as its rule says.
 abbrev pub HearsAs : Attended → Attended → Option (List ℕ) → ℕ → PlainReply → Type 0
 HearsAs old new got moment told =
     ((told ≡ bare_of code.Busy) × (new ≡ old) × (call : Call) × ((turns : ℕ) → Asks (left_of old turns) call))
-    ⊎ ((told ≡ bare_of code.Done) × ((turns : ℕ) → heard (left_of old (suc turns)) got moment ≡ left_of new turns))
+    ⊎ ((told ≡ bare_of code.Done) × ((turns : ℕ) → Waits (left_of old turns) turns) × ((turns : ℕ) → heard (left_of old (suc turns)) got moment ≡ left_of new turns))
 
 abbrev pub Hears : Option Attended → Option Attended → Option (List ℕ) → ℕ → PlainReply → Type 0
 Hears None new got moment told = (told ≡ bare_of code.NoSession) × (new ≡ None)
