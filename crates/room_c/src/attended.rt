@@ -1,10 +1,9 @@
 // What lies on the heap behind a session's handle.
+use crate::code::Code;
+use crate::plain_reply::PlainReply;
 use room_sessions::EitherSession;
 use session_steps::{Output, Session};
 use sfu_base::{PacketBuf, Scratch, SeqList};
-
-use crate::code::Code;
-use crate::plain_reply::PlainReply;
 
 /// A session, and where the datagrams that it gets and sends lie.
 #[derive(Drop)]
