@@ -5,3 +5,4 @@ pub mod Reading
 pub mod Telling
 pub mod Serving
 pub mod Attending
+pub mod Wrapping

@@ -5,7 +5,7 @@ ghost use Rattle.room_c.specs.declared.code.Code.TheVariants.{NoSpace, TooLong};
 ghost use Rattle.room_c.specs.Attending.{Hears, WorksBoth, WorksOn, output_reply};
 ghost use Rattle.room_c.specs.Telling.{bare_of, bytes_written};
 
-use crate::answers::PACKET_ROOM;
+use crate::answers::{PACKET_ROOM, give_packet};
 use crate::attended::Attended;
 use crate::code::Code;
 use crate::handle::Handle;
@@ -121,10 +121,6 @@ fn give_output(output: Output, packet: &PacketBuf, out: &mut [u8]) -> PlainReply
 {
     match output {
         Output::Nothing => PlainReply::bare(Code::Done),
-        Output::Packet => {
-            let bytes = packet.bytes();
-            out[..bytes.len()].copy_from_slice(bytes);
-            PlainReply::with(Code::Packet, bytes.len() as u64)
-        }
+        Output::Packet => give_packet(packet, out),
     }
 }
