@@ -49,6 +49,7 @@
 #define ZOFTEMAR_VERSION_MAJOR 0
 #define ZOFTEMAR_VERSION_MINOR 1
 #define ZOFTEMAR_VERSION_PATCH 0
+#define ZOFTEMAR_VERSION_NUMBER (65536 * ZOFTEMAR_VERSION_MAJOR + 256 * ZOFTEMAR_VERSION_MINOR + ZOFTEMAR_VERSION_PATCH)
 
 #ifdef __cplusplus
 extern "C" {
@@ -111,7 +112,8 @@ enum zoftemar_code {
     ZOFTEMAR_TOO_MANY = 35,         /* first: how many are live (64 tracks, 256 subscribers) */
     ZOFTEMAR_BAD_EXTENSION_ID = 36, /* 0 or 15 */
     ZOFTEMAR_TOO_BIG = 37,          /* first: how many bytes the packet has, more than 1,500 */
-    ZOFTEMAR_UNREADABLE = 38,       /* not RTP. first: 0 under 12 bytes, 1 the version, 2 CSRCs, 3 the header extension, 4 the padding */
+    ZOFTEMAR_UNREADABLE = 38,       /* not RTP. first: 0 under 12 bytes, 1 the version, 2 CSRCs, 3 the header extension, 4 the padding; of
+                                     * zoftemar_unwrap also 5: no original number */
     ZOFTEMAR_WRONG_SSRC = 39,       /* first: the packet's; second: the track's */
     ZOFTEMAR_SPENT = 40,            /* the packet's number without its wrap is 2^46 or more */
     ZOFTEMAR_LATE = 41,             /* first: the number that the track waits for, without the wrap */
@@ -271,6 +273,19 @@ ZOFTEMAR_NONNULL(1) zoftemar_reply zoftemar_session_waited(zoftemar_session *ses
  * nothing changes. What the calls on the room answered isn't told: a datagram that the room refuses is passed over. */
 ZOFTEMAR_NONNULL(1, 2, 4) ZOFTEMAR_USE zoftemar_reply zoftemar_session_work(zoftemar_session *session, zoftemar_room *room, uint32_t seat,
                                                                              uint8_t *out, size_t count);
+
+/* ---- Without a room
+ *
+ * Wraps an RTP packet of at most 2,046 bytes for a retransmission stream, where it has this number (RFC 4588, section 4), or unwraps one that a
+ * publisher sent on such a stream: ZOFTEMAR_PACKET, and it is in `out`, with the SSRC and the payload type that are given, and without padding. `room_of_out`
+ * is at least ZOFTEMAR_PACKET_ROOM. ZOFTEMAR_NO_SPACE, ZOFTEMAR_TOO_LONG, ZOFTEMAR_BAD_STREAM (a payload type of 128 or more), ZOFTEMAR_UNREADABLE. */
+ZOFTEMAR_USE zoftemar_reply zoftemar_wrap(const uint8_t *bytes, size_t count, uint16_t number, uint32_t rtx_ssrc, uint8_t rtx_payload_type,
+                                          uint8_t *out, size_t room_of_out);
+ZOFTEMAR_USE zoftemar_reply zoftemar_unwrap(const uint8_t *bytes, size_t count, uint32_t ssrc, uint8_t payload_type,
+                                            uint8_t *out, size_t room_of_out);
+
+/* The version of the archive: ZOFTEMAR_VERSION_NUMBER of the header that belongs to it. */
+ZOFTEMAR_USE uint32_t zoftemar_version(void);
 
 #ifdef __cplusplus
 }

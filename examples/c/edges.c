@@ -103,6 +103,23 @@ static void sessions(void) {
     IS(blocks == 0 && strcmp(zoftemar_code_name(ZOFTEMAR_BUSY), "ZOFTEMAR_BUSY") == 0 && strcmp(zoftemar_code_name(9), "ZOFTEMAR_?") == 0);
 }
 
+/* Without a room: a packet is wrapped, and comes back. */
+static void wrapping(void) {
+    const uint8_t rtp[13] = { 0x80, 96, 0, 9, 0, 0, 0, 0, 0x11, 0x11, 0x11, 0x11, 5 };
+    uint8_t back[ZOFTEMAR_PACKET_ROOM];
+    IS(zoftemar_version() == ZOFTEMAR_VERSION_NUMBER);
+    IS(zoftemar_wrap(rtp, sizeof rtp, 300, 0x33333333, 97, out, 2047).code == ZOFTEMAR_NO_SPACE);
+    IS(zoftemar_wrap(big, 2047, 300, 0x33333333, 97, out, sizeof out).code == ZOFTEMAR_TOO_LONG);
+    IS(zoftemar_wrap(rtp, sizeof rtp, 300, 0x33333333, 128, out, sizeof out).code == ZOFTEMAR_BAD_STREAM);
+    IS(zoftemar_wrap(rtp, 11, 300, 0x33333333, 97, out, sizeof out).code == ZOFTEMAR_UNREADABLE);
+    IS(zoftemar_wrap(rtp, sizeof rtp, 300, 0x33333333, 97, out, sizeof out).first == 15);
+    IS(out[1] == 97 && out[2] == 1 && out[3] == 44 && out[8] == 0x33 && out[12] == 0 && out[13] == 9 && out[14] == 5);
+    IS(zoftemar_unwrap(out, 15, 0x11111111, 96, back, sizeof back).first == sizeof rtp && memcmp(back, rtp, sizeof rtp) == 0);
+    IS(zoftemar_unwrap(out, 15, 0x11111111, 96, back, 0).code == ZOFTEMAR_NO_SPACE && zoftemar_unwrap(out, 13, 1, 96, back, sizeof back).first == 5);
+    IS(zoftemar_unwrap(big, 2049, 1, 96, back, sizeof back).code == ZOFTEMAR_TOO_LONG);
+    IS(zoftemar_unwrap(out, 15, 1, 128, back, sizeof back).code == ZOFTEMAR_BAD_STREAM);
+}
+
 /* Each allocation fails in turn. What was refused can be done afterwards, and all blocks are given back. */
 static void memory(void) {
     zoftemar_reply publish, join;
@@ -171,6 +188,7 @@ static void sizes(void) {
 int main(int argc, char **argv) {
     codes();
     sessions();
+    wrapping();
     memory();
     threads();
     if (argc > 1 && strcmp(argv[1], "sizes") == 0) sizes();
