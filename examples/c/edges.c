@@ -120,7 +120,7 @@ static void wrapping(void) {
     IS(zoftemar_unwrap(out, 15, 1, 128, back, sizeof back).code == ZOFTEMAR_BAD_STREAM);
 }
 
-/* Each allocation fails in turn. What was refused can be done afterwards, and all blocks are given back. */
+/* Each allocation fails in turn. What was refused can be done afterwards, and all blocks are freed. */
 static void memory(void) {
     zoftemar_reply publish, join;
     for (long n = 0;; n++) {
