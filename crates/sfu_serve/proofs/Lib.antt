@@ -4,6 +4,9 @@ pub mod Doing
 pub mod Counting
 pub mod Refusing
 pub mod Replying
+pub mod Rising
+pub mod Texts
+pub mod RoomReplies
 pub mod Stepping
 pub mod Later
 pub mod Starving

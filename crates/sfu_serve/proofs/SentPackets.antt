@@ -25,7 +25,7 @@ use Rattle.sfu_serve.specs.Parts.{Keeps, reply_after, words_behind, words_of}
 use Rattle.sfu_serve.specs.Runs.{IsSession}
 use Rattle.sfu_serve.specs.Packets.{AreSent, datagram_given, datagrams_given, packet_of, packet_given, packets_given, resent_then, unsent, unsent_datagram}
 use Rattle.sfu_serve.proofs.Words.{words_since}
-use Rattle.room_sessions.proofs.Texts.{is_short, done_short, track_short, control_short}
+use Rattle.sfu_serve.proofs.Texts.{is_short, done_short, track_short, control_short}
 
 -- ---- only takes and resends are answered packets
 

@@ -16,7 +16,7 @@ use Rattle.session_steps.specs.declared.session.Output.{Output}
 use Rattle.session_steps.specs.declared.session.Output.TheVariants.{Nothing, Packet}
 use Rattle.session_steps.specs.Datagrams.{IsOne}
 use Rattle.session_steps.specs.Sessions.{Doing}
-use Rattle.session_steps.specs.Stepping.{Asks, GoesOn, Waits, answered, heard}
+use Rattle.session_steps.specs.Stepping.{Asks, GoesOn, IsReplyIn, IsReplyTo, Waits, answered, heard}
 use Rattle.sfu_serve.specs.History.{entries_of}
 use Rattle.sfu_serve.specs.Replies.{IsReplied, MayStarve}
 use Rattle.sfu_serve.proofs.Replying.{holds_by, starved_by, told_by}
@@ -170,3 +170,10 @@ said may_refuse left call given bytes numbers place b c told faults asks fits tu
     said_at left call (answer_of given bytes numbers) b c told faults asks (λ f.
     doing.says reply_after (Refused NoMemory) (MayStarve may_refuse) IsOne HasHeadline call f (answer_of given bytes numbers) (is_starved given) _ place b c told faults fits turn
     (λ h. told_by may_refuse h b.number call given bytes numbers) (λ h. starved_by may_refuse h b.number call given bytes numbers) (λ h. holds_by may_refuse h b.number call given bytes numbers) fits')
+
+-- its reply is one
+pub replies : (left : Doing) (call : Call) (given : Reply) (bytes names : List ℕ) → Asks left call → IsReplyTo call given bytes names → IsReplyIn left given bytes names
+replies (Ask own f) call given bytes names is told = subst (λ (k : Call). IsReplyTo k given bytes names) is told
+replies (Listen f) call given bytes names is told = absurd is
+replies (Post what next) call given bytes names is told = absurd is
+replies Over call given bytes names is told = absurd is

@@ -1,5 +1,6 @@
 use Rattle.session_steps.specs.Stepping.{Asks}
-use Rattle.room_sessions.proofs.RoomReplies.{replies, room_replies}
+use Rattle.sfu_serve.proofs.RoomReplies.{room_replies}
+use Rattle.sfu_serve.proofs.Stepping.{replies}
 use Rattle.serve_tests.proofs.step_tests.serve_alone.Goals as goal
 
 pub replied-output-requires : goal.replied-output-requires

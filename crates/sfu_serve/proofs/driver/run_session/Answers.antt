@@ -4,8 +4,8 @@ use Rattle.sfu_base.specs.Links.{datagram}
 use Rattle.sfu_serve.specs.History.{entries_of}
 use Rattle.session_steps.specs.Sessions.{Doing}
 use Rattle.session_steps.specs.Stepping.{answered, heard}
-use Rattle.room_sessions.proofs.RoomReplies.{replies, room_replies}
-use Rattle.sfu_serve.proofs.Stepping.{after, hears, said, silent_after, starts, unsent, worn}
+use Rattle.sfu_serve.proofs.RoomReplies.{room_replies}
+use Rattle.sfu_serve.proofs.Stepping.{after, hears, replies, said, silent_after, starts, unsent, worn}
 use Rattle.sfu_serve.proofs.driver.run_session.Goals as goal
 
 pub loop-turn-init : goal.loop-turn-init
