@@ -1,5 +1,5 @@
 /* edges.c: what the library answers at its edges, with each allocation failing in turn, and from another thread. It ends with 0 where all is
- * as the header says; with the word `sizes` it prints how many bytes a room, a track and a subscriber take. */
+ * as the header says; with the word `sizes` it prints how many bytes a room, a track, a subscriber and a session take. */
 #include <pthread.h>
 #include <stdio.h>
 #include <stdlib.h>
@@ -65,6 +65,61 @@ static void codes(void) {
     IS(blocks == 0 && zoftemar_tick(&room, 0, 1, 0).code == ZOFTEMAR_NO_ROOM);
 }
 
+static uint32_t work(zoftemar_session *session, zoftemar_room *room) { return zoftemar_session_work(session, room, 0, out, sizeof out).code; }
+
+static void sessions(void) {
+    zoftemar_room room = ZOFTEMAR_ROOM_NONE;
+    zoftemar_session publisher = ZOFTEMAR_SESSION_NONE, subscriber = ZOFTEMAR_SESSION_NONE;
+    uint8_t rtp[13] = { 0x80, 96, 0, 1, 0, 0, 0, 0, 0x11, 0x11, 0x11, 0x11, 5 };
+    const uint8_t nack[16] = { 0x81, 205, 0, 3, 0, 0, 0, 9, 0x22, 0x22, 0x22, 0x22, 0, 7, 0, 0 };
+    IS(work(&publisher, &room) == ZOFTEMAR_NO_SESSION && zoftemar_session_waited(&publisher, 0).code == ZOFTEMAR_NO_SESSION);
+    IS(zoftemar_session_received(&publisher, 0, NULL, 0).code == ZOFTEMAR_NO_SESSION);
+    zoftemar_close_session(&publisher);
+    left = 0;
+    IS(zoftemar_open_publisher(&publisher, 1, 0x11111111) == ZOFTEMAR_NO_MEMORY && zoftemar_session_waited(&publisher, 0).code == ZOFTEMAR_NO_SESSION);
+    left = -1;
+    IS(zoftemar_open_rtx_subscriber(&subscriber, 1, 0x22222222, 0x22222222, 97) == ZOFTEMAR_BAD_STREAM);
+    IS(zoftemar_open_rtx_subscriber(&subscriber, 1, 0x22222222, 0x33333333, 128) == ZOFTEMAR_BAD_STREAM);
+    IS(zoftemar_open_publisher(&publisher, 1, 0x11111111) == ZOFTEMAR_DONE && zoftemar_open_subscriber(&publisher, 1, 2) == ZOFTEMAR_HAS_SESSION);
+    IS(zoftemar_open_rtx_subscriber(&subscriber, 1, 0x22222222, 0x33333333, 97) == ZOFTEMAR_DONE);
+    IS(zoftemar_session_received(&publisher, 0, big, 2049).code == ZOFTEMAR_TOO_LONG);
+    IS(zoftemar_session_work(&publisher, &room, 0, out, 2047).code == ZOFTEMAR_NO_SPACE);
+    IS(zoftemar_session_received(&publisher, 0, rtp, sizeof rtp).code == ZOFTEMAR_DONE && zoftemar_session_waited(&publisher, 0).code == ZOFTEMAR_BUSY);
+    IS(zoftemar_session_received(&publisher, 0, rtp, sizeof rtp).code == ZOFTEMAR_BUSY && work(&publisher, &room) == ZOFTEMAR_NO_ROOM);
+    IS(zoftemar_open(&room) == ZOFTEMAR_DONE && zoftemar_publish_plain(&room, 0, 1, 0x11111111, 100).code == ZOFTEMAR_DONE);
+    IS(zoftemar_join(&room, 0, 1, 1, 0x22222222, 7, 0, 0).code == ZOFTEMAR_DONE);
+    IS(work(&publisher, &room) == ZOFTEMAR_DONE && work(&publisher, &room) == ZOFTEMAR_DONE);
+    rtp[3] = 3;
+    IS(zoftemar_session_received(&publisher, 20, rtp, sizeof rtp).code == ZOFTEMAR_DONE && work(&publisher, &room) == ZOFTEMAR_PACKET);
+    IS(out[1] == 205 && out[3] == 3 && out[7] == 1 && out[8] == 0x11 && out[13] == 2 && out[15] == 0 && work(&publisher, &room) == ZOFTEMAR_DONE);
+    IS(zoftemar_session_waited(&subscriber, 20).code == ZOFTEMAR_DONE && work(&subscriber, &room) == ZOFTEMAR_PACKET);
+    IS(out[1] == 96 && out[3] == 7 && out[8] == 0x22 && out[12] == 5 && work(&subscriber, &room) == ZOFTEMAR_DONE);
+    IS(zoftemar_session_received(&subscriber, 21, nack, sizeof nack).code == ZOFTEMAR_DONE && work(&subscriber, &room) == ZOFTEMAR_PACKET);
+    IS(out[1] == 97 && out[3] == 0 && out[8] == 0x33 && out[13] == 7 && out[14] == 5 && work(&subscriber, &room) == ZOFTEMAR_DONE);
+    zoftemar_close_session(&publisher);
+    zoftemar_close_session(&publisher);
+    zoftemar_close_session(&subscriber);
+    zoftemar_close(&room);
+    IS(blocks == 0 && strcmp(zoftemar_code_name(ZOFTEMAR_BUSY), "ZOFTEMAR_BUSY") == 0 && strcmp(zoftemar_code_name(9), "ZOFTEMAR_?") == 0);
+}
+
+/* Without a room: a packet is wrapped, and comes back. */
+static void wrapping(void) {
+    const uint8_t rtp[13] = { 0x80, 96, 0, 9, 0, 0, 0, 0, 0x11, 0x11, 0x11, 0x11, 5 };
+    uint8_t back[ZOFTEMAR_PACKET_ROOM];
+    IS(zoftemar_version() == ZOFTEMAR_VERSION_NUMBER);
+    IS(zoftemar_wrap(rtp, sizeof rtp, 300, 0x33333333, 97, out, 2047).code == ZOFTEMAR_NO_SPACE);
+    IS(zoftemar_wrap(big, 2047, 300, 0x33333333, 97, out, sizeof out).code == ZOFTEMAR_TOO_LONG);
+    IS(zoftemar_wrap(rtp, sizeof rtp, 300, 0x33333333, 128, out, sizeof out).code == ZOFTEMAR_BAD_STREAM);
+    IS(zoftemar_wrap(rtp, 11, 300, 0x33333333, 97, out, sizeof out).code == ZOFTEMAR_UNREADABLE);
+    IS(zoftemar_wrap(rtp, sizeof rtp, 300, 0x33333333, 97, out, sizeof out).first == 15);
+    IS(out[1] == 97 && out[2] == 1 && out[3] == 44 && out[8] == 0x33 && out[12] == 0 && out[13] == 9 && out[14] == 5);
+    IS(zoftemar_unwrap(out, 15, 0x11111111, 96, back, sizeof back).first == sizeof rtp && memcmp(back, rtp, sizeof rtp) == 0);
+    IS(zoftemar_unwrap(out, 15, 0x11111111, 96, back, 0).code == ZOFTEMAR_NO_SPACE && zoftemar_unwrap(out, 13, 1, 96, back, sizeof back).first == 5);
+    IS(zoftemar_unwrap(big, 2049, 1, 96, back, sizeof back).code == ZOFTEMAR_TOO_LONG);
+    IS(zoftemar_unwrap(out, 15, 1, 128, back, sizeof back).code == ZOFTEMAR_BAD_STREAM);
+}
+
 /* Each allocation fails in turn. What was refused can be done afterwards, and all blocks are freed. */
 static void memory(void) {
     zoftemar_reply publish, join;
@@ -115,7 +170,7 @@ static void size_of(const char *what) {
 static void sizes(void) {
     zoftemar_room room = ZOFTEMAR_ROOM_NONE;
     bytes_taken = 0;
-    zoftemar_open(&room);
+    IS(zoftemar_open(&room) == ZOFTEMAR_DONE);
     size_of("a room");
     zoftemar_publish_layered(&room, 0, 1, 4, 1, 1);
     size_of("a layered track");
@@ -123,11 +178,17 @@ static void sizes(void) {
     size_of("a plain track");
     zoftemar_join(&room, 0, 1, 1, 2, 3, 0, 0);
     size_of("a subscriber");
+    zoftemar_session session = ZOFTEMAR_SESSION_NONE;
+    IS(zoftemar_open_publisher(&session, 1, 1) == ZOFTEMAR_DONE);
+    size_of("a session");
+    zoftemar_close_session(&session);
     zoftemar_close(&room);
 }
 
 int main(int argc, char **argv) {
     codes();
+    sessions();
+    wrapping();
     memory();
     threads();
     if (argc > 1 && strcmp(argv[1], "sizes") == 0) sizes();

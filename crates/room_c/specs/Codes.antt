@@ -39,3 +39,7 @@ code_number code.NoRoom = 64
 code_number code.HasRoom = 65
 code_number code.NoSpace = 66
 code_number code.TooLong = 67
+code_number code.NoSession = 68
+code_number code.HasSession = 69
+code_number code.Busy = 70
+code_number code.BadStream = 71

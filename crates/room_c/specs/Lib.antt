@@ -1,5 +1,8 @@
 pub mod Owned
 pub mod Codes
+pub mod Recording
 pub mod Reading
 pub mod Telling
 pub mod Serving
+pub mod Attending
+pub mod Wrapping

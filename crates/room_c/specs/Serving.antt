@@ -1,11 +1,9 @@
 -- What a call through a handle does.
-use Rattle.std.specs.Prelude.{◌≡◌, ℕ, Bool, false, List, take, ⊤, Option, Some, None, Result}
+use Rattle.std.specs.Prelude.{◌≡◌, ℕ, Bool, List, take, ⊤, Option, Some, None, Result}
 use Rattle.sfu_base.specs.declared.call.Call.{Call}
 use Rattle.sfu_base.specs.declared.call.Refusal.{Refusal}
 use Rattle.sfu_base.specs.declared.call.Reply.TheVariants as reply
-use Rattle.room_core.specs.Noted.{Noted}
 use Rattle.room_core.specs.Serves.{MemoryHasCause, MemoryIsLast, Serves, StandsHeadline}
-use Rattle.room_core.specs.declared.recorder.KeepNone.{KeepNone}
 use Rattle.room_c.specs.declared.home.Home.{Home}
 use Rattle.room_c.specs.declared.plain_reply.PlainReply.{PlainReply}
 use Rattle.room_core.specs.Serves.{Stands}
@@ -14,15 +12,9 @@ use Rattle.room_core.specs.CurrentTargets.{IsReachedBy, IsTargetOf}
 use Rattle.room_core.specs.declared.current_target.DecodeTarget.{DecodeTarget}
 use Rattle.room_c.specs.declared.code.Code.TheVariants.{NoRoom}
 use Rattle.room_c.specs.declared.plain_target.PlainTarget.{PlainTarget}
+use Rattle.room_c.specs.Recording.{never, untold}
 use Rattle.room_c.specs.Reading.{reached_in, reply_in, target_in}
 use Rattle.room_c.specs.Telling.{bare_of, plain_of, reached_reply, target_reply, target_written}
-
--- the recorder tells nothing, and never refuses
-abbrev pub untold : KeepNone → Option (List Noted)
-untold recorder = None
-
-abbrev pub never : KeepNone → Bool
-never recorder = false
 
 -- The room does and answers what `Room::serve` does for this call of this seat, with what the reply leaves in the scratch; and what is told is
 -- this reply's numbers, no others.

@@ -2,17 +2,30 @@
 ghost use Rattle.std.specs.Prelude.{◌≡◌, ◌≤◌, drop, length, take};
 ghost use Rattle.sfu_base.specs.declared.call.Reply.TheVariants as reply;
 ghost use Rattle.room_c.specs.Reading.{reply_in};
-ghost use Rattle.room_c.specs.Telling.{bytes_written, numbers_written, plain_of};
+ghost use Rattle.room_c.specs.declared.code.Code.TheVariants as code;
+ghost use Rattle.room_c.specs.Telling.{bytes_written, numbers_written, one_of, plain_of};
 
 use crate::code::Code;
 use crate::plain_reply::PlainReply;
-use sfu_base::{Reply, Scratch};
+use sfu_base::{PacketBuf, Reply, Scratch};
 
 /// How many bytes a buffer for a packet has at least.
 pub const PACKET_ROOM: usize = 2048;
 
 /// How many places a buffer for sequence numbers has at least.
 pub const NAMES_ROOM: usize = 1024;
+
+/// Writes a packet into a buffer that has room for any.
+pub fn give_packet(packet: &PacketBuf, out: &mut [u8]) -> PlainReply
+    requires { 2048 ≤ length out.old }
+    ensures tells { result ≡ one_of code.Packet (length packet.now) }
+    ensures gives { take result.first out.new ≡ packet.now }
+    ensures rest { drop (bytes_written result) out.new ≡ drop (bytes_written result) out.old }
+{
+    let bytes = packet.bytes();
+    out[..bytes.len()].copy_from_slice(bytes);
+    PlainReply::with(Code::Packet, bytes.len() as u64)
+}
 
 /// Writes the bytes of a packet's reply into a buffer that has room for any.
 #[tactic(auto, unfolding(crate::specs::Telling::plain_of))]
@@ -25,11 +38,7 @@ pub fn give_bytes(answer: &Reply, scratch: &Scratch, out: &mut [u8]) -> PlainRep
     ensures length { length out.new ≡ length out.old }
 {
     match answer {
-        Reply::Packet => {
-            let bytes = scratch.packet.bytes();
-            out[..bytes.len()].copy_from_slice(bytes);
-            PlainReply::with(Code::Packet, bytes.len() as u64)
-        }
+        Reply::Packet => give_packet(&scratch.packet, out),
         _ => PlainReply::of(answer, scratch),
     }
 }

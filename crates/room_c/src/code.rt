@@ -1,7 +1,7 @@
 // The codes of replies.
 
 /// What a reply is, as a number that C reads. 0 to 3 are done calls, 4 and 5 answers to a question, 16 to 23 verdicts on a frame, 32 to 48
-/// refusals of the room, and 64 to 67 are found before the room is asked. Own rule.
+/// refusals of the room, and 64 to 71 are found before the room is asked. Own rule.
 #[derive(Clone, Copy, Debug, PartialEq, Eq)]
 pub enum Code {
     /// The call was done.
@@ -74,4 +74,12 @@ pub enum Code {
     NoSpace = 66,
     /// The packet has more than 2,048 bytes.
     TooLong = 67,
+    /// The session's handle is one of no session.
+    NoSession = 68,
+    /// The session's handle has a session already.
+    HasSession = 69,
+    /// The session has something left to do.
+    Busy = 70,
+    /// The payload type of a retransmission stream is 128 or more, or its SSRC is that of the media.
+    BadStream = 71,
 }

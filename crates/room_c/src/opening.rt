@@ -3,7 +3,7 @@ ghost use Rattle.std.specs.Prelude.{◌≡◌, ◌≢◌, [], IfSome, IsSome, No
 ghost use Rattle.room_core.specs.Serves.{Stands};
 ghost use Rattle.room_c.specs.declared.code.Code.TheVariants.{Done, HasRoom, NoMemory};
 ghost use Rattle.room_c.specs.Codes.{code_number};
-ghost use Rattle.room_c.specs.Serving.{untold};
+ghost use Rattle.room_c.specs.Recording.{untold};
 
 use crate::code::Code;
 use crate::handle::Handle;

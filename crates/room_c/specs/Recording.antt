@@ -1,0 +1,11 @@
+-- What the room behind a handle has for a recorder. Own rule.
+use Rattle.std.specs.Prelude.{Bool, false, List, Option, None}
+use Rattle.room_core.specs.Noted.{Noted}
+use Rattle.room_core.specs.declared.recorder.KeepNone.{KeepNone}
+
+-- the recorder tells nothing, and never refuses
+abbrev pub untold : KeepNone → Option (List Noted)
+untold recorder = None
+
+abbrev pub never : KeepNone → Bool
+never recorder = false

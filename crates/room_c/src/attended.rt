@@ -1,0 +1,45 @@
+// What lies on the heap behind a session's handle.
+use crate::code::Code;
+use crate::plain_reply::PlainReply;
+use room_sessions::EitherSession;
+use session_steps::{Output, Session};
+use sfu_base::{PacketBuf, Scratch, SeqList};
+
+/// A session, and where the datagrams that it gets and sends lie.
+#[derive(Drop)]
+pub struct Attended {
+    pub session: EitherSession,
+    pub scratch: Scratch,
+}
+
+impl Attended {
+    ghost use Rattle.std.specs.Prelude.{◌≡◌, ◌≤◌, length};
+    ghost use Rattle.sfu_base.specs.Links.{datagram};
+    ghost use Rattle.room_c.specs.Attending.{HearsAs};
+
+    /// A session before its first datagram.
+    pub fn new(session: EitherSession) -> Attended
+        ensures { result.session ≡ session }
+    {
+        Attended {
+            session,
+            scratch: Scratch {
+                packet: PacketBuf::new(),
+                names: SeqList::new(),
+            },
+        }
+    }
+
+    /// Hands a datagram to the session or, where `came` is false, that none came.
+    pub fn hear(&mut self, came: bool, moment: u64, bytes: &[u8]) -> PlainReply
+        requires { length bytes.now ≤ 2048 }
+        ensures { HearsAs self.old self.new (datagram came bytes.now) moment result }
+    {
+        if let Some(_call) = self.session.call() {
+            return PlainReply::bare(Code::Busy);
+        }
+        self.scratch.packet.fill(bytes);
+        self.session.hear(came, moment, &mut self.scratch);
+        PlainReply::bare(Code::Done)
+    }
+}

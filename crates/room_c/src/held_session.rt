@@ -1,0 +1,69 @@
+// What a session's handle owns, behind a pointer whose type names no other type.
+ghost use Rattle.std.specs.Prelude.{◌≡◌, Option, Some, None, is_some, false, true};
+ghost use Rattle.room_c.specs.declared.attended.Attended.{Attended};
+ghost use Rattle.room_c.specs.Owned.{attended_coded, attended_owned};
+
+use crate::attended::Attended;
+use crate::parts::Parts;
+use std::alloc::Global;
+use std::marker::Model;
+
+/// The pointer of a `Box<Attended>`, or one that owns nothing. No type that holds or names a `Box` may cross to C, so the pointer's own type says
+/// nothing, and what it owns is told by `attended`. It is linear: a handle that owns a session can only be turned into its box again.
+#[repr(C)]
+pub struct HeldSession {
+    at: *mut u8,
+    alloc: Global,
+    pub ghost attended: { Option Attended } by { attended_coded },
+}
+
+impl Model for HeldSession {
+    ghost also_owns = { λ h. attended_owned h.alloc h.at h.attended };
+}
+
+// It may go to another thread, as the box may.
+unsafe impl Send for HeldSession {}
+
+impl HeldSession {
+    /// Owns the box of these parts.
+    pub fn of_parts(parts: Parts<Attended, Global>) -> HeldSession
+        ensures { result.attended ≡ Some parts.value }
+    {
+        let Parts { ptr, alloc } = parts;
+        HeldSession {
+            at: ptr as *mut u8,
+            alloc,
+        }
+    }
+
+    /// The parts of the box that it owns.
+    pub fn into_parts(self) -> Parts<Attended, Global>
+        requires { is_some self.attended ≡ true }
+        ensures { Some result.value ≡ self.attended }
+    {
+        let HeldSession { at, alloc } = self;
+        Parts {
+            ptr: at as *mut Attended,
+            alloc,
+        }
+    }
+
+    /// Owns nothing: the pointer is null.
+    pub fn nothing(alloc: Global) -> HeldSession
+        ensures { result.attended ≡ None }
+    {
+        HeldSession {
+            at: std::ptr::null_mut(),
+            alloc,
+        }
+    }
+
+    /// The allocator of one that owns nothing.
+    pub fn end(self) -> Global
+        requires { is_some self.attended ≡ false }
+        ensures { result ≡ self.alloc }
+    {
+        let HeldSession { at: _, alloc } = self;
+        alloc
+    }
+}

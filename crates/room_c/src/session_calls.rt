@@ -1,0 +1,126 @@
+// A session at work: what it is told, and what is to be sent.
+ghost use Rattle.std.specs.Prelude.{◌≡◌, ◌<◌, ◌≤◌, None, Some, drop, length, take};
+ghost use Rattle.session_steps.specs.declared.session.Output.TheVariants as sends;
+ghost use Rattle.room_c.specs.declared.code.Code.TheVariants.{NoSpace, TooLong};
+ghost use Rattle.room_c.specs.Attending.{Hears, WorksBoth, WorksOn, output_reply};
+ghost use Rattle.room_c.specs.Telling.{bare_of, bytes_written};
+
+use crate::answers::{PACKET_ROOM, give_packet};
+use crate::attended::Attended;
+use crate::code::Code;
+use crate::handle::Handle;
+use crate::home::Home;
+use crate::plain_reply::PlainReply;
+use crate::session_handle::SessionHandle;
+use room_sessions::work;
+use session_steps::Output;
+use sfu_base::PacketBuf;
+use std::alloc::Global;
+
+/// Tells a session that a datagram came at a moment, as `received` of `Session` does: `Done`. `Busy`: it has something left to do. `TooLong`: the
+/// datagram has more than 2,048 bytes. At each but `Done` nothing changes.
+#[unsafe(no_mangle)]
+pub extern "C" fn zoftemar_session_received(
+    alloc: Global,
+    session: &mut SessionHandle,
+    moment: u64,
+    bytes: &[u8],
+) -> PlainReply
+    ensures hears { length bytes.now ≤ 2048 → Hears session.old.held.attended session.new.held.attended (Some bytes.now) moment result }
+    ensures long { 2048 < length bytes.now → (result ≡ bare_of TooLong) × (session.new.held.attended ≡ session.old.held.attended) }
+{
+    if bytes.len() > PACKET_ROOM {
+        return PlainReply::bare(Code::TooLong);
+    }
+    match session.take(alloc) {
+        None => PlainReply::bare(Code::NoSession),
+        Some(mut attended) => {
+            let told = attended.hear(true, moment, bytes);
+            session.put(attended);
+            told
+        }
+    }
+}
+
+/// Tells a session that it is this moment, and no datagram came. `Done`, or `Busy`, and nothing changes.
+#[unsafe(no_mangle)]
+pub extern "C" fn zoftemar_session_waited(
+    alloc: Global,
+    session: &mut SessionHandle,
+    moment: u64,
+) -> PlainReply
+    ensures { Hears session.old.held.attended session.new.held.attended None moment result }
+{
+    match session.take(alloc) {
+        None => PlainReply::bare(Code::NoSession),
+        Some(mut attended) => {
+            let told = attended.hear(false, moment, &[]);
+            session.put(attended);
+            told
+        }
+    }
+}
+
+/// Makes a session's calls on a room, up to the next datagram that is to be sent: `Packet`, and its bytes were written. `Done`: nothing is left
+/// to do, and the session waits. `NoSpace`: the buffer has fewer than 2,048 bytes, and nothing changes.
+#[unsafe(no_mangle)]
+pub extern "C" fn zoftemar_session_work(
+    alloc: Global,
+    session: &mut SessionHandle,
+    room: &mut Handle,
+    seat: u32,
+    out: &mut [u8],
+) -> PlainReply
+    ensures works { 2048 ≤ length out.old → WorksBoth room.old.held.home room.new.held.home session.old.held.attended session.new.held.attended seat result out.new }
+    ensures rest { drop (bytes_written result) out.new ≡ drop (bytes_written result) out.old }
+    ensures short { length out.old < 2048 → (result ≡ bare_of NoSpace) × (room.new.held.home ≡ room.old.held.home)
+        × (session.new.held.attended ≡ session.old.held.attended) × (out.new ≡ out.old) }
+{
+    if out.len() < PACKET_ROOM {
+        return PlainReply::bare(Code::NoSpace);
+    }
+    match session.take(alloc) {
+        None => PlainReply::bare(Code::NoSession),
+        Some(mut attended) => {
+            let told = work_on(alloc, room, seat, &mut attended, out);
+            session.put(attended);
+            told
+        }
+    }
+}
+
+// The same for a session that is there, and a buffer that has room for any packet.
+fn work_on(
+    alloc: Global,
+    room: &mut Handle,
+    seat: u32,
+    attended: &mut Attended,
+    out: &mut [u8],
+) -> PlainReply
+    requires { 2048 ≤ length out.old }
+    ensures works { WorksOn room.old.held.home room.new.held.home attended.old attended.new seat result out.new }
+    ensures rest { drop (bytes_written result) out.new ≡ drop (bytes_written result) out.old }
+{
+    match room.take(alloc) {
+        None => PlainReply::bare(Code::NoRoom),
+        Some(mut home) => {
+            let Attended { session, scratch } = attended;
+            let output = work(&mut home.room, seat, session, scratch);
+            room.put(home);
+            give_output(output, &scratch.packet, out)
+        }
+    }
+}
+
+// Writes the packet of an output into a buffer that has room for any.
+fn give_output(output: Output, packet: &PacketBuf, out: &mut [u8]) -> PlainReply
+    requires { 2048 ≤ length out.old }
+    ensures tells { result ≡ output_reply output packet.now }
+    ensures gives { output ≡ sends.Packet → take result.first out.new ≡ packet.now }
+    ensures rest { drop (bytes_written result) out.new ≡ drop (bytes_written result) out.old }
+{
+    match output {
+        Output::Nothing => PlainReply::bare(Code::Done),
+        Output::Packet => give_packet(packet, out),
+    }
+}

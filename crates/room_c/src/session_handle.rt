@@ -1,0 +1,67 @@
+// A session's handle.
+ghost use Rattle.std.specs.Prelude.{◌≡◌, None, Some, is_some};
+ghost use Rattle.std.specs.Option.{option_map};
+
+use crate::attended::Attended;
+use crate::held_session::HeldSession;
+use crate::parts::Parts;
+use std::alloc::Global;
+use std::mem::replace;
+
+/// A session's handle, 16 bytes of C's, or one of no session, whose bytes are all 0. C keeps it, and may pass it from thread to thread.
+#[repr(C)]
+pub struct SessionHandle {
+    made: bool,
+    pub held: HeldSession,
+    pub ghost agree: { is_some held.attended ≡ made },
+}
+
+impl SessionHandle {
+    /// The handle of no session.
+    pub fn empty(alloc: Global) -> SessionHandle
+        ensures { result.held.attended ≡ None }
+    {
+        SessionHandle {
+            made: false,
+            held: HeldSession::nothing(alloc),
+        }
+    }
+
+    /// The handle of a session.
+    pub fn of(attended: Box<Attended>) -> SessionHandle
+        ensures { result.held.attended ≡ Some attended.value }
+    {
+        SessionHandle {
+            made: true,
+            held: HeldSession::of_parts(Parts::of(attended)),
+        }
+    }
+
+    /// The session of the handle.
+    pub fn into_attended(self) -> Option<Box<Attended>>
+        ensures { self.held.attended ≡ option_map (λ attended. attended.value) result }
+    {
+        let SessionHandle { made, held } = self;
+        if made {
+            Some(held.into_parts().into_box())
+        } else {
+            held.end();
+            None
+        }
+    }
+
+    /// Takes the session out of the handle, which is then one of no session.
+    pub fn take(&mut self, alloc: Global) -> Option<Box<Attended>>
+        ensures taken { self.old.held.attended ≡ option_map (λ attended. attended.value) result }
+        ensures empty { self.new.held.attended ≡ None }
+    {
+        replace(self, SessionHandle::empty(alloc)).into_attended()
+    }
+
+    /// Puts a session into the handle; one that was there is dropped.
+    pub fn put(&mut self, attended: Box<Attended>)
+        ensures { self.new.held.attended ≡ Some attended.value }
+    {
+        drop(replace(self, SessionHandle::of(attended)).into_attended());
+    }
+}

@@ -1,0 +1,109 @@
+// A session begins and ends.
+ghost use Rattle.std.specs.Prelude.{◌≡◌, ◌≢◌, ◌<◌, ◌≤◌, ◌⊎◌, ℕ, None};
+ghost use Rattle.session_steps.specs.Sessions.{Doing, publisher_deed, outgoing_deed};
+ghost use Rattle.room_sessions.specs.Either.{either_left};
+ghost use Rattle.room_c.specs.declared.code.Code.TheVariants.{BadStream};
+ghost use Rattle.room_c.specs.Codes.{code_number};
+ghost use Rattle.room_c.specs.Attending.{Opens};
+ghost use Rattle.rtx_stream.specs.declared.retransmission.Rtx.{Rtx as Stream};
+
+use crate::attended::Attended;
+use crate::code::Code;
+use crate::session_handle::SessionHandle;
+use room_sessions::EitherSession;
+use rtx_stream::Rtx;
+use session_steps::{PublisherSession, SubscriberSession};
+use std::alloc::Global;
+
+/// Opens the session of a publisher of a track behind a handle of none, as `PublisherSession::new` does: `Done`. `HasSession`: there is one
+/// already, and nothing changes; `NoMemory`: there is still none.
+#[unsafe(no_mangle)]
+pub extern "C" fn zoftemar_open_publisher(
+    alloc: Global,
+    session: &mut SessionHandle,
+    track: u32,
+    ssrc: u32,
+) -> u32
+    ensures { Opens (λ turns. publisher_deed track ssrc turns None None) session.old.held.attended session.new.held.attended result }
+{
+    open(
+        alloc,
+        session,
+        EitherSession::Publisher(PublisherSession::new(track, ssrc)),
+    )
+}
+
+/// Opens the session of a subscriber, whose retransmissions go out as the packets were sent.
+#[unsafe(no_mangle)]
+pub extern "C" fn zoftemar_open_subscriber(
+    alloc: Global,
+    session: &mut SessionHandle,
+    subscriber: u32,
+    ssrc: u32,
+) -> u32
+    ensures { Opens (λ turns. outgoing_deed subscriber ssrc None turns 0) session.old.held.attended session.new.held.attended result }
+{
+    open(
+        alloc,
+        session,
+        EitherSession::Subscriber(SubscriberSession::new(subscriber, ssrc, None)),
+    )
+}
+
+/// Opens the session of a subscriber, whose retransmissions go out on a stream of their own (RFC 4588), numbered from 0. `BadStream`: its payload
+/// type is 128 or more, or its SSRC is that of the media, and nothing changes.
+#[unsafe(no_mangle)]
+pub extern "C" fn zoftemar_open_rtx_subscriber(
+    alloc: Global,
+    session: &mut SessionHandle,
+    subscriber: u32,
+    ssrc: u32,
+    rtx_ssrc: u32,
+    rtx_payload_type: u8,
+) -> u32
+    ensures opens { rtx_ssrc ≢ ssrc → rtx_payload_type < 128
+        → Opens (λ turns. outgoing_deed subscriber ssrc (Some (record { ssrc = rtx_ssrc; payload_type = rtx_payload_type })) turns 0) session.old.held.attended session.new.held.attended result }
+    ensures bad { (rtx_ssrc ≡ ssrc) ⊎ (128 ≤ rtx_payload_type) → (result ≡ code_number BadStream) × (session.new.held.attended ≡ session.old.held.attended) }
+{
+    if rtx_ssrc == ssrc {
+        return Code::BadStream as u32;
+    }
+    if rtx_payload_type >= 128 {
+        return Code::BadStream as u32;
+    }
+    let rtx = Rtx {
+        ssrc: rtx_ssrc,
+        payload_type: rtx_payload_type,
+    };
+    open(
+        alloc,
+        session,
+        EitherSession::Subscriber(SubscriberSession::new(subscriber, ssrc, Some(rtx))),
+    )
+}
+
+/// Gives a session up. Its handle is then one of no session, and may be opened again.
+#[unsafe(no_mangle)]
+pub extern "C" fn zoftemar_close_session(alloc: Global, session: &mut SessionHandle)
+    ensures { session.new.held.attended ≡ None }
+{
+    drop(session.take(alloc));
+}
+
+fn open(alloc: Global, session: &mut SessionHandle, opened: EitherSession) -> u32
+    ensures { (rule : ℕ → Doing) → ((turns : ℕ) → either_left opened turns ≡ rule turns) → Opens rule session.old.held.attended session.new.held.attended result }
+{
+    match session.take(alloc) {
+        Some(attended) => {
+            session.put(attended);
+            Code::HasSession as u32
+        }
+        None => match Box::new(alloc, Attended::new(opened)) {
+            Ok(attended) => {
+                session.put(attended);
+                Code::Done as u32
+            }
+            Err(_) => Code::NoMemory as u32,
+        },
+    }
+}

@@ -1,0 +1,16 @@
+// The version of the library.
+ghost use Rattle.std.specs.Prelude.{◌≡◌, ◌+◌, ◌*◌};
+
+const MAJOR: u32 = 0;
+
+const MINOR: u32 = 1;
+
+const PATCH: u32 = 0;
+
+/// The version, as `ZOFTEMAR_VERSION_NUMBER` of the header has it: 65,536 times the major number, 256 times the minor one, and the patch.
+#[unsafe(no_mangle)]
+pub extern "C" fn zoftemar_version() -> u32
+    ensures { result ≡ 65536 * 0 + 256 * 1 + 0 }
+{
+    65536 * MAJOR + 256 * MINOR + PATCH
+}

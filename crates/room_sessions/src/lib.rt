@@ -1,0 +1,9 @@
+//! The sessions of publishers and subscribers on a room of one thread: a session's calls are made on the room, up to the next datagram that is
+//! to be sent.
+#![tactic(auto)]
+
+mod either;
+mod working;
+
+pub use either::EitherSession;
+pub use working::work;

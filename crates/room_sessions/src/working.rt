@@ -1,0 +1,28 @@
+// A session's calls on a room.
+ghost use Rattle.room_sessions.specs.Working.{HasHistory, Works};
+
+use room_core::{Recorder, Room};
+use session_steps::{Output, Session};
+use sfu_base::Scratch;
+
+/// Makes the calls that a session asks for on a room, each by this seat, and hands in their replies, up to the next datagram that is to be sent:
+/// `Packet`, and it is in `scratch.packet`. `Nothing`: the session has no call left, and waits for the next datagram.
+pub fn work<R: Recorder, S: Session>(
+    room: &mut Room<R>,
+    seat: u32,
+    session: &mut S,
+    scratch: &mut Scratch,
+) -> Output
+    requires history { HasHistory R.noted room.old }
+    ensures works { Works R.noted R.may_refuse room.old room.new seat (S.left session.old) (S.left session.new) scratch.new.packet result }
+    ensures history { HasHistory R.noted room.new }
+{
+    while let Some(call) = session.call() {
+        let reply = room.serve(seat, call, scratch);
+        let output = session.replied(reply, scratch);
+        if let Output::Packet = output {
+            return Output::Packet;
+        }
+    }
+    Output::Nothing
+}
