@@ -40,6 +40,7 @@ type end struct {
 	number C.uint32_t   // the track's or the subscriber's, in the room
 	hear   func([]byte) // RTP of a publisher, feedback of a player
 	says   chan []byte  // what comes faster than it is read is lost
+	plain  bool         // a track of sound
 	track  *end         // a player's, once it has joined
 	asked  time.Time    // when the publisher was last asked for a key frame
 }
@@ -50,16 +51,16 @@ func init() {
 			log.Fatal("there is no memory for a room")
 		}
 		portOf, ask = endOf, call
-		*forPublishers, *forPlayers = 1<<30, 1<<30 // no browser needs a port
+		*forPublishers, *forPlayers = 1<<20, 1<<20 // no browser needs a port
 		go mind()
 	}
 }
 
-// A publisher's end begins a track; a player's waits for its `join`.
-func endOf(n int) io.ReadWriteCloser {
+// A publisher's end begins a track; a player's waits for its `join`. Sound isn't asked for again, so a gap is waited for no longer than a tick.
+func endOf(n int, plain bool) io.ReadWriteCloser {
 	calling.Lock()
 	defer calling.Unlock()
-	e := &end{says: make(chan []byte, 1024)}
+	e := &end{says: make(chan []byte, 1024), plain: plain}
 	if n > *forPublishers {
 		e.number, e.hear = C.uint32_t(reserved+n-*forPublishers), e.feedback
 		players[e.number] = e
@@ -67,7 +68,13 @@ func endOf(n int) io.ReadWriteCloser {
 	}
 	newest++
 	e.number, e.hear, tracks[n] = newest, e.packet, e
-	log.Print("publish: ", text(C.zoftemar_publish_layered(&handle, 0, newest, descriptorID, C.uint32_t(trackSSRC+n), C.uint32_t(*hold))))
+	r := C.zoftemar_reply{}
+	if plain {
+		r = C.zoftemar_publish_plain(&handle, 0, newest, C.uint32_t(trackSSRC+n), 0)
+	} else {
+		r = C.zoftemar_publish_layered(&handle, 0, newest, descriptorID, C.uint32_t(trackSSRC+n), C.uint32_t(*hold))
+	}
+	log.Print("publish: ", text(r))
 	return e
 }
 
@@ -109,7 +116,7 @@ func (e *end) flush() {
 		if p.track == e {
 			for p.gives(C.zoftemar_take(&handle, 0, number, (*C.uint8_t)(&out[0]), C.size_t(len(out)))) {
 			}
-			if !C.zoftemar_reaches_wish(&handle, number).has {
+			if !e.plain && !bool(C.zoftemar_reaches_wish(&handle, number).has) {
 				C.zoftemar_plead(&handle, 0, number)
 			}
 		}
@@ -124,7 +131,8 @@ func mind() {
 				var asks []rtcp.Packet
 				C.zoftemar_tick(&handle, 0, t.number, moment())
 				t.flush()
-				if n := C.zoftemar_missing(&handle, 0, t.number, (*C.uint16_t)(&names[0]), C.size_t(len(names))).first; n > 0 && n < 400 {
+				n := C.zoftemar_missing(&handle, 0, t.number, (*C.uint16_t)(&names[0]), C.size_t(len(names))).first
+				if n > 0 && n < 400 && !t.plain {
 					asks = append(asks, &rtcp.TransportLayerNack{Nacks: rtcp.NackPairsFromSequenceNumbers(names[:n])})
 				}
 				if C.zoftemar_key_wanted(&handle, 0, t.number).has && time.Since(t.asked) > 500*time.Millisecond {

@@ -32,41 +32,33 @@ func (e *end) feedback(bytes []byte) {
 }
 
 // Does what a line says, and tells the answer.
-func call(format string, words ...interface{}) (answer string) {
-	line := fmt.Sprintf(format, words...)
-	alone(func() { answer = text(does(line)) })
-	if !strings.HasPrefix(line, "why") {
-		log.Printf("%s: %s", line, answer)
+func call(word string, numbers ...int) (answer string) {
+	alone(func() { answer = text(does(word, append(numbers, 0, 0, 0, 0, 0, 0))) })
+	if word != "why" {
+		log.Print(word, numbers, ": ", answer)
 	}
 	return
 }
 
-func does(line string) C.zoftemar_reply {
-	var (
-		n                 int // a track, by the number that its page knows
-		s, ssrc           C.uint32_t
-		spatial, temporal C.uint8_t
-		frame             C.uint64_t
-	)
-	is := func(form string, into ...interface{}) bool {
-		_, err := fmt.Sscanf(line, form, into...)
-		return err == nil
-	}
+func does(word string, n []int) C.zoftemar_reply {
+	s := C.uint32_t(n[0])
 	switch {
-	case is("unpublish %d", &n):
-		t := tracks[n]
-		delete(tracks, n)
+	case word == "unpublish":
+		t := tracks[n[0]]
+		delete(tracks, n[0])
 		return C.zoftemar_unpublish(&handle, 0, t.number)
-	case is("join %d %d %x 1 %d %d", &s, &n, &ssrc, &spatial, &temporal) && tracks[n] != nil:
-		players[s].track = tracks[n]
-		return C.zoftemar_join(&handle, 0, s, tracks[n].number, ssrc, 1, spatial, temporal)
-	case is("leave %d", &s):
+	case word == "join" && tracks[n[1]] != nil:
+		players[s].track = tracks[n[1]]
+		return C.zoftemar_join(&handle, 0, s, tracks[n[1]].number, C.uint32_t(n[2]), C.uint16_t(n[3]), C.uint8_t(n[4]), C.uint8_t(n[5]))
+	case word == "leave":
 		delete(players, s)
 		return C.zoftemar_leave(&handle, 0, s)
-	case is("aim %d %d %d", &s, &spatial, &temporal):
-		return C.zoftemar_aim(&handle, 0, s, spatial, temporal)
-	case is("why %d %d", &s, &frame):
-		return C.zoftemar_why(&handle, 0, s, frame)
+	case word == "aim":
+		return C.zoftemar_aim(&handle, 0, s, C.uint8_t(n[1]), C.uint8_t(n[2]))
+	case word == "plead":
+		return C.zoftemar_plead(&handle, 0, s)
+	case word == "why":
+		return C.zoftemar_why(&handle, 0, s, C.uint64_t(n[1]))
 	}
 	return C.zoftemar_reply{code: C.ZOFTEMAR_NO_TRACK}
 }
@@ -88,4 +80,15 @@ func text(r C.zoftemar_reply) string {
 		first = "none"
 	}
 	return strings.NewReplacer("A", first, "B", second).Replace(said)
+}
+
+// What a player is sent now, as its highest layers, and whether that is the best of its wish.
+func stateOf(player int) (spatial, temporal int, reached bool) {
+	alone(func() {
+		var target C.zoftemar_target
+		C.zoftemar_target_of(&handle, C.uint32_t(player), &target)
+		spatial, temporal = int(target.spatial), int(target.temporal)
+		reached = bool(C.zoftemar_reaches_wish(&handle, C.uint32_t(player)).has)
+	})
+	return
 }

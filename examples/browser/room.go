@@ -26,7 +26,7 @@ const (
 // give them whole: RTP one way, and NACKs and PLIs the other.
 var (
 	start   = map[bool]func(){false: startServe, true: func() { log.Fatal("this was built without -tags library") }}
-	portOf  = func(n int) io.ReadWriteCloser { return peerOf(n) } // publishers' from 1 on, and behind them players'
+	portOf  = func(n int, _ bool) io.ReadWriteCloser { return peerOf(n) } // publishers' from 1 on, and behind them players'
 	ask     = askServe
 	control *net.UDPConn
 	asking  sync.Mutex
@@ -60,7 +60,7 @@ func startServe() {
 	go func() {
 		log.Fatal("the room has ended (5: a line of -also is wrong, 7: a port is taken): ", room.Wait())
 	}()
-	for control = peerOf(0); askServe("key 1") == "no answer"; time.Sleep(100 * time.Millisecond) {
+	for control = peerOf(0); askServe("key", 1) == "no answer"; time.Sleep(100 * time.Millisecond) {
 	}
 }
 
@@ -87,17 +87,24 @@ func fromRoom(room io.Reader, name string, each func([]byte)) {
 	}
 }
 
-// One line to the control port, and its answer. An answer doesn't say which line it is for, so each is waited for, however long it takes.
-func askServe(format string, words ...interface{}) string {
+// One line to the control port, with SSRCs in hex, and its answer. An answer doesn't say which line it is for, so each is waited for, however long it takes.
+func askServe(word string, numbers ...int) string {
 	asking.Lock()
 	defer asking.Unlock()
-	line, answer := fmt.Sprintf(format, words...), make([]byte, 200)
+	line, answer := word, make([]byte, 200)
+	for _, n := range numbers {
+		form := " %d"
+		if n >= trackSSRC {
+			form = " %08x"
+		}
+		line += fmt.Sprintf(form, n)
+	}
 	control.Write([]byte(line))
 	n, err := control.Read(answer)
 	if err != nil {
 		return "no answer"
 	}
-	if !strings.HasPrefix(line, "why") {
+	if word != "why" {
 		log.Printf("%s: %s", line, answer[:n])
 	}
 	return string(answer[:n])
