@@ -20,6 +20,7 @@ type page struct {
 	pc      *webrtc.PeerConnection
 	channel *webrtc.DataChannel
 	gone    chan bool // closed when the connection is
+	id      string    // a person's
 }
 
 // A connection for AV1 with descriptors, NACKs and PLIs, and for Opus, without a stream for retransmissions, since the room has none. The room makes

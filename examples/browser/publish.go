@@ -15,18 +15,20 @@ var (
 
 type track struct {
 	number int
+	owner  *page                    // in a conference
 	plain  bool                     // sound
 	newest int64                    // of its frames, counted on from the first key frame without wrapping, as the room counts; -1 before it
 	pages  map[*page]bool           // the publisher's and the players'
 	count  func([]byte, int)        // of each packet the descriptor and the size
 	report func(*rtcp.SenderReport) // each of the publisher's
+	begun  func()                   // once the room has it
 }
 
 func newTrack(plain bool, pages map[*page]bool) *track {
 	lock.Lock()
 	defer lock.Unlock()
 	published++
-	return &track{number: published, plain: plain, newest: -1, pages: pages, count: func([]byte, int) {}, report: func(*rtcp.SenderReport) {}}
+	return &track{number: published, plain: plain, newest: -1, pages: pages, count: func([]byte, int) {}, report: func(*rtcp.SenderReport) {}, begun: func() {}}
 }
 
 // Tells pages of a frame that begins with a packet, by its number and its descriptor (RTP Payload Format For AV1 v1.0, Appendix A.8).
@@ -62,8 +64,9 @@ func publish(offer string, _ url.Values) (int, string, error) {
 
 // Brings the room what a browser publishes, until the browser has gone.
 func (t *track) bring(p *page, media *webrtc.TrackRemote, receiver *webrtc.RTPReceiver) {
-	locked(func() { live[t.number] = t })
 	room, id := portOf(t.number, t.plain), negotiatedID(receiver.GetParameters().HeaderExtensions)
+	locked(func() { live[t.number] = t })
+	t.begun()
 	go fromRoom(room, fmt.Sprint("track", t.number), func(bytes []byte) { // what the room asks the browser for
 		packets, _ := rtcp.Unmarshal(bytes)
 		nacks, plis := feedbackFor(uint32(media.SSRC()), packets)

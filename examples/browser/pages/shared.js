@@ -1,4 +1,4 @@
-// What both pages share: the connection to the gateway, the chart of the last 30 seconds, and a time code in the drawn picture.
+// What the pages share: the connection to the gateway, the chart of the last 30 seconds, and the drawn picture with its time code.
 'use strict';
 const descriptorURI = 'https://aomediacodec.github.io/av1-rtp-spec/#dependency-descriptor-rtp-header-extension';
 const asked = new URLSearchParams(location.search);
@@ -12,7 +12,7 @@ function onlyAV1(transceiver) {
   const codecs = RTCRtpReceiver.getCapabilities('video').codecs;
   transceiver.setCodecPreferences(codecs.filter(c => c.mimeType === 'video/AV1' && !/profile=[12]/.test(c.sdpFmtpLine)));
   const extensions = transceiver.getHeaderExtensionsToNegotiate();
-  for (const e of extensions) if (e.uri === descriptorURI) e.direction = 'sendrecv';
+  for (const e of extensions) if (e.uri === descriptorURI || e.uri.endsWith(':mid')) e.direction = 'sendrecv';   // MID is mandatory
   transceiver.setHeaderExtensionsToNegotiate(extensions);
 }
 
@@ -158,6 +158,27 @@ class Chart {
     const of = shades.slice(0, this.temporal).map((shade, t) => [shade, this.temporal > 1 ? `temporal layer ${t}` : 'frame']);
     return [...of, ...this.names[3]];
   }
+}
+
+// ---- the drawn picture: circles that wander over a sky, the time, and somebody's name
+
+function drawPicture(context, width, height, name = '') {
+  const turn = Date.now() / 2500, sky = context.createLinearGradient(0, 0, width, height), hue = turn * 20 + [...name].reduce((sum, letter) => sum + letter.charCodeAt(0) * 47, 0);
+  sky.addColorStop(0, `hsl(${hue % 360} 45% 70%)`);
+  sky.addColorStop(1, `hsl(${(hue + 80) % 360} 45% 45%)`);
+  context.fillStyle = sky;
+  context.fillRect(0, 0, width, height);
+  for (let n = 0; n < 7; n++) {
+    context.fillStyle = `hsl(${n * 51} 60% ${60 + n * 4}% / 0.8)`;
+    context.beginPath();
+    context.arc(width * (0.5 + 0.42 * Math.sin(turn * (1 + n / 5) + n)), height * (0.52 + 0.3 * Math.cos(turn * 1.3 + n * 2)), height / 12, 0, 7);
+    context.fill();
+  }
+  context.fillStyle = '#fff';
+  context.font = `600 ${height / 7}px system-ui, "DejaVu Sans", sans-serif`;
+  context.fillText(new Date().toISOString().slice(14, 22), width / 24, height * 0.92);
+  context.fillText(name.slice(0, 8), width / 24, height * 0.3);
+  drawTime(context, width, height);
 }
 
 // ---- a time code in the top row of the drawn picture: 16 bits of milliseconds and 4 that check them. It outlives any scaling.

@@ -1,0 +1,86 @@
+//go:build library
+
+package main
+
+import (
+	"time"
+
+	"github.com/pion/interceptor"
+	"github.com/pion/interceptor/pkg/cc"
+	"github.com/pion/interceptor/pkg/gcc"
+	"github.com/pion/rtp"
+	"github.com/pion/sdp"
+)
+
+// A browser's path: pion's estimate by transport-wide feedback, and what is tried above it.
+type path struct {
+	*gcc.SendSideBWE
+	numbers uint16        // of packets on it
+	short   bool          // whether wishes take more than fits
+	tried   float64       // bits a second above the estimate, or 0
+	wait    time.Duration // for which nothing may be late or lost before more is tried
+	calm    time.Time     // since when nothing was
+}
+
+func newPath() (*path, interceptor.Factory) {
+	estimator, err := gcc.NewSendSideBWE(gcc.SendSideBWEInitialBitrate(1000000), gcc.SendSideBWEPacer(gcc.NewNoOpPacer()))
+	must(err)
+	p := &path{SendSideBWE: estimator, wait: patience, calm: time.Now()}
+	factory, err := cc.NewInterceptor(func() (cc.BandwidthEstimator, error) { return p, nil })
+	must(err)
+	return p, factory
+}
+
+// Gives each packet its number on the path, but for what goes out a third time: a browser throws such a packet away before it counts it where another
+// came, so the estimator would take it for lost.
+func (p *path) AddStream(info *interceptor.StreamInfo, plain interceptor.RTPWriter) interceptor.RTPWriter {
+	counted, times, newest, id := p.SendSideBWE.AddStream(info, plain), map[uint16]int{}, uint16(0), uint8(0)
+	for _, e := range info.RTPHeaderExtensions {
+		if e.URI == sdp.TransportCCURI {
+			id = uint8(e.ID)
+		}
+	}
+	return interceptor.RTPWriterFunc(func(header *rtp.Header, payload []byte, a interceptor.Attributes) (int, error) {
+		lock.Lock()
+		n := header.SequenceNumber
+		if times[n]++; int16(n-newest) > 0 {
+			newest, times[n] = n, 1
+		}
+		uncounted := times[n] > 2 || id == 0
+		if !uncounted {
+			p.numbers++
+			header.SetExtension(id, []byte{byte(p.numbers >> 8), byte(p.numbers)})
+		}
+		lock.Unlock()
+		if uncounted {
+			return plain.Write(header, payload, a)
+		}
+		return counted.Write(header, payload, a)
+	})
+}
+
+// What the path bears, in bits a second. pion's estimate falls with what is sent and rises by 8 % a second alone, so where wishes take more than fits
+// and nothing was late or lost for two seconds, twice as much is tried; after a try that failed it waits twice as long.
+func (p *path) bears() float64 {
+	estimate, stats, now := float64(p.GetTargetBitrate()), p.GetStats(), time.Now()
+	if lost, _ := stats["averageLoss"].(float64); stats["usage"] == "overuse" || lost > 0.1 {
+		if p.tried > 0 && p.wait < 30*time.Second {
+			p.wait *= 2
+		}
+		p.tried, p.calm = 0, now
+	} else if now.Sub(p.calm) > p.wait {
+		if p.tried > 0 {
+			p.wait = patience
+		}
+		if p.calm = now; p.short {
+			if p.tried < estimate {
+				p.tried = estimate
+			}
+			p.tried *= 2
+		}
+	}
+	if p.tried > estimate {
+		return p.tried
+	}
+	return estimate
+}
