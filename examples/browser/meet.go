@@ -7,57 +7,95 @@ import (
 	"fmt"
 	"net/url"
 	"strings"
-	"time"
+	"sync/atomic"
 
 	"github.com/pion/rtcp"
-	"github.com/pion/rtp"
 	"github.com/pion/webrtc"
 )
 
 type person struct {
 	*page
 	path    *path
-	gets    map[*track]*seat
+	id      string // number and name in hex, which is the name of the stream that others are sent
+	gives   map[*source]bool
+	gets    map[*source]*seat
 	changed chan bool   // somebody came or went
 	said    chan string // answers to offers
 }
 
-// What a person is sent of one track.
-type seat struct {
-	*player
-	media  *webrtc.TrackLocalStaticRTP
-	sender *webrtc.RTPSender
-	chosen
-	steps []step // of its track
-	best  int    // of them
+var (
+	people = map[*person]bool{}
+	came   int
+)
+
+func init() {
+	start[true] = func() map[string]func(string, url.Values) (int, string, error) {
+		openRoom()
+		go chooseAll()
+		return map[string]func(string, url.Values) (int, string, error){"/meet": meet}
+	}
 }
-
-var people = map[*person]bool{}
-
-func init() { answers["/meet"] = meet }
 
 func meet(offer string, words url.Values) (int, string, error) {
 	path, estimator := newPath()
-	p := &person{newPage(true, estimator), path, map[*track]*seat{}, make(chan bool, 1), make(chan string, 1)}
-	number := newTrack(false, nil).number // no track of the room's has it
-	p.id = fmt.Sprintf("%d-%x", number, words.Get("name"))
-	p.pc.OnTrack(func(media *webrtc.TrackRemote, receiver *webrtc.RTPReceiver) {
-		t := newTrack(media.Kind() == webrtc.RTPCodecTypeAudio, nil)
-		r := &rates{layers: map[byte][2]int{}, since: time.Now()}
-		t.owner, t.count, t.report, t.begun = p.page, r.count, t.pass, everybody
-		locked(func() { counted[t] = r })
-		t.bring(p.page, media, receiver)
-		locked(func() { delete(counted, t) })
-		everybody()
-	})
+	p := &person{newPage(true, estimator), path, "", map[*source]bool{}, map[*source]*seat{}, make(chan bool, 1), make(chan string, 1)}
+	locked(func() { came++; p.id = fmt.Sprintf("%d-%x", came, words.Get("name")) })
+	p.pc.OnTrack(func(media *webrtc.TrackRemote, receiver *webrtc.RTPReceiver) { p.bring(media, receiver) })
 	p.channel.OnMessage(func(m webrtc.DataChannelMessage) { p.hear(string(m.Data)) })
 	p.channel.OnOpen(func() {
 		locked(func() { people[p] = true })
+		everybody()
 		p.follow()
 		locked(func() { delete(people, p) })
 	})
 	sdp, err := p.answer(offer, func() {})
-	return number, sdp, err
+	return 0, sdp, err
+}
+
+// Brings the room what a person publishes of one kind, until they have gone. Sender reports go around the room, with the SSRC that a player knows:
+// timestamps go through it as they are, so lips and voice agree.
+func (p *person) bring(media *webrtc.TrackRemote, receiver *webrtc.RTPReceiver) {
+	id := negotiatedID(receiver.GetParameters().HeaderExtensions)
+	t := &source{rates: newRates(), whose: p, plain: media.Kind() == webrtc.RTPCodecTypeAudio}
+	t.ask = func(packets []rtcp.Packet) {
+		nacks, plis := feedbackFor(uint32(media.SSRC()), packets)
+		p.pc.WriteRTCP(append(nacks, plis...))
+	}
+	t.begin()
+	locked(func() { p.gives[t] = true })
+	everybody()
+	go func() {
+		for packets, _, err := receiver.ReadRTCP(); err == nil; packets, _, err = receiver.ReadRTCP() {
+			for _, packet := range packets {
+				if report, is := packet.(*rtcp.SenderReport); is && report.SSRC == uint32(media.SSRC()) {
+					t.pass(*report)
+				}
+			}
+		}
+	}()
+	for packet, _, err := media.ReadRTP(); err == nil; packet, _, err = media.ReadRTP() {
+		descriptor := exchangeID(packet, id, descriptorID)
+		packet.SSRC = uint32(t.number)
+		if bytes, err := packet.Marshal(); err == nil {
+			t.count(descriptor, len(bytes))
+			t.packet(bytes)
+		}
+	}
+	t.end()
+	locked(func() { delete(p.gives, t) })
+	everybody()
+}
+
+func (t *source) pass(report rtcp.SenderReport) {
+	report.Reports = nil
+	lock.Lock()
+	defer lock.Unlock()
+	for p := range people {
+		if s := p.gets[t]; s != nil {
+			report.SSRC = uint32(s.sender.GetParameters().Encodings[0].SSRC)
+			p.pc.WriteRTCP([]rtcp.Packet{&report})
+		}
+	}
 }
 
 // Lets everybody know that somebody came or went.
@@ -72,10 +110,9 @@ func everybody() {
 	}
 }
 
-// Offers the browser the tracks of those who came, and takes back those of who went; one offer after the other, since the browser makes none itself
-// after its first. A transceiver whose track went has the next one.
+// Offers the browser what it isn't sent yet, and takes back what nobody gives now; one offer after the other, since the browser makes none after its first.
+// A transceiver whose track went has the next one.
 func (p *person) follow() {
-	everybody()
 	for {
 		select {
 		case <-p.changed:
@@ -103,59 +140,52 @@ func (p *person) follow() {
 			p.say("fault %v", err)
 			go p.pc.Close()
 		}
-		for _, s := range come {
-			s.join(0)
-			go s.carry(s.media, s.sender)
+		for t, s := range come {
+			s.join(t)
+			go func(t *source, s *seat) { s.listen(0, s.asks); s.leave(t) }(t, s)
 		}
 	}
 }
 
-// Gives the connection the tracks of all others that are there, and no others.
-func (p *person) match() (come []*seat, changed bool) {
+// Gives the connection what all others give, and nothing else.
+func (p *person) match() (come map[*source]*seat, changed bool) {
 	lock.Lock()
 	defer lock.Unlock()
+	come = map[*source]*seat{}
 	for t, s := range p.gets {
-		if live[t.number] == nil {
+		if !t.whose.gives[t] {
 			p.pc.RemoveTrack(s.sender)
 			delete(p.gets, t)
 			changed = true
 		}
 	}
-	for _, t := range live {
-		if t.owner == nil || t.owner == p.page || p.gets[t] != nil {
-			continue
-		}
-		codec, kind := av1, "video"
-		if t.plain {
-			codec, kind = opus, "audio"
-		}
-		media, err := webrtc.NewTrackLocalStaticRTP(codec, kind, t.owner.id)
-		must(err)
-		s := &seat{player: &player{page: p.page, track: t}, media: media, chosen: chosen{place: 1, fits: time.Now().Add(-patience)}}
-		s.went = func(packet *rtp.Packet, _ []byte, begins bool) {
-			locked(func() { s.bytes += packet.MarshalSize() })
-			if begins && !t.plain {
-				p.say("unit %s", t.owner.id)
+	for other := range people {
+		for t := range other.gives {
+			if other != p && p.gets[t] == nil {
+				come[t] = p.seat(t)
+				p.gets[t], changed = come[t], true
 			}
-		}
-		if s.sender, err = p.pc.AddTrack(media); err == nil {
-			p.gets[t], come, changed = s, append(come, s), true
 		}
 	}
 	return
 }
 
-// Passes a publisher's report on to who is sent the track, with the SSRC that it has there: timestamps are the publisher's, so lips and voice agree.
-func (t *track) pass(report *rtcp.SenderReport) {
-	lock.Lock()
-	defer lock.Unlock()
-	for p := range people {
-		if s := p.gets[t]; s != nil {
-			copy := *report
-			copy.SSRC, copy.Reports = uint32(s.sender.GetParameters().Encodings[0].SSRC), nil
-			p.pc.WriteRTCP([]rtcp.Packet{&copy})
+func (p *person) seat(t *source) *seat {
+	s := &seat{chosen: chosen{place: 1}}
+	if t.plain {
+		s.player = p.player(opus, "audio", t.whose.id)
+		s.hears = func(bytes []byte) { s.hand(bytes) }
+		return s
+	}
+	s.player = p.player(av1, "video", t.whose.id)
+	s.plead = func() { s.asks(nil, []rtcp.Packet{nil}) }
+	s.hears = func(bytes []byte) {
+		atomic.AddInt64(&s.bytes, int64(len(bytes)))
+		if _, begins := s.hand(bytes); begins {
+			p.say("unit %s", t.whose.id)
 		}
 	}
+	return s
 }
 
 // Hears an answer to an offer, `wish PERSON SPATIAL PLACE`, where the picture in place 0 is the big one, or `plead PERSON`.
@@ -170,11 +200,10 @@ func (p *person) hear(line string) {
 	lock.Lock()
 	defer lock.Unlock()
 	for t, s := range p.gets {
-		if t.owner.id == id && !t.plain && word == "plead" {
-			go s.plead()
-		} else if t.owner.id == id && !t.plain && word == "wish" {
-			s.fits = time.Now().Add(-patience) // who asks for more waits no longer where it fits
-			s.wish, s.place = spatial, place
+		if t.whose.id == id && !t.plain && word == "plead" {
+			go s.pleads()
+		} else if t.whose.id == id && !t.plain {
+			s.wished(spatial, place)
 		}
 	}
 }

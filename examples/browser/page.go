@@ -10,6 +10,11 @@ import (
 	"github.com/pion/webrtc"
 )
 
+const (
+	descriptorURI = "https://aomediacodec.github.io/av1-rtp-spec/#dependency-descriptor-rtp-header-extension"
+	payloadType   = 45 // of AV1, in the room too
+)
+
 var (
 	av1  = webrtc.RTPCodecCapability{MimeType: webrtc.MimeTypeAV1, ClockRate: 90000}
 	opus = webrtc.RTPCodecCapability{MimeType: webrtc.MimeTypeOpus, ClockRate: 48000, Channels: 2, SDPFmtpLine: "minptime=10;useinbandfec=1"}
@@ -20,11 +25,10 @@ type page struct {
 	pc      *webrtc.PeerConnection
 	channel *webrtc.DataChannel
 	gone    chan bool // closed when the connection is
-	id      string    // a person's
 }
 
-// A connection for AV1 with descriptors, NACKs and PLIs, and for Opus, without a stream for retransmissions, since the room has none. The room makes
-// no reports: a publisher gets here those by which it finds its bitrate. What a player gets besides packets of the room is the second argument's.
+// A connection for AV1 with descriptors, NACKs and PLIs, and for Opus, without a stream for retransmissions, since the room has none. The room makes no
+// reports: a publisher gets here those by which it finds its bitrate; what a player gets besides packets of the room, `plays` sends.
 func newPage(publishes bool, plays interceptor.Factory) *page {
 	media, registry, picture, sound := &webrtc.MediaEngine{}, &interceptor.Registry{}, av1, opus
 	add := func(f interceptor.Factory, err error) { must(err); registry.Add(f) }
@@ -52,7 +56,7 @@ func newPage(publishes bool, plays interceptor.Factory) *page {
 	agreed, id := true, uint16(0)
 	channel, err := pc.CreateDataChannel("room", &webrtc.DataChannelInit{Negotiated: &agreed, ID: &id})
 	must(err)
-	return &page{pc: pc, channel: channel, gone: make(chan bool)}
+	return &page{pc, channel, make(chan bool)}
 }
 
 // Answers an offer that has all its candidates, and calls once the browser is connected. pion answers with extmap-allow-mixed, as browsers

@@ -3,6 +3,8 @@
 package main
 
 import (
+	"math"
+	"sync"
 	"time"
 
 	"github.com/pion/interceptor"
@@ -12,12 +14,15 @@ import (
 	"github.com/pion/sdp"
 )
 
-// A browser's path: pion's estimate by transport-wide feedback, and what is tried above it.
+const patience = 2 * time.Second
+
+// A person's path: pion's estimate by transport-wide feedback, and what is tried above it.
 type path struct {
 	*gcc.SendSideBWE
-	numbers uint16        // of packets on it
+	own     sync.Mutex
+	numbers uint16        // of packets on the path
 	short   bool          // whether wishes take more than fits
-	tried   float64       // bits a second above the estimate, or 0
+	tried   float64       // bits a second, or 0
 	wait    time.Duration // for which nothing may be late or lost before more is tried
 	calm    time.Time     // since when nothing was
 }
@@ -31,30 +36,27 @@ func newPath() (*path, interceptor.Factory) {
 	return p, factory
 }
 
-// Gives each packet its number on the path, but for what goes out a third time: a browser throws such a packet away before it counts it where another
-// came, so the estimator would take it for lost.
+// Gives each packet its number on the path, but for what goes out a third time: where another came, a browser throws it away before it counts it, and the
+// estimator would take it for lost.
 func (p *path) AddStream(info *interceptor.StreamInfo, plain interceptor.RTPWriter) interceptor.RTPWriter {
-	counted, times, newest, id := p.SendSideBWE.AddStream(info, plain), map[uint16]int{}, uint16(0), uint8(0)
+	counted, times, newest, id := p.SendSideBWE.AddStream(info, plain), [1 << 16]byte{}, uint16(0), uint8(0)
 	for _, e := range info.RTPHeaderExtensions {
 		if e.URI == sdp.TransportCCURI {
 			id = uint8(e.ID)
 		}
 	}
 	return interceptor.RTPWriterFunc(func(header *rtp.Header, payload []byte, a interceptor.Attributes) (int, error) {
-		lock.Lock()
+		p.own.Lock()
+		defer p.own.Unlock()
 		n := header.SequenceNumber
 		if times[n]++; int16(n-newest) > 0 {
 			newest, times[n] = n, 1
 		}
-		uncounted := times[n] > 2 || id == 0
-		if !uncounted {
-			p.numbers++
-			header.SetExtension(id, []byte{byte(p.numbers >> 8), byte(p.numbers)})
-		}
-		lock.Unlock()
-		if uncounted {
+		if times[n] > 2 || id == 0 {
 			return plain.Write(header, payload, a)
 		}
+		p.numbers++
+		header.SetExtension(id, []byte{byte(p.numbers >> 8), byte(p.numbers)})
 		return counted.Write(header, payload, a)
 	})
 }
@@ -62,25 +64,19 @@ func (p *path) AddStream(info *interceptor.StreamInfo, plain interceptor.RTPWrit
 // What the path bears, in bits a second. pion's estimate falls with what is sent and rises by 8 % a second alone, so where wishes take more than fits
 // and nothing was late or lost for two seconds, twice as much is tried; after a try that failed it waits twice as long.
 func (p *path) bears() float64 {
-	estimate, stats, now := float64(p.GetTargetBitrate()), p.GetStats(), time.Now()
+	estimate, stats := float64(p.GetTargetBitrate()), p.GetStats()
 	if lost, _ := stats["averageLoss"].(float64); stats["usage"] == "overuse" || lost > 0.1 {
 		if p.tried > 0 && p.wait < 30*time.Second {
 			p.wait *= 2
 		}
-		p.tried, p.calm = 0, now
-	} else if now.Sub(p.calm) > p.wait {
-		if p.tried > 0 {
+		p.tried, p.calm = 0, time.Now()
+	} else if time.Since(p.calm) > p.wait {
+		if p.calm = time.Now(); p.tried > 0 {
 			p.wait = patience
 		}
-		if p.calm = now; p.short {
-			if p.tried < estimate {
-				p.tried = estimate
-			}
-			p.tried *= 2
+		if p.short {
+			p.tried = 2 * math.Max(p.tried, estimate)
 		}
 	}
-	if p.tried > estimate {
-		return p.tried
-	}
-	return estimate
+	return math.Max(p.tried, estimate)
 }
