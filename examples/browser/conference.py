@@ -101,6 +101,7 @@ def choice(browser, _):
         time.sleep(3)
         relay = meeting.relays[0]
         relay.choice = Choice(relay.element, layers, 2, 4)
+        meeting.pages[0].run("say('plead ' + others()[0].id)")     # a key frame has the templates
         tiles, drawn = meeting.watch(13)
         line('by choice, 13 s', mode, 2, f'S{layers[0]}T{layers[1]} and its first resend, {relay.choice.events} times', tiles[0]['decoded'], drawn[1], tiles[0]['gap'], GAP)
         if not relay.choice.events:

@@ -5,7 +5,6 @@ package main
 
 import (
 	"sort"
-	"sync/atomic"
 	"time"
 )
 
@@ -22,8 +21,6 @@ func newRates() rates { return rates{layers: map[byte][2]int{}, since: time.Now(
 // Sound counts as the lowest layer. A key frame brings all templates: each has the layers of the one before it, or the next temporal layer, or the
 // next spatial one (RTP Payload Format For AV1 v1.0, Appendix A.8).
 func (r *rates) count(d []byte, size int) {
-	lock.Lock()
-	defer lock.Unlock()
 	if len(d) > 5 && d[3]&0x80 != 0 {
 		for id, at, bit, step := d[3]<<3|d[4]>>5, [2]int{}, 40, byte(0); bit < len(d)*8 && step != 3; id, bit = id+1, bit+2 {
 			r.layers[id&63] = at
@@ -83,7 +80,7 @@ type chosen struct {
 	best        int       // of them, that fits now
 	now         step      // that the room was told
 	fits        time.Time // since when more fits
-	bytes       int64     // that were sent since the page was told
+	bytes       int       // that were sent since the page was told
 }
 
 // Who wishes for more waits no longer where it fits.
@@ -146,8 +143,9 @@ func (p *person) tell() {
 			spatial, temporal, reached := s.sent()
 			top := s.steps[len(s.steps)-1]
 			reached = reached && (s.now.spatial >= s.wish || s.now.spatial == top.spatial) && s.now.temporal == top.temporal
-			p.say("tile %s %d %d %d %d %d %.0f %t", t.whose.id, spatial, temporal, top.spatial, top.temporal, atomic.SwapInt64(&s.bytes, 0)*16/1000,
+			p.say("tile %s %d %d %d %d %d %.0f %t", t.whose.id, spatial, temporal, top.spatial, top.temporal, s.bytes*16/1000,
 				p.path.bears()/1000, reached)
+			s.bytes = 0
 		}
 	}
 }

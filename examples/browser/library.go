@@ -13,15 +13,13 @@ import "C"
 
 import (
 	"log"
-	"sync"
 	"time"
 
 	"github.com/pion/rtcp"
 )
 
 var (
-	calling sync.Mutex // one call at a time; of what follows, too
-	room    C.zoftemar_room
+	room    C.zoftemar_room // all below needs the lock: one call at a time
 	out     [C.ZOFTEMAR_PACKET_ROOM]byte
 	names   [C.ZOFTEMAR_NAMES_ROOM]uint16
 	began   = time.Now()
@@ -30,7 +28,6 @@ var (
 )
 
 func moment() C.uint64_t { return C.uint64_t(time.Since(began).Milliseconds()) }
-func alone(do func())    { calling.Lock(); defer calling.Unlock(); do() }
 
 // A track of the room: what one publisher sends of a kind.
 type source struct {
@@ -57,7 +54,7 @@ func openRoom() {
 	}
 	go func() {
 		for range time.Tick(20 * time.Millisecond) {
-			alone(func() {
+			locked(func() {
 				for t := range tracks {
 					t.tick()
 				}
@@ -68,26 +65,23 @@ func openRoom() {
 
 // Sound isn't asked for again, so a gap in it is waited for no longer than a tick.
 func (t *source) begin() {
-	alone(func() {
-		numbers++
-		t.number, t.seats, tracks[t] = numbers, map[*seat]bool{}, true
-		if t.plain {
-			C.zoftemar_publish_plain(&room, 0, t.number, t.number, 0)
-		} else {
-			C.zoftemar_publish_layered(&room, 0, t.number, descriptorID, t.number, C.uint32_t(*hold))
-		}
-	})
+	numbers++
+	t.number, t.seats, tracks[t] = numbers, map[*seat]bool{}, true
+	if t.plain {
+		C.zoftemar_publish_plain(&room, 0, t.number, t.number, 0)
+	} else {
+		C.zoftemar_publish_layered(&room, 0, t.number, descriptorID, t.number, C.uint32_t(*hold))
+	}
 }
 
 func (t *source) end() {
-	alone(func() { C.zoftemar_unpublish(&room, 0, t.number); delete(tracks, t) })
+	C.zoftemar_unpublish(&room, 0, t.number)
+	delete(tracks, t)
 }
 
 func (t *source) packet(bytes []byte) {
-	alone(func() {
-		C.zoftemar_packet(&room, 0, t.number, moment(), (*C.uint8_t)(&bytes[0]), C.size_t(len(bytes)))
-		t.flush()
-	})
+	C.zoftemar_packet(&room, 0, t.number, moment(), (*C.uint8_t)(&bytes[0]), C.size_t(len(bytes)))
+	t.flush()
 }
 
 // What waits for a track's subscribers goes out, and one whose wish isn't reached pleads for a key frame.
@@ -125,44 +119,36 @@ func (t *source) tick() {
 }
 
 func (s *seat) join(t *source) {
-	alone(func() {
-		if numbers++; tracks[t] {
-			s.number, t.seats[s] = numbers, true
-			C.zoftemar_join(&room, 0, s.number, t.number, s.number, 1, 0, 0)
-		}
-	})
+	if numbers++; tracks[t] {
+		s.number, t.seats[s] = numbers, true
+		C.zoftemar_join(&room, 0, s.number, t.number, s.number, 1, 0, 0)
+	}
 }
 
 func (s *seat) leave(t *source) {
-	alone(func() { C.zoftemar_leave(&room, 0, s.number); delete(t.seats, s) })
+	C.zoftemar_leave(&room, 0, s.number)
+	delete(t.seats, s)
 }
 
-// Answers NACKs with what was taken, and takes a PLI as a plea.
-func (s *seat) asks(nacks, plis []rtcp.Packet) {
-	alone(func() {
-		for _, nack := range nacks {
-			for _, pair := range nack.(*rtcp.TransportLayerNack).Nacks {
-				for _, n := range pair.PacketList() {
-					s.sends(C.zoftemar_resend(&room, 0, s.number, C.uint16_t(n), (*C.uint8_t)(&out[0]), C.size_t(len(out))))
-				}
+// Answers NACKs with what was taken.
+func (s *seat) resend(nacks []rtcp.Packet) {
+	for _, nack := range nacks {
+		for _, pair := range nack.(*rtcp.TransportLayerNack).Nacks {
+			for _, n := range pair.PacketList() {
+				s.sends(C.zoftemar_resend(&room, 0, s.number, C.uint16_t(n), (*C.uint8_t)(&out[0]), C.size_t(len(out))))
 			}
 		}
-		if len(plis) > 0 {
-			C.zoftemar_plead(&room, 0, s.number)
-		}
-	})
+	}
 }
 
 func (s *seat) aim(spatial, temporal int) {
-	alone(func() { C.zoftemar_aim(&room, 0, s.number, C.uint8_t(spatial), C.uint8_t(temporal)) })
+	C.zoftemar_aim(&room, 0, s.number, C.uint8_t(spatial), C.uint8_t(temporal))
 }
+func (s *seat) wantKey() { C.zoftemar_plead(&room, 0, s.number) }
 
 // What is sent now, as its highest layers, and whether that is the best of the wish.
 func (s *seat) sent() (spatial, temporal int, reached bool) {
-	alone(func() {
-		var target C.zoftemar_target
-		C.zoftemar_target_of(&room, s.number, &target)
-		spatial, temporal, reached = int(target.spatial), int(target.temporal), bool(C.zoftemar_reaches_wish(&room, s.number).has)
-	})
-	return
+	var target C.zoftemar_target
+	C.zoftemar_target_of(&room, s.number, &target)
+	return int(target.spatial), int(target.temporal), bool(C.zoftemar_reaches_wish(&room, s.number).has)
 }

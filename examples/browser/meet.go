@@ -7,7 +7,6 @@ import (
 	"fmt"
 	"net/url"
 	"strings"
-	"sync/atomic"
 
 	"github.com/pion/rtcp"
 	"github.com/pion/webrtc"
@@ -61,8 +60,7 @@ func (p *person) bring(media *webrtc.TrackRemote, receiver *webrtc.RTPReceiver) 
 		nacks, plis := feedbackFor(uint32(media.SSRC()), packets)
 		p.pc.WriteRTCP(append(nacks, plis...))
 	}
-	t.begin()
-	locked(func() { p.gives[t] = true })
+	locked(func() { t.begin(); p.gives[t] = true })
 	everybody()
 	go func() {
 		for packets, _, err := receiver.ReadRTCP(); err == nil; packets, _, err = receiver.ReadRTCP() {
@@ -77,12 +75,10 @@ func (p *person) bring(media *webrtc.TrackRemote, receiver *webrtc.RTPReceiver) 
 		descriptor := exchangeID(packet, id, descriptorID)
 		packet.SSRC = uint32(t.number)
 		if bytes, err := packet.Marshal(); err == nil {
-			t.count(descriptor, len(bytes))
-			t.packet(bytes)
+			locked(func() { t.count(descriptor, len(bytes)); t.packet(bytes) })
 		}
 	}
-	t.end()
-	locked(func() { delete(p.gives, t) })
+	locked(func() { t.end(); delete(p.gives, t) })
 	everybody()
 }
 
@@ -124,25 +120,19 @@ func (p *person) follow() {
 			continue
 		}
 		offer, err := p.pc.CreateOffer(nil)
-		if err == nil {
-			err = p.pc.SetLocalDescription(offer)
+		if err == nil && p.pc.SetLocalDescription(offer) == nil {
+			p.channel.SendText(offer.SDP)
 		}
-		if err == nil {
-			p.channel.SendText(p.pc.LocalDescription().SDP)
-			select {
-			case sdp := <-p.said:
-				err = p.pc.SetRemoteDescription(webrtc.SessionDescription{Type: webrtc.SDPTypeAnswer, SDP: sdp})
-			case <-p.gone:
-				return
+		select {
+		case sdp := <-p.said:
+			if p.pc.SetRemoteDescription(webrtc.SessionDescription{Type: webrtc.SDPTypeAnswer, SDP: sdp}) != nil {
+				go p.pc.Close()
 			}
-		}
-		if err != nil {
-			p.say("fault %v", err)
-			go p.pc.Close()
+		case <-p.gone:
+			return
 		}
 		for t, s := range come {
-			s.join(t)
-			go func(t *source, s *seat) { s.listen(0, s.asks); s.leave(t) }(t, s)
+			go s.stay(t)
 		}
 	}
 }
@@ -170,6 +160,17 @@ func (p *person) match() (come map[*source]*seat, changed bool) {
 	return
 }
 
+func (s *seat) stay(t *source) {
+	locked(func() { s.join(t) })
+	s.listen(0, func(nacks, plis []rtcp.Packet) {
+		locked(func() { s.resend(nacks) })
+		if len(plis) > 0 {
+			s.pleads()
+		}
+	})
+	locked(func() { s.leave(t) })
+}
+
 func (p *person) seat(t *source) *seat {
 	s := &seat{chosen: chosen{place: 1}}
 	if t.plain {
@@ -178,9 +179,9 @@ func (p *person) seat(t *source) *seat {
 		return s
 	}
 	s.player = p.player(av1, "video", t.whose.id)
-	s.plead = func() { s.asks(nil, []rtcp.Packet{nil}) }
+	s.plead = func() { locked(s.wantKey) }
 	s.hears = func(bytes []byte) {
-		atomic.AddInt64(&s.bytes, int64(len(bytes)))
+		s.bytes += len(bytes)
 		if _, begins := s.hand(bytes); begins {
 			p.say("unit %s", t.whose.id)
 		}
