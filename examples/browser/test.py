@@ -1,11 +1,10 @@
 #!/usr/bin/python3
 """Runs the example in a headless Chromium, and complains of freezes, wishes that aren't met, and packets that `sfu check` doesn't like.
 
-usage: examples/browser/test.py [--library] [--sfu PROGRAM] [--seconds N] [--pictures DIR] [MODE...]
+usage: examples/browser/test.py [--sfu PROGRAM] [--seconds N] [--pictures DIR] [MODE...]
        examples/browser/test.py --meet [--pictures DIR] [ROW...]
-MODE is L1T1, L1T3, L2T2, L3T3 or L3T3_KEY; all of them by default. Each has a run from page to page, for comparison, and one through the room,
-with a table's row for each measurement of N seconds (8). Both ways go through a relay that loses 3 % of the RTP packets where the row says so.
-With --library the gateway has the room by the library of crates/room_c, in place of `serve`.
+MODE is L1T1, L1T3, L2T2, L3T3 or L3T3_KEY; all of them by default. Each has a run from page to page, for comparison, and one through the room of
+`serve`, with a table's row for each measurement of N seconds (8). Both ways go through a relay that loses 3 % of the RTP packets where the row says so.
 With --meet it runs conferences, on the library; ROW is four, lost, choice, path, back or good; all of them by default. Their table goes to meet.tsv.
 
 example: examples/browser/test.py --seconds 8 L1T1
@@ -84,8 +83,6 @@ def direct(browser, mode, seconds):
 
 class Run:
     """Everything that is tried with one mode through the room."""
-    way = 'serve'
-
     def __init__(self, browser, mode, seconds, folder, direct_gap):
         self.browser, self.mode, self.seconds, self.folder, self.direct_gap = browser, mode, seconds, folder, direct_gap
         self.layers = int(mode[1])
@@ -108,11 +105,11 @@ class Run:
         for share, lost in ((0, '–'), (0.03, '3 % before, 3 % after')):
             lose(share, share)
             measured = Measured(self.p, self.q, self.seconds)
-            measured.row(self.mode, self.way, lost)
+            measured.row(self.mode, 'serve', lost)
             self.smooth(f'lost {lost}', measured.gap)
         lose(0)
         low = Measured(self.p, self.low, self.seconds)
-        low.row(self.mode, f'{self.way}, wish 0 0', '–')
+        low.row(self.mode, 'serve, wish 0 0', '–')
         self.smooth('wish 0 0', max(low.gap - 400, 0))   # a picture in 400 ms is the whole rate of such a wish
 
     def for_good(self):
@@ -226,7 +223,6 @@ def check(sfu, dump):
 
 def main():
     words = argparse.ArgumentParser(description=__doc__, formatter_class=argparse.RawDescriptionHelpFormatter)
-    words.add_argument('--library', action='store_true')
     words.add_argument('--meet', action='store_true')
     words.add_argument('--sfu', default=f'{HERE}/../../sfu')
     words.add_argument('--seconds', type=int, default=8)
@@ -235,7 +231,7 @@ def main():
     asked = words.parse_args()
     if what_is_missing():
         sys.exit(f'missing: apt-get install {" ".join(what_is_missing())}')
-    build(asked.library or asked.meet)
+    build(asked.meet)
     serve_relays()
     if asked.meet:
         conference.rows(asked.what, asked.pictures)
@@ -247,12 +243,11 @@ def main():
 
 def pages(asked):
     sfu = os.path.abspath(asked.sfu)
-    Run.way = 'library' if asked.library else 'serve'
     subprocess.run([sfu, 'help'], check=True, stdout=subprocess.DEVNULL)      # builds it, if it isn't built
     print('| Mode | Way | RTP lost | Picture | Drawn | Decoded | kbit/s | Longest gap, ms | Age p50, p95, ms | NACKs of the player | Load |\n|' + '---|' * 11)
     for mode in asked.what or MODES:
         with tempfile.TemporaryDirectory() as folder, open(f'{folder}/dump', 'w') as dump, open(f'{folder}/log', 'w') as log:
-            gateway, browser = gate(dump, log, '-sfu', sfu, f'-library={str(asked.library).lower()}'), Browser()
+            gateway, browser = gate(dump, log, '-sfu', sfu), Browser()
             try:
                 Run(browser, mode, asked.seconds, asked.pictures, direct(browser, mode, asked.seconds)).all()
             except Exception as fault:
