@@ -120,9 +120,10 @@ func (p *person) follow() {
 			continue
 		}
 		offer, err := p.pc.CreateOffer(nil)
-		if err == nil && p.pc.SetLocalDescription(offer) == nil {
-			p.channel.SendText(offer.SDP)
+		if err != nil || p.pc.SetLocalDescription(offer) != nil {
+			go p.pc.Close()
 		}
+		p.channel.SendText(offer.SDP)
 		select {
 		case sdp := <-p.said:
 			if p.pc.SetRemoteDescription(webrtc.SessionDescription{Type: webrtc.SDPTypeAnswer, SDP: sdp}) != nil {
@@ -151,9 +152,11 @@ func (p *person) match() (come map[*source]*seat, changed bool) {
 	}
 	for other := range people {
 		for t := range other.gives {
-			if other != p && p.gets[t] == nil {
-				come[t] = p.seat(t)
-				p.gets[t], changed = come[t], true
+			if other == p || p.gets[t] != nil {
+				continue
+			}
+			if s := p.seat(t); s.player != nil {
+				p.gets[t], come[t], changed = s, s, true
 			}
 		}
 	}
@@ -178,8 +181,9 @@ func (p *person) seat(t *source) *seat {
 		s.hears = func(bytes []byte) { s.hand(bytes) }
 		return s
 	}
-	s.player = p.player(av1, "video", t.whose.id)
-	s.plead = func() { locked(s.wantKey) }
+	if s.player = p.player(av1, "video", t.whose.id); s.player != nil {
+		s.plead = func() { locked(s.wantKey) }
+	}
 	s.hears = func(bytes []byte) {
 		s.bytes += len(bytes)
 		if _, begins := s.hand(bytes); begins {

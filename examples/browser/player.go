@@ -20,12 +20,13 @@ type player struct {
 	id     uint8      // of descriptors
 }
 
+// None where the browser has gone.
 func (p *page) player(codec webrtc.RTPCodecCapability, kind, stream string) *player {
 	media, err := webrtc.NewTrackLocalStaticRTP(codec, kind, stream)
 	must(err)
 	sender, err := p.pc.AddTrack(media)
 	if err != nil {
-		go p.pc.Close()
+		return nil
 	}
 	return &player{page: p, media: media, sender: sender}
 }
