@@ -163,7 +163,8 @@ class Chart {
 // ---- the drawn picture: circles that wander over a sky, the time, and somebody's name
 
 function drawPicture(context, width, height, name = '') {
-  const turn = Date.now() / 2500, sky = context.createLinearGradient(0, 0, width, height), hue = turn * 20 + [...name].reduce((sum, letter) => sum + letter.charCodeAt(0) * 47, 0);
+  const turn = Date.now() / 2500, sky = context.createLinearGradient(0, 0, width, height);
+  const hue = turn * 20 + [...name].reduce((sum, letter) => sum + letter.charCodeAt(0) * 47, 0);
   sky.addColorStop(0, `hsl(${hue % 360} 45% 70%)`);
   sky.addColorStop(1, `hsl(${(hue + 80) % 360} 45% 45%)`);
   context.fillStyle = sky;
