@@ -7,6 +7,7 @@ import (
 	"fmt"
 	"net/url"
 	"strings"
+	"time"
 
 	"github.com/pion/rtcp"
 	"github.com/pion/webrtc"
@@ -14,12 +15,11 @@ import (
 
 type person struct {
 	*page
-	path    *path
-	id      string // number and name in hex, which is the name of the stream that others are sent
-	gives   map[*source]bool
-	gets    map[*source]*seat
-	changed chan bool   // somebody came or went
-	said    chan string // answers to offers
+	path  *path
+	id    string // number and name in hex, which is the name of the stream that others are sent
+	gives map[*source]bool
+	gets  map[*source]*seat
+	said  chan string // answers to offers
 }
 
 var (
@@ -37,13 +37,12 @@ func init() {
 
 func meet(offer string, words url.Values) (int, string, error) {
 	path, estimator := newPath()
-	p := &person{newPage(true, estimator), path, "", map[*source]bool{}, map[*source]*seat{}, make(chan bool, 1), make(chan string, 1)}
+	p := &person{newPage(true, estimator), path, "", map[*source]bool{}, map[*source]*seat{}, make(chan string, 1)}
 	locked(func() { came++; p.id = fmt.Sprintf("%d-%x", came, words.Get("name")) })
 	p.pc.OnTrack(func(media *webrtc.TrackRemote, receiver *webrtc.RTPReceiver) { p.bring(media, receiver) })
 	p.channel.OnMessage(func(m webrtc.DataChannelMessage) { p.hear(string(m.Data)) })
 	p.channel.OnOpen(func() {
 		locked(func() { people[p] = true })
-		everybody()
 		p.follow()
 		locked(func() { delete(people, p) })
 	})
@@ -61,7 +60,6 @@ func (p *person) bring(media *webrtc.TrackRemote, receiver *webrtc.RTPReceiver) 
 		p.pc.WriteRTCP(append(nacks, plis...))
 	}
 	locked(func() { t.begin(); p.gives[t] = true })
-	everybody()
 	go func() {
 		for packets, _, err := receiver.ReadRTCP(); err == nil; packets, _, err = receiver.ReadRTCP() {
 			for _, packet := range packets {
@@ -79,7 +77,6 @@ func (p *person) bring(media *webrtc.TrackRemote, receiver *webrtc.RTPReceiver) 
 		}
 	}
 	locked(func() { t.end(); delete(p.gives, t) })
-	everybody()
 }
 
 func (t *source) pass(report rtcp.SenderReport) {
@@ -94,24 +91,12 @@ func (t *source) pass(report rtcp.SenderReport) {
 	}
 }
 
-// Lets everybody know that somebody came or went.
-func everybody() {
-	lock.Lock()
-	defer lock.Unlock()
-	for p := range people {
-		select {
-		case p.changed <- true:
-		default:
-		}
-	}
-}
-
 // Offers the browser what it isn't sent yet, and takes back what nobody gives now; one offer after the other, since the browser makes none after its first.
 // A transceiver whose track went has the next one.
 func (p *person) follow() {
 	for {
 		select {
-		case <-p.changed:
+		case <-time.After(200 * time.Millisecond):
 		case <-p.gone:
 			return
 		}
