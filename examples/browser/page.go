@@ -20,7 +20,7 @@ var (
 	opus = webrtc.RTPCodecCapability{MimeType: webrtc.MimeTypeOpus, ClockRate: 48000, Channels: 2, SDPFmtpLine: "minptime=10;useinbandfec=1"}
 )
 
-// A browser's page: its connection, and the data channel by which it says its wishes and is told what happens.
+// A browser's page: its connection, and the data channel by which it says its wishes and learns what happens.
 type page struct {
 	pc      *webrtc.PeerConnection
 	channel *webrtc.DataChannel
@@ -89,7 +89,7 @@ func (p *page) answer(offer string, connected func()) (string, error) {
 	return p.pc.LocalDescription().SDP, nil
 }
 
-// One line for the page. A page that doesn't listen isn't told more.
+// One line for the page. A page that doesn't listen gets no more.
 func (p *page) say(format string, words ...interface{}) {
 	if p.channel.BufferedAmount() < 50000 {
 		p.channel.SendText(fmt.Sprintf(format, words...))
