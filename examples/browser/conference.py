@@ -28,6 +28,11 @@ class Meeting:
         for page in self.pages:
             page.wait(f'others().length === {len(self.pages) - 1} && others().every(tile => tile.seen.length > 2)', 30, 'the first pictures of all others')
 
+    def largest(self):
+        """Waits until the first page is sent the largest picture."""
+        width = MODES[self.mode][0].split('x')[0]
+        self.pages[0].wait(f'others()[0].seen.slice(-1)[0][1] === {width}', 40, 'the largest picture')
+
     def watch(self, seconds):
         """For each tile of each page: the longest gap between pictures, decoded and drawn pictures, energy of the sound, and how far it is ahead."""
         now = [(page.run('drawn'), page.run('counts()'), page.run('Date.now()')) for page in self.pages]
@@ -98,7 +103,7 @@ def choice(browser, _):
     """The first packet of a frame to which others refer, and its first resend, each four seconds."""
     for mode, layers in (('L2T2', (1, 0)), ('L2T2', (0, 0)), ('L3T3', (1, 0)), ('L3T3', (2, 0))):
         meeting = Meeting(browser, mode, 2)
-        time.sleep(3)
+        meeting.largest()
         relay = meeting.relays[0]
         relay.choice = Choice(relay.element, layers, 2, 4)
         meeting.pages[0].run("say('plead ' + others()[0].id)")     # a key frame has the templates
@@ -114,7 +119,7 @@ def path(browser, _):
     meeting = Meeting(browser, 'L3T3', 2)
     page, relay = meeting.pages[0], meeting.relays[0]
     wide = lambda pixels, since: page.run(f'(others()[0].seen.find(p => p[0] >= {since} && p[1] === {pixels}) || [Infinity])[0] - {since}')
-    page.wait('others()[0].seen.slice(-1)[0][1] === 960', 30, 'the largest picture')
+    meeting.largest()
     time.sleep(5)
     begin, relay.rate = page.run('Date.now()'), 400000
     tiles, drawn = meeting.watch(10)
