@@ -188,7 +188,7 @@ def rows(asked, pictures):
                 browser.end()
                 gateway.terminate()
                 gateway.wait()
-    with open(f'{HERE}/meet.tsv', 'w') as out:
+    with open(f'{HERE}/out/meet.tsv' if asked else f'{HERE}/meet.tsv', 'w') as out:
         print(f'# test.py --meet {" ".join(asked)}: Chromium {version[1] if len(version) > 1 else "?"}, headless, on 127.0.0.1; {processor()}; '
               f'{time.strftime("%Y-%m-%d")}. Milliseconds unless named.', file=out)
         for cells in (HEAD, *table):
