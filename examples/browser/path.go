@@ -23,8 +23,9 @@ type path struct {
 	numbers uint16        // of packets on the path
 	short   bool          // whether wishes take more than fits
 	tried   float64       // bits a second, or 0
-	wait    time.Duration // for which nothing may be late or lost before more is tried
-	calm    time.Time     // since when nothing was
+	wait    time.Duration // for which the path has to be calm before more is tried
+	calm    time.Time     // since when it is
+	lost    float64       // the share of packets, over some two seconds
 }
 
 func newPath() (*path, interceptor.Factory) {
@@ -62,10 +63,11 @@ func (p *path) AddStream(info *interceptor.StreamInfo, plain interceptor.RTPWrit
 }
 
 // What the path bears, in bits a second. pion's estimate falls with what is sent and rises by 8 % a second alone, so where wishes take more than fits
-// and nothing was late or lost for two seconds, twice as much is tried; after a try that failed it waits twice as long.
+// and for two seconds nothing was late and less than a tenth was lost, twice as much is tried; after a try that failed it waits twice as long.
 func (p *path) bears() float64 {
 	estimate, stats := float64(p.GetTargetBitrate()), p.GetStats()
-	if lost, _ := stats["averageLoss"].(float64); stats["usage"] == "overuse" || lost > 0.1 {
+	lost, _ := stats["averageLoss"].(float64)
+	if p.lost += (lost - p.lost) / 20; stats["usage"] == "overuse" || p.lost > 0.1 {
 		if p.tried > 0 && p.wait < 30*time.Second {
 			p.wait *= 2
 		}
