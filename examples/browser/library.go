@@ -1,6 +1,6 @@
 //go:build library
 
-// The room in this process, by the static library of crates/room_c: no other process, no ports, and numbers for as many browsers as come.
+// The room of conferences: the static library of crates/room_c, in this process. docs/EMBEDDING.md has the loop.
 package main
 
 /*
@@ -12,127 +12,143 @@ package main
 import "C"
 
 import (
-	"io"
 	"log"
-	"net"
-	"sync"
 	"time"
 
 	"github.com/pion/rtcp"
 )
 
 var (
-	calling sync.Mutex // one call at a time; of what follows, too
-	handle  C.zoftemar_room
+	room    C.zoftemar_room // all below needs the lock: one call at a time
 	out     [C.ZOFTEMAR_PACKET_ROOM]byte
 	names   [C.ZOFTEMAR_NAMES_ROOM]uint16
-	begin   = time.Now()
-	newest  C.uint32_t // of the room's tracks, whose numbers rise; browsers may begin to send in another order than they came
-	tracks  = map[int]*end{}
-	players = map[C.uint32_t]*end{}
+	began   = time.Now()
+	numbers C.uint32_t // of tracks and subscribers, which rise
+	tracks  = map[*source]bool{}
 )
 
-func moment() C.uint64_t { return C.uint64_t(time.Since(begin).Milliseconds()) }
-func alone(do func())    { calling.Lock(); defer calling.Unlock(); do() }
+func moment() C.uint64_t { return C.uint64_t(time.Since(began).Milliseconds()) }
 
-// A browser's end of the room, used as a socket is.
-type end struct {
-	number C.uint32_t   // the track's or the subscriber's, in the room
-	hear   func([]byte) // RTP of a publisher, feedback of a player
-	says   chan []byte  // what comes faster than it is read is lost
-	track  *end         // a player's, once it has joined
-	asked  time.Time    // when the publisher was last asked for a key frame
+// A track of the room: what one publisher sends of a kind.
+type source struct {
+	rates
+	whose  *person
+	plain  bool
+	ask    func([]rtcp.Packet) // the publisher for packets
+	number C.uint32_t
+	seats  map[*seat]bool
+	asked  time.Time // for a key frame
 }
 
-func init() {
-	start[true] = func() {
-		if C.zoftemar_open(&handle) != C.ZOFTEMAR_DONE {
-			log.Fatal("there is no memory for a room")
+// A subscriber of the room: what one person is sent of a source.
+type seat struct {
+	*player
+	chosen
+	number C.uint32_t // once it has joined
+	hears  func([]byte)
+}
+
+func openRoom() {
+	if C.zoftemar_open(&room) != C.ZOFTEMAR_DONE {
+		log.Fatal("there is no memory for a room")
+	}
+	go func() {
+		for range time.Tick(20 * time.Millisecond) {
+			locked(func() {
+				for t := range tracks {
+					t.tick()
+				}
+			})
 		}
-		portOf, ask = endOf, call
-		*forPublishers, *forPlayers = 1<<30, 1<<30 // no browser needs a port
-		go mind()
+	}()
+}
+
+// Sound isn't asked for again, so a gap in it is waited for no longer than a tick.
+func (t *source) begin() {
+	numbers++
+	t.number, t.seats, tracks[t] = numbers, map[*seat]bool{}, true
+	if t.plain {
+		C.zoftemar_publish_plain(&room, 0, t.number, t.number, 0)
+	} else {
+		C.zoftemar_publish_layered(&room, 0, t.number, descriptorID, t.number, C.uint32_t(*hold))
 	}
 }
 
-// A publisher's end begins a track; a player's waits for its `join`.
-func endOf(n int) io.ReadWriteCloser {
-	calling.Lock()
-	defer calling.Unlock()
-	e := &end{says: make(chan []byte, 1024)}
-	if n > *forPublishers {
-		e.number, e.hear = C.uint32_t(reserved+n-*forPublishers), e.feedback
-		players[e.number] = e
-		return e
-	}
-	newest++
-	e.number, e.hear, tracks[n] = newest, e.packet, e
-	log.Print("publish: ", text(C.zoftemar_publish_layered(&handle, 0, newest, descriptorID, C.uint32_t(trackSSRC+n), C.uint32_t(*hold))))
-	return e
+func (t *source) end() {
+	C.zoftemar_unpublish(&room, 0, t.number)
+	delete(tracks, t)
 }
 
-func (e *end) Write(bytes []byte) (int, error) {
-	alone(func() { e.hear(bytes) })
-	return len(bytes), nil
-}
-func (e *end) Close() error { close(e.says); return nil } // after `unpublish` or `leave`
-func (e *end) Read(into []byte) (int, error) {
-	if bytes, more := <-e.says; more {
-		return copy(into, bytes), nil
-	}
-	return 0, net.ErrClosed
+func (t *source) packet(bytes []byte) {
+	C.zoftemar_packet(&room, 0, t.number, moment(), (*C.uint8_t)(&bytes[0]), C.size_t(len(bytes)))
+	t.flush()
 }
 
-func (e *end) say(bytes []byte) {
-	if len(bytes) > 0 && len(e.says) < cap(e.says) {
-		e.says <- append([]byte(nil), bytes...)
+// What waits for a track's subscribers goes out, and one whose wish isn't reached pleads for a key frame.
+func (t *source) flush() {
+	for s := range t.seats {
+		for s.sends(C.zoftemar_take(&room, 0, s.number, (*C.uint8_t)(&out[0]), C.size_t(len(out)))) {
+		}
+		if !t.plain && !bool(C.zoftemar_reaches_wish(&room, s.number).has) {
+			C.zoftemar_plead(&room, 0, s.number)
+		}
 	}
 }
 
-// Sends the packet that a reply left, and returns whether it left one.
-func (e *end) gives(r C.zoftemar_reply) bool {
+func (s *seat) sends(r C.zoftemar_reply) bool {
 	if r.code == C.ZOFTEMAR_PACKET {
-		e.say(out[:r.first])
+		s.hears(out[:r.first])
 	}
 	return r.code == C.ZOFTEMAR_PACKET
 }
 
-// Brings an RTP packet to the track.
-func (e *end) packet(bytes []byte) {
-	C.zoftemar_packet(&handle, 0, e.number, moment(), (*C.uint8_t)(&bytes[0]), C.size_t(len(bytes)))
-	e.flush()
+// Gaps that were waited for are given up, and the publisher is asked for what is missing, and for key frames.
+func (t *source) tick() {
+	var asks []rtcp.Packet
+	C.zoftemar_tick(&room, 0, t.number, moment())
+	t.flush()
+	if n := C.zoftemar_missing(&room, 0, t.number, (*C.uint16_t)(&names[0]), C.size_t(len(names))).first; n > 0 && n < 400 && !t.plain {
+		asks = append(asks, &rtcp.TransportLayerNack{Nacks: rtcp.NackPairsFromSequenceNumbers(names[:n])})
+	}
+	if C.zoftemar_key_wanted(&room, 0, t.number).has && time.Since(t.asked) > 500*time.Millisecond {
+		t.asked, asks = time.Now(), append(asks, &rtcp.PictureLossIndication{})
+	}
+	if len(asks) > 0 {
+		go t.ask(asks)
+	}
 }
 
-// What waits for a track's players is sent, and a player whose wish isn't reached pleads for a key frame.
-func (e *end) flush() {
-	for number, p := range players {
-		if p.track == e {
-			for p.gives(C.zoftemar_take(&handle, 0, number, (*C.uint8_t)(&out[0]), C.size_t(len(out)))) {
-			}
-			if !C.zoftemar_reaches_wish(&handle, number).has {
-				C.zoftemar_plead(&handle, 0, number)
+func (s *seat) join(t *source) {
+	if numbers++; tracks[t] {
+		s.number, t.seats[s] = numbers, true
+		C.zoftemar_join(&room, 0, s.number, t.number, s.number, 1, 0, 0)
+	}
+}
+
+func (s *seat) leave(t *source) {
+	C.zoftemar_leave(&room, 0, s.number)
+	delete(t.seats, s)
+}
+
+// Answers NACKs with what was taken.
+func (s *seat) resend(nacks []rtcp.Packet) {
+	for _, nack := range nacks {
+		for _, pair := range nack.(*rtcp.TransportLayerNack).Nacks {
+			for _, n := range pair.PacketList() {
+				s.sends(C.zoftemar_resend(&room, 0, s.number, C.uint16_t(n), (*C.uint8_t)(&out[0]), C.size_t(len(out))))
 			}
 		}
 	}
 }
 
-// Every 20 ms gaps that were waited for are given up, and publishers are asked for what is missing, and for key frames.
-func mind() {
-	for range time.Tick(20 * time.Millisecond) {
-		alone(func() {
-			for _, t := range tracks {
-				var asks []rtcp.Packet
-				C.zoftemar_tick(&handle, 0, t.number, moment())
-				t.flush()
-				if n := C.zoftemar_missing(&handle, 0, t.number, (*C.uint16_t)(&names[0]), C.size_t(len(names))).first; n > 0 && n < 400 {
-					asks = append(asks, &rtcp.TransportLayerNack{Nacks: rtcp.NackPairsFromSequenceNumbers(names[:n])})
-				}
-				if C.zoftemar_key_wanted(&handle, 0, t.number).has && time.Since(t.asked) > 500*time.Millisecond {
-					t.asked, asks = time.Now(), append(asks, &rtcp.PictureLossIndication{})
-				}
-				bytes, _ := rtcp.Marshal(asks)
-				t.say(bytes)
-			}
-		})
-	}
+func (s *seat) aim(spatial, temporal int) {
+	C.zoftemar_aim(&room, 0, s.number, C.uint8_t(spatial), C.uint8_t(temporal))
+}
+func (s *seat) wantKey() { C.zoftemar_plead(&room, 0, s.number) }
+
+// What is sent now, as its highest layers, and whether that is the best of the wish.
+func (s *seat) sent() (spatial, temporal int, reached bool) {
+	var target C.zoftemar_target
+	C.zoftemar_target_of(&room, s.number, &target)
+	return int(target.spatial), int(target.temporal), bool(C.zoftemar_reaches_wish(&room, s.number).has)
 }

@@ -1,6 +1,7 @@
 package main
 
 import (
+	"flag"
 	"fmt"
 	"io"
 	"log"
@@ -14,22 +15,20 @@ import (
 )
 
 const (
-	descriptorURI = "https://aomediacodec.github.io/av1-rtp-spec/#dependency-descriptor-rtp-header-extension"
-	descriptorID  = 4  // in the room
-	payloadType   = 45 // in the room
-	trackSSRC     = 0x10000000
-	playerSSRC    = 0x20000000
-	reserved      = 100 // lines of -also may have subscribers up to this number, and tracks above it
+	descriptorID = 4 // in the room
+	trackSSRC    = 0x10000000
+	playerSSRC   = 0x20000000
+	reserved     = 100 // lines of -also may have subscribers up to this number, and tracks above it
 )
 
-// The room is the program `sfu serve`, as below, or the library, which puts what is in library.go here. Its ports take packets whole, and
-// give them whole: RTP one way, and NACKs and PLIs the other.
 var (
-	start   = map[bool]func(){false: startServe, true: func() { log.Fatal("this was built without -tags library") }}
-	portOf  = func(n int) io.ReadWriteCloser { return peerOf(n) } // publishers' from 1 on, and behind them players'
-	ask     = askServe
-	control *net.UDPConn
-	asking  sync.Mutex
+	sfu           = flag.String("sfu", "../../sfu", "the program sfu, as all flags below for serve")
+	forPublishers = flag.Int("publishers", 15, "how many browsers may publish before this has to be started again")
+	forPlayers    = flag.Int("players", 48, "how many may play; with the publishers at most 63")
+	also          = flag.String("also", "/dev/null", "a file of more lines for the room, with subscribers 1 to 100 and tracks above 100")
+	dump          = flag.Bool("dump", false, "write each packet that comes from the room: whom it is for, and its bytes in hex")
+	control       *net.UDPConn
+	asking        sync.Mutex
 )
 
 // The room's configuration: all ports that it will ever have, the controller's as the first, and tracks that wait for their browsers.
@@ -52,7 +51,7 @@ func configuration() string {
 }
 
 // Starts the program, which ends with this one, and waits until it answers: the first call of sfu builds it.
-func startServe() {
+func startRoom() {
 	room := exec.Command(*sfu, "serve", "1000000000000")
 	room.Stdin, room.Stdout, room.Stderr = strings.NewReader(configuration()), os.Stderr, os.Stderr
 	room.SysProcAttr = &syscall.SysProcAttr{Pdeathsig: syscall.SIGTERM}
@@ -60,12 +59,12 @@ func startServe() {
 	go func() {
 		log.Fatal("the room has ended (5: a line of -also is wrong, 7: a port is taken): ", room.Wait())
 	}()
-	for control = peerOf(0); askServe("key 1") == "no answer"; time.Sleep(100 * time.Millisecond) {
+	for control = portOf(0); ask("key 1") == "no answer"; time.Sleep(100 * time.Millisecond) {
 	}
 }
 
-// The socket that is the peer of the room's port n.
-func peerOf(n int) *net.UDPConn {
+// The socket that is the peer of the room's port n: publishers' from 1 on, and behind them players'.
+func portOf(n int) *net.UDPConn {
 	at := func(port int) *net.UDPAddr { return &net.UDPAddr{IP: net.IPv4(127, 0, 0, 1), Port: *base + port} }
 	conn, err := net.DialUDP("udp4", at(500+n), at(n))
 	must(err)
@@ -88,7 +87,7 @@ func fromRoom(room io.Reader, name string, each func([]byte)) {
 }
 
 // One line to the control port, and its answer. An answer doesn't say which line it is for, so each is waited for, however long it takes.
-func askServe(format string, words ...interface{}) string {
+func ask(format string, words ...interface{}) string {
 	asking.Lock()
 	defer asking.Unlock()
 	line, answer := fmt.Sprintf(format, words...), make([]byte, 200)

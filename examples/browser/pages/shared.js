@@ -1,4 +1,4 @@
-// What both pages share: the connection to the gateway, the chart of the last 30 seconds, and a time code in the drawn picture.
+// What the pages share: the connection to the gateway, the chart of the last 30 seconds, and the drawn picture with its time code.
 'use strict';
 const descriptorURI = 'https://aomediacodec.github.io/av1-rtp-spec/#dependency-descriptor-rtp-header-extension';
 const asked = new URLSearchParams(location.search);
@@ -12,7 +12,7 @@ function onlyAV1(transceiver) {
   const codecs = RTCRtpReceiver.getCapabilities('video').codecs;
   transceiver.setCodecPreferences(codecs.filter(c => c.mimeType === 'video/AV1' && !/profile=[12]/.test(c.sdpFmtpLine)));
   const extensions = transceiver.getHeaderExtensionsToNegotiate();
-  for (const e of extensions) if (e.uri === descriptorURI) e.direction = 'sendrecv';
+  for (const e of extensions) if (e.uri === descriptorURI || e.uri.endsWith(':mid')) e.direction = 'sendrecv';   // MID is mandatory
   transceiver.setHeaderExtensionsToNegotiate(extensions);
 }
 
@@ -22,7 +22,7 @@ async function described(pc) {
   return pc.localDescription.sdp;
 }
 
-// Posts an offer and takes its answer; returns the track's number, and for how many milliseconds the room waits for lost packets.
+// Posts an offer and takes its answer; tells the track's number, and for how many milliseconds the room waits for lost packets.
 async function connect(pc, path) {
   const reply = await fetch(path, {method: 'POST', body: await described(pc)});
   if (!reply.ok) throw new Error(await reply.text());
@@ -31,7 +31,7 @@ async function connect(pc, path) {
   return [track, hold];
 }
 
-// The channel on which the gateway reports frames that came into the room and went out of it, `came N DESCRIPTOR` and `went N DESCRIPTOR`,
+// The channel on which the gateway tells of frames that came into the room and went out of it, `came N DESCRIPTOR` and `went N DESCRIPTOR`,
 // and answers lines for the control port, as in `why 812: reference 809`.
 function listen(pc, frame, answer = () => {}) {
   const channel = pc.createDataChannel('room', {negotiated: true, id: 0}), templates = new Map();
@@ -75,7 +75,7 @@ function show(facts) {
 const span = 30000, shades = ['#14406e', '#4a86c5', '#a6c8ea'];
 
 // Three strips over the same 30 seconds: two lines, and the frames by spatial layer, shaded by temporal layer. Bands lie behind them all, and
-// marks are in front, tall or short.
+// marks stand in front, tall or short.
 class Chart {
   constructor(canvas, names) {
     Object.assign(this, {canvas, names, lines: [[], []], frames: [], bands: [], marks: [], wish: [], spatial: 1, temporal: 1});
@@ -158,6 +158,28 @@ class Chart {
     const of = shades.slice(0, this.temporal).map((shade, t) => [shade, this.temporal > 1 ? `temporal layer ${t}` : 'frame']);
     return [...of, ...this.names[3]];
   }
+}
+
+// ---- the drawn picture: circles that wander over a sky, the time, and somebody's name
+
+function drawPicture(context, width, height, name = '') {
+  const turn = Date.now() / 2500, sky = context.createLinearGradient(0, 0, width, height);
+  const hue = turn * 20 + [...name].reduce((sum, letter) => sum + letter.charCodeAt(0) * 47, 0);
+  sky.addColorStop(0, `hsl(${hue % 360} 45% 70%)`);
+  sky.addColorStop(1, `hsl(${(hue + 80) % 360} 45% 45%)`);
+  context.fillStyle = sky;
+  context.fillRect(0, 0, width, height);
+  for (let n = 0; n < 7; n++) {
+    context.fillStyle = `hsl(${n * 51} 60% ${60 + n * 4}% / 0.8)`;
+    context.beginPath();
+    context.arc(width * (0.5 + 0.42 * Math.sin(turn * (1 + n / 5) + n)), height * (0.52 + 0.3 * Math.cos(turn * 1.3 + n * 2)), height / 12, 0, 7);
+    context.fill();
+  }
+  context.fillStyle = '#fff';
+  context.font = `600 ${height / 7}px system-ui, "DejaVu Sans", sans-serif`;
+  context.fillText(new Date().toISOString().slice(14, 22), width / 24, height * 0.92);
+  context.fillText(name.slice(0, 8), width / 24, height * 0.3);
+  drawTime(context, width, height);
 }
 
 // ---- a time code in the top row of the drawn picture: 16 bits of milliseconds and 4 that check them. It outlives any scaling.
