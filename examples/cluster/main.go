@@ -1,0 +1,178 @@
+// cluster is one node of a conference over several machines: browsers and RTP clients of its own, feeds from and to other nodes, which it finds by NATS.
+// Each track that it has is a room of the library. What is proved is that library; nothing here is.
+package main
+
+import (
+	"encoding/json"
+	"flag"
+	"fmt"
+	"io"
+	"log"
+	"math/rand"
+	"net/http"
+	"os"
+	"os/signal"
+	"sort"
+	"strings"
+	"sync/atomic"
+	"syscall"
+	"time"
+)
+
+var (
+	name    = flag.String("name", "node", "what this node is called; it gets a number of its own at each start")
+	address = flag.String("address", "127.0.0.1", "the address of this machine, for browsers and other nodes")
+	web     = flag.Int("http", 8080, "the TCP port of the pages")
+	media   = flag.Int("media", 7000, "the UDP port of all browsers; each feed has a port of its own")
+	server  = flag.String("nats", "nats://127.0.0.1:4222", "the NATS server; NATS_USER and NATS_PASSWORD, or NATS_TOKEN, come from the environment")
+	feeds   = flag.Int("feeds", 8, "how many nodes this one feeds with one track")
+	lose    = flag.Int("lose", 0, "loses so many per cent of the packets to other nodes, for a test")
+)
+
+func must(err error) {
+	if err != nil {
+		log.Fatal(err)
+	}
+}
+
+func pages() string { return fmt.Sprintf("http://%s:%d", *address, *web) }
+
+// What came with a request after its question mark.
+type words struct{ *http.Request }
+
+func (w words) text(name string) string { return w.URL.Query().Get(name) }
+func (w words) number(name string) (n int) {
+	fmt.Sscan(w.text(name), &n)
+	return
+}
+
+// A call that answers with JSON, or with an error that a page can show. Pages of other servers are refused.
+func serve(path string, do func(words, string) (interface{}, error)) {
+	http.HandleFunc(path, func(w http.ResponseWriter, r *http.Request) {
+		if origin := r.Header.Get("Origin"); origin != "" && !strings.HasSuffix(origin, "://"+r.Host) {
+			http.Error(w, "this is for pages of this server", http.StatusForbidden)
+			return
+		}
+		body, _ := io.ReadAll(io.LimitReader(r.Body, 100000))
+		answer, err := do(words{r}, string(body))
+		if err != nil {
+			http.Error(w, err.Error(), http.StatusServiceUnavailable)
+			return
+		}
+		w.Header().Set("Content-Type", "application/json")
+		json.NewEncoder(w).Encode(answer)
+	})
+}
+
+// Begins a track of plain RTP, which comes from the address that the publisher names, under its SSRC.
+func publishRTP(w words, _ string) (interface{}, error) {
+	l, at, err := newLink()
+	if err == nil {
+		err = l.connect(w.text("at"))
+	}
+	if err != nil {
+		return nil, err
+	}
+	t, bring := publish(description{Label: w.text("label"), ID: uint8(w.number("id")), Payload: uint8(w.number("payload"))}, uint32(w.number("ssrc")), l.ask)
+	go func() {
+		l.run(bring, toAll)
+		t.unpublish()
+	}()
+	return map[string]string{"Track": t.Name, "At": at}, nil
+}
+
+// Sends a track as plain RTP to the address that the player names.
+func playRTP(w words, _ string) (interface{}, error) {
+	probe := newSubscriber(0, 0)
+	probe.waits = true
+	probe.spatial, probe.temporal = uint8(w.number("spatial")), uint8(w.number("temporal"))
+	t, err := subscribeTo(w.text("track"), probe)
+	if err != nil {
+		return nil, err
+	}
+	defer t.leave(probe)
+	return t.linkTo(w.text("at"), probe.spatial, probe.temporal, "")
+}
+
+type feedFigures struct {
+	Track, Node    string // the node at the other end
+	Level          int
+	Packets, Bytes int64
+	Lost           int64
+}
+
+// What this node does, in numbers.
+func figures(words, string) (interface{}, error) {
+	type trackFigures struct {
+		Name, From  string
+		Level       int
+		Subscribers int
+	}
+	f := struct {
+		Node              string
+		Nodes             []string
+		Processor         int64 // milliseconds
+		Sent              int64 // packets
+		Viewers           int
+		Requests          int64
+		Tracks            []trackFigures
+		FeedsIn, FeedsOut []feedFigures
+	}{Node: me, Processor: processorTime().Milliseconds(), Sent: atomic.LoadInt64(&sent), Requests: atomic.LoadInt64(&requests), Nodes: []string{}}
+	for _, t := range all() {
+		t.Lock()
+		f.Viewers += len(t.subscribers) - t.nodes()
+		f.Tracks = append(f.Tracks, trackFigures{t.Name, t.from, t.level, len(t.subscribers)})
+		if t.link != nil {
+			f.FeedsIn = append(f.FeedsIn, feedFigures{t.Name, t.from, t.level, 0, atomic.LoadInt64(&t.received), 0})
+		}
+		t.Unlock()
+	}
+	locked(func() {
+		for node := range members {
+			f.Nodes = append(f.Nodes, node)
+		}
+		for _, l := range links {
+			if l.node != "" {
+				f.FeedsOut = append(f.FeedsOut, feedFigures{l.track.Name, l.node, l.track.level, atomic.LoadInt64(&l.link.packets), atomic.LoadInt64(&l.link.bytes), atomic.LoadInt64(&l.link.lost)})
+			}
+		}
+	})
+	sort.Strings(f.Nodes)
+	return f, nil
+}
+
+func main() {
+	flag.Parse()
+	rand.Seed(time.Now().UnixNano())
+	me = fmt.Sprintf("%s-%04x", strings.ReplaceAll(*name, ".", "-"), rand.Intn(1<<16))
+	connectBus()
+	go live()
+	go func() {
+		for range time.Tick(100 * time.Millisecond) {
+			forgetNodes()
+		}
+	}()
+	stop := make(chan os.Signal, 1)
+	signal.Notify(stop, os.Interrupt, syscall.SIGTERM)
+	go func() {
+		<-stop
+		announce(true)
+		bus.Flush()
+		for _, t := range all() {
+			t.close()
+		}
+		time.Sleep(100 * time.Millisecond)
+		os.Exit(0)
+	}()
+	startBrowsers()
+	serve("/tracks", func(words, string) (interface{}, error) { return conference(), nil })
+	serve("/figures", figures)
+	serve("/rtp/publish", publishRTP)
+	serve("/rtp/play", playRTP)
+	serve("/browser/publish", publishBrowser)
+	serve("/browser/play", playBrowser)
+	http.Handle("/", http.FileServer(http.Dir("pages")))
+	http.Handle("/shared.js", http.FileServer(http.Dir("../browser/pages")))
+	log.Printf("%s: open %s", me, pages())
+	log.Fatal(http.ListenAndServe(fmt.Sprintf("%s:%d", *address, *web), nil))
+}
