@@ -158,6 +158,7 @@ func (t *track) take(node string, level int) error {
 	t.link, t.from, t.said, t.saidAt, t.fault = l, node, w, time.Now(), nil
 	t.Unlock()
 	t.begin(a.SSRC, a.Level+1, l.ask)
+	announce(false)
 	log.Printf("%s comes from %s, at level %d", t.Name, node, a.Level+1)
 	go func() {
 		l.run(func(bytes []byte) { atomic.AddInt64(&t.received, int64(len(bytes))); t.packet(bytes) }, toAll)

@@ -16,10 +16,11 @@ import (
 
 const (
 	heartbeat = time.Second
-	forgotten = 2300 * time.Millisecond // without a heartbeat
+	late      = heartbeat + 300*time.Millisecond
+	forgotten = 2*heartbeat + 300*time.Millisecond
 )
 
-// What a node says of itself on the subject `nodes`, every second.
+// What a node says of itself on the subject `nodes`, every second, and when it has another track.
 type announcement struct {
 	Node   string
 	Pages  string  // the address of its web server
@@ -45,15 +46,16 @@ var (
 	me      string // this node, by a name that is new at each start
 	lock    sync.Mutex
 	members = map[string]*member{}
-	own     [2]time.Time // when this node's last two heartbeats came back
+	echo    time.Time // when this node last heard itself
+	back    time.Time // since when it has heard itself each second
 	load    float64
 )
 
 // Connects to NATS, and comes back to it however long it is away. What is said meanwhile is lost: heartbeats and requests of the past are of no use.
 func connectBus() {
 	var err error
-	options := []nats.Option{nats.Name(me), nats.MaxReconnects(-1), nats.ReconnectWait(250 * time.Millisecond), nats.ReconnectJitter(0, 0),
-		nats.ReconnectBufSize(-1), nats.ReconnectHandler(func(*nats.Conn) { announce(false) }),
+	options := []nats.Option{nats.Name(me), nats.MaxReconnects(-1), nats.RetryOnFailedConnect(true), nats.ReconnectWait(250 * time.Millisecond), nats.ReconnectJitter(0, 0),
+		nats.ReconnectBufSize(-1), nats.ReconnectHandler(func(*nats.Conn) { locked(func() { back = time.Now() }); announce(false) }),
 		nats.DisconnectErrHandler(func(_ *nats.Conn, err error) { log.Print("NATS is away: ", err) })}
 	if token := os.Getenv("NATS_TOKEN"); token != "" {
 		options = append(options, nats.Token(token))
@@ -94,7 +96,10 @@ func hearNode(m *nats.Msg) {
 	defer lock.Unlock()
 	switch {
 	case a.Node == me:
-		own[0], own[1] = own[1], time.Now()
+		if time.Since(echo) > late {
+			back = time.Now()
+		}
+		echo = time.Now()
 	case a.Gone:
 		delete(members, a.Node)
 	default:
@@ -105,12 +110,12 @@ func hearNode(m *nats.Msg) {
 	}
 }
 
-// Forgets nodes of which nothing was heard, as long as this node's own heartbeats come back: where they don't, it is NATS that is away.
+// Forgets nodes of which nothing was heard for two heartbeats, if this node has heard itself all that time: else it is NATS that is away.
 func forgetNodes() {
 	lock.Lock()
 	defer lock.Unlock()
 	for name, m := range members {
-		if time.Since(m.heard) > forgotten && time.Since(own[0]) < forgotten {
+		if time.Since(m.heard) > forgotten && time.Since(echo) < late && time.Since(back) > forgotten && bus.IsConnected() {
 			log.Print("gone is ", name)
 			delete(members, name)
 		}

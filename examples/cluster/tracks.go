@@ -56,6 +56,7 @@ func publish(d description, ssrc uint32, ask func([]rtcp.Packet)) (*track, func(
 		tracks[d.Name] = t
 	})
 	t.begin(ssrc, 0, ask)
+	announce(false)
 	go t.run()
 	return t, func(bytes []byte) {
 		var h rtp.Header
@@ -71,7 +72,7 @@ func publish(d description, ssrc uint32, ask func([]rtcp.Packet)) (*track, func(
 	}
 }
 
-func (t *track) unpublish() { remove(t); t.close() }
+func (t *track) unpublish() { remove(t); t.close(); announce(false) }
 
 // Makes somebody a subscriber of a track, which comes from another node where it isn't here, and waits until it does or cannot.
 func subscribeTo(name string, s *subscriber) (*track, error) {

@@ -54,7 +54,7 @@ func readStream(file string, id int) *stream {
 func (s *stream) due() []byte {
 	now := time.Now()
 	stampOf := func(n int) uint32 { return binary.BigEndian.Uint32(s.packets[n].bytes[4:]) }
-	if s.next == len(s.packets) || s.again && now.Sub(s.began) > time.Second && s.next > 0 && stampOf(s.next) != stampOf(s.next-1) {
+	if s.next == len(s.packets) || s.again && now.Sub(s.began) > 200*time.Millisecond && s.next > 0 && stampOf(s.next) != stampOf(s.next-1) {
 		s.began, s.next, s.again = now, 0, false
 		s.stamp = s.last[0] + 3000 - stampOf(0)
 		s.frame = uint16(s.last[1]) + 1 - s.frameOf(s.packets[0].bytes, 0)
