@@ -172,7 +172,9 @@ func main() {
 	serve("/browser/publish", publishBrowser)
 	serve("/browser/play", playBrowser)
 	http.Handle("/", http.FileServer(http.Dir("pages")))
-	http.Handle("/shared.js", http.FileServer(http.Dir("../browser/pages")))
+	for _, shared := range []string{"/shared.js", "/style.css"} {
+		http.Handle(shared, http.FileServer(http.Dir("../browser/pages")))
+	}
 	log.Printf("%s: open %s", me, pages())
 	log.Fatal(http.ListenAndServe(fmt.Sprintf("%s:%d", *address, *web), nil))
 }

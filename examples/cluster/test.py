@@ -11,6 +11,7 @@ the namespaces zc1 to zc4, and takes three minutes.
 example: examples/cluster/test.py --players 40
 """
 import argparse
+import importlib.util
 import json
 import os
 import random
@@ -411,6 +412,48 @@ def silent(nodes, watch, fresh):
     fresh.end()
 
 
+# ---- browsers
+
+def browsers():
+    """Four browsers at three nodes: each sees the three others, also after a node was killed."""
+    spec = importlib.util.spec_from_file_location('browser', f'{TOP}/examples/browser/test.py')
+    chromium = importlib.util.module_from_spec(spec)
+    spec.loader.exec_module(chromium)
+    nodes, pages, opened = [Node(n) for n in range(1, 4)], [], []
+    start_nats()
+    for node in nodes:
+        node.start()
+    time.sleep(1.5)
+    try:
+        for n in range(4):
+            chromium.TOOLS = 29401 + n
+            opened.append(chromium.Browser())
+            pages.append(opened[-1].open(f'{nodes[n % 3].at}/index.html?name=b{n + 1}&size=320x180&fps=10&mode=L1T2'))
+
+        def shown(page):
+            return page.run('[...tiles.values()].map(tile => tile.shown)')
+        try:
+            until('three pictures at each browser', 60, lambda: all(len(shown(page)) == 3 and min(shown(page)) > 10 for page in pages))
+        except RuntimeError:
+            for page in pages:
+                print(page.run("by('state').textContent + ': ' + [...tiles.values()].map(t => `${t.shown} ${t.pc.connectionState} ${t.fault.textContent}`)"))
+            raise
+        first = [ms for page in pages for ms in page.run('[...tiles.values()].map(tile => tile.first)')]
+        figure('four browsers: from a request to the first picture, p50, most', f'{part(first, 0.5)}, {max(first)} ms')
+        pages[0].shoot(f'{out}/browsers.png')
+        nodes[2].process.end(signal.SIGKILL)
+        rest = [page for n, page in enumerate(pages) if n % 3 != 2]
+        took = until('the page of a killed node is gone', 8, lambda: all(len(shown(page)) == 2 for page in rest))
+        old = [shown(page) for page in rest]
+        time.sleep(5)
+        figure('four browsers, a node killed: its picture is gone', f'{took} ms')
+        if any(new - before < 20 for page, was in zip(rest, old) for new, before in zip(shown(page), was)):
+            complain('a picture stands still after a kill')
+    finally:
+        for browser in opened:
+            browser.end()
+
+
 # ---- the chart
 
 def draw(watch):
@@ -450,12 +493,16 @@ def main():
     shutil.rmtree(out, ignore_errors=True)
     os.makedirs(out)
     for folder, name in ((HERE, 'cluster'), (f'{HERE}/players', 'players')):
+        subprocess.run(['rm', '-f', f'{HERE}/out/{name}'])                         # go doesn't see that the library's archive is another one
         subprocess.run(['go', 'build', '-o', f'{HERE}/out/{name}', '.'], cwd=folder, env=GO, check=True)
     begin = time.time()
     try:
         wire(4)
-        streams()
-        conference(asked)
+        if asked.browsers:
+            browsers()
+        else:
+            streams()
+            conference(asked)
     except Exception as fault:
         complain(f'{type(fault).__name__}: {fault}')
     finally:
