@@ -18,6 +18,7 @@ import tempfile
 import time
 from pathlib import Path
 
+sys.path.insert(0, str(Path(__file__).resolve().parent.parent.parent / 'tests/peers'))
 from common import NEVER, Started, built, check, compile_tools, drops, problems, processor_seconds, wait_for
 
 SIZE = 1200

@@ -3,7 +3,7 @@ ghost use Rattle.std.specs.Prelude.{◌≡◌, ◌≤◌, length, IfOk};
 ghost use Rattle.turn_lock.specs.Known.{Fits};
 
 use crate::shared_room_tests::{Shared, empty_room, empty_scratch, join, packet, publish};
-use sfu_base::{Call, MemLink, PacketBuf, StepClock};
+use sfu_base::{Call, Clock, Failed, Link, MemLink, PacketBuf, StepClock};
 use sfu_serve::{SessionEnd, control_session, publisher_session, subscriber_session};
 use std::alloc::{AllocError, Global};
 use std::sync::Wait;
@@ -194,5 +194,61 @@ fn a_controllers_link_fails(rt: HostRuntime) -> Result<(), Fail> {
             assert_eq!(rt; answer.bytes(), b"ok".as_slice());
         }
     }
+    Ok(())
+}
+
+// A link that moves the clock on in each receive but its first.
+#[derive(Drop)]
+struct MovingLink<'a> {
+    inner: MemLink,
+    clock: &'a StepClock,
+    has_received: bool,
+}
+
+impl<'a> Link for MovingLink<'a> {
+    ghost told = { λ s. ⟦<MemLink as Link>⟧.told s.inner };
+
+    ghost name = { λ s. ⟦<MemLink as Link>⟧.name s.inner };
+
+    ghost faults = { λ s. ⟦<MemLink as Link>⟧.faults s.inner };
+
+    fn receive(&mut self, buf: &mut PacketBuf) -> Result<bool, Failed> {
+        if self.has_received {
+            self.clock.now();
+        }
+        self.has_received = true;
+        self.inner.receive(buf)
+    }
+
+    fn send(&mut self, packet: &PacketBuf) -> Result<(), Failed> {
+        self.inner.send(packet)
+    }
+}
+
+// The moments of two turns lie 20 milliseconds apart, and so a NACK is sent in the second one, only where each is looked at behind its receive:
+// else they lie 10 apart.
+#[test]
+fn the_clock_is_looked_at_behind_the_receive(rt: HostRuntime) -> Result<(), Fail> {
+    let (turns, mut seat) = room_after(&rt, rt.alloc(), &[publish()])?;
+    let clock = StepClock::new(0, 10);
+    let mut link = MovingLink {
+        inner: link(rt.alloc(), &[&rtp(1000), &rtp(1002)], &[], &[])?,
+        clock: &clock,
+        has_received: false,
+    };
+    let mut scratch = empty_scratch();
+    let end = publisher_session(
+        &rt,
+        &turns,
+        &mut seat,
+        1,
+        SSRC,
+        &mut link,
+        &clock,
+        2,
+        &mut scratch,
+    );
+    assert_eq!(rt; end, SessionEnd::AllTurns);
+    assert!(rt; has_sent(&link.inner, &[&NACK]));
     Ok(())
 }

@@ -4,7 +4,7 @@ ghost use Rattle.room_core.specs.History.{Entry};
 ghost use Rattle.room_core.specs.Serves.{Stands};
 ghost use Rattle.session_steps.specs.Stepping.{Waits};
 
-use crate::session_tests::{NACK, OUT_SSRC, PLI, SSRC, outgoing, rtp};
+use crate::session_tests::{NACK, OUT_SSRC, PLI, SSRC};
 use crate::shared_room_tests::{empty_scratch, join, packet, publish};
 use room_core::{KeepNone, Recorder, Room};
 use rtx_stream::Rtx;
@@ -95,19 +95,27 @@ fn sends<S: Session>(
     Ok(true)
 }
 
+// The packets 1000 and 1002 as a publisher sends them: SSRC 11111111 and the payload aabb (RFC 3550, section 5.1).
+const FIRST: [u8; 14] = [
+    0x80, 0x60, 0x03, 0xe8, 0, 0, 0, 0, 0x11, 0x11, 0x11, 0x11, 0xaa, 0xbb,
+];
+
+const THIRD: [u8; 14] = [
+    0x80, 0x60, 0x03, 0xea, 0, 0, 0, 0, 0x11, 0x11, 0x11, 0x11, 0xaa, 0xbb,
+];
+
 // Missing packets are asked for at the first turn and then at least 20 milliseconds apart.
 #[test]
 fn a_publisher_is_asked_for_what_is_missing_step_by_step(rt: HostRuntime) -> Result<(), Fail> {
-    let (first, third) = (rtp(1000), rtp(1002));
     let cases: [(&[(u64, &[u8])], &[&[u8]]); 4] = [
-        (&[(0, &first), (20, &third)], &[&NACK]),
-        (&[(0, &first), (19, &third)], &[]),
+        (&[(0, &FIRST), (20, &THIRD)], &[&NACK]),
+        (&[(0, &FIRST), (19, &THIRD)], &[]),
         (
-            &[(0, &first), (20, &third), (39, &[]), (40, &[])],
+            &[(0, &FIRST), (20, &THIRD), (39, &[]), (40, &[])],
             &[&NACK, &NACK],
         ),
         // RTCP isn't brought to the track
-        (&[(0, &first), (20, &PLI)], &[]),
+        (&[(0, &FIRST), (20, &PLI)], &[]),
     ];
     for (receives, wanted) in cases {
         let mut session = PublisherSession::new(1, SSRC);
@@ -146,6 +154,15 @@ fn a_publisher_is_asked_for_a_key_frame(rt: HostRuntime) -> Result<(), Fail> {
     Ok(())
 }
 
+// The packets 0 and 1 as they go out to subscriber 1 (RFC 3550, section 5.1).
+const ZERO: [u8; 14] = [
+    0x80, 0x60, 0, 0, 0, 0, 0, 0, 0x22, 0x22, 0x22, 0x22, 0xaa, 0xbb,
+];
+
+const ONE: [u8; 14] = [
+    0x80, 0x60, 0, 1, 0, 0, 0, 0, 0x22, 0x22, 0x22, 0x22, 0xaa, 0xbb,
+];
+
 // A NACK of the packet 0 for the SSRC that goes out, and one for another SSRC (RFC 4585, section 6.2.1).
 const RESEND: [u8; 16] = [
     0x81, 0xcd, 0, 3, 0, 0, 0, 9, 0x22, 0x22, 0x22, 0x22, 0, 0, 0, 0,
@@ -163,23 +180,22 @@ const RESENT: [u8; 16] = [
 // What waits is taken each turn, behind the feedback that came.
 #[test]
 fn a_subscriber_is_answered_its_feedback(rt: HostRuntime) -> Result<(), Fail> {
-    let (zero, one) = (outgoing(0), outgoing(1));
     let rtx = Rtx {
         ssrc: 0x3333_3333,
         payload_type: 97,
     };
     let cases: [(Option<Rtx>, &[(u64, &[u8])], &[&[u8]]); 6] = [
-        (None, &[(0, &[])], &[&zero, &one]),
-        (None, &[(0, &[]), (1, &RESEND)], &[&zero, &one, &zero]),
-        (None, &[(0, &[]), (1, &OTHER)], &[&zero, &one]),
+        (None, &[(0, &[])], &[&ZERO, &ONE]),
+        (None, &[(0, &[]), (1, &RESEND)], &[&ZERO, &ONE, &ZERO]),
+        (None, &[(0, &[]), (1, &OTHER)], &[&ZERO, &ONE]),
         // nothing was taken yet, so nothing is resent
-        (None, &[(0, &RESEND)], &[&zero, &one]),
+        (None, &[(0, &RESEND)], &[&ZERO, &ONE]),
         (
             Some(rtx),
             &[(0, &[]), (1, &RESEND)],
-            &[&zero, &one, &RESENT],
+            &[&ZERO, &ONE, &RESENT],
         ),
-        (Some(rtx), &[(0, &[]), (1, &OTHER)], &[&zero, &one]),
+        (Some(rtx), &[(0, &[]), (1, &OTHER)], &[&ZERO, &ONE]),
     ];
     for (rtx, receives, wanted) in cases {
         let calls = [publish(), join(), packet(7), packet(8)];

@@ -20,9 +20,11 @@ use Rattle.sfu_serve.specs.declared.ends.SessionEnd.{SessionEnd}
 use Rattle.sfu_serve.specs.History.{entries_of}
 use Rattle.session_steps.specs.Datagrams.{Datagram, Bytes, NackFor, PliFor, Wrapped, IsOne, feedback_in, media_of}
 use Rattle.session_steps.specs.Sessions.{Doing, call_for, sends_on, resends, resent, serves, hears_feedback, takes, outgoing_deed, subscriber_deed}
-use Rattle.sfu_serve.specs.Parts.{reply_after, words_of}
+use Rattle.turn_lock.specs.Known.{Known}
+use Rattle.sfu_serve.specs.Parts.{Keeps, reply_after, words_behind, words_of}
 use Rattle.sfu_serve.specs.Runs.{IsSession}
 use Rattle.sfu_serve.specs.Packets.{AreSent, datagram_given, datagrams_given, packet_of, packet_given, packets_given, resent_then, unsent, unsent_datagram}
+use Rattle.sfu_serve.proofs.Words.{words_since}
 use Rattle.sfu_serve.proofs.Texts.{is_short, done_short, track_short, control_short}
 
 -- ---- only takes and resends are answered packets
@@ -200,6 +202,16 @@ module _ (way : Option Rtx) where
   sent_datagrams subscriber ssrc limit number found history told told' before after end s =
       subst (λ (l : List Datagram). AreSent (sent_of s.steps) l (unsent_datagram s.rest)) (ap (all_given way 0) (sym s.words) ∙ words_only way 0 [] number history)
       (all_sent way 0 (outgoing_deed subscriber ssrc way limit 0) s.steps s.rest [] s.leads (deed_owes 0 subscriber ssrc limit))
+
+  -- The same of what a session on a seat keeps, of the entries that the seat has seen since it began.
+  pub sent_since : (MayStarve : Call → Type 0) (subscriber ssrc limit : ℕ) (old new : Known Call) (told told' : Option Traffic) (before after : ℕ) (end : SessionEnd)
+      → (k : Keeps MayStarve (outgoing_deed subscriber ssrc way limit 0) limit old new told told' before after end) (added : List (Entry Call)) → new.seen ≡ old.seen ++ added
+      → AreSent (sent_of k.done.steps) (datagrams_given way 0 (words_behind new.number old.seen added)) (unsent_datagram k.rest)
+  sent_since MayStarve subscriber ssrc limit old new told told' before after end k added goes_on =
+      let said : words_behind new.number old.seen added ≡ said_of k.done.steps =
+      words_since reply_after (Refused NoMemory) new.number old.number old.seen new.seen added (said_of k.done.steps) k.done.seat.2 goes_on k.done.words in
+      subst (λ (l : List Datagram). AreSent (sent_of k.done.steps) l (unsent_datagram k.rest)) (ap (all_given way 0) (sym said) ∙ words_only way 0 old.seen new.number added)
+      (all_sent way 0 (outgoing_deed subscriber ssrc way limit 0) k.done.steps k.rest [] k.done.leads (deed_owes 0 subscriber ssrc limit))
 
 -- ---- resent packets that go out as they were sent
 

@@ -1,6 +1,6 @@
 -- The words of a seat in a history that grows.
 use Rattle.std.proofs.Common.{◌≡◌, ℕ, suc, length, Bool, true, false, cond, eqb, List, [], ◌∷◌, ◌++◌, refl, ap, sym, ◌∙◌, append-nil, eq-eqb, append_assoc}
-use Rattle.std.proofs.lemmas.List.{append_cancel_right}
+use Rattle.std.proofs.lemmas.List.{append_cancel_left, append_cancel_right}
 use mathlib.Core.List.{IsPrefix}
 use Rattle.turn_lock.specs.declared.history.Entry.{Entry}
 use Rattle.turn_lock.specs.History.{own_of}
@@ -62,3 +62,11 @@ module _ {C A : Type 0} where
   words_length reply starved before n [] = refl
   words_length reply starved before n (e ∷ h) =
       as_long (eqb e.seat n) (word_at reply starved before e) e (words_from reply starved (before ++ e ∷ []) n h) (own_of n h) (words_length reply starved (before ++ e ∷ []) n h)
+
+module _ {C A : Type 0} where
+  -- the words that a seat has more are those of the entries behind what it had seen
+  pub words_since : (reply : List (Entry C) → C → A) (starved : A) (n m : ℕ) (seen seen' added : List (Entry C)) (said : List (Word C A)) → n ≡ m → seen' ≡ seen ++ added
+      → words_from reply starved [] n seen' ≡ words_from reply starved [] m seen ++ said → words_from reply starved seen n added ≡ said
+  words_since reply starved n m seen seen' added said same goes_on more =
+      append_cancel_left (words_from reply starved [] n seen) (words_from reply starved seen n added) said
+      (sym (words_append reply starved [] n seen added) ∙ (sym (ap (words_from reply starved [] n) goes_on) ∙ (more ∙ ap (λ (k : ℕ). words_from reply starved [] k seen ++ said) (sym same))))

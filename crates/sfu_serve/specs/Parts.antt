@@ -26,6 +26,10 @@ reply_after history call = reply_of (entries_of history) call
 abbrev pub words_of : ℕ → List (Entry Call) → List (Word Call Answer)
 words_of n history = words.words_of reply_after (Refused NoMemory) n history
 
+-- the same of the entries that a history has behind `before`
+abbrev pub words_behind : ℕ → List (Entry Call) → List (Entry Call) → List (Word Call Answer)
+words_behind n before added = words.words_from reply_after (Refused NoMemory) before n added
+
 -- Each subscriber was sent what it should be, by this history.
 pub record HasHeadline (history : List (Entry Call)) : Type 0 where
   pub headline : Headline (accepted (entries_of history))

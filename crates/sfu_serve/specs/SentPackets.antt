@@ -3,11 +3,12 @@ use Rattle.std.specs.Prelude.{◌≡◌, ℕ, List, ◌++◌, Option, Some}
 use Rattle.sfu_base.specs.Links.{Traffic}
 use Rattle.sfu_base.specs.declared.call.Call.{Call}
 use Rattle.turn_lock.specs.declared.history.Entry.{Entry}
+use Rattle.turn_lock.specs.Known.{Known}
 use Rattle.session_steps.specs.Deeds.{sent_of}
 use Rattle.sfu_serve.specs.declared.ends.SessionEnd.{SessionEnd}
 use Rattle.rtx_stream.specs.declared.retransmission.Rtx.{Rtx}
 use Rattle.session_steps.specs.Sessions.{subscriber_deed, rtx_deed}
-use Rattle.sfu_serve.specs.Parts.{words_of}
+use Rattle.sfu_serve.specs.Parts.{Keeps, words_behind, words_of}
 use Rattle.sfu_serve.specs.Runs.{IsSession}
 use Rattle.sfu_serve.specs.Packets.{AreSent, datagrams_given, packets_given, unsent, unsent_datagram}
 
@@ -27,3 +28,17 @@ RtxSessionsSendWhatTheyWereGiven = (subscriber ssrc : ℕ) (rtx : Rtx) (limit nu
     (told told' : Option Traffic) (before after : ℕ) (end : SessionEnd)
     → (s : IsSession (rtx_deed subscriber ssrc rtx limit) limit number found history told told' before after end)
     → AreSent (sent_of s.steps) (datagrams_given (Some rtx) 0 (words_of number history)) (unsent_datagram s.rest)
+
+-- What a session on a seat and a link kept (`Keeps`), whatever the seat did before: with `added` the entries that the seat has seen since the
+-- session began, what it sent is what takes and resends of the seat gave in them, with the same numbers; in order, but for the datagram that
+-- it was to send next, where its last send failed.
+abbrev pub SendsWhatItWasGiven : (Call → Type 0) → ℕ → ℕ → Rtx → ℕ → Known Call → Known Call → Option Traffic → Option Traffic → ℕ → ℕ → SessionEnd → Type 0
+SendsWhatItWasGiven MayStarve subscriber ssrc rtx limit old new told told' before after end =
+    (k : Keeps MayStarve (rtx_deed subscriber ssrc rtx limit) limit old new told told' before after end) (added : List (Entry Call))
+    → new.seen ≡ old.seen ++ added
+    → AreSent (sent_of k.done.steps) (datagrams_given (Some rtx) 0 (words_behind new.number old.seen added)) (unsent_datagram k.rest)
+
+-- So it is of each such session, where these calls may find no memory.
+abbrev pub RtxSeatsSendWhatTheyWereGiven : (Call → Type 0) → Type 0
+RtxSeatsSendWhatTheyWereGiven MayStarve = (subscriber ssrc : ℕ) (rtx : Rtx) (limit : ℕ) (old new : Known Call) (told told' : Option Traffic)
+    (before after : ℕ) (end : SessionEnd) → SendsWhatItWasGiven MayStarve subscriber ssrc rtx limit old new told told' before after end

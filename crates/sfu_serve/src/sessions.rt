@@ -3,6 +3,7 @@ ghost use Rattle.std.specs.Prelude.{◌≡◌, ◌≢◌, ◌<◌, None};
 ghost use Rattle.session_steps.specs.Sessions.{control_deed, publisher_deed, rtx_deed, subscriber_deed};
 ghost use Rattle.sfu_serve.specs.Parts.{Keeps};
 ghost use Rattle.sfu_serve.specs.Replies.{MayStarve};
+ghost use Rattle.sfu_serve.specs.SentPackets.{SendsWhatItWasGiven};
 
 use crate::driver::{Stage, run_session};
 use crate::ends::SessionEnd;
@@ -87,6 +88,8 @@ pub fn rtx_session<R: Recorder, L: Link, C: Clock, W: Wait + Sync>(
     requires apart { rtx.now.ssrc ≢ ssrc }
     requires payload_type { rtx.now.payload_type < 128 }
     ensures keeps { Keeps (MayStarve R.may_refuse) (rtx_deed subscriber ssrc rtx.now limit) limit
+        seat.old seat.new (L.told link.old) (L.told link.new) (L.faults link.old) (L.faults link.new) result }
+    ensures sends { SendsWhatItWasGiven (MayStarve R.may_refuse) subscriber ssrc rtx.now limit
         seat.old seat.new (L.told link.old) (L.told link.new) (L.faults link.old) (L.faults link.new) result }
     ensures name { L.name link.new ≡ L.name link.old }
 {

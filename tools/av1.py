@@ -3,11 +3,11 @@
 receives of such a stream back to an IVF file. The file has one spatial and one temporal layer and one frame in each temporal unit, as a real-time
 encoder makes it.
 
-usage: bench/serve/av1.py send FILE FROM TO SSRC [TIMES]     at the file's own pace, TIMES times over (1); NACKs are answered
-       bench/serve/av1.py receive PORT FILE                  until none has come for 3 seconds; a temporal unit with a gap is left out
+usage: tools/av1.py send FILE FROM TO SSRC [TIMES]     at the file's own pace, TIMES times over (1); NACKs are answered
+       tools/av1.py receive PORT FILE                  until none has come for 3 seconds; a temporal unit with a gap is left out
 FROM, TO and PORT are ports of 127.0.0.1; SSRC in hex.
 
-example: bench/serve/av1.py send av1.ivf 6000 5000 11111111
+example: tools/av1.py send av1.ivf 6000 5000 11111111
 """
 import socket
 import struct

@@ -6,11 +6,11 @@ subscribers' ports are closed now and then, so that the system refuses what is s
 have got numbers without a gap. Prints a row of a table each minute, and ends with 1 where something is wrong. It is no part of the gate. Needs gcc, and
 room on the disk for what layered subscribers get, 1.3 GB in 30 minutes; where no program is named it is built first.
 
-usage: bench/serve/soak.py [--program FILE] [--minutes N] [--rate N] [--seed N] [--folder FOLDER]
+usage: tests/system/soak.py [--program FILE] [--minutes N] [--rate N] [--seed N] [--folder FOLDER]
 
 30 minutes, 100 packets of 200 bytes a second for each track, the seed 1, and a folder of the system's choice for what was received if left out
 
-example: bench/serve/soak.py --minutes 2
+example: tests/system/soak.py --minutes 2
 """
 import argparse
 import random
@@ -23,6 +23,7 @@ import time
 from collections import Counter
 from pathlib import Path
 
+sys.path.insert(0, str(Path(__file__).resolve().parent.parent / 'peers'))
 import common
 from common import (
     LOCAL, PEER, TRACKS, Serving, check, drops, kind_of, memory, milliseconds, prepared, problems, processor_seconds, receivers, room_of, sender, sound,

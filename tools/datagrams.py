@@ -1,12 +1,12 @@
 #!/usr/bin/env python3
 """Sends lines of hex as datagrams, writes datagrams as lines of hex, and talks to a control port.
 
-usage: bench/serve/datagrams.py send FROM TO RATE < FILE     a datagram for each line, so many a second
-       bench/serve/datagrams.py show PORT [SECONDS]          a line for each datagram, until none has come for so many seconds (3)
-       bench/serve/datagrams.py ask FROM TO LINE...          sends each line as it is and writes what is answered
+usage: tools/datagrams.py send FROM TO RATE < FILE     a datagram for each line, so many a second
+       tools/datagrams.py show PORT [SECONDS]          a line for each datagram, until none has come for so many seconds (3)
+       tools/datagrams.py ask FROM TO LINE...          sends each line as it is and writes what is answered
 FROM, TO and PORT are ports of 127.0.0.1.
 
-example: bench/serve/datagrams.py ask 6003 5003 'why 2 5' 'key 1'
+example: tools/datagrams.py ask 6003 5003 'why 2 5' 'key 1'
 """
 import socket
 import sys

@@ -2,9 +2,9 @@
 """together.py: eight actors on one layered room (packets, ticks, takes, resends, aims, joins, leaves), run several times. Each journal, written as one
 script and run by `run`, must get the same replies; each actor's lines must stand in it in their order. Then turns a second with 1, 2, 4 and 8 actors:
 times depend on whatever else the machine does. It ends with an error where a journal is no history. It is no part of the gate.
-usage: bench/together.py [LINES] [RUNS]      12,000 lines an actor and 10 runs if left out
+usage: tests/system/together.py [LINES] [RUNS]      12,000 lines an actor and 10 runs if left out
 
-example: bench/together.py 1000 2
+example: tests/system/together.py 1000 2
 """
 import random
 import subprocess
@@ -15,7 +15,7 @@ from pathlib import Path
 if sys.argv[1:] in (['-h'], ['--help']):
     sys.exit(print(__doc__.strip()))
 
-TOP = Path(__file__).resolve().parent.parent
+TOP = Path(__file__).resolve().parent.parent.parent
 PROGRAM = TOP / 'crates/sfu_program/out/sfu_program'
 LINES = int(sys.argv[1]) if len(sys.argv) > 1 else 12000
 RUNS = int(sys.argv[2]) if len(sys.argv) > 2 else 10

@@ -2,11 +2,11 @@
 """Writes a script of one layered track (two spatial and two temporal layers, one key frame in 50 temporal units) and its subscribers: so many
 packets of some 220 bytes, after each temporal unit a tick, and a take of each subscriber for each of the unit's packets.
 
-usage: bench/layered_script.py [PACKETS [SUBSCRIBERS [mixed]]]      10,000 packets and one subscriber if left out
+usage: tools/layered_script.py [PACKETS [SUBSCRIBERS [mixed]]]      10,000 packets and one subscriber if left out
 
 Each subscriber wishes for all layers, or, mixed, for one of the four pairs of a spatial and a temporal layer in turn.
 
-example: bench/layered_script.py 600 2 mixed | ./sfu run | tail -1
+example: tools/layered_script.py 600 2 mixed | ./sfu run | tail -1
 """
 import sys
 

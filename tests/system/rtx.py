@@ -5,11 +5,11 @@ dropped, resent ones too. GStreamer's `rtpjitterbuffer` asks for what is missing
 as right where its picture is, byte for byte, one that the encoder's own decoder made. It ends with 1 where fewer frames came right with resends
 than without, or a session ended early. It is no part of the gate, and what it prints depends on the machine's load.
 
-usage: bench/serve/rtx.py [--program FILE] [--seconds N] [--loss PERCENT]      10 seconds and 3 % if left out
+usage: tests/system/rtx.py [--program FILE] [--seconds N] [--loss PERCENT]      10 seconds and 3 % if left out
 
 Debian's packages: gstreamer1.0-tools gstreamer1.0-plugins-base gstreamer1.0-plugins-good gstreamer1.0-plugins-bad python3-gi gir1.2-gstreamer-1.0
 
-example: bench/serve/rtx.py --seconds 10 --loss 3
+example: tests/system/rtx.py --seconds 10 --loss 3
 """
 import sys
 

@@ -3,11 +3,11 @@
 dependency descriptors, the order of packets, whole frames, selection, outgoing packets and bundles, on Python's lists and whole numbers.
 It shares no code and no text with the program, and keeps everything that ever happened.
 
-usage: bench/simulcast_model.py replies <SCRIPT            the replies, and `line N` on standard error where line N is outside the grammar
-       bench/simulcast_model.py script SEED                a random script: tracks with losses, three bundles, all lines, broken ones
-       bench/simulcast_model.py compare COUNT COMMAND ..   COUNT random scripts through a command that reads a script and writes replies
+usage: tests/models/simulcast_model.py replies <SCRIPT            the replies, and `line N` on standard error where line N is outside the grammar
+       tests/models/simulcast_model.py script SEED                a random script: tracks with losses, three bundles, all lines, broken ones
+       tests/models/simulcast_model.py compare COUNT COMMAND ..   COUNT random scripts through a command that reads a script and writes replies
 
-example: bench/simulcast_model.py replies < examples/simulcast.script
+example: tests/models/simulcast_model.py replies < examples/simulcast.script
 """
 import random
 import re

@@ -4,10 +4,10 @@ that a strict receiver accepts. The streams are a headless Chromium's in five sc
 encoders of ffmpeg, examples/capture/l3t3.pcap, and scripts that are named. Each is recorded as it is, and of what the room makes of it for wishes of
 all layers and of the lowest ones after 1 % and 3 % of its packets were lost for good, always the same ones.
 
-usage: bench/recordings.py [--sfu PROGRAM] [--seconds N] [--no-browser] [--keep FOLDER] [SCRIPT...]
+usage: tests/system/recordings.py [--sfu PROGRAM] [--seconds N] [--no-browser] [--keep FOLDER] [SCRIPT...]
 Chromium's streams last N seconds (10). Prints a row for each file, and ends with 1 where one has a fault. It is no part of the gate.
 
-example: bench/recordings.py --seconds 5 --no-browser examples/layered.script
+example: tests/system/recordings.py --seconds 5 --no-browser examples/layered.script
 """
 import argparse
 import importlib.util
@@ -20,7 +20,7 @@ import sys
 import tempfile
 import time
 
-TOP = os.path.dirname(os.path.dirname(os.path.abspath(__file__)))
+TOP = os.path.dirname(os.path.dirname(os.path.dirname(os.path.abspath(__file__))))
 SSRC, ID, HOLD = 0x11111111, 4, 100
 ENCODERS = {'libaom-av1': '-usage realtime -cpu-used 8 -lag-in-frames 0 -g 30', 'libsvtav1': '-preset 10 -g 30 -svtav1-params pred-struct=1'}
 WISHES = {'all': (1, 3, 7), 'lowest': (2, 0, 0)}        # a subscriber's number, spatial and temporal layer
@@ -34,7 +34,7 @@ def part(name, path):
     return module
 
 
-av1, browser = part('av1', 'bench/serve/av1.py'), part('browser', 'examples/browser/test.py')
+av1, browser = part('av1', 'tools/av1.py'), part('browser', 'examples/browser/test.py')
 
 
 def what_is_missing(no_browser):

@@ -2,9 +2,9 @@
 """What `run` does at pipes of the system. Where who reads the replies goes away it ends with status 4, whatever SIGPIPE did before; where a pipe is
 non-blocking and isn't ready, it waits for it, and all replies come. It ends with 1 where that isn't so, takes some seconds, and is no part of the gate.
 
-usage: bench/pipe.py [PROGRAM]      crates/sfu_program/out/sfu_program if left out
+usage: tests/system/pipe.py [PROGRAM]      crates/sfu_program/out/sfu_program if left out
 
-example: bench/pipe.py
+example: tests/system/pipe.py
 """
 import os
 import subprocess
@@ -20,7 +20,7 @@ LINES = 20000       # of a script whose replies don't fit into a pipe
 REPLY = b'refused nosubscriber\n'
 TIMES = 5
 
-program = sys.argv[1] if len(sys.argv) > 1 else Path(__file__).resolve().parent.parent / 'crates/sfu_program/out/sfu_program'
+program = sys.argv[1] if len(sys.argv) > 1 else Path(__file__).resolve().parent.parent.parent / 'crates/sfu_program/out/sfu_program'
 wrong = 0
 
 

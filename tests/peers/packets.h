@@ -1,4 +1,4 @@
-// The packets of the benches over sockets, and the clock and sockets that they go by. Each packet ends with BODY bytes that say which one it is and
+// The packets of the tests and benches over sockets, and the clock and sockets that they go by. Each packet ends with BODY bytes that say which one it is and
 // when it was first sent, so that a receiver can tell whether they came as they went, and how long they took.
 #ifndef PACKETS_H
 #define PACKETS_H
@@ -118,7 +118,7 @@ static inline uint64_t within_unit(uint64_t place) {
 }
 
 // A packet of a layered track of two spatial and two temporal layers (RTP Payload Format For AV1, Appendix A), in the order of
-// bench/layered_script.py. One temporal unit in 50 is a key unit, of 3 and 2 packets; the others are of 1 and 2.
+// tools/layered_script.py. One temporal unit in 50 is a key unit, of 3 and 2 packets; the others are of 1 and 2.
 static inline void make_layered(uint8_t *packet, size_t count, uint64_t place, uint32_t ssrc, uint64_t moment) {
   // The bits of a key descriptor behind the frame number: the structure.
   static const uint8_t structure[] = {0x80, 0x03, 0x18, 0x7F, 0xAF, 0xAC, 0x4A, 0x0A, 0x04, 0x04, 0xD1,

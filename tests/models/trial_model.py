@@ -2,9 +2,9 @@
 """trial_model: what `sfu trial FRAMES START LOSS` has to write, worked out apart from the program: from the rules of the stream, of the order of
 packets, of whole frames and of selection, on lists and sets of plain numbers, without a packet's bytes. It shares no code and no text with it.
 
-usage: bench/trial_model.py FRAMES START LOSS
+usage: tests/models/trial_model.py FRAMES START LOSS
 
-example: bench/trial_model.py 1000 7 5
+example: tests/models/trial_model.py 1000 7 5
 """
 import sys
 

@@ -1,5 +1,6 @@
-"""What the benches over sockets of 127.0.0.1 share: programs that are started and ended, a room behind `serve` with one port for each role, and what
-the system tells of ports and processes. `run.py`, `soak.py` and `cascade.py` read it; it does nothing by itself. Needs gcc."""
+"""What the tests and benches over sockets of 127.0.0.1 share: programs that are started and ended, a room behind `serve` with one port for each role,
+and what the system knows of ports and processes. `tests/system/serve.py`, `tests/system/soak.py` and the scripts of `bench/serve` import it; it does
+nothing by itself. Needs gcc."""
 import atexit
 import json
 import os

@@ -1,0 +1,3 @@
+module zoftemar.example/rate
+
+go 1.19

@@ -1,0 +1,3 @@
+module zoftemar.example/layered
+
+go 1.19
