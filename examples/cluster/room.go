@@ -1,7 +1,7 @@
 package main
 
 /*
-#cgo CFLAGS: -I${SRCDIR}/../c
+#cgo CFLAGS: -I${SRCDIR}/../../libzoftemar
 #cgo LDFLAGS: ${SRCDIR}/../../crates/room_c/out/libroom_c.a
 #include "zoftemar.h"
 #include "heap.c"
