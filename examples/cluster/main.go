@@ -47,9 +47,9 @@ func (w words) number(name string) (n int) {
 }
 
 // A call that answers with JSON, or with an error that a page can show. Pages of other servers are refused.
-func serve(path string, do func(words, string) (interface{}, error)) {
+func serve(method, path string, do func(words, string) (interface{}, error)) {
 	http.HandleFunc(path, func(w http.ResponseWriter, r *http.Request) {
-		if origin := r.Header.Get("Origin"); origin != "" && !strings.HasSuffix(origin, "://"+r.Host) {
+		if origin := r.Header.Get("Origin"); r.Method != method || origin != "" && !strings.HasSuffix(origin, "://"+r.Host) {
 			http.Error(w, "this is for pages of this server", http.StatusForbidden)
 			return
 		}
@@ -165,12 +165,12 @@ func main() {
 		os.Exit(0)
 	}()
 	startBrowsers()
-	serve("/tracks", func(words, string) (interface{}, error) { return conference(), nil })
-	serve("/figures", figures)
-	serve("/rtp/publish", publishRTP)
-	serve("/rtp/play", playRTP)
-	serve("/browser/publish", publishBrowser)
-	serve("/browser/play", playBrowser)
+	serve("GET", "/tracks", func(words, string) (interface{}, error) { return conference(), nil })
+	serve("GET", "/figures", figures)
+	serve("POST", "/rtp/publish", publishRTP)
+	serve("POST", "/rtp/play", playRTP)
+	serve("POST", "/browser/publish", publishBrowser)
+	serve("POST", "/browser/play", playBrowser)
 	http.Handle("/", http.FileServer(http.Dir("pages")))
 	for _, shared := range []string{"/shared.js", "/style.css"} {
 		http.Handle(shared, http.FileServer(http.Dir("../browser/pages")))

@@ -3,6 +3,7 @@ package main
 import (
 	"encoding/json"
 	"log"
+	"math"
 	"os"
 	"runtime"
 	"sort"
@@ -75,7 +76,8 @@ func subscribe(subject string, handler nats.MsgHandler) {
 }
 
 func announce(gone bool) {
-	a := announcement{Node: me, Pages: pages(), Load: load, Gone: gone, Tracks: []offer{}}
+	a := announcement{Node: me, Pages: pages(), Gone: gone, Tracks: []offer{}}
+	locked(func() { a.Load = load })
 	for _, t := range all() {
 		t.Lock()
 		if t.ask != nil {
@@ -128,7 +130,7 @@ func live() {
 	for range time.Tick(heartbeat) {
 		was := used
 		used = processorTime()
-		load = float64(used-was) / float64(heartbeat) / float64(runtime.NumCPU())
+		locked(func() { load = float64(used-was) / float64(heartbeat) / float64(runtime.NumCPU()) })
 		announce(false)
 	}
 }
@@ -155,7 +157,7 @@ func nodesWith(name string, level int, avoid string) (found []string) {
 	for node, m := range members {
 		for _, o := range m.Tracks {
 			if o.Name == name && o.Level <= level && o.Room {
-				rank[node] = float64(o.Level) + min(m.Load, 0.99)
+				rank[node] = float64(o.Level) + math.Min(m.Load, 0.99)
 				if node == avoid {
 					rank[node] += 100
 				}
@@ -165,13 +167,6 @@ func nodesWith(name string, level int, avoid string) (found []string) {
 	}
 	sort.Slice(found, func(i, j int) bool { return rank[found[i]] < rank[found[j]] })
 	return
-}
-
-func min(a, b float64) float64 {
-	if a < b {
-		return a
-	}
-	return b
 }
 
 // The tracks of the conference: those of this node, and those that others announce as published there.

@@ -11,6 +11,7 @@ the namespaces zc1 to zc4, and takes three minutes.
 example: examples/cluster/test.py --players 40
 """
 import argparse
+import base64
 import importlib.util
 import json
 import os
@@ -397,7 +398,7 @@ def silent(nodes, watch, fresh):
     sh(f'kill -STOP {sh("ip netns pids zc%d" % still.n).split()[0]}')
     begin = time.time()
     try:
-        urllib.request.urlopen(f'{other.at}/rtp/play?track={name}&at={NET}.254:9', timeout=5)
+        urllib.request.urlopen(f'{other.at}/rtp/play?track={name}&at={NET}.254:9', b'', timeout=5)
         complain('a track of a node that stands still is played')
     except urllib.error.HTTPError as fault:
         figure('a request that nobody answers: an error after', f'{round(1000 * (time.time() - begin))} ms: {fault.read().decode().strip()}')
@@ -440,7 +441,9 @@ def browsers():
             raise
         first = [ms for page in pages for ms in page.run('[...tiles.values()].map(tile => tile.first)')]
         figure('four browsers: from a request to the first picture, p50, most', f'{part(first, 0.5)}, {max(first)} ms')
-        pages[0].shoot(f'{out}/browsers.png')
+        picture = pages[0].call('Page.captureScreenshot', format='png', clip={'x': 0, 'y': 0, 'width': 1100, 'height': 360, 'scale': 1})
+        with open(f'{out}/browsers.png', 'wb') as file:
+            file.write(base64.b64decode(picture['data']))
         nodes[2].process.end(signal.SIGKILL)
         rest = [page for n, page in enumerate(pages) if n % 3 != 2]
         took = until('the page of a killed node is gone', 8, lambda: all(len(shown(page)) == 2 for page in rest))

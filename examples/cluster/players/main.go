@@ -37,9 +37,11 @@ func must(err error) {
 func number(text string) int { n, err := strconv.Atoi(text); must(err); return n }
 
 // Calls a node, and reads its answer, which is JSON or an error in words.
-func call(node, path string, words url.Values, answer interface{}) error {
+func call(method, node, path string, words url.Values, answer interface{}) error {
 	client := http.Client{Timeout: 5 * time.Second}
-	reply, err := client.Get(node + path + "?" + words.Encode())
+	asks, err := http.NewRequest(method, node+path+"?"+words.Encode(), nil)
+	must(err)
+	reply, err := client.Do(asks)
 	if err != nil {
 		return err
 	}

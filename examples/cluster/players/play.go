@@ -82,7 +82,7 @@ func (v *visit) stay(stop <-chan struct{}) {
 		Name string
 		ID   uint8
 	}
-	if call(v.Node, "/tracks", nil, &tracks) != nil || len(tracks) == 0 {
+	if call("GET", v.Node, "/tracks", nil, &tracks) != nil || len(tracks) == 0 {
 		return
 	}
 	t := tracks[rand.Intn(len(tracks))]
@@ -96,7 +96,7 @@ func (v *visit) stay(stop <-chan struct{}) {
 	v.Track, v.ID, v.Asked = t.Name, t.ID, now()
 	var answer struct{ At string }
 	words := url.Values{"track": {t.Name}, "at": {conn.LocalAddr().String()}, "spatial": {fmt.Sprint(v.Spatial)}, "temporal": {fmt.Sprint(v.Temporal)}}
-	if fault := call(v.Node, "/rtp/play", words, &answer); fault != nil {
+	if fault := call("POST", v.Node, "/rtp/play", words, &answer); fault != nil {
 		v.Why, v.Ended = fault.Error(), now()
 		return
 	}

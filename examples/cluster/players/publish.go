@@ -95,7 +95,7 @@ func publish(node, label string, id int, file string) {
 		conn := socket(node)
 		words := url.Values{"at": {conn.LocalAddr().String()}, "label": {label}, "id": {fmt.Sprint(id)}, "payload": {fmt.Sprint(s.packets[0].bytes[1] & 127)}, "ssrc": {fmt.Sprint(s.ssrc)}}
 		var answer struct{ Track, At string }
-		if err := call(node, "/rtp/publish", words, &answer); err != nil {
+		if err := call("POST", node, "/rtp/publish", words, &answer); err != nil {
 			conn.Close()
 			continue
 		}
