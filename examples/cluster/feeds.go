@@ -56,7 +56,7 @@ func (t *track) tell() {
 	t.news = make(chan struct{})
 }
 
-// Keeps a feed of the track as long as anybody watches it, and ten seconds more, or until its publisher's node has gone.
+// Keeps a feed of the track as long as anybody watches it, and ten seconds more, or until it isn't published any more.
 func (t *track) keep() {
 	for retry := time.Now(); ; {
 		t.Lock()
@@ -65,7 +65,7 @@ func (t *track) keep() {
 		ended := t.ended
 		t.Unlock()
 		switch {
-		case ended || link == nil && !originIsHere(t.Name):
+		case ended || link == nil && !isPublished(t.Name):
 			remove(t)
 			t.close()
 			if link != nil {

@@ -35,8 +35,6 @@ func must(err error) {
 	}
 }
 
-func pages() string { return fmt.Sprintf("http://%s:%d", *address, *web) }
-
 // What came with a request after its question mark.
 type words struct{ *http.Request }
 
@@ -83,47 +81,44 @@ func publishRTP(w words, _ string) (interface{}, error) {
 
 // Sends a track as plain RTP to the address that the player names.
 func playRTP(w words, _ string) (interface{}, error) {
-	probe := newSubscriber(0, 0)
-	probe.waits = true
-	probe.spatial, probe.temporal = uint8(w.number("spatial")), uint8(w.number("temporal"))
-	t, err := subscribeTo(w.text("track"), probe)
+	s := newSubscriber(uint8(w.number("spatial")), uint8(w.number("temporal")))
+	s.waits = true // it stands for the player until the track is here
+	t, err := subscribeTo(w.text("track"), s)
 	if err != nil {
 		return nil, err
 	}
-	defer t.leave(probe)
-	return t.linkTo(w.text("at"), probe.spatial, probe.temporal, "")
+	defer t.leave(s)
+	return t.linkTo(w.text("at"), s.spatial, s.temporal, "")
 }
 
-type feedFigures struct {
-	Track, Node    string // the node at the other end
-	Level          int
-	Packets, Bytes int64
-	Lost           int64
+type feedIn struct {
+	Track, Node string // the node that sends it
+	Level       int
+	Bytes       int64
+}
+
+type feedOut struct {
+	Track, Node          string // the node that it is sent to
+	Packets, Bytes, Lost int64
 }
 
 // What this node does, in numbers.
 func figures(words, string) (interface{}, error) {
-	type trackFigures struct {
-		Name, From  string
-		Level       int
-		Subscribers int
-	}
 	f := struct {
-		Node              string
-		Nodes             []string
-		Processor         int64 // milliseconds
-		Sent              int64 // packets
-		Viewers           int
-		Requests          int64
-		Tracks            []trackFigures
-		FeedsIn, FeedsOut []feedFigures
+		Node      string
+		Nodes     []string
+		Processor int64 // milliseconds
+		Sent      int64 // packets
+		Viewers   int
+		Requests  int64
+		FeedsIn   []feedIn
+		FeedsOut  []feedOut
 	}{Node: me, Processor: processorTime().Milliseconds(), Sent: atomic.LoadInt64(&sent), Requests: atomic.LoadInt64(&requests), Nodes: []string{}}
 	for _, t := range all() {
 		t.Lock()
 		f.Viewers += len(t.subscribers) - t.nodes()
-		f.Tracks = append(f.Tracks, trackFigures{t.Name, t.from, t.level, len(t.subscribers)})
 		if t.link != nil {
-			f.FeedsIn = append(f.FeedsIn, feedFigures{t.Name, t.from, t.level, 0, atomic.LoadInt64(&t.received), 0})
+			f.FeedsIn = append(f.FeedsIn, feedIn{t.Name, t.from, t.level, atomic.LoadInt64(&t.received)})
 		}
 		t.Unlock()
 	}
@@ -133,7 +128,7 @@ func figures(words, string) (interface{}, error) {
 		}
 		for _, l := range links {
 			if l.node != "" {
-				f.FeedsOut = append(f.FeedsOut, feedFigures{l.track.Name, l.node, l.track.level, atomic.LoadInt64(&l.link.packets), atomic.LoadInt64(&l.link.bytes), atomic.LoadInt64(&l.link.lost)})
+				f.FeedsOut = append(f.FeedsOut, feedOut{l.track.Name, l.node, atomic.LoadInt64(&l.link.packets), atomic.LoadInt64(&l.link.bytes), atomic.LoadInt64(&l.link.lost)})
 			}
 		}
 	})
@@ -144,7 +139,7 @@ func figures(words, string) (interface{}, error) {
 func main() {
 	flag.Parse()
 	rand.Seed(time.Now().UnixNano())
-	me = fmt.Sprintf("%s-%04x", strings.ReplaceAll(*name, ".", "-"), rand.Intn(1<<16))
+	me = fmt.Sprintf("%s-%04x", strings.NewReplacer(".", "-", " ", "-", "*", "-", ">", "-").Replace(*name), rand.Intn(1<<16))
 	connectBus()
 	go live()
 	go func() {
@@ -158,6 +153,7 @@ func main() {
 		<-stop
 		announce(true)
 		bus.Flush()
+		bus.Close()
 		for _, t := range all() {
 			t.close()
 		}
@@ -175,6 +171,7 @@ func main() {
 	for _, shared := range []string{"/shared.js", "/style.css"} {
 		http.Handle(shared, http.FileServer(http.Dir("../browser/pages")))
 	}
-	log.Printf("%s: open %s", me, pages())
-	log.Fatal(http.ListenAndServe(fmt.Sprintf("%s:%d", *address, *web), nil))
+	at := fmt.Sprintf("%s:%d", *address, *web)
+	log.Printf("%s: open http://%s", me, at)
+	log.Fatal(http.ListenAndServe(at, nil))
 }

@@ -24,7 +24,6 @@ const (
 // What a node says of itself on the subject `nodes`, every second, and when it has another track.
 type announcement struct {
 	Node   string
-	Pages  string  // the address of its web server
 	Load   float64 // the share of its processors that it uses
 	Tracks []offer
 	Gone   bool // it ends now
@@ -76,7 +75,7 @@ func subscribe(subject string, handler nats.MsgHandler) {
 }
 
 func announce(gone bool) {
-	a := announcement{Node: me, Pages: pages(), Gone: gone, Tracks: []offer{}}
+	a := announcement{Node: me, Gone: gone, Tracks: []offer{}}
 	locked(func() { a.Load = load })
 	for _, t := range all() {
 		t.Lock()
@@ -141,12 +140,19 @@ func processorTime() time.Duration {
 	return time.Duration(u.Utime.Nano() + u.Stime.Nano())
 }
 
-// Whether the node at which a track is published is here.
-func originIsHere(track string) bool {
+// Whether the node at which a track was published is here, and still announces it.
+func isPublished(track string) bool {
 	lock.Lock()
 	defer lock.Unlock()
 	node, _, _ := strings.Cut(track, ".")
-	return members[node] != nil
+	if members[node] != nil {
+		for _, o := range members[node].Tracks {
+			if o.Name == track {
+				return true
+			}
+		}
+	}
+	return false
 }
 
 // Nodes that have a track at this level or above, and may feed one more: fewest hops first, then least load, and last the one that is to be avoided.

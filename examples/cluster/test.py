@@ -33,7 +33,7 @@ TOP = os.path.abspath(f'{HERE}/../..')
 NET, BRIDGE = '10.77.0', 'zcbridge'
 GO = dict(os.environ, GO111MODULE='off', GOPATH='/usr/share/gocode')
 NATS = dict(os.environ, NATS_USER='conference', NATS_PASSWORD='of-this-test')
-GONE, GAP, MENDED, REQUEST = 3000, 2500, 700, 2000   # milliseconds: until a killed node is gone, without packets at a kill, at losses, for a request
+GONE, GAP, MENDED, REQUEST = 3000, 1500, 700, 2000   # milliseconds: until a killed node is gone, without packets at a kill, at losses, for a request
 
 complaints, table = [], []
 
@@ -281,7 +281,7 @@ def conference(asked):
     figure('feeds, and the deepest level', f"{len(edges)}, {max(feed['Level'] for feed in edges.values())}")
     figure('kB a second on an edge of the tree, of one layered track', f'{rates[0]:.0f} to {rates[-1]:.0f}')
 
-    middle = random.choice([node for node in nodes if any(edges[edge]['Node'] == node.name and edge[0][:2] != f'n{node.n}' for edge in edges)])
+    middle = random.choice([node for node in nodes if any(edges[edge]['Node'] == node.name and edge[0][:2] != f'n{node.n}' for edge in edges)] or nodes)
     others = [node for node in nodes if node is not middle]
     watch.mark(f'node {middle.n} is killed')
     kill, name = time.time(), middle.name
@@ -323,6 +323,16 @@ def conference(asked):
     took = until('a new track after NATS', 6, lambda: all('fresh' in node.tracks() for node in nodes))
     figure('a new track is seen everywhere after NATS came back', f'{took} ms')
 
+    last = Players('last', 2, 0, others[0].tracks()['fresh'], [node for node in nodes if node not in (others[0],)])
+    time.sleep(3)
+    left = time.time()
+    fresh.end()
+    time.sleep(3)
+    ended = [visit['Ended'] - 1000 * left for visit in last.end() if visit['Packets'] and visit['Why'] == 'bye']
+    figure('a track ends for players elsewhere, after its publisher was killed', f'{max(ended, default=0):.0f} ms')
+    if not ended or max(ended) > GONE:
+        complain('a track without a publisher goes on')
+    fresh = publish(others[0], 'fresh')
     visits += asking(nodes, watch)
     silent(nodes, watch, fresh)
     watch.go = False
@@ -389,8 +399,6 @@ def asking(nodes, watch):
 
 def silent(nodes, watch, fresh):
     """A node that has the only source of a track stands still: a player is told so, and nobody asks on and on."""
-    still, other = nodes[0], nodes[1]
-    time.sleep(1)
     still = next(node for node in nodes if node.tracks().get('fresh', '').startswith(node.name))
     other = next(node for node in nodes if node is not still)
     watch.mark(f'node {still.n} stands still')
@@ -517,6 +525,9 @@ def main():
     with open(f'{out}/measured.md', 'w') as file:
         file.writelines([f'Players: {asked.players}. {time.strftime("%Y-%m-%d %H:%M")}.\n\n| What | Measured |\n|---|---|\n'] +
                         [f'| {what} | {value} |\n' for what, value in table] + [f'\nComplaint: {text}\n' for text in complaints])
+    if not complaints:
+        for name in ('alone', 'players', 'lossy', 'third', 'last'):
+            shutil.rmtree(f'{out}/{name}', ignore_errors=True)                   # gigabytes
     print('no complaints' if not complaints else f'{len(complaints)} complaints')
     sys.exit(1 if complaints else 0)
 

@@ -3,6 +3,7 @@ package main
 import (
 	"bufio"
 	"encoding/binary"
+	"encoding/hex"
 	"encoding/json"
 	"fmt"
 	"io"
@@ -122,7 +123,8 @@ func (v *visit) packet(bytes []byte) {
 	}
 	v.wait[n] = append([]byte(nil), bytes...)
 	for ; v.wait[v.next] != nil; v.next++ {
-		fmt.Fprintf(v.file, "%x\n", v.wait[v.next])
+		hex.NewEncoder(v.file).Write(v.wait[v.next])
+		v.file.WriteByte('\n')
 		delete(v.wait, v.next)
 		if gap := time.Since(v.last).Milliseconds(); gap > 150 {
 			v.Gaps = append(v.Gaps, [2]int64{now(), gap})
