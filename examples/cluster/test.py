@@ -268,6 +268,7 @@ def conference(asked):
     publishers = [publish(node, f'p{node.n}', *(('vp8', 0) if node.n == 3 else ('l3t3', 4))) for node in nodes]
     until('four tracks everywhere', 10, lambda: all(len(node.tracks()) == 4 for node in nodes))
 
+    visits += wishes(nodes[0], nodes[1])
     watch.mark(f'{asked.players} players come')
     players = Players('players', asked.players, 8, '-', nodes)
     time.sleep(12)
@@ -332,9 +333,8 @@ def conference(asked):
     figure('a track ends for players elsewhere, after its publisher was killed', f'{max(ended, default=0):.0f} ms')
     if not ended or max(ended) > GONE:
         complain('a track without a publisher goes on')
-    fresh = publish(others[0], 'fresh')
-    visits += asking(nodes, watch)
-    silent(nodes, watch, fresh)
+    visits += asking(others[1], nodes, watch)
+    silent(others[0], others[1], watch)
     watch.go = False
     visits += (new := players.end()) + lossy
     for process in publishers:
@@ -362,20 +362,41 @@ def conference(asked):
     draw(watch)
 
 
-def asking(nodes, watch):
-    """Two nodes are cut from the one that sends both of them a track: each asks the other, then they find a third one."""
-    figures = see(nodes)
-    for source in nodes:
-        track = next((name for label, name in source.tracks().items() if label == f'p{source.n}' and label != 'p3'), None)
-        cut = [node for node in nodes if any(feed['Track'] == track and feed['Node'] == source.name for feed in figures[node.n]['FeedsIn'] or [])]
-        if len(cut) == 2:
-            break
-    else:
-        complain('no node sends a track to two others')
-        return []
-    third = Players('third', 2, 0, track, [node for node in nodes if node not in (source, *cut)])   # so that the fourth node has it, from one of the two
-    time.sleep(3)
-    watch.mark(f'nodes {cut[0].n} and {cut[1].n} are cut from node {source.n}')
+def wishes(source, node):
+    """A feed carries the layers that somebody behind it wishes for, and no more when they have gone."""
+    def rate():
+        def received():
+            return (node.ask('/figures')['FeedsIn'] or [{'Bytes': 0}])[0]['Bytes']
+        time.sleep(2)
+        before = received()
+        time.sleep(3)
+        return (received() - before) / 3000
+    track = source.tracks()['p1']
+    low = Players('low', 1, 0, f'{track}/0/0', [node])
+    rates = [rate()]
+    high = Players('high', 1, 0, f'{track}/2/2', [node])
+    rates.append(rate())
+    visits = high.end()
+    rates.append(rate())
+    figure('kB a second on an edge: a viewer of the lowest layers, beside it one of all, the first alone', ', '.join(f'{kb:.0f}' for kb in rates))
+    if not 1.5 * max(rates[0], rates[2]) < rates[1]:
+        complain(f'a feed does not follow the wishes behind it: {rates}')
+    return visits + low.end()
+
+
+def asking(source, nodes, watch):
+    """Two nodes are cut from the one that sends both of them a track: each asks the other, then they find the fourth, which finds another way itself."""
+    publisher = publish(source, 'cut')
+    until('a track to cut', 8, lambda: all('cut' in node.tracks() for node in nodes))
+    track, rest = source.tracks()['cut'], [node for node in nodes if node is not source]
+
+    def feeds():
+        return {node: feed['Node'] for node in rest for feed in node.ask('/figures')['FeedsIn'] or [] if feed['Track'] == track}
+    players = [Players(f'cut{node.n}', 1, 0, track, [node]) for node in rest]
+    until('the track at all nodes', 8, lambda: len(feeds()) == 3)
+    time.sleep(1)
+    cut = [node for node, sender in feeds().items() if sender == source.name]
+    watch.mark(f'nodes {" and ".join(str(node.n) for node in cut)} are cut from node {source.n}')
 
     def change(word):
         for node in cut:
@@ -385,24 +406,25 @@ def asking(nodes, watch):
     time.sleep(0.5)
 
     def mended():
-        now = see(cut)
-        return all(any(feed['Track'] == track and feed['Node'] != source.name for feed in now[node.n]['FeedsIn'] or []) for node in cut)
+        now = feeds()
+        return all(now.get(node, source.name) != source.name for node in cut)
     try:
-        figure('two nodes that lost one source have another one', f"{500 + until('another source', 12, mended)} ms")
+        figure(f'{len(cut)} nodes that lost one source have another one', f"{500 + until('another source', 12, mended)} ms")
     except RuntimeError as fault:
         complain(fault)
     tree(nodes, see(nodes))
-    figure('requests that both made for it', sum(node.ask('/figures')['Requests'] for node in cut) - requests)
+    figure('requests that they made for it', sum(node.ask('/figures')['Requests'] for node in cut) - requests)
     change('del')
-    return third.end()
+    publisher.end()
+    return [visit for some in players for visit in some.end()]
 
 
-def silent(nodes, watch, fresh):
+def silent(still, other, watch):
     """A node that has the only source of a track stands still: a player is told so, and nobody asks on and on."""
-    still = next(node for node in nodes if node.tracks().get('fresh', '').startswith(node.name))
-    other = next(node for node in nodes if node is not still)
+    publisher = publish(still, 'still')
+    until('a track at one node', 8, lambda: 'still' in other.tracks())
     watch.mark(f'node {still.n} stands still')
-    name, requests = other.tracks()['fresh'], other.ask('/figures')['Requests']
+    name, requests = other.tracks()['still'], other.ask('/figures')['Requests']
     sh(f'kill -STOP {sh("ip netns pids zc%d" % still.n).split()[0]}')
     begin = time.time()
     try:
@@ -417,8 +439,7 @@ def silent(nodes, watch, fresh):
         complain(f'{asks} requests for a node that stands still')
     sh(f'kill -CONT {sh("ip netns pids zc%d" % still.n).split()[0]}')
     figure('a node that goes on is there again', f"{until('a node is there again', 6, lambda: other.knows(still.name))} ms")
-    time.sleep(2)
-    fresh.end()
+    publisher.end()
 
 
 # ---- browsers
@@ -526,8 +547,8 @@ def main():
         file.writelines([f'Players: {asked.players}. {time.strftime("%Y-%m-%d %H:%M")}.\n\n| What | Measured |\n|---|---|\n'] +
                         [f'| {what} | {value} |\n' for what, value in table] + [f'\nComplaint: {text}\n' for text in complaints])
     if not complaints:
-        for name in ('alone', 'players', 'lossy', 'third', 'last'):
-            shutil.rmtree(f'{out}/{name}', ignore_errors=True)                   # gigabytes
+        for folder in filter(os.path.isdir, (f'{out}/{name}' for name in os.listdir(out))):
+            shutil.rmtree(folder)                                                # players' packets: gigabytes
     print('no complaints' if not complaints else f'{len(complaints)} complaints')
     sys.exit(1 if complaints else 0)
 

@@ -1,9 +1,10 @@
 // players is the load of test.py: publishers that play a stream in a loop, and players that come at random nodes and write down what they get.
 //
-//	players publish NODE LABEL ID FILE      FILE has a line for each packet: the millisecond, and its bytes in hex
-//	players play FOLDER COUNT SECONDS TRACK NODE..   COUNT players come within SECONDS, to any track where TRACK is -; they stay until the standard input ends
+//	players publish NODE LABEL ID FILE
+//	players play FOLDER COUNT SECONDS TRACK NODE..
 //
-// A NODE is the address of its pages.
+// A NODE is the address of its pages. FILE has a line for each packet: its millisecond, and its bytes in hex. COUNT players come within SECONDS, and stay
+// until the standard input ends. TRACK is a name, or one with a wish as in NAME/2/1; with - they come to any track, with any wish.
 package main
 
 import (

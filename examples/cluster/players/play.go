@@ -11,6 +11,7 @@ import (
 	"net"
 	"net/url"
 	"os"
+	"strings"
 	"sync"
 	"time"
 
@@ -60,7 +61,11 @@ func play(folder string, count, seconds int, track string, nodes []string) {
 				case <-time.After(wait):
 				}
 				wait = 300 * time.Millisecond
-				v := &visit{Node: nodes[rand.Intn(len(nodes))], Track: track, Spatial: rand.Intn(3), Temporal: rand.Intn(3), wait: map[uint16][]byte{}}
+				v := &visit{Node: nodes[rand.Intn(len(nodes))], Spatial: rand.Intn(3), Temporal: rand.Intn(3), wait: map[uint16][]byte{}}
+				words := strings.Split(track, "/") // the track, and perhaps the wish
+				if v.Track = words[0]; len(words) == 3 {
+					v.Spatial, v.Temporal = number(words[1]), number(words[2])
+				}
 				v.File = fmt.Sprintf("%s/%d.%d", folder, n, turn)
 				v.stay(stop)
 				if v.Asked > 0 {
