@@ -153,6 +153,7 @@ func main() {
 		<-stop
 		announce(true)
 		bus.Flush()
+		bus.SetClosedHandler(nil)
 		bus.Close()
 		for _, t := range all() {
 			t.close()

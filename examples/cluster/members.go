@@ -54,9 +54,15 @@ var (
 // Connects to NATS, and comes back to it however long it is away. What is said meanwhile is lost: heartbeats and requests of the past are of no use.
 func connectBus() {
 	var err error
-	options := []nats.Option{nats.Name(me), nats.MaxReconnects(-1), nats.RetryOnFailedConnect(true), nats.ReconnectWait(250 * time.Millisecond), nats.ReconnectJitter(0, 0),
-		nats.ReconnectBufSize(-1), nats.ReconnectHandler(func(*nats.Conn) { locked(func() { back = time.Now() }); announce(false) }),
-		nats.DisconnectErrHandler(func(_ *nats.Conn, err error) { log.Print("NATS is away: ", err) })}
+	options := []nats.Option{nats.Name(me), nats.MaxReconnects(-1), nats.RetryOnFailedConnect(true), nats.ReconnectWait(250 * time.Millisecond),
+		nats.ReconnectJitter(0, 0), nats.ReconnectBufSize(-1),
+		nats.DisconnectErrHandler(func(_ *nats.Conn, err error) { log.Print("NATS is away: ", err) }),
+		nats.ClosedHandler(func(bus *nats.Conn) { log.Fatal("NATS doesn't take this node: ", bus.LastError()) }),
+		nats.ReconnectHandler(func(*nats.Conn) {
+			log.Print("NATS is here")
+			locked(func() { back = time.Now() })
+			announce(false)
+		})}
 	if token := os.Getenv("NATS_TOKEN"); token != "" {
 		options = append(options, nats.Token(token))
 	} else if user := os.Getenv("NATS_USER"); user != "" {
@@ -64,6 +70,9 @@ func connectBus() {
 	}
 	bus, err = nats.Connect(*server, options...)
 	must(err)
+	if !bus.IsConnected() {
+		log.Printf("NATS isn't at %s: trying again", *server)
+	}
 	subscribe("nodes", hearNode)
 	subscribe("feed."+me, give)
 	subscribe("wish."+me, hearWish)
