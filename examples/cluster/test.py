@@ -33,7 +33,7 @@ TOP = os.path.abspath(f'{HERE}/../..')
 NET, BRIDGE = '10.77.0', 'zcbridge'
 GO = dict(os.environ, GO111MODULE='off', GOPATH='/usr/share/gocode')
 NATS = dict(os.environ, NATS_USER='conference', NATS_PASSWORD='of-this-test')
-GONE, GAP, MENDED, REQUEST = 3000, 1500, 700, 2000   # milliseconds: until a killed node is gone, without packets at a kill, at losses, for a request
+GONE, GAP, MENDED, REQUEST = 3000, 2500, 700, 2000   # milliseconds: until a killed node is gone, without packets at a kill, at losses, for a request
 
 complaints, table = [], []
 
