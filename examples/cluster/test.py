@@ -305,7 +305,7 @@ def conference(asked):
     lost = [feed for feed in middle.ask('/figures')['FeedsOut'] or []]
     lossy = lossy.end()
     share = sum(feed['Lost'] for feed in lost) / max(1, sum(feed['Lost'] + feed['Packets'] for feed in lost))
-    mended = longest([visit for visit in lossy if visit['ID']], loss, loss + 8)
+    mended = longest(lossy, loss, loss + 8)
     figure('lost on feeds of that node; the longest gap of a player behind them', f'{100 * share:.1f} %, {mended} ms')
     if mended > MENDED or not lost:
         complain(f'with {100 * share:.0f} % lost a player waited for {mended} ms')
