@@ -67,7 +67,7 @@ typedef struct zoftemar_room {
 #endif
 
 /* What a call answers. `first` and `second` are named beside each code; `has` is true where `first` is there, but where a meaning of its own
- * stands beside the code. What isn't named is false or 0, also in a refusal. */
+ * is beside the code. What isn't named is false or 0, also in a refusal. */
 typedef struct zoftemar_reply {
     uint32_t code;
     bool has;
@@ -147,11 +147,11 @@ zoftemar_reply zoftemar_tick(zoftemar_room *room, uint32_t seat, uint32_t track,
  * least ZOFTEMAR_NAMES_ROOM. */
 zoftemar_reply zoftemar_missing(zoftemar_room *room, uint32_t seat, uint32_t track, uint16_t *out, size_t count);
 
-/* Whether the track's publisher is to be asked for a key frame (ZOFTEMAR_KEY), by a PLI (RFC 4585, section 6.3.1): a plea stands, or a
+/* Whether the track's publisher is to be asked for a key frame (ZOFTEMAR_KEY), by a PLI (RFC 4585, section 6.3.1): a plea is pending, or a
  * subscriber of it has no decode target. Never of a plain track. */
 zoftemar_reply zoftemar_key_wanted(zoftemar_room *room, uint32_t seat, uint32_t track);
 
-/* Begins a subscriber of a track: what goes out to it has this SSRC and sequence numbers from `first` on. It wishes for at most these
+/* Begins a subscriber of a track: what is sent to it has this SSRC and sequence numbers from `first` on. It wishes for at most these
  * layers, spatial 0 to 3 and temporal 0 to 7 (more is as much as there is); zoftemar_aim changes that from the next frame on. A plain track
  * ignores wishes. */
 zoftemar_reply zoftemar_join(zoftemar_room *room, uint32_t seat, uint32_t subscriber, uint32_t track, uint32_t ssrc, uint16_t first,
@@ -164,7 +164,7 @@ zoftemar_reply zoftemar_leave(zoftemar_room *room, uint32_t seat, uint32_t subsc
 zoftemar_reply zoftemar_take(zoftemar_room *room, uint32_t seat, uint32_t subscriber, uint8_t *out, size_t count);
 zoftemar_reply zoftemar_resend(zoftemar_room *room, uint32_t seat, uint32_t subscriber, uint16_t number, uint8_t *out, size_t count);
 
-/* A subscriber asks for a key frame (RFC 4585, section 6.3.1). The plea stands until the next one came whole. ZOFTEMAR_PLAIN of a plain
+/* A subscriber asks for a key frame (RFC 4585, section 6.3.1). The plea is pending until the next one came whole. ZOFTEMAR_PLAIN of a plain
  * track. */
 zoftemar_reply zoftemar_plead(zoftemar_room *room, uint32_t seat, uint32_t subscriber);
 

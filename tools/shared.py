@@ -423,7 +423,7 @@ def in_words(verdict):
         return f'withheld: its target closed at frame {rest[0]}, since the chain needs frame {rest[1]}, which was not passed, and nothing has opened one since'
     if kind == 'unopened':
         return f'withheld: no target has been open since frame {rest[0]}; a key frame or a switch opens one'
-    return f'no whole frame has this number: packets of it were lost, came too late, did not read, or never were (frames {rest[0]} and {rest[1]} stand beside it)'
+    return f'no whole frame has this number: packets of it were lost, came too late, did not read, or never were (the frames next to it are {rest[0]} and {rest[1]})'
 
 
 def path(subscriber, number):

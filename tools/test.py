@@ -82,9 +82,9 @@ with tempfile.TemporaryDirectory() as work:
             print('tools/test.py: no tshark (of Debian), so what Wireshark reads is left out')
         if kind != 'none':
             check = subprocess.run([*shared.program(), 'check', '4'], input=''.join(f'{each.hex()}\n' for each in got).encode(), stdout=subprocess.PIPE, check=False)
-            same(f'{example}: the strict receiver is pleased', (check.returncode, check.stdout[:3]), (0, b'ok '))
+            same(f'{example}: the strict receiver accepts', (check.returncode, check.stdout[:3]), (0, b'ok '))
 
-    # The browser's capture: its script runs, and a strict receiver is pleased by what each subscriber got.
+    # The browser's capture: its script runs, and a strict receiver accepts what each subscriber got.
     with open(f'{work}/browser.script', 'w', encoding='ascii') as file:
         file.write(tool('capture_to_script', f'{EXAMPLES}/capture/l3t3.pcap', '10000001', '--wish', '2,2', '--wish', '0,0', '--hold', '300')[0])
     with open(f'{work}/browser.script', 'rb') as file:
@@ -97,7 +97,7 @@ with tempfile.TemporaryDirectory() as work:
     for subscriber in ('1', '2'):
         got = ''.join(f'{reply[7:]}\n' for call, reply in zip(calls, replies) if call == ['take', subscriber] and reply.startswith('packet '))
         check = subprocess.run([*shared.program(), 'check', '4'], input=got.encode(), stdout=subprocess.PIPE, check=False)
-        same(f'the browser\'s stream: the strict receiver of subscriber {subscriber} is pleased', (check.returncode, check.stdout[:3]), (0, b'ok '))
+        same(f'the browser\'s stream: the strict receiver of subscriber {subscriber} accepts', (check.returncode, check.stdout[:3]), (0, b'ok '))
 
     # rtpdump, as RFC 3550's tools write it: a line of text, 16 bytes, and records of length, packet's length and milliseconds.
     packets = [bytes.fromhex(each) for each in packets_in(f'{EXAMPLES}/layered.script', '1')]

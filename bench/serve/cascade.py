@@ -123,7 +123,7 @@ def tree(percent):
         print(f'  {who}: received {row["received"]}, not sent on {lost - behind}, dropped behind it {behind}; ms p50, p99, p99.9, worst over both hops {times}; '
               f'a strict receiver: {verdict}')
     per_hop = [1e6 * costs[0] / (LEAVES * sent['sent']), 1e6 * sum(costs[1:]) / sum(row['received'] for _, _, _, row, _ in rows)]
-    print(f'  processor, us for a packet that goes out: {per_hop[0]:.2f} at the root, {per_hop[1]:.2f} at the leaves')
+    print(f'  processor, us for an outgoing packet: {per_hop[0]:.2f} at the root, {per_hop[1]:.2f} at the leaves')
     if sent['latest_us'] > 5000:
         print(f'  (the sender itself was up to {sent["latest_us"] / 1000:.1f} ms late)')
 

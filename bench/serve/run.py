@@ -12,7 +12,7 @@ usage: bench/serve/run.py [--program FILE] [--seconds N] [--rate N] [PART...]   
   idle      64 ports at which nothing comes: the processors that they take
   memory    what is resident with 63 subscribers of one layered track, before and behind 4,000 packets to each
   burst     the longest burst, sent back to back, of which the system drops nothing: at one publisher's port of 4, 16 and 64, and at all at once
-  calls     how often the system is called for a packet that goes out; it needs perf, and leave to count (root)
+  calls     system calls for an outgoing packet; it needs perf, and permission to count (root)
 
 tests/system/serve.py has losses, hostile peers and the control port.
 
@@ -88,14 +88,14 @@ CALLS = ['recvfrom', 'sendto', 'epoll_wait', 'write', 'clock_nanosleep', 'sched_
 
 
 def calls():
-    """How often the system is called, and threads are switched, for a packet that goes out."""
+    """System calls and context switches for an outgoing packet."""
     names = [f'syscalls:sys_enter_{name}' for name in CALLS] + ['raw_syscalls:sys_enter', 'context-switches']
     counting = ['perf', 'stat', '-x', ',', '-e', ','.join(names)]
     if shutil.which('perf') is None or subprocess.run(counting + ['true'], capture_output=True).returncode != 0:
         print('calls: perf isn\'t here or may not count: left out')
         return
     seconds = min(options.seconds, 10)
-    print(f'calls of the system for a packet that goes out, {options.rate} come in a second, {seconds} s')
+    print(f'system calls for an outgoing packet, {options.rate} come in a second, {seconds} s')
     print('  track    subscribers  packets out  ' + '  '.join(CALLS) + '  others  switches')
     for kind in ('plain', 'layered'):
         for count in (1, 2, 4):

@@ -49,7 +49,7 @@ func must(err error) {
 
 func locked(do func()) { lock.Lock(); defer lock.Unlock(); do() }
 
-// A browser's page: its connection, and the data channel by which it says its wishes and is told what happens.
+// A browser's page: its connection, and the data channel by which it says its wishes and learns what happens.
 type page struct {
 	pc      *webrtc.PeerConnection
 	channel *webrtc.DataChannel
@@ -107,7 +107,7 @@ func (p *page) answer(offer string, connected func()) (string, error) {
 	return p.pc.LocalDescription().SDP, nil
 }
 
-// One line for the page. A page that doesn't listen isn't told more.
+// One line for the page. A page that doesn't listen gets no more.
 func (p *page) say(format string, words ...interface{}) {
 	if p.channel.BufferedAmount() < 50000 {
 		p.channel.SendText(fmt.Sprintf(format, words...))
@@ -267,8 +267,8 @@ func play(offer string, n, spatial, temporal int) (int, string, error) {
 	return t.number, sdp, err
 }
 
-// Joins once the browser is connected, since what goes out before is lost. The room takes numbers in rising order alone, so nobody else gets
-// one before the room was told of this one.
+// Joins once the browser is connected, since what is sent before is lost. The room takes numbers in rising order alone, so nobody else gets
+// one before the room got this one.
 func (p *player) join(temporal int) {
 	joining.Lock()
 	defer joining.Unlock()

@@ -89,7 +89,7 @@ func (e *end) say(bytes []byte) {
 	}
 }
 
-// Says the packet that an answer left, and tells whether it left one.
+// Sends the packet that a reply left, and returns whether it left one.
 func (e *end) gives(r C.zoftemar_reply) bool {
 	if r.code == C.ZOFTEMAR_PACKET {
 		e.say(out[:r.first])
@@ -103,7 +103,7 @@ func (e *end) packet(bytes []byte) {
 	e.flush()
 }
 
-// What waits for a track's players goes out, and a player whose wish isn't reached pleads for a key frame.
+// What waits for a track's players is sent, and a player whose wish isn't reached pleads for a key frame.
 func (e *end) flush() {
 	for number, p := range players {
 		if p.track == e {

@@ -31,7 +31,7 @@ func (e *end) feedback(bytes []byte) {
 	}
 }
 
-// Does what a line says, and tells the answer.
+// Does what a line says, and returns the reply.
 func call(format string, words ...interface{}) (answer string) {
 	line := fmt.Sprintf(format, words...)
 	alone(func() { answer = text(does(line)) })

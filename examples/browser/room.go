@@ -22,7 +22,7 @@ const (
 	reserved      = 100 // lines of -also may have subscribers up to this number, and tracks above it
 )
 
-// The room is the program `sfu serve`, as below, or the library, which puts what stands in library.go here. Its ports take packets whole, and
+// The room is the program `sfu serve`, as below, or the library, which puts what is in library.go here. Its ports take packets whole, and
 // give them whole: RTP one way, and NACKs and PLIs the other.
 var (
 	start   = map[bool]func(){false: startServe, true: func() { log.Fatal("this was built without -tags library") }}

@@ -142,7 +142,7 @@ def gate(dump, log, *words):
 # ---- relays, which lose packets
 
 class Relay:
-    """Each of two ends is told a port of the relay in place of the other's; what comes to one port goes on from the other one."""
+    """Each of two ends gets a port of the relay in place of the other's; what comes to one port goes on from the other one."""
     all = []
 
     def __init__(self, media):
@@ -254,7 +254,7 @@ def address(mode, port):
 
 
 def direct(browser, mode, seconds):
-    """From one page to the other, with a relay alone between them; tells the longest gap."""
+    """From one page to the other, with a relay alone between them; returns the longest gap."""
     p, q, relay = browser.open(address(mode, WEB)), browser.open(f'http://127.0.0.1:{WEB}/play.html?wait=1'), Relay(1)
     offer = relay.instead(p.run('start().then(() => described(pc))'), 0)
     answer = q.run(f'''(async () => {{

@@ -65,7 +65,7 @@ static void codes(void) {
     IS(blocks == 0 && zoftemar_tick(&room, 0, 1, 0).code == ZOFTEMAR_NO_ROOM);
 }
 
-/* Each allocation fails in turn. What was refused can be done afterwards, and all blocks are given back. */
+/* Each allocation fails in turn. What was refused can be done afterwards, and all blocks are freed. */
 static void memory(void) {
     zoftemar_reply publish, join;
     for (long n = 0;; n++) {

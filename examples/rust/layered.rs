@@ -9,7 +9,7 @@ pub struct Reply { code: u32, has: bool, first: u64, second: u64 }
 const DONE: u32 = 0;
 const PACKET: u32 = 1;
 
-/// `zoftemar_room`: it is moved and never copied, so one handle stands for one room.
+/// `zoftemar_room`: it is moved and never copied, so one handle is one room.
 #[repr(C)]
 pub struct Room { made: bool, at: *mut c_void }
 

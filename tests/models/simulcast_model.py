@@ -476,7 +476,7 @@ class Bundle:
         return len(self.out) - self.drawn
 
     def goes_out(self, leg, b):
-        """Whether the packet goes out, and if it does it is behind the others."""
+        """Whether the packet is forwarded, and if so it is behind the others."""
         value = element(b, self.name)
         d = descriptor_of(value, None)
         stamp = int.from_bytes(b[4:8], 'big')

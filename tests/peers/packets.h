@@ -94,7 +94,7 @@ static inline void put_header(uint8_t *packet, uint64_t place, uint32_t timestam
   put(packet + 8, ssrc, 4);
 }
 
-// The end of a packet of so many bytes: what lies between `from` and the body is 0.
+// The end of a packet of so many bytes: what is between `from` and the body is 0.
 static inline void put_body(uint8_t *packet, size_t from, size_t count, uint64_t place, uint64_t moment) {
   memset(packet + from, 0, count - BODY - from);
   put_pattern(packet + count - BODY, place);
@@ -111,7 +111,7 @@ static inline void make_plain(uint8_t *packet, size_t count, uint64_t place, uin
 // A layered stream comes round after so many packets: a key unit, and then units of another kind.
 enum { KEY_UNIT = 5, UNIT = 3, UNITS = 50, ROUND = KEY_UNIT + (UNITS - 1) * UNIT };
 
-// How many packets of its temporal unit stand before the one at this place.
+// How many packets of its temporal unit come before the one at this place.
 static inline uint64_t within_unit(uint64_t place) {
   uint64_t at = place % ROUND;
   return at < KEY_UNIT ? at : (at - KEY_UNIT) % UNIT;

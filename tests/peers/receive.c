@@ -1,8 +1,8 @@
-// Receives streams of RTP packets at ports of 127.0.0.1 until it is told to end (SIGTERM), judges each packet, and prints a line for each port.
+// Receives streams of RTP packets at ports of 127.0.0.1 until it has to end (SIGTERM), judges each packet, and prints a line for each port.
 // usage: receive NACKED PLIS DUMP PORT:PEER:SSRC...
 //        receive NACKED PLIS DUMP:BYTES PORT:PEER:SSRC...
 // Each NACKED-th new packet is asked for again, as though it were lost (0: none), and must come again with the same bytes. A picture loss indication
-// goes out each PLIS milliseconds (0: none). DUMP is a file for the first 20,000 packets of the first port in hex, one a line; or a folder, with / at the
+// is sent each PLIS milliseconds (0: none). DUMP is a file for the first 20,000 packets of the first port in hex, one a line; or a folder, with / at the
 // end of its name, for all new packets of each port, in a file PORT that is written as they come; or - for none. With BYTES it is a file for the first so
 // many bytes of each of the first port's packets.
 #include "packets.h"

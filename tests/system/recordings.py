@@ -7,7 +7,7 @@ all layers and of the lowest ones after 1 % and 3 % of its packets were lost for
 usage: tests/system/recordings.py [--sfu PROGRAM] [--seconds N] [--no-browser] [--keep FOLDER] [SCRIPT...]
 Chromium's streams last N seconds (10). Prints a row for each file, and ends with 1 where one has a fault. It is no part of the gate.
 
-example: tests/system/recordings.py --seconds 5 --no-browser examples/layered.script
+example: tests/system/recordings.py --seconds 5 --no-browser
 """
 import argparse
 import importlib.util

@@ -36,7 +36,7 @@ TOP = Path(__file__).resolve().parent.parent.parent
 NEVER = 10**12                                  # turns: more than can be made while anybody waits
 RATE = 30                                       # pictures a second
 MEDIA, RTX = 96, 97                             # payload types
-# serve's own ports and those of its peers, and where the receiver's RTP comes in and its RTCP goes out
+# serve's own ports and those of its peers, and where the receiver's RTP comes in and its RTCP is sent
 SERVED, PEERS, RECEIVER, FEEDBACK = (21600, 21601), (22600, 22601), 23600, 23601
 PORTS = {
     'subscriber': 'subscriber 1 22222222',

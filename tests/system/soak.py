@@ -2,7 +2,7 @@
 """Runs `serve` with 64 ports for a long time: 21 tracks, plain and layered, two subscribers each, and a controller that makes random wishes. Publishers
 and subscribers lose each 100th packet and ask for it again, publishers go away and come back where they were or further on in their stream, and a few
 subscribers' ports are closed now and then, so that the system refuses what is sent there. At the end the sessions must all be there, the memory of
-`serve` must not have grown by 1 % since the second minute, a strict receiver must be pleased by what each layered subscriber got, and the others must
+`serve` must not have grown by 1 % since the second minute, a strict receiver must accept what each layered subscriber got, and the others must
 have got numbers without a gap. Prints a row of a table each minute, and ends with 1 where something is wrong. It is no part of the gate. Needs gcc, and
 room on the disk for what layered subscribers get, 1.3 GB in 30 minutes; where no program is named it is built first.
 
@@ -206,7 +206,7 @@ def play(serving, folder):
 
 
 def please(subscriber, row, folder):
-    """Whether a strict receiver is pleased by what a layered subscriber got: answers the frames."""
+    """Whether a strict receiver accepts what a layered subscriber got: returns the frames."""
     with open(f'{folder}/{PEER + place_of(subscriber)}') as packets:
         verdict = subprocess.run([common.program, 'check', '4'], stdin=packets, capture_output=True, text=True).stdout.strip()
     check(verdict.startswith(f'ok {row["received"]} packets '), f'a strict receiver of the {row["received"]} packets of {subscriber} says {verdict!r}')
@@ -251,7 +251,7 @@ drops_behind = Counter()     # at each subscriber's own port
 with prepared(options.program), tempfile.TemporaryDirectory(dir=options.folder) as room:
     needed = len(STEADY) * options.rate * 60 * options.minutes * (2 * BYTES + 1)
     if shutil.disk_usage(room).free < needed + 3 * 10**9:
-        sys.exit(f'soak: the disk of {room} has no room for {needed / 1e9:.1f} GB')
+        sys.exit(f'soak: the disk of {room} has no space for {needed / 1e9:.1f} GB')
     print(f'soak: 64 ports, {TRACKS} tracks of {options.rate} packets of {BYTES} bytes a second, {options.minutes:g} minutes, seed {options.seed}')
     soak(room)
 print(f'{len(problems)} things are wrong' if problems else 'nothing is wrong')

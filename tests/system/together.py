@@ -1,6 +1,6 @@
 #!/usr/bin/env python3
 """together.py: eight actors on one layered room (packets, ticks, takes, resends, aims, joins, leaves), run several times. Each journal, written as one
-script and run by `run`, must get the same replies; each actor's lines must stand in it in their order. Then turns a second with 1, 2, 4 and 8 actors:
+script and run by `run`, must get the same replies; each actor's lines must be in it in their order. Then turns a second with 1, 2, 4 and 8 actors:
 times depend on whatever else the machine does. It ends with an error where a journal is no history. It is no part of the gate.
 usage: tests/system/together.py [LINES] [RUNS]      12,000 lines an actor and 10 runs if left out
 

@@ -1,5 +1,5 @@
 //! Sessions step by step, on a room of one thread: the loop of a server with a room and sockets of its own. Nothing here locks or waits.
-ghost use Rattle.std.specs.Prelude.{ℕ, List, IfOk};
+ghost use Rattle.std.specs.Prelude.{ℕ, List, OnOk};
 ghost use Rattle.room_core.specs.History.{Entry};
 ghost use Rattle.room_core.specs.Serves.{Stands};
 ghost use Rattle.session_steps.specs.Stepping.{Waits};
@@ -44,6 +44,7 @@ fn serve_alone<R: Recorder, S: Session>(
 ) -> Result<(), AllocError>
     requires stands { (history : List Entry) × Stands R.noted room.old history }
     requires waits { (turns : ℕ) → Waits (S.left session.old turns) turns }
+    ensures stands { OnOk result ((history : List Entry) × Stands R.noted room.new history) }
 {
     let mut scratch = empty_scratch();
     for (moment, datagram) in receives {

@@ -1,5 +1,5 @@
 -- A control line's call is answered by a text.
-use Rattle.std.proofs.Common.{◌≡◌, ℕ, Bool, true, false, cond, List, refl, ap, sym, ◌∙◌}
+use Rattle.std.proofs.Common.{◌≡◌, ℕ, Bool, true, false, List, refl, ap}
 use Rattle.std.specs.Prelude.{Option, None, Some, Result, Ok, Err}
 use Rattle.sfu_base.specs.Answer.{Answer, Done, Sent, Named, KeyIs, answer_of, is_starved}
 use Rattle.sfu_base.specs.declared.call.Call.{Call}

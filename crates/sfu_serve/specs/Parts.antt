@@ -9,7 +9,7 @@ use Rattle.turn_lock.specs.declared.history.Entry.{Entry}
 use Rattle.turn_lock.specs.Known.{Known}
 use Rattle.room_core.specs.Headline.{Headline}
 use Rattle.room_core.specs.History.{accepted, reply_of}
-use Rattle.session_steps.specs.Deeds.{Deed, Listen, Ask, Post, Over, Word}
+use Rattle.session_steps.specs.Deeds.{Listen, Ask, Post, Over, Word}
 use Rattle.sfu_serve.specs.Words as words
 use Rattle.sfu_serve.specs.Doing.{IsDone}
 use Rattle.sfu_serve.specs.declared.ends.SessionEnd.{SessionEnd}

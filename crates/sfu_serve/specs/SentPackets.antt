@@ -29,16 +29,17 @@ RtxSessionsSendWhatTheyWereGiven = (subscriber ssrc : ℕ) (rtx : Rtx) (limit nu
     → (s : IsSession (rtx_deed subscriber ssrc rtx limit) limit number found history told told' before after end)
     → AreSent (sent_of s.steps) (datagrams_given (Some rtx) 0 (words_of number history)) (unsent_datagram s.rest)
 
--- What a session on a seat and a link kept (`Keeps`), whatever the seat did before: with `added` the entries that the seat has seen since the
--- session began, what it sent is what takes and resends of the seat gave in them, with the same numbers; in order, but for the datagram that
--- it was to send next, where its last send failed.
+-- The same of what a session keeps of its seat and its link (`Keeps`), whatever the seat did before. `added` are the entries that the seat has
+-- seen since the session began: each packet that a take gave in them was sent as it is, and the packet of the i-th resend that gave one,
+-- counted from 0, as it is resent with the number i modulo 65,536; in order, but for the datagram that it was to send next, where its last
+-- send failed.
 abbrev pub SendsWhatItWasGiven : (Call → Type 0) → ℕ → ℕ → Rtx → ℕ → Known Call → Known Call → Option Traffic → Option Traffic → ℕ → ℕ → SessionEnd → Type 0
 SendsWhatItWasGiven MayStarve subscriber ssrc rtx limit old new told told' before after end =
     (k : Keeps MayStarve (rtx_deed subscriber ssrc rtx limit) limit old new told told' before after end) (added : List (Entry Call))
     → new.seen ≡ old.seen ++ added
     → AreSent (sent_of k.done.steps) (datagrams_given (Some rtx) 0 (words_behind new.number old.seen added)) (unsent_datagram k.rest)
 
--- So it is of each such session, where these calls may find no memory.
+-- So it is of each such session, whatever calls may find no memory.
 abbrev pub RtxSeatsSendWhatTheyWereGiven : (Call → Type 0) → Type 0
 RtxSeatsSendWhatTheyWereGiven MayStarve = (subscriber ssrc : ℕ) (rtx : Rtx) (limit : ℕ) (old new : Known Call) (told told' : Option Traffic)
     (before after : ℕ) (end : SessionEnd) → SendsWhatItWasGiven MayStarve subscriber ssrc rtx limit old new told told' before after end

@@ -22,7 +22,7 @@ async function described(pc) {
   return pc.localDescription.sdp;
 }
 
-// Posts an offer and takes its answer; tells the track's number, and for how many milliseconds the room waits for lost packets.
+// Posts an offer and takes its answer; returns the track's number, and for how many milliseconds the room waits for lost packets.
 async function connect(pc, path) {
   const reply = await fetch(path, {method: 'POST', body: await described(pc)});
   if (!reply.ok) throw new Error(await reply.text());
@@ -31,7 +31,7 @@ async function connect(pc, path) {
   return [track, hold];
 }
 
-// The channel on which the gateway tells of frames that came into the room and went out of it, `came N DESCRIPTOR` and `went N DESCRIPTOR`,
+// The channel on which the gateway reports frames that came into the room and went out of it, `came N DESCRIPTOR` and `went N DESCRIPTOR`,
 // and answers lines for the control port, as in `why 812: reference 809`.
 function listen(pc, frame, answer = () => {}) {
   const channel = pc.createDataChannel('room', {negotiated: true, id: 0}), templates = new Map();
@@ -75,7 +75,7 @@ function show(facts) {
 const span = 30000, shades = ['#14406e', '#4a86c5', '#a6c8ea'];
 
 // Three strips over the same 30 seconds: two lines, and the frames by spatial layer, shaded by temporal layer. Bands lie behind them all, and
-// marks stand in front, tall or short.
+// marks are in front, tall or short.
 class Chart {
   constructor(canvas, names) {
     Object.assign(this, {canvas, names, lines: [[], []], frames: [], bands: [], marks: [], wish: [], spatial: 1, temporal: 1});

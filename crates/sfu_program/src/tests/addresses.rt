@@ -3,17 +3,21 @@ use super::serve::served;
 use sfu_base::{Address, CalmLink, CalmPorts, Failed, Ports};
 use std::test::Fail;
 
-// A subscriber's port, a controller's and a publisher's.
-const THREE: &str = "publish 1 plain 11111111 100\njoin 1 1 22222222 7 0 0\n\
+// A subscriber's port, a controller's, one with retransmissions on a stream of their own, and a publisher's.
+const FOUR: &str =
+    "publish 1 plain 11111111 100\njoin 1 1 22222222 7 0 0\njoin 2 1 44444444 0 0 0\n\
     port 10.1.2.3:5001 192.168.7.9:6003 subscriber 1 22222222\nport 127.0.0.2:4999 172.16.254.1:65535 control\n\
+    port 192.0.2.254:1 100.64.0.9:40001 rtx 2 44444444 33333333 97\n\
     port 198.51.100.77:5000 203.0.113.5:1 publisher 1 11111111\n";
 
 // Of each line the local address and the peer's.
-const WANTED: [(u32, u16); 6] = [
+const WANTED: [(u32, u16); 8] = [
     (0x0a01_0203, 5001),
     (0xc0a8_0709, 6003),
     (0x7f00_0002, 4999),
     (0xac10_fe01, 65535),
+    (0xc000_02fe, 1),
+    (0x6440_0009, 40001),
     (0xc633_644d, 5000),
     (0xcb00_7105, 1),
 ];
@@ -59,10 +63,10 @@ fn each_port_is_bound_at_the_addresses_of_its_line_in_order(rt: HostRuntime) -> 
         inner,
         asked: Vec::new(alloc),
     };
-    let (status, written) = served(&rt, alloc, "1", THREE.as_bytes(), &mut ports)?;
+    let (status, written) = served(&rt, alloc, "1", FOUR.as_bytes(), &mut ports)?;
     assert_eq!(rt;
         written.as_slice(),
-        b"ok\nok\nsession 1 all\nsession 2 all\nsession 3 all\n".as_slice()
+        b"ok\nok\nok\nsession 1 all\nsession 2 all\nsession 3 all\nsession 4 all\n".as_slice()
     );
     assert_eq!(rt; status, 0);
     assert_eq!(rt; ports.asked.as_slice(), WANTED.as_slice());

@@ -22,8 +22,8 @@ pub fn words(alloc: Global, texts: &[&str]) -> Result<Vec<String>, AllocError> {
     Ok(words)
 }
 
-// The status of a script, and what was written.
-fn run(alloc: Global, script: &str) -> Result<(u8, Vec<u8>), AllocError> {
+/// The status of a script, and what was written.
+pub fn run(alloc: Global, script: &str) -> Result<(u8, Vec<u8>), AllocError> {
     let words = words(alloc, &["run"])?;
     let mut source = MemSource::new(script.as_bytes().to_vec(alloc)?, Vec::new(alloc));
     let mut sink = MemSink::new(alloc, Vec::new(alloc));

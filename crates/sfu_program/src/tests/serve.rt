@@ -247,6 +247,31 @@ fn a_publisher_is_asked_by_the_clock_that_is_handed_in(rt: HostRuntime) -> Resul
 }
 
 #[test]
+fn each_turn_looks_at_the_clock_once(rt: HostRuntime) -> Result<(), Fail> {
+    let alloc = rt.alloc();
+    for role in [
+        "publisher 1 11111111",
+        "subscriber 1 22222222",
+        "rtx 1 22222222 33333333 97",
+        "control",
+    ] {
+        let configuration = format!(in alloc; "port 127.0.0.1:5000 127.0.0.1:6000 {role}\n")?;
+        let mut ports = CalmPorts::new(alloc)?;
+        let clock = StepClock::new(0, 1);
+        let (status, _) = served_by(
+            &rt,
+            alloc,
+            "7",
+            configuration.as_bytes(),
+            &mut ports,
+            &clock,
+        )?;
+        assert_eq!(rt; (status, clock.now()), (0, 7), "{role}");
+    }
+    Ok(())
+}
+
+#[test]
 fn a_failed_bind_starts_no_session_and_gives_the_ports_back(rt: HostRuntime) -> Result<(), Fail> {
     let alloc = rt.alloc();
     for place in 0..3 {
