@@ -1,0 +1,178 @@
+// cluster is one node of a conference over several machines: browsers and RTP clients of its own, feeds from and to other nodes, which it finds by NATS.
+// Each track that it has is a room of the library. What is proved is that library; nothing here is.
+package main
+
+import (
+	"encoding/json"
+	"flag"
+	"fmt"
+	"io"
+	"log"
+	"math/rand"
+	"net/http"
+	"os"
+	"os/signal"
+	"sort"
+	"strings"
+	"sync/atomic"
+	"syscall"
+	"time"
+)
+
+var (
+	name    = flag.String("name", "node", "what this node is called; it gets a number of its own at each start")
+	address = flag.String("address", "127.0.0.1", "the address of this machine, for browsers and other nodes")
+	web     = flag.Int("http", 8080, "the TCP port of the pages")
+	media   = flag.Int("media", 7000, "the UDP port of all browsers; each feed has a port of its own")
+	server  = flag.String("nats", "nats://127.0.0.1:4222", "the NATS server; NATS_USER and NATS_PASSWORD, or NATS_TOKEN, come from the environment")
+	feeds   = flag.Int("feeds", 8, "how many nodes this one feeds with one track")
+	lose    = flag.Int("lose", 0, "loses so many per cent of the packets to other nodes, for a test")
+)
+
+func must(err error) {
+	if err != nil {
+		log.Fatal(err)
+	}
+}
+
+// What came with a request after its question mark.
+type words struct{ *http.Request }
+
+func (w words) text(name string) string { return w.URL.Query().Get(name) }
+func (w words) number(name string) (n int) {
+	fmt.Sscan(w.text(name), &n)
+	return
+}
+
+// A call that answers with JSON, or with an error that a page can show. Pages of other servers are refused.
+func serve(method, path string, do func(words, string) (interface{}, error)) {
+	http.HandleFunc(path, func(w http.ResponseWriter, r *http.Request) {
+		if origin := r.Header.Get("Origin"); r.Method != method || origin != "" && !strings.HasSuffix(origin, "://"+r.Host) {
+			http.Error(w, "this is for pages of this server", http.StatusForbidden)
+			return
+		}
+		body, _ := io.ReadAll(io.LimitReader(r.Body, 100000))
+		answer, err := do(words{r}, string(body))
+		if err != nil {
+			http.Error(w, err.Error(), http.StatusServiceUnavailable)
+			return
+		}
+		w.Header().Set("Content-Type", "application/json")
+		json.NewEncoder(w).Encode(answer)
+	})
+}
+
+// Begins a track of plain RTP, which comes from the address that the publisher names, under its SSRC.
+func publishRTP(w words, _ string) (interface{}, error) {
+	l, at, err := newLink()
+	if err == nil {
+		err = l.connect(w.text("at"))
+	}
+	if err != nil {
+		return nil, err
+	}
+	t, bring := publish(description{Label: w.text("label"), ID: uint8(w.number("id")), Payload: uint8(w.number("payload"))}, uint32(w.number("ssrc")), l.ask)
+	go func() {
+		l.run(bring, toAll)
+		t.unpublish()
+	}()
+	return map[string]string{"Track": t.Name, "At": at}, nil
+}
+
+// Sends a track as plain RTP to the address that the player names.
+func playRTP(w words, _ string) (interface{}, error) {
+	s := newSubscriber(uint8(w.number("spatial")), uint8(w.number("temporal")))
+	s.waits = true // it stands for the player until the track is here
+	t, err := subscribeTo(w.text("track"), s)
+	if err != nil {
+		return nil, err
+	}
+	defer t.leave(s)
+	return t.linkTo(w.text("at"), s.spatial, s.temporal, "")
+}
+
+type feedIn struct {
+	Track, Node string // the node that sends it
+	Level       int
+	Bytes       int64
+}
+
+type feedOut struct {
+	Track, Node          string // the node that it is sent to
+	Packets, Bytes, Lost int64
+}
+
+// What this node does, in numbers.
+func figures(words, string) (interface{}, error) {
+	f := struct {
+		Node      string
+		Nodes     []string
+		Processor int64 // milliseconds
+		Sent      int64 // packets
+		Viewers   int
+		Requests  int64
+		FeedsIn   []feedIn
+		FeedsOut  []feedOut
+	}{Node: me, Processor: processorTime().Milliseconds(), Sent: atomic.LoadInt64(&sent), Requests: atomic.LoadInt64(&requests), Nodes: []string{}}
+	for _, t := range all() {
+		t.Lock()
+		f.Viewers += len(t.subscribers) - t.nodes()
+		if t.link != nil {
+			f.FeedsIn = append(f.FeedsIn, feedIn{t.Name, t.from, t.level, atomic.LoadInt64(&t.received)})
+		}
+		t.Unlock()
+	}
+	locked(func() {
+		for node := range members {
+			f.Nodes = append(f.Nodes, node)
+		}
+		for _, l := range links {
+			if l.node != "" {
+				f.FeedsOut = append(f.FeedsOut, feedOut{l.track.Name, l.node, atomic.LoadInt64(&l.link.packets), atomic.LoadInt64(&l.link.bytes), atomic.LoadInt64(&l.link.lost)})
+			}
+		}
+	})
+	sort.Strings(f.Nodes)
+	return f, nil
+}
+
+func main() {
+	flag.Parse()
+	rand.Seed(time.Now().UnixNano())
+	me = fmt.Sprintf("%s-%04x", strings.NewReplacer(".", "-", " ", "-", "*", "-", ">", "-").Replace(*name), rand.Intn(1<<16))
+	connectBus()
+	go live()
+	go func() {
+		for range time.Tick(100 * time.Millisecond) {
+			forgetNodes()
+		}
+	}()
+	stop := make(chan os.Signal, 1)
+	signal.Notify(stop, os.Interrupt, syscall.SIGTERM)
+	go func() {
+		<-stop
+		announce(true)
+		bus.Flush()
+		bus.SetClosedHandler(nil)
+		bus.Close()
+		for _, t := range all() {
+			t.close()
+		}
+		time.Sleep(100 * time.Millisecond)
+		os.Exit(0)
+	}()
+	startBrowsers()
+	serve("GET", "/tracks", func(words, string) (interface{}, error) { return conference(), nil })
+	serve("GET", "/figures", figures)
+	serve("POST", "/rtp/publish", publishRTP)
+	serve("POST", "/rtp/play", playRTP)
+	serve("POST", "/browser/publish", publishBrowser)
+	serve("POST", "/browser/play", playBrowser)
+	http.Handle("/", http.FileServer(http.Dir("pages")))
+	for _, shared := range []string{"/shared.js", "/style.css"} {
+		http.Handle(shared, http.FileServer(http.Dir("../browser/pages")))
+	}
+	at := fmt.Sprintf("%s:%d", *address, *web)
+	log.Printf("%s: open http://%s", me, at)
+	log.Fatal(http.ListenAndServe(at, nil))
+}
