@@ -1,4 +1,13 @@
-"""Conferences of the example in a headless Chromium: what test.py --meet runs, row by row, each with a table's line and a budget."""
+"""Conferences of the example in a headless Chromium: what test.py --meet runs, row by row, each with a table's line and a budget.
+
+four    four people for 30 s, each of whom decodes three others and hears a tone of each: no gap between two pictures above 500 ms, sound and picture at
+        most 250 ms apart
+lost    each mode, five times 6 s, 3 % of the RTP packets lost before the room and 3 % behind it: no gap above 500 ms
+choice  the first packet of a frame to which others refer is lost behind the room, with its first resend, each 4 s: no gap above 500 ms
+path    one path falls to 400 kbit/s for 10 s, with a queue of 300 ms: S0 within 3 s, no gap above 1 s, S2 again within 10 s
+back    somebody leaves and comes back, twice: all see all after 3 s, no more media sections than before
+good    each mode, 8 s, 2 % of the RTP packets lost before the room, resends too: no gap above 700 ms
+"""
 import os
 import platform
 import subprocess

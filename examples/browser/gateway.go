@@ -1,4 +1,9 @@
 // gateway puts browsers into a room: it speaks ICE, DTLS and SRTP with them, and plain RTP and RTCP with a room. Nothing of it is proved.
+//
+// gateway.go has the flags, and who answers an offer; page.go a browser's connection: codecs, header extensions, the answer to its offer; player.go a track
+// on its way to a browser: packets, repeated NACKs, pleas. Of serve: room.go and serve.go have its configuration and ports, who publishes and who plays. Of
+// the library: library.go has every call of it, and nothing else; meet.go who comes and goes, offers, sender reports; layers.go and path.go which layers each
+// person is sent, and what their path bears. pages has the three pages, what they share, and their style.
 package main
 
 import (

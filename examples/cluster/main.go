@@ -1,5 +1,9 @@
 // cluster is one node of a conference over several machines: browsers and RTP clients of its own, feeds from and to other nodes, which it finds by NATS.
 // Each track that it has is a room of the library. What is proved is that library; nothing here is.
+//
+// room.go has a track at a node: a room with that track, its source, its subscribers; link.go the connected UDP socket of a feed; feeds.go asking for a feed,
+// giving one, keeping it; members.go NATS: who is here, and what they have; tracks.go the tracks of this node, and the conference's; browser.go and pages
+// browsers, with pion; main.go flags, and calls by HTTP; players publishers and players of plain RTP, for test.py.
 package main
 
 import (

@@ -1,3 +1,12 @@
+// NATS: who is here, and what they have. All messages are JSON:
+//
+//	nodes      from each node, every second, and when it gets a track: Node, Load (share of its processors), Tracks; Gone at its end. Each of its Tracks
+//	           has Name, Label, ID (of the descriptors' extension; 0: a plain track), Payload, Spatial and Temporal (layers seen), Level, Room (whether it
+//	           may feed one more node)
+//	feed.NODE  a request: that node is to send a track: Track, Node that asks, At: its UDP address for this feed, Spatial, Temporal. Its reply within
+//	           500 ms: At, SSRC, Level, or Error
+//	wish.NODE  when a feed's wish changes, and every 5 s: At: the address of the feed's end, Spatial, Temporal
+
 package main
 
 import (
