@@ -4,6 +4,18 @@
 // room.go has a track at a node: a room with that track, its source, its subscribers; link.go the connected UDP socket of a feed; feeds.go asking for a feed,
 // giving one, keeping it; members.go NATS: who is here, and what they have; tracks.go the tracks of this node, and the conference's; browser.go and pages
 // browsers, with pion; main.go flags, and calls by HTTP; players publishers and players of plain RTP, for test.py.
+//
+// Its calls:
+//
+//	GET /tracks         the conference's tracks
+//	POST /browser/publish?label=, POST /browser/play?track=&spatial=&temporal=
+//	                    an SDP offer with its candidates is posted, the answer comes back
+//	POST /rtp/publish?label=&id=&payload=&ssrc=&at=
+//	                    begins a track of plain RTP from the UDP address at; the reply has the address to send to. The track ends when nothing has come
+//	                    for a second, so a publisher that pauses sends reports
+//	POST /rtp/play?track=&at=&spatial=&temporal=
+//	                    sends a track to the UDP address at, with the reports of a feed
+//	GET /figures        viewers, packets, processor time, feeds in and out with their bytes, nodes that are here
 package main
 
 import (
