@@ -4,61 +4,33 @@
 usage: bench/tracks_script.py KIND UNITS TRACKS EACH [IDLE]      KIND is layered or plain; EACH subscribers of each track, and IDLE ones of one more
                                                                   track that gets no packet (0 if left out)
 
-A layered track has two spatial and two temporal layers and one key frame in 50 units, as those of bench/layered_script.py; a plain track gets one
+A layered track has two spatial and two temporal layers and one key frame in 50 units, as those of tools/layered_script.py; a plain track gets one
 packet of 200 bytes a unit.
 
 example: bench/tracks_script.py layered 50 2 4 8 | ./sfu run | tail -1
 """
 import sys
+from pathlib import Path
+
+sys.path.insert(0, str(Path(__file__).resolve().parent.parent / 'tools'))
+from layered_script import header, packet, shape
 
 if len(sys.argv) < 5:
     sys.exit(print(__doc__.strip()))
-
-# The bits of a key descriptor behind the frame number (RTP Payload Format For AV1, Appendix A.8): the structure of two spatial and two temporal
-# layers.
-STRUCTURE = bytes.fromhex('80' '03187FAFAC4A0A0404D14109A115800864222226' '40')
 
 kind = sys.argv[1]
 units, tracks, each = map(int, sys.argv[2:5])
 idle = int(sys.argv[5]) if len(sys.argv) > 5 else 0
 
 
-def shape(unit, spatial):
-    """The template of a unit's frame, and how many packets it has."""
-    if unit % 50 == 0:
-        return 3 * spatial, 3 - spatial
-    return 3 * spatial + (1 if unit % 2 == 0 else 2), 1 + spatial
-
-
-def extension(descriptor):
-    if len(descriptor) <= 16:
-        profile, element = b'\xbe\xde', bytes([0x40 | len(descriptor) - 1]) + descriptor
-    else:
-        profile, element = b'\x10\x00', bytes([4, len(descriptor)]) + descriptor
-    element += bytes(-len(element) % 4)
-    return profile + (len(element) // 4).to_bytes(2, 'big') + element
-
-
-def head(first_byte, marker, sequence, unit):
-    return bytes([first_byte, 0x60 | marker]) + (sequence % 65_536).to_bytes(2, 'big') + (3_000 * unit % 2**32).to_bytes(4, 'big') + bytes([0x11] * 4)
-
-
-def layered_packet(sequence, unit, spatial, template, first, last):
-    is_key = unit % 50 == 0 and spatial == 0 and first
-    descriptor = bytes([0x80 * first | 0x40 * last | template]) + ((2 * unit + spatial) % 65_536).to_bytes(2, 'big')
-    aggregation = 0x80 * (not first) | 0x40 * (not last) | 0x10 | 8 * is_key
-    payload = bytes([aggregation, 0x30 if first else 0]) + bytes(199)
-    return head(0x90, 0x80 if spatial == 1 and last else 0, sequence, unit) + extension(descriptor + (STRUCTURE if is_key else b'')) + payload
-
-
 def packets_of(unit, sequence):
     if kind == 'plain':
-        return [head(0x80, 0, sequence, unit) + bytes(188)]
+        return [header(0x80, 0, sequence, unit) + bytes(188)]
     packets = []
     for spatial in (0, 1):
         template, count = shape(unit, spatial)
         for place in range(count):
-            packets.append(layered_packet(sequence + len(packets), unit, spatial, template, place == 0, place == count - 1))
+            packets.append(packet(sequence + len(packets), unit, spatial, template, place == 0, place == count - 1))
     return packets
 
 
