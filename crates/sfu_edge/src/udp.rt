@@ -29,6 +29,9 @@ const BUSY_SLEEP: u64 = 650;
 /// A link is busy where its socket was empty twice within so many microseconds, with a datagram between.
 const BUSY_WITHIN: u64 = 900;
 
+/// The longest pause of a link that follows a busy one, in microseconds: a longer one is a mistake of the clock.
+const LONGEST_PAUSE: u64 = 1500;
+
 /// How many datagrams in a row are received before the followers are woken, where the socket isn't empty before.
 const ROW: u32 = 32;
 
@@ -172,9 +175,28 @@ impl<'a, R: Net + time::Clock> UdpLink<'a, R> {
     {
         self.received = 0;
         self.table.wake_followers(self.name, self.received_tail);
-        let moment = self.system.monotonic().unwrap_or(Duration::ZERO);
-        self.is_busy = moment.saturating_sub(self.empty_at) < Duration::from_micros(BUSY_WITHIN);
+        let moment = self.now();
+        let took = moment.saturating_sub(self.empty_at);
+        self.is_busy = took < Duration::from_micros(BUSY_WITHIN);
         self.empty_at = moment;
+        let expected = if self.is_busy {
+            moment.saturating_add(took)
+        } else {
+            Duration::ZERO
+        };
+        self.table.expect(self.name, expected);
+    }
+
+    // The clock's moment; zero where it can't be read.
+    fn now(&self) -> Duration {
+        self.system.monotonic().unwrap_or(Duration::ZERO)
+    }
+
+    // How long this link sleeps by the clock, so that what the busy link that it follows receives meanwhile is forwarded together. None where that one
+    // isn't busy, or should have received by now.
+    fn pause(&self) -> Option<Duration> {
+        let pause = self.table.next_turn(self.name)?.checked_sub(self.now())?;
+        (pause < Duration::from_micros(LONGEST_PAUSE)).then_some(pause)
     }
 
     // From now on the link follows the one that received what it sent last. Returns whether so much was sent that more may have to be sent.
@@ -197,6 +219,8 @@ impl<'a, R: Net + time::Clock> UdpLink<'a, R> {
     {
         if self.is_busy {
             thread::sleep(self.system, Duration::from_micros(BUSY_SLEEP));
+        } else if let Some(pause) = self.pause() {
+            thread::sleep(self.system, pause);
         } else if self.idle >= QUIET_AFTER {
             thread::sleep(self.system, Duration::from_micros(QUIET_SLEEP));
         } else {

@@ -1,12 +1,20 @@
-// Which links wake which. A packet that one link received is sent by others, so a link follows the one whose datagram it sent last, and is woken when that
-// one has received more. Nothing else tells the edge what a link is for. A wrong or missing entry costs time alone, since each sleep ends by itself.
+// Which links wake which. A packet that one link received is sent by others. So a link follows the link that received what it sent last: it is woken when
+// that link has received more, or sleeps until the moment at which that link expects to have. A wrong or missing entry costs time alone, since each
+// sleep ends by itself.
 use mio::Waker;
 use std::alloc::{AllocError, Global};
 use std::sync::OnceLock;
 use std::sync::atomic::{AtomicU8, AtomicU64, Ordering};
+use std::time::Duration;
 
 /// How many links are woken by others. One that was bound after them isn't.
 const LINKS: usize = 64;
+
+/// By how many microseconds links with consecutive numbers continue apart, so that they don't wait for the room's lock together.
+const STEP: u64 = 40;
+
+/// After how many steps they begin again at none.
+const STEPS: u64 = 4;
 
 /// The number of no link.
 const NONE: u64 = u64::MAX;
@@ -27,6 +35,8 @@ struct Entry {
     follows: AtomicU64,
     // the tail of the datagram that it received last, or 0
     received: AtomicU64,
+    // when it expects to have received all that comes until then, in microseconds of the clock; 0 where it isn't busy
+    expected: AtomicU64,
 }
 
 impl Entry {
@@ -36,6 +46,7 @@ impl Entry {
             state: AtomicU8::new(RUNS),
             follows: AtomicU64::new(NONE),
             received: AtomicU64::new(0),
+            expected: AtomicU64::new(0),
         }
     }
 
@@ -83,6 +94,26 @@ impl WakeTable {
                 other.wake();
             }
         }
+    }
+
+    /// This link is busy: until this moment of the clock it expects to have received all that comes. Zero says that it isn't busy any more.
+    pub fn expect(&self, number: u64, moment: Duration) {
+        if let Some(entry) = self.entries.get(number as usize) {
+            entry
+                .expected
+                .store(moment.as_micros() as u64, Ordering::SeqCst);
+        }
+    }
+
+    /// The moment of the clock at which this link should continue: when the busy link that it follows expects to have received more, and some microseconds
+    /// later. None where it follows no link that is busy.
+    pub fn next_turn(&self, number: u64) -> Option<Duration> {
+        let followed = self.entries.get(number as usize)?.follows.load(Ordering::SeqCst);
+        let expected = self.entries.get(followed as usize)?.expected.load(Ordering::SeqCst);
+        if expected == 0 {
+            return None;
+        }
+        Some(Duration::from_micros(expected.saturating_add(number % STEPS * STEP)))
     }
 
     /// This link has sent a packet with this tail: it follows the link that received it.

@@ -95,6 +95,32 @@ fn a_link_that_sends_what_another_received_is_woken_by_it(rt: HostRuntime) -> Re
 }
 
 #[test]
+fn followers_of_a_busy_link_continue_in_steps_behind_the_moment_that_it_expects(
+    rt: HostRuntime,
+) -> Result<(), Fail> {
+    let table = WakeTable::new(rt.alloc())?;
+    table.wake_followers(0, 70);
+    for number in 1..6 {
+        table.follow(number, 70);
+    }
+    assert_eq!(rt; table.next_turn(1), None);
+    table.expect(0, Duration::from_millis(5));
+    for (number, micros) in [(1, 5040), (2, 5080), (3, 5120), (4, 5000), (5, 5040)] {
+        assert_eq!(rt; table.next_turn(number), Some(Duration::from_micros(micros)));
+    }
+    // One that follows nobody, one that follows a link that isn't busy, and one beyond the table.
+    assert_eq!(rt; table.next_turn(6), None);
+    table.wake_followers(2, 71);
+    table.follow(1, 71);
+    assert_eq!(rt; table.next_turn(1), None);
+    assert_eq!(rt; table.next_turn(64), None);
+    // The link isn't busy any more.
+    table.expect(0, Duration::ZERO);
+    assert_eq!(rt; table.next_turn(2), None);
+    Ok(())
+}
+
+#[test]
 fn a_link_beyond_the_64th_wakes_none_and_is_woken_by_none(rt: HostRuntime) -> Result<(), Fail> {
     let table = WakeTable::new(rt.alloc())?;
     table.wake_followers(63, 70);
