@@ -21,9 +21,9 @@ pub enum LinkState {
     Broken { number: u64 },
 }
 
-/// The state, at a frame, of the chain that protects an open target, by the numbers of the frames of the epoch that were forwarded. `opened`
-/// is the number of the frame at which the target was opened: frames of the chain before it aren't needed. Where there are no chains, or the
-/// frame's distance in the chain is 0, the chain is intact.
+/// The state, at `frame`, of the chain that protects the open target. `passed` has the numbers of the forwarded frames of the epoch.
+/// `opened` is the number of the frame at which the target was opened: frames of the chain before it aren't needed. The chain is intact if
+/// there are no chains, or if the frame's distance in the chain is 0.
 pub fn link_state(frame: &FrameMeaning, target: u8, opened: u64, passed: &RefWindow) -> LinkState
     requires valid { IsValid frame.now }
     requires target { target < frame.now.target_count }

@@ -1,4 +1,4 @@
-//! What was put reads back, whatever bits follow it, and what is read was spelled so.
+//! What was written reads back, whatever bits follow it, and what is read was written as exactly these bits.
 
 ghost use Rattle.std.specs.Prelude.{◌≡◌, Bool, ◌<◌, ◌≤◌, ◌^◌, ◌++◌, ℕ, List, Some};
 ghost use Rattle.dd_bits.specs.Bits.{bits_of};

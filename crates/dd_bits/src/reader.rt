@@ -11,9 +11,9 @@ pub struct Short;
 /// The bits of a slice that are left to be read, the highest of each byte first.
 #[derive(Clone, Copy, Debug)]
 pub struct BitReader<'a> {
-    /// The bytes, from the one that holds the next bit on.
+    /// The bytes from the one with the next bit on.
     rest: &'a [u8],
-    /// How many bits of the first of them were read.
+    /// How many bits of the first of these bytes were read.
     used: u8,
     ghost in_byte: { used < 8 },
 }
@@ -47,14 +47,14 @@ impl<'a> BitReader<'a> {
         }
     }
 
-    /// How many bits are left, of however many bytes.
+    /// How many bits are left; unlike [`BitReader::left`], without an upper limit.
     pub(crate) fn count(&self) -> u128
         ensures { result ≡ length (bits_left self.now) }
     {
         (self.rest.len() as u128 * 8).saturating_sub(self.used as u128)
     }
 
-    /// Reads a number of n bits, f(n). After `Short` the reader is as before.
+    /// Reads a number of n bits, f(n). Returns `Short` if fewer bits are left; the reader is then as before.
     pub fn bits(&mut self, n: u8) -> Result<u32, Short>
         requires { n ≤ 32 }
         ensures read { IfOk result (λ v. fixed n (bits_left self.old) ≡ Some (v, bits_left self.new)) }
@@ -68,7 +68,7 @@ impl<'a> BitReader<'a> {
         Ok(self.take_bits(n))
     }
 
-    /// Reads a number below n, ns(n). After `Short` the reader is as before.
+    /// Reads a number below n, ns(n). Returns `Short` if too few bits are left; the reader is then as before.
     pub fn ns(&mut self, n: u32) -> Result<u32, Short>
         requires { 1 ≤ n }
         ensures read { IfOk result (λ v. non_symmetric n (bits_left self.old) ≡ Some (v, bits_left self.new)) }
@@ -111,7 +111,7 @@ impl<'a> BitReader<'a> {
         self.ns(n).map_err(|_| short)
     }
 
-    /// Reads n bits, as many of each byte at once as it has left.
+    /// Reads n bits, byte by byte: from each byte as many as are needed and left in it.
     pub(crate) fn take_bits(&mut self, n: u8) -> u32
         requires width { n ≤ 32 }
         requires enough { n ≤ length (bits_left self.old) }

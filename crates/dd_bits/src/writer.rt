@@ -18,7 +18,7 @@ pub struct BitWriter {
     bytes: [u8; MOST],
     /// How many bytes are full.
     len: usize,
-    /// How many bits are in the byte after these, fewer than 8, and the number that they spell.
+    /// How many bits are in the byte after the full ones, fewer than 8. `pending` is the number that they spell.
     used: u8,
     pending: u32,
     ghost whole: { length bytes ≡ 2040 },
@@ -55,7 +55,7 @@ impl BitWriter {
         self.pending = 0;
     }
 
-    /// Appends a number in n bits, f(n). Returns `NoRoom` where they would pass 2,040 bytes; the writer is then as before.
+    /// Appends a number in n bits, f(n). Returns `NoRoom` if the bits would pass 2,040 bytes; the writer is then as before.
     pub fn put(&mut self, n: u8, value: u32) -> Result<(), NoRoom>
         requires { value < 2 ^ n }
         ensures put { Puts result self.old self.new (bits_of n value) }
@@ -69,7 +69,7 @@ impl BitWriter {
         Ok(())
     }
 
-    /// Appends a number below n as ns(n) spells it. Returns `NoRoom` where its bits would pass 2,040 bytes; the writer is then as before.
+    /// Appends a number below n as ns(n) spells it. Returns `NoRoom` if the bits would pass 2,040 bytes; the writer is then as before.
     pub fn put_ns(&mut self, n: u32, value: u32) -> Result<(), NoRoom>
         requires { value < n }
         ensures put { Puts result self.old self.new (non_symmetric_bits n value) }
@@ -85,8 +85,8 @@ impl BitWriter {
         }
     }
 
-    /// Appends the bits that a reader took between two moments: `from` is a copy of it before, `to` after. Returns `NoRoom` where they
-    /// would pass 2,040 bytes; the writer is then as before.
+    /// Appends the bits that were read between two states of a reader: `from` is a copy of the earlier state, `to` one of the later.
+    /// Returns `NoRoom` if the bits would pass 2,040 bytes; the writer is then as before.
     pub fn put_read(&mut self, from: BitReader<'_>, to: BitReader<'_>) -> Result<(), NoRoom>
         ensures put { Puts result self.old self.new (bits_between from.entry to.entry) }
         ensures unchanged { OnErr result (self.new ≡ self.old) }
@@ -128,7 +128,7 @@ impl BitWriter {
         }
     }
 
-    /// Appends n bits, as many to each byte at once as it takes.
+    /// Appends n bits, byte by byte: to each byte as many as are left and fit.
     fn put_bits(&mut self, n: u8, value: u32)
         requires { length (written self.old) + n ≤ room }
         ensures { written self.new ≡ written self.old ++ bits_of n value }

@@ -5,7 +5,7 @@ ghost use Rattle.forwarding_examples.specs.LayeredRows;
 ghost use Rattle.forwarding_examples.specs.WorkedPackets;
 ghost use Rattle.forwarding_model.specs.frames.Reading.{IsFormat};
 
-/// Worked histories: joins, packets, a wish that changes, and what is forwarded, is taken and is withheld, worked out by hand.
+/// Worked histories: joins, packets, a wish that changes, and what is forwarded, taken and withheld, worked out by hand.
 pub fn worked_history()
     ensures numbers { WorkedPackets.HistoryNumbers }
     ensures taken { WorkedPackets.HistoryTaken }

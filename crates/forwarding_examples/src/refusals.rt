@@ -2,9 +2,9 @@
 
 ghost use Rattle.forwarding_examples.specs.Refusals;
 
-/// Words that only conclusions of laws use refuse what they should: paths that are empty, don't decrease, don't go on, don't end or give
-/// other causes, frames that aren't decodable, restarts and links that are none. And that nobody joins, and what is said of the frames
-/// since, are no narrower than they should be.
+/// Definitions that only conclusions of laws use refuse what they should: a path that is empty, doesn't decrease, goes on past a root,
+/// doesn't end at one or gives another cause; a frame that isn't decodable; a restart, a link or an open target that is none. `NoneJoins`
+/// and `EachFrameSince` are no narrower than they should be.
 pub fn words_refuse_what_they_should()
     ensures empty_is_no_path { Refusals.EmptyIsNoPath }
     ensures passed_is_no_root { Refusals.PassedIsNoRoot }

@@ -15,8 +15,8 @@ ghost use Rattle.forwarding_laws.specs.histories.Laws as HistoryLaws;
 
 // ---- targets
 
-/// A target is active where its bit is set in the mask; a frame is a switch for it, or present in it, as its indication says; and a wish
-/// allows an active target whose layers are at most the wish's in both parts.
+/// A target is active exactly if its bit is set in the mask. A frame's indication for a target says whether the frame is a switch for it,
+/// and whether it is present in it. A wish allows an active target whose spatial and temporal layers are at most the wish's.
 pub fn tests_on_targets_mean_what_they_say()
     ensures active { TargetWords.ActiveInWords }
     ensures switch { TargetWords.SwitchInWords }
@@ -32,8 +32,8 @@ pub fn chosen_targets_are_the_best()
 
 // ---- a standing step by step
 
-/// What a frame leaves of the target: another epoch, a mask without it and a broken link close it, each for its reason, and nothing else
-/// does.
+/// A frame closes the open target, each time for its own reason, if it is of another epoch, if its mask lacks the target, or if the
+/// target's link is broken. Nothing else closes it. Within an epoch a closed target keeps its reason.
 pub fn frames_leave_the_target_or_close_it()
     ensures other_epoch { StandingSteps.OtherEpochsBeginAnew }
     ensures same_epoch { StandingSteps.EpochsGoOn }
@@ -45,8 +45,8 @@ pub fn frames_leave_the_target_or_close_it()
     ensures keeping { StandingSteps.OtherFramesKeep }
 {}
 
-/// A broken link closes the open target, and no other link does. Where a target is closed, a frame of the timeline closed it for the reason
-/// that it has, it was the last frame to close one, and no frame was forwarded since.
+/// A broken link closes the open target, and no other link does. Once a frame has come, a closed target was closed by a frame of the
+/// timeline, for the reason that the target has. That frame was the last to close one, and no frame was forwarded since.
 pub fn targets_are_closed_for_their_reasons<Structure>()
     ensures broken { Decisions.BrokenLinksClose }
     ensures other { Decisions.OtherLinksKeep }
@@ -54,32 +54,33 @@ pub fn targets_are_closed_for_their_reasons<Structure>()
     ensures reasons { Decisions.ReasonsHold Structure }
 {}
 
-/// What a frame opens is the best of the targets that it can open, and it opens one where it can open any.
+/// A frame that can open a target opens one, and what it opens is the best of those that it can open.
 pub fn frames_open_the_best_that_they_can()
     ensures best { Decisions.OpensTheBest }
     ensures any { Decisions.OpensWhatItCan }
 {}
 
-/// Where a frame opens nothing, the target keeps its opening frame; where it opens a target, it is that target's opening frame. Where a
-/// target is open, the frame with its opening number was forwarded and opened it, and since then no frame closed it or opened another.
+/// If a frame opens nothing, the target that it leaves open keeps its opening frame; if it opens a target, it is that target's opening
+/// frame. An open target was opened by the frame with its opening number. That frame was forwarded, and no frame since closed the target or
+/// opened another.
 pub fn open_targets_were_opened_by_their_frame<Structure>()
     ensures kept { Openings.NothingOpenedIsKept }
     ensures opened { Openings.OpenedTargetsAreCandidates }
     ensures frame { Openings.OpeningsHold Structure }
 {}
 
-/// A frame that is forwarded is present in its target, and its mask has that target.
+/// A forwarded frame is present in its target, and the frame's mask has that target.
 pub fn passed_frames_are_in_their_target()
     ensures { Decisions.PassesInTarget }
 {}
 
-/// A frame that is forwarded opens its target; or the target was open before, and its chain names, in the frame, no frame since the opening
-/// one that wasn't forwarded.
+/// A forwarded frame opens its target, or the target was open before. In the second case the frame's link in the target's chain isn't
+/// broken: if it names the opening frame or a later one, that was forwarded.
 pub fn passed_frames_are_linked()
     ensures { Laws.PassesLinked }
 {}
 
-/// What each event makes of a standing. The epoch is that of the newest frame, whether or not that frame was forwarded.
+/// How each event changes a subscriber's standing. The epoch is that of the newest frame, whether or not that frame was forwarded.
 pub fn each_event_changes_the_standing<Structure>()
     ensures passing { StandingSteps.PassingFramesAreTakenIn Structure }
     ensures withheld { StandingSteps.OtherFramesAreWithheld Structure }
@@ -89,15 +90,16 @@ pub fn each_event_changes_the_standing<Structure>()
     ensures epoch { StandingSteps.NewestFramesHaveTheEpoch Structure }
 {}
 
-/// At a frame of a track all frames of its epoch that were forwarded count as forwarded, and no others: its references, links and the
-/// epoch's key frame are looked for among those.
+/// At a frame of a track, exactly the forwarded frames of its epoch count as forwarded. Its references, its links and its epoch's key frame
+/// are looked for among those.
 pub fn passed_frames_of_the_epoch_count<Structure>()
     ensures frames { PassedFrames.EpochsFramesCount Structure }
     ensures number { PassedFrames.HasPassedInWords Structure }
     ensures key { PassedFrames.KeyPassedInWords Structure }
 {}
 
-/// A decision on a frame depends only on which of the frames that it refers to or is linked to were forwarded.
+/// Given the wish, the target, the queue and whether the epoch's key frame was forwarded, a decision on a frame depends only on which of
+/// the frames that it refers to or is linked to were forwarded.
 pub fn decisions_rest_on_named_frames()
     ensures kept { Laws.KeepAlike }
     ensures candidate { Laws.OpenAlike }
@@ -107,13 +109,13 @@ pub fn decisions_rest_on_named_frames()
 
 // ---- which frames are forwarded
 
-/// Each frame that was forwarded is decodable in the forwarded frames of its epoch.
+/// Each forwarded frame is decodable from the forwarded frames of its epoch.
 pub fn passed_frames_are_decodable<Structure>()
     ensures { Laws.AreDecodable Structure }
 {}
 
-/// After a broken chain link the next frame that is forwarded is a key frame, or a switch for the target that it opens, and all its
-/// references were forwarded.
+/// After a broken chain link the next forwarded frame is a key frame, or a switch for the target that it opens. All its references were
+/// forwarded.
 pub fn broken_links_end_at_a_restart<Structure>()
     ensures at_once { Laws.RestartsAtOnce Structure }
     ensures later { Laws.RestartsLater Structure }
@@ -127,7 +129,7 @@ pub fn verdicts_are_passed_where_frames_pass()
     ensures passed { Laws.PassesWherePassed }
 {}
 
-/// What each verdict says of a frame is so.
+/// What each verdict says of a frame is true.
 pub fn verdicts_are_true()
     ensures full { Decisions.FullClaims }
     ensures behind { Decisions.BehindClaims }
@@ -139,15 +141,15 @@ pub fn verdicts_are_true()
     ensures hole { Decisions.NoFrameIsAHole }
 {}
 
-/// What the verdict on a frame says is so, and no other verdict says what is so. A frame is forwarded exactly when it is present in an open
-/// target, all its references were forwarded, and the queue has space for it.
+/// What the verdict on a frame says is true, and what any other verdict says is false. A frame is forwarded exactly when it is present in
+/// an open target, all its references were forwarded, and the queue has space for it.
 pub fn the_verdict_says_what_is_so()
     ensures verdict { VerdictWords.VerdictsSayWhatIsSo }
     ensures passes { VerdictWords.PassingInWords }
 {}
 
-/// The cause of a frame's number is the verdict that fell when it came. That of any other number below the newest frame's is a hole between
-/// the least frame number above it and the greatest below it, where that is less than 4,096 below the newest.
+/// The cause of a frame's number is the verdict on the frame when it came, never a hole. The cause of any other number below the newest
+/// frame's is a hole between two frame numbers: the least above it and the greatest below it, if that is less than 4,096 below the newest.
 pub fn causes_are_verdicts_and_holes<Structure>()
     ensures frames { CauseWords.FramesHaveTheirVerdicts Structure }
     ensures others { CauseWords.OtherNumbersAreHoles Structure }
@@ -160,8 +162,8 @@ pub fn causes_are_known_up_to_the_newest()
     ensures ahead { Laws.AheadIsAbove }
 {}
 
-/// The path of each withheld frame begins at it, strictly decreases, ends at a root, and gives the cause of each of its numbers. Each frame
-/// that came and wasn't forwarded is withheld.
+/// The path of each withheld frame begins at the frame, strictly decreases, ends at a root, and gives the cause of each of its numbers.
+/// Each frame that came and wasn't forwarded is withheld.
 pub fn withheld_frames_have_a_path_to_a_root<Structure>()
     ensures root { Laws.EndsAtRoot Structure }
     ensures unpassed { Laws.EndsAtRootUnpassed Structure }
@@ -180,22 +182,23 @@ pub fn markers_end_the_target_layer<Structure>()
     ensures kept { OutgoingWords.OtherMarkersAreKept Structure }
 {}
 
-/// A frame is sent whole, in as many packets as it has, when the marker of its last packet is set.
+/// Setting the marker of a frame's last packet keeps the frame whole, and keeps the number of its packets.
 pub fn marking_keeps_frames_whole<Structure>()
     ensures whole { Laws.MarkingKeepsWhole Structure }
     ensures sender { Laws.MarkingIsASender Structure }
     ensures count { Laws.MarkingKeepsCount Structure }
 {}
 
-/// The packets of a frame that is forwarded follow all that were forwarded before, sent for the frame's candidate and with the next
-/// sequence numbers; at any other frame, at a change of the wish and at a take nothing is forwarded.
+/// The packets of a forwarded frame follow all that were forwarded before. They are sent for the frame's candidate, with the next sequence
+/// numbers and the subscriber's SSRC. At any other frame, at a change of the wish and at a take nothing is forwarded.
 pub fn packets_of_passing_frames_go_out<Structure>()
     ensures passing { OutgoingWords.PassingFramesGoOut Structure }
     ensures others { OutgoingWords.NothingElseGoesOut Structure }
     ensures numbers { OutgoingWords.PacketsAreRenumbered }
 {}
 
-/// A packet of a plain track is forwarded as it came, but for its number and its SSRC, where fewer than 512 packets are queued.
+/// A packet of a plain track is forwarded exactly if fewer than 512 packets are queued. All of it but its sequence number and its SSRC
+/// stays as it came. In a history of a plain track each take found a packet.
 pub fn plain_packets_go_out_as_they_came<Structure>()
     ensures passes { Plain.PlainPacketsGoOut Structure }
     ensures full { Plain.FullQueuesTakeNone Structure }
@@ -207,17 +210,17 @@ pub fn outgoing_packets_only_grow<Structure>()
     ensures { Laws.OnlyGrows Structure }
 {}
 
-/// Sequence numbers that are forwarded are consecutive modulo 65,536.
+/// Outgoing sequence numbers are consecutive modulo 65,536.
 pub fn outgoing_numbers_are_consecutive<Structure>()
     ensures { Laws.AreNumberedInOrder Structure }
 {}
 
-/// The next number is the subscriber's first, and one more for each take that found a packet, modulo 65,536.
+/// Where each take found a packet, the next sequence number is the subscriber's first plus the number of takes, modulo 65,536.
 pub fn next_numbers_count_the_takes<Structure>()
     ensures { OutgoingWords.NextNumbersCountTakes Structure }
 {}
 
-/// As many packets are queued as were forwarded and weren't taken, where each take found one, as it does in a history.
+/// Where each take found a packet, as many packets are queued as were forwarded and not taken. In a history each take found one.
 pub fn queued_packets_are_those_not_taken<Structure>()
     ensures queued { Laws.QueuesTheRest Structure }
     ensures history { HistoryLaws.TakesFindPackets Structure }
@@ -228,13 +231,13 @@ pub fn queues_are_short<Structure>()
     ensures { Plain.QueuesAreShort Structure }
 {}
 
-/// What the takes gave, one after another, is what was taken, and the next packet has the next number.
+/// Where each take found a packet, what the takes returned, in order, is what was taken. The next packet has the next sequence number.
 pub fn takes_give_what_was_taken<Structure>()
     ensures given { Taken.TakesGiveWhatWasTaken Structure }
     ensures next { Taken.NextHasNextNumber Structure }
 {}
 
-/// The last 1,024 packets that were taken are kept, and exactly their numbers are resent.
+/// The last 1,024 packets that were taken are kept, and exactly their sequence numbers can be retransmitted.
 pub fn the_last_that_were_taken_are_kept<Structure>()
     ensures last { Taken.KeepsTheLast Structure }
     ensures oldest { Taken.OldestIsKept Structure }
@@ -242,7 +245,7 @@ pub fn the_last_that_were_taken_are_kept<Structure>()
     ensures numbers { Taken.ResendsTheKeptNumbers Structure }
 {}
 
-/// A packet that was taken, and is still kept, is resent as it was.
+/// A packet that was taken and is still kept is retransmitted as it was taken.
 pub fn resends_give_first_bytes<Structure>()
     ensures first { Laws.ResendsFirstBytes Structure }
     ensures kept { Laws.ResendsKept Structure }

@@ -5,15 +5,16 @@ ghost use Rattle.forwarding_laws.specs.frames.Making;
 
 // ---- whole cuts
 
-/// The runs of parts that end are the whole cuts of the list of marks. `Brought` is the type of what a part brings with it.
+/// A run of parts that ends is a whole cut at the end of the marks, and each such cut is a run that ends. `Brought` is the type of what a
+/// part brings with it.
 pub fn ended_runs_are_the_whole_cuts<Brought>()
     ensures whole { Laws.EndedRunsAreWhole Brought }
     ensures found { Laws.WholeCutsAreFound Brought }
 {}
 
-/// A mark makes a frame whole exactly when it ends a whole cut, and is padding exactly when it is padding. It leaves a frame partial
-/// only where a run goes on, and torn only where none does or one has ended with an element open. `Brought` is the type of what a part
-/// brings with it.
+/// The outcome of a mark is a whole frame exactly when the mark ends a whole cut, and padding exactly when the mark is padding. It is a
+/// partial frame only if a run goes on. It is a torn one only if no run goes on, or one has ended with an element open. `Brought` is the
+/// type of what a part brings with it.
 pub fn outcomes_are_those_of_runs<Brought>()
     ensures whole { Laws.WholeOutcomesAreCuts Brought }
     ensures partial { Laws.PartialOutcomesGoOn Brought }
@@ -30,15 +31,18 @@ pub fn partial_frames_are_the_unfinished_cuts<Brought>()
 
 // ---- the frames of a track
 
-/// An item makes a frame exactly when it ends a whole cut whose number isn't stale, and the frame has the packets of that cut, and the
-/// meaning that its first descriptor, the structure and what is in force give it.
+/// An item makes a frame exactly when it ends a whole cut whose number isn't stale: the number is a key frame's, or the nearest number is
+/// above the newest. The frame has the packets of the cut. Its meaning follows from the cut's first descriptor, the structure, and what is
+/// in force: mask, epoch and the epoch's start after the cut's last packet, and the newest number before that packet. Every list of items
+/// has its marks.
 pub fn items_make_the_frames_of_their_cuts<Structure>()
     ensures marks { Making.ItemsHaveMarks Structure }
     ensures frames { Making.FramesAreCuts Structure }
     ensures cuts { Making.CutsAreFrames Structure }
 {}
 
-/// The frames that come out of a track's packets are one track's frames, whole, and read by structures that were carried.
+/// The frames that a track's items make are one track's frames, each whole and read by a structure that was carried. Later items only add
+/// frames. The newest of a track's frames are one track's frames too.
 pub fn frames_of_items_are_one_track<Structure>()
     ensures track { Laws.FramesAreTrack Structure }
     ensures read { Laws.FramesAreRead Structure }
@@ -46,18 +50,19 @@ pub fn frames_of_items_are_one_track<Structure>()
     ensures newest { Laws.NewestAreTrack Structure }
 {}
 
-/// Structure, mask and epoch in force are those of the descriptors that were read, and key starts are numbered above all before.
+/// Structure, mask and epoch in force are those of the descriptors that were read. The first key start has its own number, and each later
+/// one the least number above the newest.
 pub fn what_was_read_is_in_force<Structure>()
     ensures in_force { Making.WhatWasReadIsInForce Structure }
     ensures numbers { Making.KeyStartsAreNumbered Structure }
 {}
 
-/// The newest frame number is that of the frame or of the key start that came last, and nothing else changes it.
+/// The newest frame number is that of the frame or the key start that came last. Nothing else changes it.
 pub fn the_newest_number_is_that_of_what_came_last<Structure>()
     ensures { Making.TheNewestIsTheLast Structure }
 {}
 
-/// The mask is what the newest descriptor that says something of it says: its own, or all targets of the structure that it carries.
+/// The newest descriptor that has a mask or carries a structure sets the mask: its own, or else all targets of the structure.
 pub fn masks_are_what_was_said_last<Structure>()
     ensures said { Making.MasksAreSaid Structure }
     ensures all { Making.AllTargetsAreActive }

@@ -1,8 +1,8 @@
 //! The laws of forwarding, and the words in which they are stated. `forwarding_model` has the definitions.
 //!
-//! Each law is the contract of a function that does nothing. A crate above takes a law by a call of its function, or by naming the lemma of
-//! `proofs/` that proves it. `specs/` has, for each part, its words and the statements of its laws. `Structure` is the type of template
-//! dependency structures. There is no other code here.
+//! Each law is the contract of a function that does nothing. A crate above uses a law by calling its function, or by naming the lemma of
+//! `proofs/` that proves it. For each part, `specs/` has the definitions of its words and the statements of its laws. `Structure` is the
+//! type of template dependency structures. There is no other code here.
 #![tactic(auto)]
 
 mod forwarding;

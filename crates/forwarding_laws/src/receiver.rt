@@ -1,12 +1,13 @@
-// The laws of the strict receiver: it has no complaint of what is forwarded, and what that says.
+// The laws of the strict receiver: that it has no complaint of what is forwarded, and what it means to have none.
 
 ghost use Rattle.forwarding_laws.specs.receiver.Accepted;
 ghost use Rattle.forwarding_laws.specs.receiver.Laws;
 
 // ---- the headline
 
-/// A strict receiver of the packets that are forwarded to a subscriber of a layered track, and of each prefix of them, has no complaint. In
-/// whatever history of a track, it has none of those, nor of what a subscriber has taken.
+/// Where each frame is sent whole, a strict receiver has no complaint of the packets that are forwarded to a subscriber of a layered track,
+/// nor of any prefix of them. The same holds in every history of a track, and there of what was taken too, if the format has the facts on
+/// reading (`IsFormat`) and the sender changes nothing that is read (`KeepsWhole`).
 pub fn strict_receiver_never_complains<Structure>()
     ensures prefix { Laws.NeverComplains Structure }
     ensures history { Laws.OutgoingNeverComplains Structure }
@@ -15,17 +16,18 @@ pub fn strict_receiver_never_complains<Structure>()
 
 // ---- what is accepted, and what is complained of
 
-/// What a strict receiver has no complaint of is of one source, consecutive in number, and whole frames one after another, and then the
-/// first packets of one more, or none. Each frame refers to frames that came since the newest key frame, and since the newest whose number
-/// wasn't above the one before it. And whatever is so, it has no complaint of. It always complains of bytes that aren't an RTP packet.
+/// Packets without a complaint have one SSRC and consecutive sequence numbers. They are whole frames one after another, and then the first
+/// packets of one more, or none. Each frame refers only to frames that count as received when it comes. A frame counts until the next key
+/// frame comes, or the next frame whose number isn't 1 to 32,767 above the one before it, modulo 65,536. Conversely, packets of which all
+/// this is true have no complaint. Bytes that aren't an RTP packet always have one.
 pub fn accepted_packets_are_whole_frames<Structure>()
     ensures accepts { Accepted.NoComplaintAccepts Structure }
     ensures converse { Accepted.AcceptedIsNotComplainedOf Structure }
     ensures packets { Accepted.NoComplaintIsOfPackets Structure }
 {}
 
-/// A strict receiver that has no complaint accepts all packets that came, and as many frames as there are whole ones among them. One that
-/// has a complaint accepts the packets before the one that it complains of, and their frames.
+/// A strict receiver without a complaint accepts all packets that came, and the whole frames among them. One that has a complaint accepts
+/// the packets before the one of which it complains, and their whole frames.
 pub fn complaints_come_in_their_place<Structure>()
     ensures count { Accepted.CountsAreWhole Structure }
     ensures frames { Accepted.FramesAreCounted Structure }

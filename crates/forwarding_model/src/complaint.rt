@@ -3,17 +3,17 @@
 /// The first thing that a strict receiver finds wrong with the packets that it is given. Own rule.
 #[derive(Clone, Copy, Debug, PartialEq, Eq)]
 pub enum Complaint {
-    /// The bytes aren't an RTP packet; or the payload is empty or broken, the descriptor's header extension is missing, the descriptor
-    /// doesn't read, or it carries a structure that isn't in force and begins no key frame.
+    /// The bytes aren't an RTP packet, the payload is empty or broken, or the descriptor's header extension is missing. Or the descriptor
+    /// can't be parsed, or it begins no key frame and carries a structure that isn't in force.
     Unread,
-    /// The packet's SSRC isn't the first packet's.
+    /// The packet's SSRC is `got`, and the first packet's is `had`.
     OtherSource { had: u32, got: u32 },
-    /// The sequence number isn't one more than the last.
+    /// The sequence number `got` isn't one more, modulo 65,536, than `had`, the last packet's.
     Sequence { had: u16, got: u16 },
     /// A descriptor needs a template dependency structure, and none has come.
     NoStructure,
     /// The packets of a frame don't make it whole.
     NotWhole,
-    /// Frame `frame` refers to the frame `fdiff` back, which wasn't received.
+    /// The frame with the 16-bit number `frame` refers to the one `fdiff` numbers back, which doesn't count as received.
     MissingReference { frame: u16, fdiff: u16 },
 }

@@ -5,7 +5,8 @@
 pub enum Reason {
     /// At frame `at` the target's chain was found broken: its link names frame `number`, which wasn't forwarded.
     BrokenLink { at: u64, number: u64 },
-    /// No target was opened since frame `since`, with which an epoch began or the mask took the target away.
+    /// No target was opened since frame `since`: it was the first to come of its epoch, or its mask took the open target away. Before any
+    /// frame came, `since` is 0.
     NotOpened { since: u64 },
 }
 

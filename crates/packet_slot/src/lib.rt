@@ -8,11 +8,11 @@ use std::marker::Model;
 /// The longest packet that a track accepts, in bytes (own rule).
 pub const PACKET_BYTES: usize = 1500;
 
-/// Up to 1,500 bytes, seen as their list. No call takes memory.
+/// Up to 1,500 bytes; a contract sees the list of them. No call takes memory.
 #[derive(Debug, Drop)]
 pub struct PacketSlot {
     room: [u8; PACKET_BYTES],
-    // where the bytes begin; they go to the end of the array
+    // where the bytes begin; they end where the array ends
     start: usize,
 }
 

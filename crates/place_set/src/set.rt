@@ -4,15 +4,15 @@ ghost use Rattle.place_set.specs.Places.{ChangesPlace, IsFirstFrom, IsLowest, ha
 
 use std::marker::Model;
 
-/// Places that a set can have: those below.
+/// How many places there are: 0 to 255.
 const PLACES: usize = 256;
 
-/// Words of a set, of `WORD_BITS` bits each.
+/// How many words a set has, of `WORD_BITS` bits each.
 const WORDS: usize = 4;
 
 const WORD_BITS: usize = 64;
 
-/// A set of places below 256. Clauses see its four words, and ask them by `has_place`.
+/// A set of places below 256. A contract sees its four words, and reads them by `has_place`.
 #[derive(Debug, Drop)]
 pub struct PlaceSet {
     words: [u64; WORDS],
@@ -50,7 +50,7 @@ impl PlaceSet {
         self.words[place / WORD_BITS] &= !(1 << (place % WORD_BITS));
     }
 
-    /// The least place of the set that is at least `from`.
+    /// The least place of the set that is at least `from`, or `None` if there is none.
     #[inline(always)]
     pub fn first_from(&self, from: usize) -> Option<usize>
         ensures first { IsFirstFrom self.now from result }
@@ -68,7 +68,7 @@ impl PlaceSet {
     }
 }
 
-// The least place of the words from this one on.
+// The least place in the words from word `from` on.
 fn first_behind(words: &[u64; WORDS], from: usize) -> Option<usize>
     ensures first { IsFirstFrom words.now (64 * from) result }
     ensures below { IfSome result (λ place. place < 256) }

@@ -1,7 +1,7 @@
 // A window that forgets decides as one that keeps every number.
 ghost use Rattle.ref_window.specs.Laws.{AnswersForAll, ForgetsForGood, HoldsAllNear};
 
-/// A law: inserting into a window gives the window of all numbers that were inserted.
+/// A law: inserting a number into what a window holds gives what a window holds of all numbers that were inserted.
 pub fn forgotten_numbers_are_never_wanted()
     ensures { ForgetsForGood }
 {}

@@ -1,5 +1,5 @@
-//! The frame numbers that a later frame can still refer to: a set of numbers that are inserted in rising order, of which those at most
-//! 4,096 below the greatest are kept. It has a fixed size and takes no memory.
+//! The frame numbers that a later frame can still refer to. Numbers are inserted in rising order, and those at most 4,096 below the
+//! greatest are kept. The set has a fixed size and takes no memory.
 #![tactic(auto)]
 
 mod laws;

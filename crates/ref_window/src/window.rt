@@ -5,12 +5,12 @@ ghost use Rattle.ref_window.specs.Numbers.{IsAboveAll, held_of, is_among};
 use crate::words::{SPAN, WORDS, Words, bit, move_on};
 use std::marker::Model;
 
-/// The numbers that were inserted since the last reset and are at most 4,096 below the greatest of them. Clauses see their list, the newest
-/// first.
+/// The numbers that were inserted since the last reset and are at most 4,096 below the greatest of them. A contract sees their list, the
+/// newest first.
 #[derive(Debug, Drop)]
 pub struct RefWindow {
     greatest: Option<u64>,
-    // for the numbers below the greatest; of no meaning where there is none
+    // bits for the numbers below the greatest; without meaning where there is none
     words: Words,
 }
 

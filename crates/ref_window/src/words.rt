@@ -40,7 +40,7 @@ fn clear_bit(words: &mut Words, number: u64)
     words[word_of(number)] &= !(1 << (number % WORD_BITS));
 }
 
-// Makes the bits from one number up to another 0: whole words where it can, so in at most 190 steps.
+// Clears the bits of the numbers from `from` to below `to`, whole words where it can, so in at most 190 steps.
 fn clear_bits(words: &mut Words, from: u64, to: u64)
     requires order { from ≤ to }
     requires span { to ≤ from + 4096 }
@@ -52,7 +52,7 @@ fn clear_bits(words: &mut Words, from: u64, to: u64)
     }
 }
 
-// Makes the bits from a number up to the result 0.
+// Clears the bits of the numbers from `number` to below the result.
 fn clear_some(words: &mut Words, number: u64, to: u64) -> u64
     requires order { number < to }
     requires span { to ≤ number + 4096 }
@@ -75,7 +75,7 @@ fn clear_all(words: &mut Words)
     *words = [0; WORDS];
 }
 
-/// Makes the bits those of the numbers below one that is inserted after `greatest`, or first.
+/// Updates the bits to those of the numbers below `number`, which is inserted after `greatest`, or as the first.
 pub fn move_on(words: &mut Words, greatest: Option<u64>, number: u64)
     requires { IsAboveAll number (held_in greatest words.old) }
     ensures { held_in (Some number) words.new ≡ held_of (number ∷ held_in greatest words.old) }

@@ -17,13 +17,13 @@ use std::alloc::Global;
 use std::marker::Model;
 use wrap_number::place;
 
-/// The numbers that can be accepted lie below this one.
+/// Accepted unwrapped sequence numbers are below this one.
 pub const NUMBER_END: u64 = 1 << 46;
 
 // How many sequence numbers there are.
 const SEQUENCE_NUMBERS: u64 = 65_536;
 
-/// The order of one track. Clauses see it as its hold, the order, and the pieces that are still to be fetched.
+/// The reorder window of one track. A contract sees its hold, its order, and the pieces that are still to be fetched.
 #[derive(Debug, Drop)]
 pub struct Window {
     ring: Ring,
@@ -34,7 +34,7 @@ pub struct Window {
     next: u64,
     // the first number that wasn't fetched
     given: u64,
-    // where `next_item` has a packet while it copies it
+    // the buffer from which `next_item` copies a packet
     copied: Box<PacketSlot>,
 }
 
@@ -51,7 +51,7 @@ impl Model for Window {
 }
 
 impl Window {
-    /// A window before the first packet, that holds a packet behind a gap for `hold` milliseconds. All its memory is taken here.
+    /// A window before its first packet. It holds a packet behind a gap for `hold` milliseconds. Only this call takes memory.
     pub fn new(alloc: Global, hold: u32) -> Result<Window, NoMemory>
         ensures { IfOk result (λ window. window ≡ record { hold = hold; order = before_all; waiting = [] }) }
     {
@@ -68,7 +68,8 @@ impl Window {
         })
     }
 
-    /// Takes in a packet that arrives at this moment, in milliseconds. Its bytes are copied once. A refusal changes nothing.
+    /// Takes in a packet of at most 1,500 bytes that arrives at this moment, in milliseconds. Its bytes are copied once. A refusal changes
+    /// nothing.
     pub fn arrive(&mut self, seq: u16, moment: u64, bytes: &[u8]) -> Result<(), Arrival>
         requires length { length bytes.now ≤ 1500 }
         requires fetched { self.old.waiting ≡ [] }
@@ -110,7 +111,8 @@ impl Window {
             .due_end(self.next, self.end, self.moment, self.hold);
     }
 
-    /// The next item that waits, or none. A packet's slot changes places with this one, so that no byte is copied; else the slot stays as it was.
+    /// Returns the next item that waits to be fetched, or `None`. A packet's slot is exchanged for `slot`, so that no byte is copied;
+    /// otherwise `slot` stays as it was.
     pub fn next_slot(&mut self, slot: &mut Box<PacketSlot>) -> Option<Item>
         ensures none { IsNone result ↔ (self.old.waiting ≡ []) }
         ensures item { result ≡ option_map item_of (slice_get self.old.waiting 0) }
@@ -120,7 +122,8 @@ impl Window {
         fetch(&mut self.ring, &mut self.given, self.next, slot)
     }
 
-    /// The next item that waits, as [`Window::next_slot`] returns it, with a packet's bytes copied into the buffer; else the buffer stays as it was.
+    /// Returns the next item that waits to be fetched, as [`Window::next_slot`] does. A packet's bytes replace the contents of `buf`;
+    /// otherwise `buf` stays as it was.
     pub fn next_item(&mut self, buf: &mut PacketBuf) -> Option<Item>
         ensures none { IsNone result ↔ (self.old.waiting ≡ []) }
         ensures length { length buf.new ≤ max (length buf.old) 1500 }
@@ -135,7 +138,8 @@ impl Window {
         Some(item)
     }
 
-    /// The missing sequence numbers, ascending by their unwrapped numbers.
+    /// Fills `out` with the missing sequence numbers: those from the next up to the greatest held one that aren't held, ascending by their
+    /// unwrapped numbers.
     pub fn missing(&self, out: &mut SeqList)
         ensures { out.new ≡ missing_sequences self.now.order }
     {
@@ -148,7 +152,8 @@ impl Window {
     }
 }
 
-// The next of what waits in a ring, of the numbers from `given` to below `next`: `given` is behind it then. A packet's slot changes places with this one.
+// Returns the first item among the numbers from `given` to below `next`, and moves `given` past it. A packet's slot is exchanged for
+// `slot`.
 #[inline(always)]
 fn fetch(ring: &mut Ring, given: &mut u64, next: u64, slot: &mut Box<PacketSlot>) -> Option<Item>
     requires within { given.old ≤ next }
@@ -177,7 +182,8 @@ fn fetch(ring: &mut Ring, given: &mut u64, next: u64, slot: &mut Box<PacketSlot>
     Some(Item::Gone { from, to: end - 1 })
 }
 
-/// The number of an arrival, unless it is too great or behind.
+/// The unwrapped number of an arrival. It is refused with `Spent` from 2^46 on, and with `Late` below `next`. `end` is one above the newest
+/// accepted number, or 0 before the first.
 pub fn number_in_range(end: u64, next: u64, seq: u16) -> Result<u64, Arrival>
     requires bounded { end ≤ NUMBER_END }
     requires within { next ≤ end }

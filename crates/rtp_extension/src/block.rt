@@ -9,8 +9,8 @@ use crate::element::Elements;
 use crate::form::{Form, named_form};
 
 /// The elements of a block under its profile (RFC 8285, sections 4.2 and 4.3), in order. Profile BEDE is the one-byte form, 1000 to 100F
-/// the two-byte form, and any other has no elements (own rule). Id 15 ends the one-byte form, and so do (own rules) id 0 with a length and,
-/// in both forms, an element that would pass the block's end.
+/// the two-byte form. Any other profile has no elements (own rule). Id 15 ends the one-byte form, and so does id 0 with a nonzero length
+/// (own rule). An element that would pass the block's end ends both forms (own rule).
 pub fn elements<'a>(profile: u16, block: &'a [u8]) -> Elements<'a>
     ensures value { result ≡ elements_of profile block.now }
     ensures grammar { HasElements (form_of profile) block.now result }

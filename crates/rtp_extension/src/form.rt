@@ -23,7 +23,7 @@ pub(crate) const LONGEST_ONE_BYTE: usize = 16;
 /// The most bytes of a value in the two-byte form.
 pub(crate) const LONGEST_TWO_BYTE: usize = 255;
 
-/// The form that a profile names.
+/// The form that a profile names, if it names one.
 pub(crate) fn named_form(profile: u16) -> Option<Form>
     ensures { result ≡ form_of profile }
 {
@@ -36,7 +36,7 @@ pub(crate) fn named_form(profile: u16) -> Option<Form>
     }
 }
 
-/// The profile and the form of a block, originally in this form, once an element in it has this value.
+/// The profile and the form that a block needs once one of its elements has this value. `profile` and `form` are those before.
 pub(crate) fn wide_enough(profile: u16, form: Form, value: &[u8]) -> (u16, Form)
     requires { form_of profile ≡ Some form }
     ensures profile { result.0 ≡ profile_for profile value.now }

@@ -19,8 +19,8 @@ pub fn a_block_has_one_reading()
     ensures one { (form : Form) (block : List ℕ) (es fs : List PlainElement) → IsBlock form block es → IsBlock form block fs → es ≡ fs }
 {}
 
-/// Elements and padding followed by elements and padding have the elements of the first and then those of the second. An element's bytes
-/// have that element, and a zero byte has none: so a buffer that is filled by the writers and rounded up by zero bytes reads back.
+/// Two runs of elements and padding, laid end to end, have the elements of the first and then those of the second. An element's bytes have
+/// that element, and a zero byte has none. So a buffer that the writers filled and zero bytes rounded up reads back.
 pub fn whole_blocks_join()
     ensures joined { (form : Form) (a b : List ℕ) (es fs : List PlainElement) → IsWhole form a es → IsWhole form b fs → IsWhole form (a ++ b) (es ++ fs) }
     ensures element { (form : Form) (e : PlainElement) → Fits form e → IsWhole form (element_bytes form e) (e ∷ []) }
@@ -29,7 +29,7 @@ pub fn whole_blocks_join()
 {}
 
 /// A new block has the elements of the old one in order, with one value replaced: so `find` gives the new value for its id and the old
-/// values for every other id. It has whole words.
+/// values for every other id. The block is a whole number of 32-bit words.
 pub fn a_new_block_has_the_old_elements_but_one()
     ensures elements { (profile id : ℕ) (block value : List ℕ) → AreBytes block → IsSome (value_of id (elements_of profile block))
         → IsBetween 1 255 (length value)

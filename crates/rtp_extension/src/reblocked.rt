@@ -17,10 +17,10 @@ const EXTENSION_HEADER: usize = 4;
 /// The bytes of a word.
 const WORD: usize = 4;
 
-/// Appends a header extension, profile and count of words included, with the elements of a block in their order; the first with this id
-/// gets this value of 1 to 255 bytes (own rule). What isn't an element isn't in the new block, and zero bytes fill its last word. The
-/// profile stays, except that a value of more than 16 bytes turns the one-byte form into the two-byte form, with profile 1000. Returns
-/// `NoFit` where the buffer would pass 2,048 bytes; it is then as it was.
+/// Appends a header extension, profile and count of words included, with the elements of a block in their order. The first element with
+/// this id must exist, and gets this value of 1 to 255 bytes (own rule). What isn't an element is left out, and zero bytes fill the last
+/// 32-bit word. The profile stays, except that a value of more than 16 bytes turns the one-byte form into the two-byte form, with profile
+/// 1000. Returns `NoFit` if the buffer would pass 2,048 bytes; it is then as it was.
 pub fn reblock(
     profile: u16,
     block: &[u8],

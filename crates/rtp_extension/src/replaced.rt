@@ -6,7 +6,7 @@ ghost use Rattle.rtp_extension.specs.Seen.{elements_left, plain};
 use crate::element::{Element, first};
 use crate::form::Form;
 
-/// The remaining elements of a block, of which the first with the id gets the value, until it is placed.
+/// The remaining elements of a block. The first of them with the id gets the value; `value` is `None` once that is done.
 #[derive(Clone, Copy, Debug)]
 pub(crate) struct Replaced<'a> {
     pub(crate) form: Form,

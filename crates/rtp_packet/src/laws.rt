@@ -7,18 +7,17 @@ ghost use Rattle.rtp_packet.specs.Packet.{IsPacket, Packet, packet_of};
 ghost use Rattle.rtp_packet.specs.Restamped.{at_timestamp, restamped};
 ghost use Rattle.rtp_packet.specs.Rewritten.{readdressed, rewritten};
 
-/// Bytes that begin with 80 (version 2, no padding, no extension, no CSRC words) and have a whole fixed header are
-/// read.
+/// At least 12 bytes that begin with 0x80 (version 2, no padding, no extension, no CSRC words) have no fault.
 pub fn plain_packets_read()
     ensures { (bytes : List ℕ) → 12 ≤ length bytes → slice_index bytes 0 ≡ 128 → first_fault bytes ≡ None }
 {}
 
-/// Bytes with no fault are a packet, and it says what the fields of the bytes say.
+/// Bytes with no fault are a packet: the one that `packet_of` gives for them.
 pub fn bytes_without_fault_are_a_packet()
     ensures { (bytes : List ℕ) → AreBytes bytes → first_fault bytes ≡ None → IsPacket bytes (packet_of bytes) }
 {}
 
-/// A packet has no fault, and the fields of its bytes say what it says.
+/// The bytes of a packet have no fault, and `packet_of` gives that packet for them.
 pub fn a_packet_is_read()
     ensures no_fault { (bytes : List ℕ) (p : Packet) → IsPacket bytes p → first_fault bytes ≡ None }
     ensures fields { (bytes : List ℕ) (p : Packet) → IsPacket bytes p → packet_of bytes ≡ p }
@@ -29,7 +28,7 @@ pub fn bytes_are_one_packet()
     ensures { (bytes : List ℕ) (p q : Packet) → IsPacket bytes p → IsPacket bytes q → p ≡ q }
 {}
 
-/// Rewritten bytes have the same length and the same faults, and say the same except for the three fields.
+/// Rewritten bytes have the same length and the same faults. They say the same except for sequence number, SSRC and marker.
 pub fn three_fields_are_rewritten()
     ensures len { (sequence ssrc : ℕ) (marker : Bool) (bytes : List ℕ) → 12 ≤ length bytes
         → length (rewritten sequence ssrc marker bytes) ≡ length bytes }
@@ -39,7 +38,7 @@ pub fn three_fields_are_rewritten()
         → packet_of (rewritten sequence ssrc marker bytes) ≡ readdressed sequence ssrc marker (packet_of bytes) }
 {}
 
-/// Restamped bytes have the same length and the same faults, and say the same except for the timestamp.
+/// Restamped bytes have the same length and the same faults. They say the same except for the timestamp.
 pub fn the_timestamp_is_rewritten()
     ensures len { (timestamp : ℕ) (bytes : List ℕ) → 12 ≤ length bytes → length (restamped timestamp bytes) ≡ length bytes }
     ensures faults { (timestamp : ℕ) (bytes : List ℕ) → 12 ≤ length bytes → first_fault (restamped timestamp bytes) ≡ first_fault bytes }

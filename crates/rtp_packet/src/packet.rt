@@ -47,7 +47,7 @@ pub fn read<'a>(bytes: &'a [u8]) -> Result<Rtp<'a>, RtpFault>
     located(bytes)
 }
 
-/// Each part at the place that its field says, or the first fault.
+/// Each part at its place, as the header's fields give it, or the first fault.
 #[tactic(auto, unfolding(crate::specs::Faults::first_fault))]
 fn located<'a>(bytes: &'a [u8]) -> Result<Rtp<'a>, RtpFault>
     ensures parts { IfOk result (λ r. parts r ≡ packet_of bytes.now) }
@@ -80,7 +80,8 @@ fn located<'a>(bytes: &'a [u8]) -> Result<Rtp<'a>, RtpFault>
     })
 }
 
-/// Splits the bytes after the CSRC words: the extension's profile and block where there is one, and the bytes after it.
+/// Splits the bytes after the CSRC words: the extension's profile and block, if there is one, and the bytes after it. `Extension` if it
+/// isn't all there.
 fn extension<'a>(
     extended: bool,
     rest: &'a [u8],
@@ -104,7 +105,7 @@ fn extension<'a>(
     Ok((Some(BigEndian::read_u16(rest)), &rest[4..end], &rest[end..]))
 }
 
-/// The bytes after the header, without their padding.
+/// The bytes after the header, without their padding. `Padding` if the padding's count is 0 or too great.
 fn unpadded<'a>(padded: bool, rest: &'a [u8]) -> Result<&'a [u8], RtpFault>
     ensures payload { IfOk result (λ x. x.now ≡ payload_in padded rest.now) }
     ensures ok { IfOk result (λ _. has_bad_padding padded rest.now ≡ false) }

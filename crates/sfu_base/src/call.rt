@@ -6,17 +6,19 @@ use thiserror::Error;
 /// What a track carries.
 #[derive(Clone, Copy, Debug, PartialEq, Eq)]
 pub enum Kind {
-    /// Packets that are forwarded as they come.
+    /// Packets that are forwarded in order, with only sequence number and SSRC changed.
     Plain,
     /// AV1 packets (RTP Payload Format For AV1), each with a dependency descriptor in the header extension element of this id, 1 to 14 or
     /// 16 to 255 (RFC 8285, section 4).
     Layered { id: u8 },
 }
 
-/// A call on a room. Own rule. Tracks and subscribers are named by numbers that the caller chooses.
+/// A call on a room. Own rule. The caller names tracks and subscribers by numbers: a new one's is above 0 and above all earlier ones of its
+/// kind.
 #[derive(Debug, Drop)]
 pub enum Call {
-    /// A track begins: its packets have this SSRC; `hold` is how long a gap in their sequence numbers is waited for, in milliseconds.
+    /// A track begins. Its packets have this SSRC. `hold` is how long a packet is held behind a gap in the sequence numbers, in
+    /// milliseconds.
     Publish {
         track: u32,
         kind: Kind,
@@ -33,13 +35,13 @@ pub enum Call {
         moment: u64,
         bytes: PacketBuf,
     },
-    /// The clock's moment, in milliseconds: gaps that the track has waited for long enough are given up.
+    /// Time has come to this moment, in milliseconds: gaps before packets that have been held for the full hold time are given up.
     Tick {
         track: u32,
         moment: u64,
     },
-    /// A subscriber of the track begins: what is sent to it has this SSRC and sequence numbers from `first` on; `wish` bounds the layers of
-    /// a layered track.
+    /// A subscriber of the track begins. The packets for it have this SSRC and sequence numbers from `first` on. On a layered track `wish`
+    /// bounds the layers.
     Join {
         subscriber: u32,
         track: u32,
@@ -99,7 +101,7 @@ pub enum RtpFault {
     /// The header extension isn't all there.
     #[error("the header extension isn't all there")]
     Extension,
-    /// The padding count is 0, or more than the bytes behind the header.
+    /// The padding count is 0, or more than the number of bytes after the header.
     #[error("the padding count is 0 or too great")]
     Padding,
 }
@@ -111,9 +113,9 @@ pub enum Refusal {
     NoTrack,
     /// No live subscriber has this number.
     NoSubscriber,
-    /// The number is at most `highest`, the highest that was ever live.
+    /// The number is at most `highest`, the highest number of its kind that was ever live, or 0 before the first.
     NumberUsed { highest: u32 },
-    /// `live` are live already, and no more may be.
+    /// `live` tracks, or subscribers, are live already, and that is the limit.
     TooMany { live: u32 },
     /// The header extension id is 0, which is padding, or 15, which ends processing (RFC 8285, section 4.2).
     BadExtensionId,
@@ -131,9 +133,10 @@ pub enum Refusal {
     Repeat,
     /// Nothing is queued.
     Empty,
-    /// The packet isn't kept: `oldest` is the oldest kept number, or `next` where none is kept; `next` is the number of the next take.
+    /// The packet isn't kept. `oldest` is the sequence number of the oldest kept packet, or `next` if none is kept; `next` is the sequence
+    /// number of the next take.
     NotKept { oldest: u16, next: u16 },
-    /// The number is above `newest`, the newest frame's, or there is no frame.
+    /// The number is above `newest`, the newest frame's number; with `None` no frame has come.
     Ahead { newest: Option<u64> },
     /// The number is 4,096 or more below the newest frame's: `oldest` is the lowest that may be asked for.
     TooOld { oldest: u64 },

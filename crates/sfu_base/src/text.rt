@@ -3,10 +3,10 @@ ghost use Rattle.std.specs.Prelude.{◌≡◌, ℕ, List, length};
 
 /// A text that is written in place, into a slice of its length.
 pub trait Text {
-    /// Its bytes.
+    /// The text's bytes.
     ghost text: { Self → List ℕ };
 
-    /// How many bytes it has.
+    /// How many bytes the text has.
     fn size(&self) -> usize
         ensures { result ≡ length (text self.now) };
 

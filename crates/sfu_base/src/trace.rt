@@ -4,7 +4,8 @@ ghost use Rattle.std.specs.Borrow.{ftrue};
 
 use std::marker::{Model, PhantomData};
 
-/// Pairs in the order in which they were added, which clauses read as `items`. It takes no memory, and its methods do nothing at run time.
+/// Pairs in the order in which they were added; clauses read them as `items`. A trace takes no memory, and its methods do nothing at run
+/// time.
 #[derive(Drop)]
 pub struct Trace<A, B> {
     of: PhantomData<(A, B)>,
@@ -15,7 +16,7 @@ impl<A, B> Model for Trace<A, B> {
     ghost also_owns = { λ _. ftrue };
 }
 
-// It owns nothing.
+// A trace owns nothing, so it can be sent to another thread.
 unsafe impl<A: Send, B: Send> Send for Trace<A, B> {}
 
 impl<A, B> Trace<A, B> {

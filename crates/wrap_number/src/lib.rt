@@ -1,5 +1,5 @@
-//! Sequence numbers and frame numbers are sent in 16 bits and wrap at 65,536 (RFC 3550, section 5.1). These two functions unwrap them: they
-//! return which number of wide range one stands for, given the newest number that is known. Neither takes memory.
+//! Sequence numbers and frame numbers are sent in 16 bits and wrap at 65,536 (RFC 3550, section 5.1). [`place`] and [`above`] unwrap them:
+//! given the newest unwrapped number, they return the one that 16 bits represent. Neither takes memory.
 #![tactic(auto)]
 
 ghost use Rattle.std.specs.Prelude.{◌≡◌, ◌≤ℤ◌, ◌<◌, ◌^◌, neg_ℤ, pos};
@@ -24,7 +24,7 @@ pub fn place(newest: i64, n: u16) -> i64
     }
 }
 
-// How far ahead the next such number lies, from 0 to 65,535.
+// How far the next number that is `n` modulo 65,536 lies ahead of `newest`, from 0 to 65,535.
 fn ahead(newest: i64, n: u16) -> u32
     ensures value { result ≡ ahead_of newest n }
     ensures below { result < 65536 }
@@ -47,8 +47,8 @@ pub fn one_number_is_meant()
     ensures { IsOne }
 {}
 
-/// A law, for all numbers: the values with which definitions compute are the nearest number and the least above. The nearest number lies
-/// above `newest` exactly when the test says so.
+/// A law, for all numbers: the value of `nearest_to` is the nearest number, and that of `least_above` the least above. `is_above` is true
+/// exactly when the nearest number lies above `newest`, and that number is then `number_above`.
 pub fn values_are_nearest_and_least()
     ensures nearest { NearestIsNearest }
     ensures least { LeastIsLeast }
@@ -56,8 +56,8 @@ pub fn values_are_nearest_and_least()
     ensures found { NearestAboveIsFound }
 {}
 
-/// A law, for all numbers: one that is `n` modulo 65,536 and lies above `newest` is the nearest exactly when it lies above by less than
-/// half a turn.
+/// A law, for all numbers: a number that is `n` modulo 65,536 and lies above `newest` is the nearest exactly when it lies less than 32,768
+/// above.
 pub fn near_above_is_nearest()
     ensures { NearIsNearestAbove }
 {}

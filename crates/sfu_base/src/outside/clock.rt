@@ -1,13 +1,13 @@
-// The moment, which is only a value to every contract. Own rule.
+// The current moment. Own rule. To every contract it is just a value.
 use std::sync::atomic::{AtomicU64, Ordering};
 
-/// Tells the moment, in milliseconds. It has no fault, and no contract says which moments come.
+/// Tells the time in milliseconds. It can't fail, and no contract says which moments come.
 pub trait Clock {
-    /// The moment.
+    /// The current moment, in milliseconds.
     fn now(&self) -> u64;
 }
 
-/// A clock whose moments are a start and then, after each call, a step more, modulo 2^64, whichever threads call it.
+/// A clock that returns a start at its first call, and at each later call a step more than before, modulo 2^64, whichever threads call it.
 #[derive(Drop)]
 pub struct StepClock {
     moment: AtomicU64,
@@ -15,7 +15,7 @@ pub struct StepClock {
 }
 
 impl StepClock {
-    /// A clock that answers `start` at its first call.
+    /// A clock that returns `start` at its first call.
     pub fn new(start: u64, step: u64) -> Self {
         StepClock {
             moment: AtomicU64::new(start),

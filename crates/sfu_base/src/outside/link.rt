@@ -5,26 +5,28 @@ ghost use Rattle.sfu_base.specs.Links.{FillsOnlyWhere, Traffic, after_receive, a
 
 use crate::{Failed, PacketBuf};
 
-/// Where datagrams come from and go to: one peer, both ways.
+/// Datagrams to and from one peer.
 pub trait Link {
-    /// Its receives and the datagrams that were sent, where it tells them.
+    /// The link's receives and sent datagrams, in order, or `None` if it doesn't record them.
     ghost told: { Self → Option Traffic };
 
-    /// Which link it is: how many its ports had bound before. No call changes it, so that links can't change places unseen.
+    /// The link's name: how many links its ports had bound before. No call changes it, so that links can't change places unseen.
     ghost name: { Self → ℕ };
 
-    /// How often a call has failed; at 2^64 - 1 it stays there.
+    /// How many calls have failed, at most 2^64 - 1.
     ghost faults: { Self → ℕ };
 
-    /// `Ok(true)` fills the buffer anew with a datagram, of which only the first 2,048 bytes are seen; `Ok(false)` is that none is
-    /// there. The receive is put last in what is told. After `Failed` what is told is as it was, and so is the buffer but after `true`.
+    /// Receives a datagram, if one is there. `Ok(true)` replaces the buffer's contents by the datagram, or by its first 2,048 bytes if it
+    /// is longer. `Ok(false)` means that none was there. Only `Ok(true)` changes the buffer. The receive is appended to the record, unless
+    /// the call failed.
     fn receive(&mut self, buf: &mut PacketBuf) -> Result<bool, Failed>
         ensures buffer { FillsOnlyWhere result buf.old buf.new }
         ensures told { told self.new ≡ after_receive result buf.new (told self.old) }
         ensures name { name self.new ≡ name self.old }
         ensures cause { HasCause (faults self.old) (faults self.new) result };
 
-    /// Sends the packet's bytes as one datagram, and puts it last in what is told. After `Failed` none was sent.
+    /// Sends the packet's bytes as one datagram, and appends the datagram to the record. After `Failed` none was sent, and the record is as
+    /// before.
     fn send(&mut self, packet: &PacketBuf) -> Result<(), Failed>
         ensures told { told self.new ≡ after_send result packet.now (told self.old) }
         ensures name { name self.new ≡ name self.old }

@@ -8,9 +8,9 @@ use crate::{Failed, Link, PacketBuf};
 use std::alloc::Global;
 use std::marker::Model;
 
-/// Brings its prepared datagrams in order, keeps what is sent, and fails at the calls of two lists, each counted from 0, and where no
-/// memory is there to keep a datagram. Seen as the prepared datagrams that are left, its traffic, the two lists, how many calls of each
-/// kind were made, its name, and the count of faults.
+/// Gives its prepared datagrams in order, and keeps what is sent. Fails at the receives and at the sends whose numbers, counted from 0, are
+/// in two lists, and at a send that is out of memory. A contract sees the prepared datagrams that are left, the traffic, the two lists, how
+/// many calls of each kind were made, the name, and the count of faults.
 #[derive(Drop)]
 pub struct MemLink {
     prepared: Vec<PacketBuf>,
@@ -46,7 +46,7 @@ impl Model for MemLink {
 }
 
 impl MemLink {
-    /// A link that brings these datagrams, whose receives and sends at the places of the two lists fail.
+    /// A link that gives these datagrams. It fails at the receives and at the sends whose numbers, counted from 0, are in the two lists.
     pub fn new(
         alloc: Global,
         prepared: Vec<PacketBuf>,
@@ -69,7 +69,7 @@ impl MemLink {
         }
     }
 
-    /// The same link, as the one that is bound behind so many others.
+    /// The same link with this name: how many links its ports had bound before.
     pub fn named(self, name: u64) -> Self
         ensures { result ≡ record self { name = name } }
     {
@@ -83,7 +83,7 @@ impl MemLink {
         &self.sent
     }
 
-    /// How often a call has failed.
+    /// How many calls have failed, at most 2^64 - 1.
     pub fn faults(&self) -> u64
         ensures { result ≡ self.now.faults }
     {
@@ -91,7 +91,7 @@ impl MemLink {
     }
 }
 
-// Fills the buffer with the datagram at the place and moves the place on, or answers that none is left.
+// Fills the buffer with the datagram at `place` and moves `place` on. Returns whether one was left.
 fn give_next(prepared: &[PacketBuf], place: &mut usize, buf: &mut PacketBuf) -> bool
     requires { place.old ≤ length prepared.now }
     ensures within { place.new ≤ length prepared.now }
@@ -116,8 +116,8 @@ impl Link for MemLink {
 
     ghost faults = { λ s. s.faults };
 
-    /// Fails exactly when the call's place stands in the list; else it brings the next datagram, and `Ok(false)` exactly when none is
-    /// left.
+    /// Fails exactly when the call's number is in the list for receives. Otherwise gives the next datagram, or `Ok(false)` exactly when
+    /// none is left.
     fn receive(&mut self, buf: &mut PacketBuf) -> Result<bool, Failed>
         ensures buffer { FillsOnlyWhere result buf.old buf.new }
         ensures told { Some self.new.traffic ≡ after_receive result buf.new (Some self.old.traffic) }
@@ -140,8 +140,8 @@ impl Link for MemLink {
         Ok(came)
     }
 
-    /// Fails where the call's place stands in the list; else it keeps the datagram. It may also fail elsewhere, as where no memory is
-    /// there to keep it.
+    /// Fails if the call's number is in the list for sends, and may fail at any other call, as when out of memory. Otherwise keeps the
+    /// datagram.
     fn send(&mut self, packet: &PacketBuf) -> Result<(), Failed>
         ensures told { Some self.new.traffic ≡ after_send result packet.now (Some self.old.traffic) }
         ensures name { self.new.name ≡ self.old.name }

@@ -9,10 +9,10 @@ use crate::{Address, Failed, MemLink, NoMemory, Ports};
 use std::alloc::Global;
 use std::marker::Model;
 
-/// Gives its prepared links in order, and past them links with nothing prepared, each named by how many were bound before; fails at the
-/// binds of a list, counted from 0. What comes back is kept in places that are reserved when it is made, so that no later call takes
-/// memory. Seen as the prepared links that are left, the ports that came back, that list, how many binds were made, how many ports were
-/// bound, and the count of faults.
+/// Gives its prepared links in order, and after the last of them links with nothing prepared. A link's name is how many were bound before.
+/// Fails at the binds whose numbers, counted from 0, are in a list. Links that come back go to capacity that `new` reserves, so that no
+/// later call takes memory. A contract sees the prepared links that are left, the ports that came back, that list, how many binds were
+/// made, how many ports were bound, and the count of faults.
 #[derive(Drop)]
 pub struct MemPorts {
     alloc: Global,
@@ -45,7 +45,8 @@ impl Model for MemPorts {
 }
 
 impl MemPorts {
-    /// Ports that give these links, on which no call was made yet, and whose binds at the places of `bind_fails` fail.
+    /// Ports that give these links, on which no call was made yet. They fail at the binds whose numbers, counted from 0, are in
+    /// `bind_fails`.
     pub fn new(alloc: Global, links: Vec<MemLink>, bind_fails: Vec<u64>) -> Result<Self, NoMemory>
         requires { All IsFresh links.items }
         ensures { IfOk result (λ ports. ports ≡ record {
@@ -101,7 +102,7 @@ impl Ports for MemPorts {
 
     ghost faults = { λ s. s.faults };
 
-    /// Fails exactly when the call's place stands in the list; else it gives the next link.
+    /// Fails exactly when the call's number is in the list. Otherwise gives the next link.
     fn bind(&mut self, _local: Address, _peer: Address) -> Result<MemLink, Failed>
         requires { self.old.bound < 64 }
         ensures bound { self.new.bound ≡ after_bind result self.old.bound }

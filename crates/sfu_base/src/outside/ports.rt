@@ -5,15 +5,15 @@ ghost use Rattle.sfu_base.specs.Ports.{CountsBack, after_back, after_bind, tells
 
 use crate::{Address, Failed, Link};
 
-/// How many ports may be bound.
+/// How many ports may be bound, at most.
 pub const PORT_LIMIT: usize = 64;
 
-/// Where links are bound, and where they come back to when they are done with.
+/// Binds links, and takes them back when they are done with.
 pub trait Ports {
     /// A link that is bound to a local address and has one peer.
     type Port: Link + Send + Drop;
 
-    /// The ports that came back, in order, where it tells them.
+    /// The ports that came back, in order, or `None` if they aren't recorded.
     ghost returned: { Self → Option (List Self.Port) };
 
     /// How many ports were bound.
@@ -22,11 +22,11 @@ pub trait Ports {
     /// How many ports came back.
     ghost back_count: { Self → ℕ };
 
-    /// How often a port couldn't be bound, or came back with faults of its own; at 2^64 - 1 it stays there.
+    /// How often a port couldn't be bound, or came back with faults of its own, at most 2^64 - 1.
     ghost faults: { Self → ℕ };
 
-    /// Binds a port to the local address, which sends to the peer and hears it alone. It has no faults yet and, where it tells its
-    /// traffic, none yet; its name is how many were bound before. After `Failed` none was bound.
+    /// Binds a port to the local address. It sends to the peer, and receives from the peer alone. It has no faults and no recorded traffic
+    /// yet, and its name is how many ports were bound before. After `Failed` none was bound.
     fn bind(&mut self, local: Address, peer: Address) -> Result<Self::Port, Failed>
         requires { bound self.old < 64 }
         ensures bound { bound self.new ≡ after_bind result (bound self.old) }

@@ -49,7 +49,7 @@ fn failing(alloc: Global) -> Result<MemLink, AllocError> {
     Ok(MemLink::new(alloc, prepared, receive_fails, send_fails))
 }
 
-// What a receive answers, and the first byte of the buffer, which held 9 before.
+// What a receive returns, and the first byte of the buffer, which was 9 before.
 fn heard<L: Link>(link: &mut L) -> (Result<bool, Failed>, Option<u8>) {
     let mut buf = packet(9);
     let answer = link.receive(&mut buf);
