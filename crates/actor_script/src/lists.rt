@@ -1,4 +1,4 @@
-// Growing lists, or out of memory.
+// Lists that grow; `NoMemory` where they can't.
 ghost use Rattle.std.specs.Prelude.{◌≡◌, ◌++◌, ◌∷◌, [], OnOk};
 
 use sfu_base::NoMemory;

@@ -46,7 +46,7 @@ impl ActorsReader {
         }
     }
 
-    // Whether a line of this actor, or a plain one for 0, may follow those that were read.
+    // Whether a line of this actor may follow the lines that were read; for 0, whether a plain line may.
     fn may_follow(&self, actor: u8) -> bool
         ensures { (past : List Said) → Holds self.now past → (call : Call) → result ≡ may_follow past (record { actor = actor; call = call }) }
     {

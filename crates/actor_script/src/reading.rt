@@ -9,8 +9,8 @@ use sfu_base::{Sink, Source};
 use sfu_driver::{Lines, Status, Units, drive};
 use std::alloc::Global;
 
-/// Who makes which calls, by the source's lines; or the status of the command where these are no script or can't be read. Only the line
-/// that says which line is outside the grammar is written.
+/// Who makes which calls, by the source's lines. Where these are no script or can't be read, or memory runs out, the status of the command:
+/// 5, 3 or 6. Nothing is written but `line N` where line N is outside the grammar.
 pub fn read_actors<S: Source, K: Sink>(
     alloc: Global,
     source: &mut S,

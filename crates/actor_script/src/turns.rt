@@ -17,7 +17,7 @@ pub struct Placed {
     pub entry: Entry,
 }
 
-/// What the journal says of a call with this reply; out of memory has no entry.
+/// The journal's entry for a call with this reply. `NoMemory` where the reply says that memory ran out, or where it runs out here.
 pub fn told(
     alloc: Global,
     actor: u8,
@@ -41,7 +41,7 @@ pub fn told(
     })
 }
 
-// What the journal says of turns.
+// The journal's entries for turns, in their order.
 fn entries(alloc: Global, kept: Vec<Placed>) -> Result<Vec<Entry>, NoMemory>
     ensures { IfOk result (λ entries. entries.items ≡ map (λ turn. turn.entry) kept.items) }
 {

@@ -6,7 +6,7 @@ ghost use Rattle.bundle_lines.specs.declared.line.BundleLine.{BundleLine};
 ghost use Rattle.bundle_lines.specs.Lines.{IsBundleLine};
 ghost use Rattle.bundle_lines.specs.ReadLines.{line_of};
 
-/// A line is read as what the grammar says that it says, and as nothing else.
+/// A line is read as something exactly when the grammar says that the line says it.
 pub fn reads_exactly_the_bundle_lines()
     ensures { (said : BundleLine) (line : List ℕ) → (line_of line ≡ Some said) ↔ IsBundleLine said line }
 {}

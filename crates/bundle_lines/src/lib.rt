@@ -1,5 +1,5 @@
-//! The lines of scripts that also speak of bundles, each of which makes one stream out of what two or three subscribers are sent, and the
-//! replies that such lines alone have.
+//! The lines of scripts that also speak of bundles, and the replies that only lines about bundles have. A bundle makes one stream out of
+//! what two or three subscribers are sent.
 #![tactic(auto)]
 
 mod command;

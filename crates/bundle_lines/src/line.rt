@@ -8,7 +8,7 @@ pub enum BundleLine {
     /// A call on the room.
     Room(Call),
     /// A bundle begins. Its legs' tracks have this header extension id (RFC 8285, section 4); its packets have this SSRC and sequence
-    /// numbers from `first` on. The first `count` of the legs count, 2 or 3; the others are 0.
+    /// numbers from `first` on. Its legs are the first `count` of `legs`, 2 or 3 subscribers; the other items of `legs` are 0.
     Bundle {
         bundle: u32,
         id: u8,

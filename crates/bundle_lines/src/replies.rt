@@ -1,4 +1,4 @@
-// Replies to lines of bundles that no call of the room has.
+// The replies that only lines about bundles have.
 ghost use Rattle.std.specs.Prelude.{◌≡◌, ◌++◌, ◌∷◌, [], OnErr, OnOk, decimal};
 ghost use Rattle.script_texts.specs.Texts.{GoesOn};
 ghost use Rattle.bundle_lines.specs.Replies.{bundle_reply_text};
@@ -7,18 +7,18 @@ use itoa::Buffer;
 use script_texts::end_line;
 use sfu_base::{Blob, NoMemory};
 
-/// The reply to a line about a bundle, where no call of the room has this reply. Own rule.
+/// A reply that only lines about bundles have. Own rule.
 #[derive(Clone, Copy, Debug, PartialEq, Eq)]
 pub enum BundleReply {
     /// Of the packets that a pump took, `forwarded` were forwarded and `dropped` were dropped.
     Pumped { forwarded: u32, dropped: u32 },
     /// No bundle has the number.
     NoBundle,
-    /// The bundle's legs are 1 to `legs`.
+    /// The line named another leg: the bundle's legs are 1 to `legs`.
     NoLeg { legs: u8 },
     /// A leg's track isn't layered with the line's header extension id.
     WrongKind,
-    /// A subscriber of the line is a leg of this bundle.
+    /// A subscriber that the line names is a leg of the bundle with this number.
     Bound { bundle: u32 },
 }
 

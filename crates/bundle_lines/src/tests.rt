@@ -35,7 +35,8 @@ fn numbers(line: &BundleLine) -> [u64; 9] {
     }
 }
 
-// Lines of bundles, each with what it says. Numbers are 0 and the greatest of their type; two that change places are others.
+// Lines of bundles, each with what it says. Numbers are 0 and the greatest of their type; two numbers that change places say something
+// else.
 const LINES: [(&[u8], [u64; 9]); 21] = [
     (
         b"bundle 1 4 55555555 10 1 2",

@@ -16,20 +16,20 @@ pub const SEAT: u32 = 0;
 /// The id of the header extension element that has a packet's descriptor.
 pub const EXTENSION: u8 = 4;
 
-// At most so many packets wait for a subscriber.
+// The most packets that wait for a subscriber.
 const MOST_QUEUED: u32 = 512;
 
-/// A subscriber of the second room, as far as it is seen here: a strict receiver of what it takes.
+/// What is kept of a subscriber of the second room: a strict receiver of what it takes.
 #[derive(Drop)]
 pub struct Endpoint {
-    /// What has come to it.
+    /// The receiver of what the subscriber took.
     pub receiver: Receiver,
-    /// Whether it has a complaint.
+    /// Whether the receiver has a complaint.
     pub complains: bool,
 }
 
 impl Endpoint {
-    /// A receiver to which nothing came. `NoMemory`: there wasn't enough for what it keeps.
+    /// An endpoint that has received nothing. `NoMemory`: there wasn't enough memory for what the receiver keeps.
     pub fn new(alloc: Global) -> Result<Endpoint, NoMemory>
         ensures { IfOk result (λ endpoint. WasFed endpoint []) }
     {
@@ -39,14 +39,14 @@ impl Endpoint {
         })
     }
 
-    // A packet comes to the receiver.
+    // Feeds a packet to the receiver.
     fn feed(&mut self, packet: &[u8])
         ensures { (taken : List (List ℕ)) → WasFed self.old taken → WasFed self.new (taken ++ packet.now ∷ []) }
     {
         self.complains = self.receiver.feed(packet).is_err();
     }
 
-    // Takes a packet, if one waits.
+    // Takes a packet and feeds it, if one waits. Returns whether one did.
     fn take_one(
         &mut self,
         subscriber: u32,

@@ -14,14 +14,14 @@ use sfu_base::{Refusal, Reply, Scratch};
 pub struct Fed {
     /// How many packets the second room accepted, at most 512.
     pub moved: u32,
-    /// The refusal at which it ended: `Empty` where all that waited was moved.
+    /// The refusal at which the feed ended: `Empty` where all that waited was moved.
     pub end: Refusal,
 }
 
 // The seat that makes all calls of a feed.
 const SEAT: u32 = 0;
 
-// At most so many packets wait for a subscriber.
+// The most packets that wait for a subscriber.
 const MOST_QUEUED: u32 = 512;
 
 // The refusal that a reply is, if it is one.
@@ -34,7 +34,7 @@ fn refused_by(reply: Reply) -> Option<Refusal>
     }
 }
 
-// Takes one packet and brings it, or answers the refusal of either call.
+// Takes one packet and brings it to the track. Returns the refusal where one of the two calls is refused.
 fn move_one<A: Recorder, B: Recorder>(
     first: &mut Room<A>,
     subscriber: u32,
@@ -55,10 +55,10 @@ fn move_one<A: Recorder, B: Recorder>(
     refused_by(second.packet(SEAT, track, moment, &scratch.packet))
 }
 
-/// Takes packets of a subscriber of the first room and brings each to a track of the second at this moment (milliseconds), as seat 0 of both,
-/// until a call is refused. That refusal is the end: `Empty` where all was moved, `NoSubscriber` where there is none with the number, and any
-/// of [`Room::packet`] where the second room refused a packet: that one was taken, and isn't in the second room, and the rest still waits in
-/// the first. Only the recorders may want memory.
+/// Takes packets of a subscriber of the first room, and brings each to a track of the second at this moment (milliseconds). All calls are
+/// made as seat 0, until one is refused. `end` is that refusal: `Empty` where all was moved, `NoSubscriber` where the first room has no
+/// such subscriber, or one of [`Room::packet`] where the second room refused a packet. A refused packet was taken from the first room, and
+/// isn't in the second; the rest still waits in the first. Only where a recorder may refuse can `end` be `NoMemory`.
 pub fn feed<A: Recorder, B: Recorder>(
     first: &mut Room<A>,
     subscriber: u32,
@@ -82,7 +82,7 @@ pub fn feed<A: Recorder, B: Recorder>(
             None => moved += 1,
         }
     }
-    // Not reached, since no more packets wait.
+    // Not reached, since at most 512 packets wait.
     Fed {
         moved,
         end: Refusal::Empty,

@@ -1,9 +1,9 @@
-//! A cascade of two rooms: what a subscriber of one room takes is brought to a track of another one, whose subscribers are sent it again. Own
-//! rules.
+//! A cascade of two rooms: what a subscriber of one room takes is brought to a track of another, and is forwarded again to that track's
+//! subscribers. Own rules.
 //!
-//! [`feed`] does it for one subscriber and one track. The laws say what becomes of frames that passed to the first room's subscriber. [`play`]
-//! sends a made stream through two rooms, with a strict receiver at each subscriber of the second, and [`cascade`] is the command that writes
-//! what they found.
+//! [`feed`] does it for one subscriber and one track. The laws say what becomes of frames that were forwarded to the first room's
+//! subscriber. [`play`] sends a made stream through two rooms, with a strict receiver at each subscriber of the second, and [`cascade`] is
+//! the command that writes what the receivers found.
 #![tactic(auto)]
 
 mod command;

@@ -15,7 +15,7 @@ const ONE_UNIT: &str = "made 2 frames 5 packets\nlost 0 repeated 0 swapped 0\n\
     subscriber 1 frames 2 packets 5 complaints 0\nsubscriber 2 frames 1 packets 3 complaints 0\n\
     subscriber 3 frames 2 packets 5 complaints 0\n";
 
-// Frames, start, losses of a hundred, and how the text begins: all of it, where nothing is lost.
+// Frames, seed, loss in percent, and how the text begins: the whole text where nothing is lost.
 const ROWS: [(u32, u64, u8, &str); 3] = [
     (1000, 7, 0, THOUSAND),
     (2, 7, 0, ONE_UNIT),

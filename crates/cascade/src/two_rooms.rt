@@ -12,7 +12,7 @@ use std::alloc::Global;
 
 const PUBLISHER: u32 = 0x1111_1111;
 
-// How long a gap is waited for, in milliseconds.
+// The tracks' hold in milliseconds: how long packets wait for a gap to be filled.
 const HOLD: u32 = 50;
 
 /// Two rooms, of which the second is fed from the first, and a strict receiver for each of the second one's three subscribers.
@@ -32,7 +32,7 @@ pub struct TwoRooms {
     pub three: Endpoint,
 }
 
-// Whether a call found its memory.
+// `NoMemory` where a call ran out of memory.
 fn found(reply: Reply) -> Result<(), NoMemory>
     ensures { OnOk result (is_starved reply ≡ false) }
 {
@@ -48,7 +48,7 @@ fn wish(spatial: u8, temporal: u8) -> Wish
     Wish { spatial, temporal }
 }
 
-// The first room, in which the track and its two subscribers have begun.
+// The first room, in which the track is published and its two subscribers have joined.
 fn open_first(alloc: Global) -> Result<Room<KeepNone>, NoMemory>
     ensures { IfOk result (λ room. StandsAfter room opened.first) }
 {
@@ -60,7 +60,7 @@ fn open_first(alloc: Global) -> Result<Room<KeepNone>, NoMemory>
     Ok(room)
 }
 
-// The second room, in which the tracks and their three subscribers have begun.
+// The second room, in which the tracks are published and their three subscribers have joined.
 fn open_second(alloc: Global) -> Result<Room<KeepNone>, NoMemory>
     ensures { IfOk result (λ room. StandsAfter room opened.second) }
 {
@@ -75,7 +75,8 @@ fn open_second(alloc: Global) -> Result<Room<KeepNone>, NoMemory>
 }
 
 impl TwoRooms {
-    /// Both rooms with their tracks and subscribers, before the stream. `NoMemory`: there wasn't enough for them or for a receiver.
+    /// Both rooms with their tracks and subscribers, before the stream. `NoMemory`: there wasn't enough memory for the rooms or for a
+    /// receiver.
     pub fn new(alloc: Global) -> Result<TwoRooms, NoMemory>
         ensures { IfOk result (λ rooms. AreAfter rooms opened) }
     {
@@ -97,14 +98,14 @@ impl TwoRooms {
         })
     }
 
-    /// Brings a packet to track 1 of the first room at this moment (milliseconds), which may refuse it.
+    /// Brings a packet to track 1 of the first room at this moment (milliseconds); the room may refuse it.
     pub fn packet(&mut self, moment: u64, bytes: &PacketBuf)
         ensures { (both : Both) → AreAfter self.old both → AreAfter self.new (after_packet moment bytes.now both) }
     {
         self.first.packet(SEAT, 1, moment, bytes);
     }
 
-    // What a subscriber of the first room takes is fed to a track of the second.
+    // Feeds what a subscriber of the first room takes to a track of the second.
     fn bring(&mut self, subscriber: u32, track: u32, moment: u64)
         ensures { (both : Both) → AreAfter self.old both → AreAfter self.new (all_fed subscriber track moment both) }
     {
@@ -118,14 +119,14 @@ impl TwoRooms {
         );
     }
 
-    // It is this moment in the first room.
+    // Ticks the first room at this moment.
     fn tick_first(&mut self, moment: u64)
         ensures { (both : Both) → AreAfter self.old both → AreAfter self.new (ticked_first moment both) }
     {
         self.first.tick(SEAT, 1, moment);
     }
 
-    // It is this moment on both tracks of the second room.
+    // Ticks both tracks of the second room at this moment.
     fn tick_second(&mut self, moment: u64)
         ensures { (both : Both) → AreAfter self.old both → AreAfter self.new (ticked_second moment both) }
     {
@@ -142,8 +143,8 @@ impl TwoRooms {
         self.three.take_all(3, &mut self.second, &mut self.scratch);
     }
 
-    /// Ticks the first room at this moment (milliseconds), feeds subscriber 1 of it to track 1 of the second and subscriber 2 to track 2, ticks
-    /// both of these tracks, and then has each subscriber of the second room take until nothing waits for it.
+    /// Ticks the first room at this moment (milliseconds). Then feeds its subscriber 1 to track 1 of the second room and its subscriber 2
+    /// to track 2, and ticks both of these tracks. Then each subscriber of the second room takes until nothing waits for it.
     pub fn tick(&mut self, moment: u64)
         ensures { (both : Both) → AreAfter self.old both → AreAfter self.new (after_tick moment both) }
     {

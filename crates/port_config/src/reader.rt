@@ -121,7 +121,7 @@ impl Judge for ServeReader {
     }
 }
 
-// A call that may be made first: a track or a subscriber begins.
+// What a line with this call says in a configuration; `NoLine` unless the call is a `publish` or a `join`.
 fn first_call(call: Call) -> Result<ServeLine, NoLine>
     ensures { MatchResult result (λ said. makes_first call ≡ Some (meaning_of said)) (λ _. makes_first call ≡ None) }
 {

@@ -17,7 +17,7 @@ fn read(
     Ok((read, sink.written().to_vec(alloc)?))
 }
 
-// The number of each call: of a track as it is, of a subscriber 100 more; 0 for another call.
+// The number of each call: a track's number, or a subscriber's plus 100; 0 for another call.
 fn numbers(alloc: Global, calls: &[Call]) -> Result<Vec<u32>, AllocError> {
     let mut numbers = Vec::new(alloc);
     for call in calls {

@@ -22,7 +22,7 @@ pub enum RecordKind {
 }
 
 impl RecordKind {
-    /// The kind with this number.
+    /// The kind with this number, or `None`.
     pub fn named(code: u8) -> Option<RecordKind>
         ensures { result ≡ kind_named code }
     {
@@ -52,7 +52,7 @@ impl RecordKind {
         self as u8
     }
 
-    /// Whether a body of this kind may have `length` bytes, the kind's own counted.
+    /// Whether a body of this kind may have `length` bytes, the byte of the kind included.
     pub fn has_length(self, length: usize) -> bool
         ensures { result ≡ has_length self length }
     {
@@ -72,8 +72,8 @@ impl RecordKind {
     }
 }
 
-/// Whether the body of a record may begin with the number `code` and have `length` bytes, the number's own counted: it is then in the table
-/// of records, whatever the other bytes are. Takes no memory.
+/// Whether the body of a record may begin with the byte `code` and have `length` bytes, that byte included. Such a body is in the table of
+/// records, whatever its other bytes are. Takes no memory.
 pub fn may_have_length(code: u8, length: usize) -> bool
     ensures { result ≡ may_have code length }
 {

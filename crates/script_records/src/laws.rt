@@ -33,7 +33,7 @@ pub fn lengths_read_back()
     ensures { (call : Call) → HasLine call → big_number 2 (record_of call) ≡ length (body_of call) }
 {}
 
-/// A line and the record of the call that it says say one call.
+/// If a line says a call, that call's record says the same call.
 pub fn converted_lines_say_the_same()
     ensures { (call : Call) (line : List ℕ) → IsLine call line → IsBody call (body_of call) × (call_of (body_of call) ≡ Some call) }
 {}

@@ -197,7 +197,8 @@ fn said(body: &[u8]) -> Result<Call, NoRecord>
     }
 }
 
-/// The call that the body of a record says: the bytes after its length. `NoRecord` exactly when it says none. Takes no memory.
+/// The call that the body of a record says; the body is the bytes after the length. `NoRecord` exactly when the body says none. Takes no
+/// memory.
 pub fn read_record(body: &[u8]) -> Result<Call, NoRecord>
     ensures value { result_ok result ≡ call_of body.now }
     ensures ok { IfOk result (λ said. IsBody said body.now) }

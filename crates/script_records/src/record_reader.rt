@@ -12,8 +12,8 @@ use crate::reader::{NoRecord, PACKET_HEAD, number, read_record};
 use sfu_base::{Call, PacketBuf};
 use sfu_script::Field::{Number32, Number64};
 
-/// Reads records one after another, as [`read_record`] does, and reuses the memory of the calls: for the records that come most often only
-/// the fields that they say are written.
+/// Reads records one after another, as [`read_record`] does, and lends each call. The calls are kept: a packet, a take or a tick overwrites
+/// only the fields of the kept call of its kind.
 #[derive(Debug, Drop)]
 pub struct RecordReader {
     packet: Call,
@@ -125,8 +125,8 @@ impl RecordReader {
         }
     }
 
-    /// The call that the body of a record says, which is kept until the next record is read. `NoRecord` exactly where it says none. Takes
-    /// no memory.
+    /// The call that the body of a record says; the call is kept until the next record is read. `NoRecord` exactly where it says none.
+    /// Takes no memory.
     pub fn read(&mut self, body: &[u8]) -> Result<&Call, NoRecord>
         ensures value { MatchResult result (λ said. call_of body.now ≡ Some said.now) (λ _. call_of body.now ≡ None) }
         ensures ok { IfOk result (λ said. IsBody said.now body.now) }

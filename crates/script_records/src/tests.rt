@@ -122,7 +122,7 @@ fn lines_are_converted_to_records_and_back(rt: HostRuntime) -> Result<(), Fail> 
     Ok(())
 }
 
-// The table in another order, and before each record the longest packet and a body that says none.
+// The table in another order, and before each record the longest packet and a body that says no call.
 #[test]
 fn a_reader_keeps_nothing_of_the_record_before(rt: HostRuntime) -> Result<(), Fail> {
     let mut longest = [0xa5; 2061];

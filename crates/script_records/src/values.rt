@@ -1,11 +1,11 @@
-// The values of a body that is written, and the one writer over lists of them.
+// The values of a body that is written, and the one writer of lists of values.
 ghost use Rattle.std.specs.Prelude.{◌≡◌, ◌<◌, ◌^◌, ◌++◌, length, OnOk};
 ghost use Rattle.script_texts.specs.Texts.{GoesOn};
 ghost use Rattle.script_records.specs.Values.{value_bytes, values_bytes};
 
 use sfu_base::{Blob, NoMemory};
 
-/// What a body has after its kind.
+/// A value of a body, after the kind.
 #[derive(Clone, Copy, Debug, PartialEq, Eq)]
 pub enum Value<'a> {
     /// A number of 8 bits.

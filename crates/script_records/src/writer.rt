@@ -12,7 +12,7 @@ use crate::values::Value::{Bytes, Of8, Of16, Of32, Of64};
 use crate::values::{Value, append_values, size};
 use sfu_base::{Blob, Call, Kind, NoMemory, Wish};
 
-// The record of a kind with these values.
+// Appends the record of a kind with these values. After `NoMemory` a prefix of it may have been appended.
 fn append(kind: RecordKind, values: &[Value], out: &mut Blob) -> Result<(), NoMemory>
     requires { length (values_bytes values.now) ≤ 2060 }
     ensures ok { OnOk result (out.new ≡ out.old ++ framed (code_of kind ∷ values_bytes values.now)) }
@@ -136,7 +136,7 @@ fn append_call(call: &Call, out: &mut Blob) -> Result<(), NoMemory>
     }
 }
 
-/// Appends the record that says a call, its length and its body; a packet must have one byte at least. After `NoMemory` all is as before.
+/// Appends the record that says a call: its length, then its body. A packet must have at least one byte. After `NoMemory` all is as before.
 pub fn write_record(call: &Call, out: &mut Blob) -> Result<(), NoMemory>
     requires { HasBytes call.now }
     ensures ok { OnOk result (out.new ≡ out.old ++ record_of call.now) }

@@ -1,7 +1,7 @@
-// What the type of a slice of bytes says of each of them.
+// What the type of a slice of bytes says of each byte.
 ghost use Rattle.hex.specs.Hex.{IsBytes};
 
-/// Each byte is below 256. A contract knows that of a byte that was read, and of no other; the function has no effect.
+/// Each byte is below 256. A contract knows this only of a byte that was read, so the function reads each byte. It has no other effect.
 #[inline(always)]
 pub fn are_bytes(bytes: &[u8])
     ensures { IsBytes bytes.now }

@@ -46,7 +46,7 @@ fn append_complaint(line: u32, complaint: &Complaint, out: &mut Blob) -> Result<
     }
 }
 
-/// Appends `line N` for the line with the number N, a space and the complaint, without a line end. After `NoMemory` all is as before.
+/// Appends `line N`, a space and the complaint, without a line end; N is the number `line`. After `NoMemory` all is as before.
 pub fn write_complaint(line: u32, complaint: &Complaint, out: &mut Blob) -> Result<(), NoMemory>
     ensures ok { OnOk result (out.new ≡ out.old ++ complaint_text line complaint.now) }
     ensures err { OnErr result (out.new ≡ out.old) }

@@ -20,8 +20,8 @@ fn append_end(session: u32, fault: Option<u64>, out: &mut Blob) -> Result<(), No
     }
 }
 
-/// Appends `session K all` for the session with the number K, or `session K fault TURN` where its link failed in that turn, without a line
-/// end. After `NoMemory` all is as before.
+/// Appends `session K all`, or `session K fault TURN` where the session's link failed in the turn TURN, without a line end. K is the
+/// session's number. After `NoMemory` all is as before.
 pub fn write_end(session: u32, fault: Option<u64>, out: &mut Blob) -> Result<(), NoMemory>
     ensures ok { OnOk result (out.new ≡ out.old ++ end_text session fault) }
     ensures err { OnErr result (out.new ≡ out.old) }

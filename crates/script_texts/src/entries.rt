@@ -24,8 +24,8 @@ fn append_entry(entry: &Entry, out: &mut Blob) -> Result<(), NoMemory>
     out.append(b"\n")
 }
 
-/// Appends the two lines of an entry, each with its line end: `@K` with the call's line, and the reply. A packet must have one byte at
-/// least. After `NoMemory` all is as before.
+/// Appends the two lines of an entry, each with its line end. The first is `@K`, a space and the call's line, the second the reply. A
+/// packet must have at least one byte. After `NoMemory` all is as before.
 pub fn write_entry(entry: &Entry, out: &mut Blob) -> Result<(), NoMemory>
     requires { HasBytes entry.now.call }
     ensures ok { OnOk result (out.new ≡ out.old ++ entry_text entry.now) }

@@ -6,7 +6,8 @@ ghost use Rattle.script_texts.specs.Replies.{answer_text};
 
 use sfu_base::{Blob, NoMemory, PacketBuf, Text};
 
-// The two digits of a byte. Both are made in one word and without a table, so that the compiler makes those of eight bytes at once.
+// The two digits of a byte. Both are computed in one word and without a table, so that the compiler can compute the digits of eight bytes
+// at once.
 fn digits_of(byte: u8) -> [u8; 2]
     ensures { result ≡ encode_lower (byte ∷ []) }
 {
@@ -16,7 +17,7 @@ fn digits_of(byte: u8) -> [u8; 2]
     (nibbles + 0x3030 + 39 * letters).to_le_bytes()
 }
 
-// Writes the bytes in hex digits over a slice of that length.
+// Overwrites a slice with the bytes in hex digits; the slice has twice as many bytes.
 fn write_hex(bytes: &[u8], digits: &mut [u8])
     requires { length digits.old ≡ 2 * length bytes.now }
     ensures { digits.new ≡ encode_lower bytes.now }
@@ -33,7 +34,7 @@ const HEAD: &[u8; 7] = b"packet ";
 
 const END: &[u8; 1] = b"\n";
 
-// Writes the line of a packet over a slice of its length.
+// Overwrites a slice with the line of a packet; both have the same length.
 fn write_line(bytes: &[u8], line: &mut [u8])
     requires { length line.old ≡ 2 * length bytes.now + 8 }
     ensures { line.new ≡ codes "packet " ++ (encode_lower bytes.now ++ 10 ∷ []) }
@@ -45,7 +46,7 @@ fn write_line(bytes: &[u8], line: &mut [u8])
     end.copy_from_slice(END);
 }
 
-// Bytes in hex digits: no more than a packet has, so that the digits can be counted.
+// Bytes in hex digits. There are at most 2,048 bytes, as in a packet, so that the count of digits doesn't overflow.
 #[derive(Drop)]
 struct HexDigits<'a> {
     bytes: &'a [u8],
@@ -83,7 +84,7 @@ impl<'a> Text for PacketLine<'a> {
     }
 }
 
-/// Appends the bytes, no more than a packet has, in hex digits. After `NoMemory` all is as before.
+/// Appends the bytes, at most 2,048, in lower-case hex digits. After `NoMemory` all is as before.
 pub fn append_hex(bytes: &[u8], out: &mut Blob) -> Result<(), NoMemory>
     requires { length bytes.now ≤ 2048 }
     ensures ok { OnOk result (out.new ≡ out.old ++ encode_lower bytes.now) }
@@ -92,7 +93,7 @@ pub fn append_hex(bytes: &[u8], out: &mut Blob) -> Result<(), NoMemory>
     out.write(&HexDigits { bytes })
 }
 
-/// Appends the line of a packet with its line end. After `NoMemory` all is as before.
+/// Appends the line `packet HEX` of a packet, with its line end. After `NoMemory` all is as before.
 pub fn append_line(packet: &PacketBuf, out: &mut Blob) -> Result<(), NoMemory>
     ensures ok { OnOk result (out.new ≡ out.old ++ (answer_text (Sent packet.now) ++ 10 ∷ [])) }
     ensures err { OnErr result (out.new ≡ out.old) }

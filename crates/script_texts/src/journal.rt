@@ -4,7 +4,7 @@ ghost use Rattle.std.specs.Prelude.{◌≡◌};
 use sfu_base::{Blob, Call};
 use std::marker::Model;
 
-/// One call of a journal: who made it, 0 for the calls before and after all actors, and the text of its reply.
+/// One call of a journal: who made it, the call, and the text of its reply.
 #[derive(Debug, Drop)]
 pub struct Entry {
     /// Who made the call: 1 to 8, or 0 for the calls of the opening and the closing part.
@@ -45,11 +45,11 @@ impl Calls {
     }
 }
 
-/// What is called before the actors start, by each of up to eight actors, and after all have ended.
+/// The calls before the actors start, those of each of up to eight actors, and those after all actors have ended.
 #[derive(Debug, Drop)]
 pub struct Actors {
     pub opening: Calls,
-    /// The calls of actor 1 first.
+    /// The calls of each actor: those of actor 1 come first.
     pub actors: [Calls; 8],
     pub closing: Calls,
 }

@@ -1,4 +1,4 @@
-// The text of a packet whose frame has an OBU that isn't one.
+// The text for a packet that ends a frame one of whose elements isn't an OBU.
 ghost use Rattle.std.specs.Prelude.{◌≡◌, ◌++◌, OnErr, OnOk};
 ghost use Rattle.script_texts.specs.Replies.{obu_text};
 ghost use Rattle.script_texts.specs.Texts.{GoesOn};

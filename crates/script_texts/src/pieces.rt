@@ -1,4 +1,4 @@
-// The words of a text that is written, and the one writer over lists of them.
+// The words of a text that is written, and the one writer of lists of words.
 ghost use Rattle.std.specs.Prelude.{◌≡◌, ◌≤◌, ◌++◌, length, OnOk, take};
 ghost use Rattle.script_texts.specs.Pieces.{piece_word, pieces_text};
 ghost use Rattle.script_texts.specs.Texts.{GoesOn};
@@ -8,7 +8,7 @@ use crate::number_text::append_number;
 use sfu_base::{Blob, NoMemory};
 use std::marker::Model;
 
-/// A word, by what it says.
+/// A word of a text.
 #[derive(Clone, Copy, Debug, PartialEq, Eq)]
 pub enum Piece<'a> {
     /// This text as it is.

@@ -23,7 +23,7 @@ fn fault_text(fault: RtpFault) -> &'static [u8]
     }
 }
 
-// After the word `refused`.
+// The word `refused` and this word.
 fn refused_as<'a>(word: &'a [u8]) -> Pieces<'a>
     ensures text { pieces_text result ≡ text_of (refused (Word word.now ∷ [])) }
     ensures size { pieces_size result ≡ 9 + length word.now }

@@ -1,9 +1,9 @@
-// Removes what a writer began where memory ran out.
+// Removes what a writer appended before memory ran out.
 ghost use Rattle.std.specs.Prelude.{◌≡◌, OnErr, OnOk, take};
 
 use sfu_base::{Blob, NoMemory};
 
-/// The outcome of a writer that began at `start`: after `NoMemory` all from there on is removed.
+/// Returns the outcome of a writer that began at byte `start` of the output. After `NoMemory` the bytes from `start` on are removed.
 pub fn whole_or_nothing(
     written: Result<(), NoMemory>,
     start: usize,

@@ -8,14 +8,14 @@ use crate::hex_text::append_line;
 use crate::{write_line_fault, write_record_fault, write_reply};
 use sfu_base::{Blob, NoMemory, Refusal, Reply, Scratch};
 
-/// Whether a reply is out of memory: a command ends there, and writes no line of it.
+/// Whether a reply says that memory ran out. A command ends there, and writes no line for this reply.
 pub fn wants_memory(reply: &Reply) -> bool
     ensures { result ≡ is_starved reply.now }
 {
     matches!(reply, Reply::Refused(Refusal::NoMemory))
 }
 
-/// Appends a line end to a text that begins at `start`, or removes the text again.
+/// Appends a line end to the text that begins at byte `start`. After `NoMemory` the text is removed.
 pub fn end_line(start: usize, ready: &mut Blob) -> Result<(), NoMemory>
     ensures ok { OnOk result (ready.new ≡ ready.old ++ 10 ∷ []) }
     ensures err { OnErr result (ready.new ≡ take start ready.old) }
@@ -51,7 +51,8 @@ fn add_other_reply(reply: &Reply, scratch: &Scratch, ready: &mut Blob) -> Result
     end_line(start, ready)
 }
 
-/// Appends the line that says which line is outside the grammar to the texts that are ready. After `NoMemory` all is as before.
+/// Appends the line `line N` to the texts that are ready: line N of the input, with N = `number`, is outside the grammar. After `NoMemory`
+/// all is as before.
 pub fn add_fault(number: u64, ready: &mut Blob) -> Result<(), NoMemory>
     ensures ok { OnOk result (ready.new ≡ ready.old ++ fault_line number) }
     ensures err { OnErr result (ready.new ≡ ready.old) }
@@ -61,7 +62,8 @@ pub fn add_fault(number: u64, ready: &mut Blob) -> Result<(), NoMemory>
     end_line(start, ready)
 }
 
-/// Appends the line that says which record is outside the grammar to the texts that are ready. After `NoMemory` all is as before.
+/// Appends the line `record N` to the texts that are ready: record N of the input, with N = `number`, is outside the grammar. After
+/// `NoMemory` all is as before.
 pub fn add_record_fault(number: u64, ready: &mut Blob) -> Result<(), NoMemory>
     ensures ok { OnOk result (ready.new ≡ ready.old ++ record_fault_line number) }
     ensures err { OnErr result (ready.new ≡ ready.old) }

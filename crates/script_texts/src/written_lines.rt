@@ -11,7 +11,7 @@ use crate::pieces::append_pieces;
 use crate::undo::whole_or_nothing;
 use sfu_base::{Blob, Call, Kind, NoMemory, PacketBuf, Wish};
 
-// A command's word, and the number of a track or a subscriber.
+// Appends a command's word, and the number of a track or a subscriber.
 fn append_numbered(word: &[u8], number: u32, out: &mut Blob) -> Result<(), NoMemory>
     ensures ok { OnOk result (out.new ≡ out.old ++ text_of (Word word.now ∷ Number 32 number ∷ [])) }
     ensures begun { GoesOn out.old out.new }
@@ -19,7 +19,7 @@ fn append_numbered(word: &[u8], number: u32, out: &mut Blob) -> Result<(), NoMem
     append_pieces(&[Text(word), Number(u64::from(number))], out)
 }
 
-// The same, and a second number.
+// Appends the same, and a second number.
 fn append_numbers(word: &[u8], number: u32, second: u64, out: &mut Blob) -> Result<(), NoMemory>
     ensures ok { OnOk result (out.new ≡ out.old ++ text_of (Word word.now ∷ Number 32 number ∷ Number 64 second ∷ [])) }
     ensures begun { GoesOn out.old out.new }
@@ -151,8 +151,8 @@ pub fn append_call(call: &Call, out: &mut Blob) -> Result<(), NoMemory>
     }
 }
 
-/// Appends the line that says a call, without a line end; a packet, which must have one byte at least, in lower-case hex digits. After
-/// `NoMemory` all is as before.
+/// Appends the line that says a call, without a line end. A packet is written in lower-case hex digits, and must have at least one byte.
+/// After `NoMemory` all is as before.
 pub fn write_call(call: &Call, out: &mut Blob) -> Result<(), NoMemory>
     requires { HasBytes call.now }
     ensures ok { OnOk result (out.new ≡ out.old ++ line_of call.now) }

@@ -9,7 +9,7 @@ use script_records::RecordReader;
 use sfu_base::Call;
 use sfu_script::LineReader;
 
-/// The call that a line says, which is kept until the next line is read; `None` exactly where it says none.
+/// The call that a line says, or `None` exactly where it says none. The call is kept until the next line is read.
 #[inline(always)]
 pub fn read_line<'a>(reader: &'a mut LineReader, line: &[u8]) -> Option<&'a Call>
     ensures value { MatchOption result (call_of line.now ≡ None) (λ call. call_of line.now ≡ Some call.now) }

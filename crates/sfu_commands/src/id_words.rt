@@ -4,7 +4,7 @@ ghost use Rattle.sfu_commands.specs.IdWords.{IsWithId};
 
 use sfu_script::{Field, NoLine, read_fields};
 
-/// The id of two words that are the command with this name; `None` exactly when they aren't.
+/// The id, 1 to 255, that two words say where they are the command `name`; `None` exactly when they aren't.
 pub fn read_id(name: &str, word: &str, id: &str) -> Option<u8>
     ensures { MatchOption result ((number : ℕ) → ¬ (IsWithId name.now (word.now ∷ id.now ∷ []) number))
         (λ number. IsWithId name.now (word.now ∷ id.now ∷ []) number) }

@@ -1,4 +1,4 @@
-//! The commands of the program that one thread does: what each does with its source and its sink, and the status that it ends with.
+//! The single-threaded commands of the program: what each does with its source and its sink, and the status that it ends with.
 #![tactic(auto)]
 
 mod call_reader;

@@ -14,7 +14,7 @@ use sfu_driver::{Ending, Halt, Judge, Lines, Status, Units, answer};
 use sfu_script::{PacketReader, is_skipped};
 use std::alloc::Global;
 
-/// Feeds the packet of each line to a recorder, which gives its file away at the end.
+/// Feeds the packet of each line to a recorder, whose file is taken at the end.
 #[derive(Drop)]
 pub struct PacketRecorder {
     pub recorder: Option<IvfRecorder>,
@@ -22,7 +22,8 @@ pub struct PacketRecorder {
     pub packet: PacketBuf,
 }
 
-// Puts the line of an element that isn't an OBU behind the texts that are ready. After `NoMemory` all is as before.
+// Appends the line `line N obu` to the texts that are ready: an element of the frame that ends at line N isn't an OBU. After `NoMemory` all is as
+// before.
 fn add_obu(number: u32, ready: &mut Blob) -> Result<(), NoMemory>
     ensures ok { OnOk result (ready.new ≡ ready.old ++ obu_line number) }
     ensures err { OnErr result (ready.new ≡ ready.old) }
@@ -33,7 +34,7 @@ fn add_obu(number: u32, ready: &mut Blob) -> Result<(), NoMemory>
 }
 
 impl PacketRecorder {
-    /// A judge that no packet came to yet, for this id of the descriptors' header extension.
+    /// A judge that has received no packet, for this id of the descriptors' header extension.
     pub fn new(alloc: Global, id: u8) -> Result<PacketRecorder, NoMemory>
         ensures { IfOk result (λ judge. HasRecorded judge.recorder (nothing_received id)) }
     {
@@ -85,7 +86,7 @@ impl Judge for PacketRecorder {
         add_fault(number, ready)
     }
 
-    // No text was made ready before, so the file is handed on as it is.
+    // Where no text is ready, the file is moved instead of copied.
     fn close(&mut self, ready: &mut Blob) -> Result<(), NoMemory> {
         let Some(recorder) = self.recorder.take() else {
             return Err(NoMemory);
@@ -99,7 +100,7 @@ impl Judge for PacketRecorder {
     }
 }
 
-/// Records the packets of the source's lines as a recorder with this id of the descriptors' header extension does, and answers the status.
+/// Records the packets of the source's lines as a recorder with this id of the descriptors' header extension does, and returns the status.
 #[inline(never)]
 pub fn record<S: Source, K: Sink>(alloc: Global, id: u8, source: &mut S, sink: &mut K) -> Status
     ensures records { Records id (exchange_of S.left S.faults K.written K.faults source.old source.new sink.old sink.new) (number_of result) }

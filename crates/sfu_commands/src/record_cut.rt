@@ -12,11 +12,11 @@ pub const HEADER: &[u8] = b"\x00SF2";
 /// The most bytes that a record's body has.
 const MOST_BODY: usize = 2061;
 
-/// Cuts input into a header and records. A record is judged as soon as it must be: by its length, by its kind, or by its last byte.
+/// Cuts input into a header and records. A record ends with its last byte, or as soon as its length or its kind is outside the grammar.
 #[derive(Clone, Copy, Debug, Drop)]
 pub struct Records;
 
-// The byte at a place of bytes that follow others.
+// The byte at this place of `kept` followed by `came`.
 #[inline(always)]
 fn joined(kept: &[u8], came: &[u8], place: usize) -> u8
     requires { place < length kept.now + length came.now }
@@ -28,7 +28,7 @@ fn joined(kept: &[u8], came: &[u8], place: usize) -> u8
     came[place - kept.len()]
 }
 
-// How many bytes have to come behind those that were kept, and at least one, until there are so many.
+// How many bytes have to follow `kept` until there are `total`; at least one.
 #[inline(always)]
 fn count_to(kept: &[u8], total: usize) -> usize
     ensures some { 0 < result }

@@ -71,7 +71,7 @@ fn run_records<S: Source, K: Sink>(
 }
 
 /// Runs a script: serves the calls of the source's lines, or of its records where its first byte is 0, writes a line for each reply, and
-/// answers the status.
+/// returns the status.
 pub fn run<S: Source, K: Sink>(alloc: Global, source: &mut S, sink: &mut K) -> Status
     ensures runs { Runs (exchange_of S.left S.faults K.written K.faults source.old source.new sink.old sink.new) (number_of result) }
     ensures headline { AreServed }

@@ -36,8 +36,9 @@ fn play(alloc: Global, frames: u32, start: u64, loss: u8) -> Result<String, NoMe
     Ok(text)
 }
 
-/// The command `trial`: sends a stream of so many frames, made from a number, of which so many packets of a hundred are lost, through a room
-/// to three subscribers, writes what a strict receiver finds in what each of them takes, and answers the status.
+/// The command `trial`: sends a stream through a room to three subscribers, and writes what a strict receiver finds in what each of them takes. The
+/// stream has `frames` frames, and about `loss` percent of its packets are lost; `start` seeds the random generator. Returns the status: 0, 4 where
+/// the sink failed, or 6 where memory ran out.
 pub fn trial<K: Sink>(alloc: Global, frames: u32, start: u64, loss: u8, sink: &mut K) -> Status
     requires some_frames { 1 ≤ frames }
     requires few_frames { frames ≤ 1000000 }

@@ -10,14 +10,14 @@ const MOST_FRAMES: u64 = 1_000_000;
 
 const MOST_LOSS: u64 = 50;
 
-/// The numbers that make a stream: so many frames, the number that it is made from, and the packets of a hundred that are lost.
+/// The numbers that a stream is made from.
 #[derive(Clone, Copy, Debug, PartialEq, Eq)]
 pub struct StreamNumbers {
-    /// How many frames.
+    /// How many frames are made, 1 to 1,000,000.
     pub frames: u32,
-    /// The number that the stream is made from.
+    /// The seed of the random generator.
     pub start: u64,
-    /// How many packets of a hundred are lost.
+    /// About how many percent of packets are lost, at most 50.
     pub loss: u8,
 }
 
@@ -31,7 +31,7 @@ fn number(word: &str) -> Option<u64>
     }
 }
 
-/// The stream of four words that are the command with this name; `None` exactly when they aren't.
+/// The stream that four words say, where they are the command with the name `command`; `None` exactly when they aren't.
 pub fn read_stream(
     command: &str,
     name: &str,

@@ -1,4 +1,4 @@
-// The line that says what of a script is outside the grammar.
+// The line that says which line or record of a script is outside the grammar.
 ghost use Rattle.std.specs.Prelude.{◌≡◌, ◌++◌, OnOk, OnErr};
 ghost use Rattle.sfu_commands.specs.Script.{fault_in};
 
@@ -6,7 +6,8 @@ use crate::form::Form;
 use script_texts::{add_fault, add_record_fault};
 use sfu_base::{Blob, NoMemory};
 
-/// Puts the line that says which line or record is outside the grammar behind the texts that are ready. After `NoMemory` all is as before.
+/// Appends the line `line N` or `record N` to the texts that are ready: unit N of the script, with N = `number`, is outside the grammar. After
+/// `NoMemory` all is as before.
 #[cold]
 #[inline(never)]
 pub fn add_unit_fault(form: Form, number: u64, ready: &mut Blob) -> Result<(), NoMemory>

@@ -10,7 +10,7 @@ use sfu_driver::{Status, write_all};
 const USAGE: &[u8] =
     b"usage: run, together, trial, check, record, serve, convert, simulcast, cascade, help\n";
 
-/// The command `help`: writes the usage line, and answers the status.
+/// The command `help`: writes the usage line, and returns the status.
 pub fn help<K: Sink>(sink: &mut K) -> Status
     ensures { ShowsUsage (K.written sink.old) (K.written sink.new) (K.faults sink.old) (K.faults sink.new) (number_of result) }
 {
@@ -20,7 +20,7 @@ pub fn help<K: Sink>(sink: &mut K) -> Status
     }
 }
 
-/// Refuses words that are no command: writes the usage line, and answers the status, which stays where the sink fails.
+/// Refuses words that are no command: writes the usage line, and returns `NoCommand`, also where the sink fails.
 pub fn refuse<K: Sink>(sink: &mut K) -> Status
     ensures shows { WritesEnd (K.written sink.old) (K.written sink.new) (K.faults sink.old) (K.faults sink.new) [] usage_text }
     ensures once { KeptOrCut (K.faults sink.old) (K.faults sink.new) }

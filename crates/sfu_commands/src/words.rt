@@ -6,7 +6,7 @@ ghost use Rattle.sfu_commands.specs.Words.{Reads, ReadsFour, ReadsTwo, ReadsWord
 use crate::id_words::read_id;
 use crate::stream_words::read_stream;
 
-/// A command that waits for nobody.
+/// A single-threaded command: it waits for nobody.
 #[derive(Clone, Copy, Debug, PartialEq, Eq)]
 pub enum Command {
     /// Serves the calls of a script.
@@ -15,16 +15,16 @@ pub enum Command {
     Help,
     /// Writes a script of lines as one of records.
     Convert,
-    /// Serves the lines of a script that also speak of bundles; `sfu_program` does, since this crate knows no bundles.
+    /// Serves a script whose lines also speak of bundles. `sfu_program` does this, since this crate knows no bundles.
     Simulcast,
     /// Judges packets as a strict receiver with this id of the descriptors' header extension does.
     Check(u8),
     /// Records packets as a recorder with this id of the descriptors' header extension does.
     Record(u8),
-    /// Writes what strict receivers find in what three subscribers take of a stream: so many frames, made from the number `start`, of which
-    /// `loss` packets of a hundred are lost.
+    /// Writes what strict receivers find in what three subscribers take of a stream. The stream has `frames` frames, and about `loss` percent of its
+    /// packets are lost; `start` seeds the random generator.
     Trial { frames: u32, start: u64, loss: u8 },
-    /// The same where the stream goes through two rooms, of which the second is fed from the first, to three subscribers of the second.
+    /// The same for a stream through two rooms: the second is fed from the first, and the three subscribers are in the second.
     Cascade { frames: u32, start: u64, loss: u8 },
 }
 
@@ -72,7 +72,7 @@ fn read_four(name: &str, frames: &str, start: &str, loss: &str) -> Option<Comman
     }
 }
 
-/// The command that the words are; `None` exactly when they are none.
+/// The command that the words are; `None` exactly when they are no command.
 pub fn read_words(words: &[String]) -> Option<Command>
     ensures { Reads (map string_bytes words.now) result }
 {

@@ -26,8 +26,8 @@ pub fn answer<C: Cut, J: Judge, S: Source, K: Sink>(
     Status::of(drive(alloc, units, source, sink))
 }
 
-/// Takes the input of a command of which the first `first` bytes of a piece were read, none only at its end, writes what is due, and returns
-/// the status.
+/// Takes a command's input, of which the first `first` bytes of `piece` were already read, writes what is due, and returns the status.
+/// `first` is 0 only where the input has ended.
 pub fn answer_behind<C: Cut, J: Judge, S: Source, K: Sink>(
     alloc: Global,
     units: &mut Units<C, J>,

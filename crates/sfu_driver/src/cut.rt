@@ -25,7 +25,7 @@ pub enum Found {
 /// What the end of the input does to a unit.
 #[derive(Clone, Copy, Debug, PartialEq, Eq)]
 pub enum Last {
-    /// There is none.
+    /// There is no unit.
     Nothing,
     /// It says its bytes from this place on.
     Whole { start: usize },
@@ -38,15 +38,15 @@ pub trait Cut {
     /// What a byte makes of the unit with this number, of which these bytes came before.
     ghost scan: { ℕ → List ℕ → ℕ → Scan };
 
-    /// What the end of the input makes of it.
+    /// What the end of the input makes of the unit with this number, of which these bytes came before.
     ghost scan_end: { ℕ → List ℕ → Scan };
 
-    /// Finds the end of the unit with this number, of which some bytes were kept, in a piece.
+    /// Finds in a piece the end of the unit with this number, of which the bytes `kept` came before.
     fn find(&self, number: u64, kept: &[u8], piece: &[u8]) -> Found
         requires { length kept.now ≤ MOST_UNIT }
         ensures { Finds (scan number) kept.now piece.now result };
 
-    /// Says what these last bytes are.
+    /// Finds what the end of the input makes of the unit with this number, of which the bytes `kept` came before.
     fn find_last(&self, number: u64, kept: &[u8]) -> Last
         ensures { FindsLast (scan_end number kept.now) kept.now result };
 }

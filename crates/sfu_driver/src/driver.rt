@@ -14,7 +14,7 @@ use std::alloc::Global;
 /// The most bytes of a source that are read at once.
 pub const MOST_PIECE: usize = 65_536;
 
-/// Once the texts have this many bytes they are written, even where a piece of the input has more to say.
+/// Once the texts have this many bytes they are written, even in the middle of a piece of the input.
 const MOST_READY: usize = 65_536;
 
 // Writes all that is ready.
@@ -36,7 +36,7 @@ fn flush<K: Sink>(ready: &mut Blob, sink: &mut K) -> Result<(), Interruption>
     }
 }
 
-// Writes what was ready before the command ended, and then its last text. A fault of the sink in the last text changes nothing.
+// Writes what was ready before the command ended, and then its last text. A fault of the sink in the last text doesn't change the result.
 fn halt<K: Sink>(ready: &Blob, mark: usize, why: Halt, sink: &mut K) -> Interruption
     requires { mark ≤ length ready.now }
     ensures halts { Halts result why (take mark ready.now) (drop mark ready.now) (K.written sink.old) (K.written sink.new) (K.faults sink.old)
@@ -164,7 +164,8 @@ fn finish<C: Cut, J: Judge, K: Sink>(
     }
 }
 
-/// Takes a command's input of which the first `first` bytes of a piece were read, none only at its end, and writes what is due.
+/// Takes a command's input, of which the first `first` bytes of `piece` were already read, and writes what is due. `first` is 0 only where
+/// the input has ended.
 pub fn drive_behind<C: Cut, J: Judge, S: Source, K: Sink>(
     alloc: Global,
     units: &mut Units<C, J>,

@@ -18,7 +18,7 @@ pub enum Ending {
 /// Why a unit ends a command.
 #[derive(Clone, Copy, Debug, PartialEq, Eq)]
 pub enum Halt {
-    /// What the input says ends it.
+    /// What the input says ends the command.
     Ended(Ending),
     /// Out of memory.
     Starved,
@@ -37,8 +37,8 @@ impl From<NoMemory> for Halt {
 pub enum Interruption {
     /// The source failed.
     SourceFault,
-    /// The sink failed before all texts but the last were written.
+    /// The sink failed in a text other than the last one of a `Halted` command.
     SinkFault,
-    /// A unit, or the end of the input, ended it.
+    /// A unit, or the end of the input, ended the command.
     Halted(Halt),
 }

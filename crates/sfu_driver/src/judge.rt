@@ -11,30 +11,30 @@ pub trait Judge {
     /// What the judge can stand for.
     ghost State: { Type 0 };
 
-    /// It stands for this state.
+    /// The judge stands for this state.
     ghost stands: { Self → Self.State → Type 0 };
 
     /// What is due for the unit with this number.
     ghost step: { Self.State → ℕ → List ℕ → Outcome Self.State };
 
-    /// The last text where the unit with this number is outside the grammar of units.
+    /// The last text if the unit with this number is outside the grammar of units.
     ghost outside: { ℕ → List ℕ };
 
     /// The text that is due at the end of the input.
     ghost closing: { Self.State → List ℕ };
 
-    /// Judges the unit with this number. Where the command ends here, only its last text was made ready; where memory ran out, none was.
+    /// Judges the unit with this number. Where the unit ends the command, only the last text is made ready; where memory runs out, none is.
     fn judge(&mut self, number: u32, unit: &[u8], ready: &mut Blob) -> Result<(), Halt>
         ensures judges { (state : Self.State) → Self.stands self.old state
             → Judges Self.stands (Self.step state number unit.now) self.new ready.old ready.new result }
         ensures grows { length ready.old ≤ length ready.new };
 
-    /// Makes the last text ready where a unit is outside the grammar of units.
+    /// Makes the last text ready, since the unit with this number is outside the grammar of units.
     fn refuse(&self, number: u64, ready: &mut Blob) -> Result<(), NoMemory>
         ensures ok { OnOk result (ready.new ≡ ready.old ++ Self.outside number) }
         ensures err { OnErr result (ready.new ≡ ready.old) };
 
-    /// Makes the text ready that is due at the end of the input.
+    /// Makes ready the text that is due at the end of the input.
     fn close(&mut self, ready: &mut Blob) -> Result<(), NoMemory>
         ensures ok { OnOk result ((state : Self.State) → Self.stands self.old state → Self.stands self.new state
             × (ready.new ≡ ready.old ++ Self.closing state)) }

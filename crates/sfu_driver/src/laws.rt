@@ -9,7 +9,7 @@ ghost use Rattle.sfu_driver.specs.Statuses.{due_of};
 
 use crate::{Cut, Judge};
 
-/// What is due for all bytes of an input, one after another, is what is due for its lines. What is due for bytes whose end hasn't been seen
+/// What is due for all bytes of an input, one after another, is what is due for its lines. What is due for bytes after which more may come
 /// is what is due for the lines that are judged by then.
 pub fn bytes_make_lines<J: Judge>()
     ensures whole { (state : J.State) (number : ℕ) (bytes : List ℕ)

@@ -7,8 +7,8 @@ ghost use Rattle.sfu_driver.specs.Scan.{Finds};
 use crate::{Cut, Found, Last, MOST_UNIT};
 use memchr::memchr;
 
-/// Cuts input into lines, each ended by LF, which the last may lack. A CR directly before an LF is left out. A line has at most 4,200 bytes
-/// before its LF, the CR counted.
+/// Cuts input into lines, each of which ends with an LF; the last line may lack it. A CR directly before an LF is left out. A line has at
+/// most 4,200 bytes before its LF, a CR included.
 #[derive(Clone, Copy, Debug, Drop)]
 pub struct Lines;
 
@@ -23,7 +23,7 @@ fn has_cr(bytes: &[u8]) -> bool
     }
 }
 
-// Whether the last byte is a CR, of bytes that follow others.
+// Whether the last byte of `kept` followed by `came` is a CR.
 #[inline(always)]
 fn joined_cr(kept: &[u8], came: &[u8]) -> bool
     ensures { result ≡ ends_in_cr (kept.now ++ came.now) }
@@ -34,7 +34,7 @@ fn joined_cr(kept: &[u8], came: &[u8]) -> bool
     has_cr(came)
 }
 
-// How many bytes precede the CR and LF.
+// How many bytes a line has before its LF, or before the CR directly before the LF.
 #[inline(always)]
 fn text_len(kept: &[u8], came: &[u8]) -> usize
     requires { length kept.now + length came.now ≤ MOST_UNIT }

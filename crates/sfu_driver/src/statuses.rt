@@ -13,7 +13,7 @@ pub enum Status {
     NoCommand,
     /// The source failed: 3.
     SourceFault,
-    /// The sink failed before all texts but a last one were written: 4.
+    /// The sink failed in a text other than the one that says why the input ended the command: 4.
     SinkFault,
     /// Out of memory: 6.
     NoMemory,

@@ -139,7 +139,7 @@ fn a_line_has_at_most_4200_bytes(rt: HostRuntime) -> Result<(), Fail> {
             assert_eq!(rt; got, status, "{end:?} in pieces of {most}");
         }
     }
-    // Such a line is judged once its 4,201st byte is there: before it a failing read comes first.
+    // Such a line is judged once its 4,201st byte is there; until then a failing read comes first.
     line.push(b'a')?;
     assert_eq!(rt; run(alloc, line.as_slice(), 0, &[1], &[])?.0, 3);
     line.push(b'a')?;

@@ -10,7 +10,8 @@ use sfu_base::{Blob, NoMemory};
 /// The greatest number of a unit.
 const MOST_UNITS: u64 = 4_294_967_295;
 
-/// The input of a command so far: how it is cut, what judges its units, the number of the unit that is being assembled, and its bytes.
+/// The input of a command so far: how it is cut, what judges its units, the number of the unit that is being assembled, and the bytes of
+/// that unit.
 #[derive(Debug, Drop)]
 pub struct Units<C, J> {
     pub cut: C,
@@ -43,7 +44,7 @@ impl<C: Cut, J: Judge> Units<C, J> {
         }
     }
 
-    // Says that the unit is outside the grammar.
+    // Makes the last text ready, since the unit is outside the grammar, and returns why the command ends.
     fn refuse(&self, ready: &mut Blob) -> Halt
         ensures judges { (state : J.State) → Judges J.stands (is_outside {S = J.State} (J.outside self.now.number)) self.now.judge ready.old ready.new
             (Err result) }
@@ -67,7 +68,7 @@ impl<C: Cut, J: Judge> Units<C, J> {
         self.kept.clear();
     }
 
-    // Judges the unit of the bytes that were kept and of those that came, which says the bytes between two places.
+    // Judges the unit that consists of the bytes that were kept and of those that came. The unit says the bytes from `start` to `end`.
     #[inline(always)]
     fn judge_between(
         &mut self,
@@ -124,7 +125,8 @@ impl<C: Cut, J: Judge> Units<C, J> {
         Ok(())
     }
 
-    /// Takes bytes from the start of a piece, until a unit ends or the piece does, and judges the unit. Returns how many they are.
+    /// Takes bytes from the start of a piece until a unit or the piece ends, and judges the unit if it ended. Returns how many bytes were
+    /// taken.
     #[inline(always)]
     pub fn next(&mut self, piece: &[u8], ready: &mut Blob) -> Result<usize, Halt>
         requires { 0 < length piece.now }
@@ -166,7 +168,7 @@ impl<C: Cut, J: Judge> Units<C, J> {
         }
     }
 
-    /// Takes the end of the input.
+    /// Takes the end of the input: judges the bytes that are left, and makes the closing text ready.
     pub fn finish(&mut self, ready: &mut Blob) -> Result<(), Halt>
         ensures judges { (point : Point J.State) → StandsAt J.stands self.old point
             → Judges (JudgeStands J.stands) (ends (rule_of C.scan C.scan_end J.step J.outside J.closing) point) self.new ready.old ready.new result }

@@ -1,4 +1,4 @@
-// What the words say, where the command waits for nobody.
+// The commands of one thread, by their words.
 ghost use Rattle.std.specs.Prelude.{◌≡◌, ◌↔◌, ℕ, map};
 ghost use Rattle.std.specs.String.{string_bytes};
 ghost use Rattle.sfu_commands.specs.Check.{Checks, IsCheck};
@@ -78,14 +78,14 @@ fn follow<S: Source, K: Sink>(alloc: Global, words: &[String], source: &mut S, s
     }
 }
 
-/// Does what the words say where the command waits for nobody, and answers the program's status. It always returns.
+/// Does what the words say where they are a single-threaded command (any but `together` and `serve`), and returns the program's status. It always
+/// returns.
 ///
-/// Status 0: the source was read to its end, where the command reads it, and all that is due was written. 2: the words are no command;
-/// nothing was read, and the usage line was written. 3 and 4: the source or the sink failed. 5: a line is outside the grammar; what is due
-/// before it and `line N` were written, or `record N` in a script of records; `convert` doesn't write which it is. 6: want of memory. 8: the
-/// strict receiver of `check` or `record` complains; `line N` and the complaint were written. 10: in `record` a packet ends a frame one of whose
-/// elements isn't an OBU; `line N obu` was written. The first that is met ends the call; 2, 5, 8 and 10 stay where the sink fails in their own
-/// text.
+/// Status 0: the source was read to its end, where the command reads it, and all that is due was written. 2: the words are no command; nothing was
+/// read, and the usage line was written. 3 and 4: the source or the sink failed. 5: a line is outside the grammar; what is due before it and `line N`
+/// were written, or `record N` in a script of records; `convert` writes no such line. 6: out of memory. 8: the strict receiver of `check` or `record`
+/// complains; `line N` and the complaint were written. 10: in `record` a packet ends a frame one of whose elements isn't an OBU; `line N obu` was
+/// written. The first of these that is met ends the call. Where the sink fails in the text of 2, 5, 8 or 10, the status stays.
 pub fn sfu_alone<S: Source, K: Sink>(
     alloc: Global,
     words: &[String],

@@ -1,4 +1,4 @@
-//! The program `sfu`: its top call over any source, sink, ports and clock, and a `main` that hands in standard input and output, UDP ports and the
+//! The program `sfu`: its top call over any source, sink, ports and clock, and a `main` that passes standard input and output, UDP ports and the
 //! system's clock.
 #![tactic(auto)]
 
@@ -15,7 +15,7 @@ use sfu_edge::{StdSink, StdSource, SysClock, UdpPorts, WakeTable};
 use std::process::ExitCode;
 use std::{env, io};
 
-// The words after the program's name. Empty, and so no command, where one isn't UTF-8.
+// The words after the program's name; none, which is no command, where one of the words isn't UTF-8.
 fn arguments(rt: &HostRuntime) -> io::Result<Vec<String>> {
     let mut words = Vec::new(rt.alloc());
     let all = match env::args(rt) {

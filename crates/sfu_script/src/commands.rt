@@ -25,7 +25,7 @@ pub enum SubscriberCommand {
     Why,
 }
 
-/// The command of a track that a word names.
+/// The command about a track with this name; `None` where there is none.
 pub fn track_command(word: &[u8]) -> Option<TrackCommand>
     ensures { result ≡ track_command_of word.now }
 {
@@ -40,7 +40,7 @@ pub fn track_command(word: &[u8]) -> Option<TrackCommand>
     }
 }
 
-/// The command of a subscriber that a word names.
+/// The command about a subscriber with this name; `None` where there is none.
 pub fn subscriber_command(word: &[u8]) -> Option<SubscriberCommand>
     ensures { result ≡ subscriber_command_of word.now }
 {

@@ -35,8 +35,8 @@ impl Field {
     }
 }
 
-/// The numbers that the words of a text say, one for each place, with one space between them. `NoLine` exactly where the text isn't that, or
-/// there is no place. Takes no memory.
+/// The numbers that the words of a text say: one word for each place, with one space between words. `NoLine` exactly where the text isn't
+/// of this form, or `places` is empty. Takes no memory.
 pub fn read_fields<const N: usize>(places: &[Field; N], text: &[u8]) -> Result<[u64; N], NoLine>
     ensures value { MatchResult result (λ numbers. fields_of places.now text.now ≡ Some numbers) (λ _. fields_of places.now text.now ≡ None) }
     ensures within { IfOk result (λ numbers. AreWithin places.now numbers) }

@@ -1,4 +1,5 @@
-//! The lines of scripts, read: each says a call of the room. What is written is in `script_texts`, and is re-exported here.
+//! Readers of the lines of scripts: calls on a room, packets, actors' calls and UDP ports. The writers are in `script_texts`, and are
+//! re-exported here.
 #![tactic(auto)]
 
 mod actor_line;

@@ -12,8 +12,8 @@ use crate::words::{leading32, number32, number64};
 use crate::{NoLine, read_call};
 use sfu_base::{Call, PacketBuf};
 
-/// Reads lines one after another, as [`read_call`] does, and reuses the memory of the calls: for the lines that come most often only the
-/// fields that they say are written.
+/// Reads lines one after another, as [`read_call`] does, and lends each call. The calls are kept: a packet, a take or a tick overwrites
+/// only the fields of the kept call of its kind.
 #[derive(Debug, Drop)]
 pub struct LineReader {
     room: [u8; MOST_BYTES],
@@ -129,7 +129,7 @@ impl LineReader {
         }
     }
 
-    /// The call that a line says, which is kept until the next line is read. `NoLine` exactly where it says none. Takes no memory.
+    /// The call that a line says; the call is kept until the next line is read. `NoLine` exactly where it says none. Takes no memory.
     pub fn read(&mut self, line: &[u8]) -> Result<&Call, NoLine>
         ensures value { MatchResult result (λ said. call_of line.now ≡ Some said.now) (λ _. call_of line.now ≡ None) }
         ensures ok { IfOk result (λ said. IsLine said.now line.now) }

@@ -11,8 +11,8 @@ use crate::fields::read_fields;
 use crate::words::{number8, number16, split, split_at};
 use sfu_base::Address;
 
-/// What a port is for. SSRCs are the publisher's own, that of the packets forwarded to the subscriber, and that of the stream of its
-/// retransmissions.
+/// What a port is for. `ssrc` is the publisher's own SSRC, or that of the packets forwarded to the subscriber; `rtx_ssrc` and
+/// `payload_type` are those of the subscriber's retransmissions.
 #[derive(Clone, Copy, Debug, PartialEq, Eq)]
 pub enum PortRole {
     /// Receives the packets of a track.
@@ -88,7 +88,7 @@ fn subscriber(rest: &[u8]) -> Result<PortRole, NoLine>
     })
 }
 
-// Whether retransmissions can be distinguished from the other packets.
+// Whether retransmissions differ from other packets by SSRC (RFC 4588, section 5.3), and from RTCP by payload type (RFC 5761, section 4).
 fn are_apart(ssrc: u32, rtx_ssrc: u32, payload_type: u8) -> bool
     ensures { (subscriber : ℕ) → result ≡ is_apart (Rtx subscriber ssrc rtx_ssrc payload_type) }
 {
@@ -158,9 +158,9 @@ fn port(line: &[u8]) -> Result<PortLine, NoLine>
     }
 }
 
-/// The port that a line `port LOCAL PEER ROLE` says, where both addresses are `a.b.c.d:port` and the role is `publisher T SSRC`,
-/// `subscriber S SSRC`, `control`, or `rtx S SSRC RTXSSRC PT`, where RTXSSRC differs from SSRC and PT is 0 to 63 or 96 to 127. `NoLine` exactly
-/// when it says none. Takes no memory.
+/// The port that a line `port LOCAL PEER ROLE` says. Both addresses are `a.b.c.d:port`. The role is `publisher T SSRC`, `subscriber S
+/// SSRC`, `control`, or `rtx S SSRC RTXSSRC PT`. In the last, RTXSSRC differs from SSRC, and PT is 0 to 63 or 96 to 127. `NoLine` exactly
+/// when the line says no port. Takes no memory.
 pub fn read_port(line: &[u8]) -> Result<PortLine, NoLine>
     ensures value { result_ok result ≡ port_of line.now }
     ensures ok { IfOk result (λ said. IsPortLine said line.now) }

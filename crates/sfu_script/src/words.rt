@@ -7,7 +7,7 @@ ghost use Rattle.sfu_script.specs.Reading.{cut, cut_at, field, number_of, ssrc_o
 
 use crate::NoLine;
 
-/// What precedes the first such byte, and what follows it.
+/// What precedes the first byte `mark`, and what follows it; `NoLine` where there is none.
 #[inline(always)]
 pub fn split_at(text: &[u8], mark: u8) -> Result<(&[u8], &[u8]), NoLine>
     ensures { MatchResult result (λ parts. cut_at mark text.now ≡ Some (parts.0.now, parts.1.now)) (λ _. cut_at mark text.now ≡ None) }
@@ -27,7 +27,7 @@ pub fn split(text: &[u8]) -> Result<(&[u8], &[u8]), NoLine>
     split_at(text, b' ')
 }
 
-// The number that at most 19 digits spell, which fits whatever they are.
+// The number that at most 19 digits spell; it always fits into 64 bits.
 fn short_decimal(word: &[u8]) -> Option<u64>
     requires { length word.now ≤ 19 }
     ensures { result ≡ (if all_ascii_digits word.now && nat_lt (digits_value 10 word.now) (2 ^ 64) then Some (digits_value 10 word.now) else None) }
@@ -42,7 +42,7 @@ fn short_decimal(word: &[u8]) -> Option<u64>
     Some(number)
 }
 
-// The number that digits spell, where it fits.
+// The number that digits spell, where it fits into 64 bits.
 fn decimal(word: &[u8]) -> Option<u64>
     ensures { result ≡ (if all_ascii_digits word.now && nat_lt (digits_value 10 word.now) (2 ^ 64) then Some (digits_value 10 word.now) else None) }
 {
@@ -95,8 +95,8 @@ pub fn number8(word: &[u8]) -> Result<u8, NoLine>
     u8::try_from(number64(word)?).ok().ok_or(NoLine)
 }
 
-// The number before the first space and what follows it, where the space is among the first 19 bytes: each byte is read once, and no sum is
-// checked. `None` says nothing about the text.
+// The number before the first space, and what follows the space, where the space is among the first 19 bytes. Each byte is read once, and
+// no sum is checked for overflow. `None` says nothing about the text.
 #[inline(always)]
 fn short_leading(text: &[u8]) -> Option<(u64, &[u8])>
     ensures { IfSome result (λ x. field (number_of 64) text.now ≡ Some (x.0, x.1.now)) }
@@ -121,7 +121,7 @@ fn short_leading(text: &[u8]) -> Option<(u64, &[u8])>
     None
 }
 
-// As `leading64`, for numbers of any length. Out of line: its callers hold only the code for the others.
+// As `leading64`, for numbers of any length. Out of line: the callers contain only the code for short numbers.
 #[inline(never)]
 fn any_leading(text: &[u8]) -> Result<(u64, &[u8]), NoLine>
     ensures { MatchResult result (λ x. field (number_of 64) text.now ≡ Some (x.0, x.1.now)) (λ _. field (number_of 64) text.now ≡ None) }
@@ -130,7 +130,7 @@ fn any_leading(text: &[u8]) -> Result<(u64, &[u8]), NoLine>
     Ok((number64(word)?, rest))
 }
 
-/// The number that the word before the first space spells, as `number64`, and what follows the space.
+/// The number that the word before the first space spells, as `number64` reads it, and what follows the space.
 #[inline(always)]
 pub fn leading64(text: &[u8]) -> Result<(u64, &[u8]), NoLine>
     ensures { MatchResult result (λ x. field (number_of 64) text.now ≡ Some (x.0, x.1.now)) (λ _. field (number_of 64) text.now ≡ None) }

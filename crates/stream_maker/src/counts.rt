@@ -30,7 +30,7 @@ impl Counts {
         swapped: 0,
     };
 
-    // Counts one more packet, with the packet that is held back when it comes.
+    // Counts one more packet; `held` is the packet that is held back when it comes.
     #[tactic(auto, unfolding(crate::specs::Left::counts_after))]
     pub(crate) fn add(&mut self, fate: Fate, held: Option<Place>, place: Place)
         requires frames { self.old.frames < 2 ^ 31 }

@@ -16,21 +16,22 @@ pub(crate) struct Due {
     pub(crate) copies: u8,
     /// The packet that is sent after it.
     pub(crate) behind: Option<Place>,
-    /// Whether a tick follows, at the moment of its unit.
+    /// Whether a tick follows, at the moment of the packet's unit.
     pub(crate) ticks: bool,
 }
 
-/// What a packet's turn sends, and which packet is held back then.
+/// What a packet's turn sends, and which packet is held back after the turn.
 #[derive(Clone, Copy, Debug)]
 pub(crate) struct Turn {
     /// How often the packet is sent.
     pub(crate) copies: u8,
-    /// What is sent after it: the packet that was held back before it, or, at the end of the stream, the one that is held back then.
+    /// What is sent after the packet: the one that was held back before it. At the end of the stream it may also be the packet that would
+    /// still be held back.
     pub(crate) behind: Option<Place>,
     pub(crate) held: Option<Place>,
 }
 
-// The turn of a packet of this fate, after which the stream may end.
+// The turn of a packet of this fate; `ends_stream` says whether it is the last.
 #[tactic(auto, unfolding(crate::specs::Left::behind, crate::specs::Left::held_after))]
 pub(crate) fn turn_of(fate: Fate, held: Option<Place>, place: Place, ends_stream: bool) -> Turn
     ensures copies { result.copies ≡ copies fate held }

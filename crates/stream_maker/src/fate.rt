@@ -11,7 +11,7 @@ use rand_pcg::Lcg64Xsh32;
 pub(crate) enum Fate {
     Lost,
     Twice,
-    /// It is held back, unless one is held back already.
+    /// The packet is held back, unless another is held back already.
     Held,
     Once,
 }
@@ -25,7 +25,7 @@ pub(crate) fn draw(generator: &mut Lcg64Xsh32) -> u32
     generator.next_word()
 }
 
-// Each of the lower pairs of decimal digits of the word is a draw below 100.
+// Each of the three lowest pairs of the word's decimal digits is a draw from 0 to 99; the first draw below `loss` decides.
 #[tactic(auto, unfolding(crate::specs::Fates::fate_of))]
 pub(crate) fn fate_of(loss: u8, word: u32) -> Fate
     ensures { result ≡ fate_of loss word }

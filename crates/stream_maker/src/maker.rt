@@ -32,8 +32,9 @@ impl Model for Maker {
 }
 
 impl Maker {
-    /// The stream of `frames` frames that the number `start` makes: of a hundred packets about `loss` are lost, as many are sent twice, and
-    /// as many are held back and sent after the next.
+    /// The stream of `frames` frames that the seed `start` makes. About `loss` percent of packets are lost; of the others about as many
+    /// percent are sent twice; and of the rest again about as many percent are held back and sent after the next, unless a packet is held
+    /// back already.
     pub fn new(frames: u32, start: u64, loss: u8) -> Maker
         requires some_frames { 1 ≤ frames }
         requires few_frames { frames ≤ 1000000 }

@@ -16,7 +16,7 @@ const PAYLOAD_TYPE: u8 = 96;
 
 const SSRC_BYTE: u8 = 0x11;
 
-// A unit's ticks of the RTP clock.
+// The ticks of the RTP clock from one unit to the next.
 const UNIT_TICKS: u32 = 3000;
 
 // After the frame number: the flag of a structure, the structure, and a byte of padding.
@@ -134,7 +134,7 @@ fn write_short_descriptor(place: Place, out: &mut PacketBuf)
     ]);
 }
 
-// The first byte of an element: where it begins a frame, the header of an OBU.
+// The first byte of an element. Where the element begins a frame, this byte is the header of an OBU.
 fn element_byte(starts: bool) -> u8
     ensures { result ≡ (if starts then 0x30 else 0) }
 {

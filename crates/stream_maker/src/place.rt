@@ -96,7 +96,7 @@ impl Place {
         self.frame == frames - 1 && self.ends_frame()
     }
 
-    // Whether a tick comes after it: it is the last of its unit.
+    // Whether it is the last packet of its unit, so that a tick comes after it.
     pub(crate) fn ends_unit(self, frames: u32) -> bool
         requires { 0 < frames }
         ensures { tick_due frames self ≡ (if result then Some (moment_of self.frame) else None) }

@@ -13,7 +13,7 @@ use crate::place::{Place, moment_of};
 use rand_pcg::Lcg64Xsh32;
 use sfu_base::PacketBuf;
 
-// How long after the last unit the last tick comes.
+// How long after the last unit the last tick comes, in milliseconds.
 const LAST_WAIT: u64 = 1000;
 
 /// The parts of a maker.
@@ -22,18 +22,18 @@ pub(crate) struct State {
     pub(crate) frames: u32,
     pub(crate) loss: u8,
     pub(crate) generator: Lcg64Xsh32,
-    /// The packet that is made next; where all are made, the first of the frame after the last.
+    /// The packet that is made next; once all are made, the first packet of the frame after the last frame.
     pub(crate) next: Place,
     /// The packet that is held back.
     pub(crate) held: Option<Place>,
     pub(crate) due: Due,
-    /// The last tick was given.
+    /// Whether the last tick was given.
     pub(crate) ended: bool,
     pub(crate) counts: Counts,
 }
 
 impl State {
-    // The turn of the next packet comes.
+    // Makes the next packet: what its turn sends is due then.
     fn make_packet(&mut self)
         requires sound { IsSound self.old }
         requires nothing_due { is_idle self.old.due ≡ true }
@@ -57,7 +57,7 @@ impl State {
         self.next = place.following();
     }
 
-    // Packets are made until something is due, or all are made.
+    // Makes packets until something is due, or all are made.
     pub(crate) fn make_packets(&mut self)
         requires sound { IsSound self.old }
         ensures sound { IsSound self.new }
@@ -70,7 +70,7 @@ impl State {
         }
     }
 
-    // What is due, or the last tick, or the end.
+    // Gives what is due, or the last tick, or the end.
     pub(crate) fn give(&mut self, out: &mut PacketBuf) -> Event
         requires sound { IsSound self.old }
         requires ready { due_places self.old.due ≡ [] → due_tick self.old.due ≡ None → self.old.next.frame ≡ self.old.frames }
@@ -88,7 +88,7 @@ impl State {
         }
     }
 
-    // The tick that is due, or the last tick, or the end.
+    // Gives the tick that is due, or the last tick, or the end.
     fn give_tick(&mut self) -> Event
         requires sound { IsSound self.old }
         requires no_packet { due_places self.old.due ≡ [] }
@@ -106,7 +106,7 @@ impl State {
         }
     }
 
-    // The last tick, or the end.
+    // Gives the last tick, or the end.
     fn give_last(&mut self) -> Event
         requires sound { IsSound self.old }
         requires no_packet { due_places self.old.due ≡ [] }

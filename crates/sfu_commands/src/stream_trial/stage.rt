@@ -15,10 +15,10 @@ const TRACK: u32 = 1;
 
 const PUBLISHER: u32 = 0x1111_1111;
 
-// How long a gap is waited for, in milliseconds.
+// The track's hold in milliseconds: how long packets wait for a gap to be filled.
 const HOLD: u32 = 50;
 
-/// A room with one track, and what each of its subscribers took, in a strict receiver.
+/// A room with one track, and a strict receiver for each of the track's three subscribers.
 #[derive(Drop)]
 pub struct Stage {
     pub room: Room<KeepNone>,
@@ -28,7 +28,7 @@ pub struct Stage {
     pub third: Viewer,
 }
 
-// Whether a call found its memory.
+// `NoMemory` where a call ran out of memory.
 fn found(reply: Reply) -> Result<(), NoMemory>
     ensures { OnOk result (is_starved reply ≡ false) }
 {
@@ -44,7 +44,7 @@ fn wish(spatial: u8, temporal: u8) -> Wish
     Wish { spatial, temporal }
 }
 
-// A room in which the track and its three subscribers have begun.
+// A room in which the track is published and its three subscribers have joined.
 fn open(alloc: Global) -> Result<Room<KeepNone>, NoMemory>
     ensures { IfOk result (λ room. StandsAfter room opened) }
 {
@@ -78,14 +78,14 @@ impl Stage {
         })
     }
 
-    /// A packet comes.
+    /// Brings a packet to the track at this moment (milliseconds).
     pub fn packet(&mut self, moment: u64, bytes: &PacketBuf)
         ensures { (past : List Call) → IsStaged self.old past → IsStaged self.new (and_call past (call.Packet 1 moment bytes.now)) }
     {
         self.room.packet(SEAT, TRACK, moment, bytes);
     }
 
-    /// It is this moment; then each subscriber takes until nothing waits for it.
+    /// Ticks the track at this moment (milliseconds); then each subscriber takes until nothing waits for it.
     pub fn tick(&mut self, moment: u64)
         ensures { (past : List Call) → IsStaged self.old past
             → IsStaged self.new (after_takes 3 (after_takes 2 (after_takes 1 (and_call past (call.Tick 1 moment))))) }

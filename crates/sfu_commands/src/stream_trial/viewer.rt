@@ -15,19 +15,19 @@ pub const SEAT: u32 = 0;
 /// The id of the header extension element that has a packet's descriptor.
 pub const EXTENSION: u8 = 4;
 
-// At most so many packets wait for a subscriber.
+// The most packets that wait for a subscriber.
 const MOST_QUEUED: u32 = 512;
 
 /// A subscriber's strict receiver.
 #[derive(Drop)]
 pub struct Viewer {
     pub receiver: Receiver,
-    /// It has a complaint.
+    /// Whether the receiver has a complaint.
     pub complains: bool,
 }
 
 impl Viewer {
-    /// A receiver that nothing came to.
+    /// A receiver that has received nothing.
     pub fn new(alloc: Global) -> Result<Viewer, NoMemory>
         ensures { IfOk result (λ viewer. WasFed viewer []) }
     {
@@ -37,14 +37,14 @@ impl Viewer {
         })
     }
 
-    // A packet comes to the receiver.
+    // Feeds a packet to the receiver.
     fn feed(&mut self, packet: &[u8])
         ensures { (taken : List (List ℕ)) → WasFed self.old taken → WasFed self.new (taken ++ packet.now ∷ []) }
     {
         self.complains = self.receiver.feed(packet).is_err();
     }
 
-    // Takes a packet, if one waits.
+    // Takes a packet and feeds it, if one waits. Returns whether one did.
     fn take_one(
         &mut self,
         subscriber: u32,
@@ -62,7 +62,7 @@ impl Viewer {
         }
     }
 
-    /// Takes until nothing waits for the subscriber with this number, each packet into the receiver.
+    /// Takes until nothing waits for the subscriber with this number, and feeds each packet to the receiver.
     pub fn take_all(&mut self, subscriber: u32, room: &mut Room<KeepNone>, scratch: &mut Scratch)
         ensures { (past : List Call) → IsFedAfter room.old self.old subscriber past → IsFedAfter room.new self.new subscriber (after_takes subscriber past) }
     {

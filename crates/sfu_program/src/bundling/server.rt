@@ -23,7 +23,7 @@ use sfu_script::is_skipped;
 use simulcast::{BundleFault, Bundles};
 use std::alloc::Global;
 
-/// Serves each line of a script by seat 0 on a room with bundles that keeps nothing.
+/// Serves each line of a script by seat 0 on a room with bundles whose recorder keeps nothing.
 #[derive(Drop)]
 pub struct BundleServer {
     pub bundles: Bundles<KeepNone>,
@@ -44,7 +44,7 @@ impl BundleServer {
         }
     }
 
-    // Puts the line of a reply that the room has behind the texts that are ready.
+    // Appends to the texts that are ready the line of a reply that the room has.
     fn answer(&mut self, reply: &Reply, ready: &mut Blob) -> Result<(), Halt>
         ensures starved { is_starved reply.now ≡ true → result ≡ Err Starved }
         ensures ok { OnOk result (ready.new ≡ ready.old ++ (answer_text (answer_of reply.now self.old.scratch.packet self.old.scratch.names) ++ 10 ∷ [])) }
@@ -59,7 +59,7 @@ impl BundleServer {
         Ok(())
     }
 
-    // Puts the line of a refusal behind them.
+    // Appends to the texts that are ready the line of a refusal.
     fn refuse(&mut self, why: BundleFault, ready: &mut Blob) -> Result<(), Halt>
         ensures starved { why ≡ BundleFault.NoMemory → result ≡ Err Starved }
         ensures ok { OnOk result (ready.new ≡ ready.old ++ (fault_text why ++ 10 ∷ [])) }
@@ -183,7 +183,7 @@ impl BundleServer {
     }
 }
 
-// Puts the line of a reply that lines of bundles alone have behind the texts that are ready.
+// Appends to the texts that are ready the line of a reply that only lines about bundles have.
 fn tell(reply: BundleReply, ready: &mut Blob) -> Result<(), Halt>
     ensures ok { OnOk result (ready.new ≡ ready.old ++ (bundle_reply_text reply ++ 10 ∷ [])) }
     ensures err { OnErr result (ready.new ≡ ready.old) }

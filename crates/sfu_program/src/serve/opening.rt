@@ -15,13 +15,13 @@ use turn_lock::{Seat, Turns};
 /// Why a call wasn't made.
 #[derive(Clone, Copy, Debug)]
 pub enum Unmade {
-    /// Memory was wanting.
+    /// Out of memory.
     Starved,
-    /// The lock gave no ticket.
+    /// All tickets of the lock were drawn.
     Worn,
 }
 
-// Makes one call by the first seat, and puts the line of its reply behind the texts that are ready.
+// Makes one call by the first seat, and appends the line of its reply to the texts that are ready.
 fn make_call<W: Wait + Sync>(
     rt: &W,
     turns: &Turns<SharedRoom<KeepNone>>,
@@ -50,7 +50,7 @@ fn make_call<W: Wait + Sync>(
     }
 }
 
-/// Makes these calls by the first seat, in their order, and puts the lines of their replies behind the texts that are ready.
+/// Makes these calls by the first seat, in their order, and appends the lines of their replies to the texts that are ready.
 pub fn make_calls<W: Wait + Sync>(
     rt: &W,
     turns: &Turns<SharedRoom<KeepNone>>,

@@ -16,7 +16,7 @@ use std::alloc::Global;
 /// Why the ports weren't all bound.
 #[derive(Clone, Copy, Debug)]
 pub enum Unbound {
-    /// Memory was wanting.
+    /// Out of memory.
     Starved,
     /// A port wasn't bound.
     PortFault,
@@ -91,7 +91,7 @@ fn bind_each<P: Ports>(
     Ok(())
 }
 
-// Gives the ports of jobs back, in their order.
+// Gives back the ports of jobs, in the order of the jobs.
 fn give_back<P: Ports>(jobs: Vec<Job<P::Port>>, ports: &mut P)
     requires { P.back_count ports.old + vec_len jobs ≤ P.bound ports.old }
     ensures bound { P.bound ports.new ≡ P.bound ports.old }
@@ -106,7 +106,7 @@ fn give_back<P: Ports>(jobs: Vec<Job<P::Port>>, ports: &mut P)
     }
 }
 
-/// Gives the ports of sessions that ended back, in their order.
+/// Gives back the ports of sessions that ended, in the order of the sessions.
 pub fn give_back_ended<P: Ports>(ended: Vec<Ended<P::Port>>, ports: &mut P)
     requires { P.back_count ports.old + vec_len ended ≤ P.bound ports.old }
     ensures bound { P.bound ports.new ≡ P.bound ports.old }
@@ -122,7 +122,8 @@ pub fn give_back_ended<P: Ports>(ended: Vec<Ended<P::Port>>, ports: &mut P)
     }
 }
 
-/// Binds the ports of lines in their order, each for a job. Where one fails, those that were bound before it are given back in order.
+/// Binds the ports of lines in their order, each for a job. Where one bind fails, the ports that were bound before it are given back in
+/// order.
 #[tactic(auto, using(crate::proofs::ServeBacks::fresh_quiet))]
 pub fn bind_all<P: Ports>(
     alloc: Global,

@@ -1,4 +1,4 @@
-// The sessions of `serve`, and what is said of them when they have ended.
+// The sessions of `serve`, and what is written when they have ended.
 ghost use Rattle.std.specs.Prelude.{◌≡◌, ◌⊎◌, ◌+◌, ◌≤◌, ◌<◌, ◌^◌, ℕ, List, [], IfOk, length, map, vec_len, true, false};
 ghost use Rattle.std.specs.Io.KnownBytes.{Appends};
 ghost use Rattle.std.specs.List.{All};
@@ -25,7 +25,7 @@ use std::sync::Wait;
 use std::thread::Threads;
 use turn_lock::{Seat, Turns};
 
-/// Runs the sessions of all jobs at once, and ends the lock when they have ended.
+/// Runs the sessions of all jobs at once, and ends the lock once all sessions have ended.
 pub fn run_all<L: Link + Send + Drop, C: Clock + Sync, W: Threads + Wait + Sync>(
     rt: &W,
     alloc: Global,
@@ -50,8 +50,8 @@ pub fn run_all<L: Link + Send + Drop, C: Clock + Sync, W: Threads + Wait + Sync>
     Ok(ended)
 }
 
-/// Gives the ports of sessions that ended back, writes the line of each session, and answers the status: 0 where each made all its turns,
-/// 7 where the link of one failed, 4 where the sink did, 6 where memory was wanting for the lines.
+/// Gives back the ports of sessions that ended, writes the line of each session, and returns the status: 0 where each made all its turns, 7
+/// where the link of one failed, 4 where the sink failed, 6 where memory ran out for the lines.
 pub fn end_all<P: Ports, K: Sink>(
     alloc: Global,
     ended: Vec<Ended<P::Port>>,

@@ -1,5 +1,5 @@
-// The command `simulcast` over sources and sinks in memory: scripts with their replies and statuses. The packets are
-// laid as RFC 3550 and RFC 8285 lay them, the descriptors as Appendix A of RTP Payload Format For AV1 does; what is wanted is worked out by hand.
+// The command `simulcast` over sources and sinks in memory: scripts with their replies and statuses. The packets follow RFC 3550 and RFC 8285, the
+// descriptors Appendix A of RTP Payload Format For AV1. The expected texts are worked out by hand.
 use super::run::words;
 use crate::alone::sfu_alone;
 use sfu_base::{MemSink, MemSource};
@@ -12,7 +12,7 @@ const BEGUN: &str =
 
 const BEGUN_REPLIES: &str = "ok\nok\nok\nok\nok\n";
 
-// Of each track a key frame, a frame that refers to it, and of the first one more, of the second another key frame.
+// Each track has a key frame and a frame that refers to it. Then the first track has one more such frame, the second another key frame.
 const KEY_1: &str = "packet 1 0 90e003e80000000011111111bede000348c0000180003a4101000000183000\n";
 
 const KEY_2: &str = "packet 2 0 90e007d00000000044444444bede000348c0000180003a4101000000183000\n";
@@ -25,7 +25,8 @@ const THIRD_1: &str = "packet 1 0 90e003ea0000000011111111bede000142c10003103000
 
 const KEY_3_2: &str = "packet 2 0 90e007d20000000044444444bede000348c0000380003a4101000000183000\n";
 
-// What goes out: the first track's three frames, then the second's key frame, 3,000 behind them. The key frames have a mask of their one target.
+// What is forwarded: the first track's three frames, then the second's key frame, with a timestamp 3,000 higher. The key frames have a mask of their
+// one target.
 const OUT_10: &str = "packet 90e0000a0000000055555555bede000348c00001c0003a4101400000183000\n";
 
 const OUT_11: &str = "packet 90e0000b0000000055555555bede000142c10002103000\n";
@@ -68,14 +69,14 @@ fn one_stream_goes_out_of_two_tracks(rt: HostRuntime) -> Result<(), Fail> {
 #[test]
 fn lines_of_bundles_are_refused_for_their_reasons(rt: HostRuntime) -> Result<(), Fail> {
     let alloc = rt.alloc();
-    // Behind the bundle of the legs 1 and 2, subscriber 3 is one of track 1, 4 of a plain track, 5 of a track with another id, and 6 of track 2.
+    // After the bundle of the legs 1 and 2 began, subscriber 3 joins track 1, 4 a plain track, 5 a track with another id, and 6 track 2.
     let others = "publish 3 plain 77777777 0\npublish 4 layered 88888888 0 5\njoin 3 1 1 0 0 0\n";
     assert_eq!(rt; run(alloc, others)?.0, 5);
     let others =
         "publish 3 plain 77777777 0\npublish 4 layered 88888888 0 5\njoin 3 1 00000003 0 0 0\njoin 4 3 00000004 0 0 0\n\
         join 5 4 00000005 0 0 0\njoin 6 2 00000006 0 0 0\n";
     for (line, reply) in [
-        // The first refusal that stands, in their order.
+        // The first refusal that applies, in their order.
         ("bundle 1 5 55555555 0 9 9\n", "refused numberused 1\n"),
         ("bundle 0 4 55555555 0 3 6\n", "refused numberused 1\n"),
         ("bundle 2 5 55555555 0 1 9\n", "refused nosubscriber\n"),

@@ -5,7 +5,7 @@ use sfu_base::{MemSink, MemSource};
 use std::alloc::{AllocError, Global};
 use std::test::Fail;
 
-/// The two packets that go out for the layered track of `run.rt`: a key frame of one packet, and a frame that refers to it.
+/// The two packets that are forwarded for the layered track of `run.rt`: a key frame of one packet, and a frame that refers to it.
 pub const KEY: &str = "90e0ffff0000000022222222bede000348c00001c0003a4101400000183000\n";
 
 pub const NEXT: &str = "90e000000000000022222222bede000142c10002103000\n";
@@ -79,7 +79,7 @@ fn packets_are_counted_or_complained_of(rt: HostRuntime) -> Result<(), Fail> {
             8,
             "line 5 sequence 65535 65535\n",
         ),
-        // A line outside the grammar, and what comes behind it isn't judged; nor is what comes behind a complaint.
+        // A line outside the grammar: what comes after it isn't judged, nor what comes after a complaint.
         (&[KEY, "take 1\n", KEY], 5, "line 2\n"),
         (&[KEY, "8\n"], 5, "line 2\n"),
         (&[KEY, "# a\n", "80 "], 5, "line 3\n"),

@@ -54,11 +54,11 @@ impl Sink for ByteSink {
 #[derive(Clone, Copy)]
 struct Row<'a> {
     words: &'a [&'a str],
-    /// The input in pieces, each with the text that is due behind it.
+    /// The input in pieces, each with the text that is due after it.
     pieces: &'a [(&'a str, &'a str)],
     /// How many reads of a byte are made.
     reads: u64,
-    /// The text that is due at the end, which is the ending's own where the input ends the command.
+    /// The text that is due at the end; where the input ends the command, the command's last text.
     last: &'a [u8],
     status: u8,
 }
@@ -73,7 +73,7 @@ impl<'a> Row<'a> {
         Ok(input)
     }
 
-    // The text that is due behind the first bytes of the input, so many.
+    // The text that is due after the first `count` bytes of the input.
     fn due(&self, alloc: Global, count: usize) -> Result<Vec<u8>, AllocError> {
         let mut text = Vec::new(alloc);
         let mut left = count;
@@ -87,7 +87,7 @@ impl<'a> Row<'a> {
         Ok(text)
     }
 
-    // The places of the first and of the last byte of each text, and the place behind them all.
+    // The places of the first and of the last byte of each text, and the place after all texts.
     fn edges(&self, alloc: Global) -> Result<Vec<usize>, AllocError> {
         let mut places = Vec::new(alloc);
         let mut text = Vec::new(alloc);
@@ -100,7 +100,7 @@ impl<'a> Row<'a> {
     }
 }
 
-// Puts a text behind others, and the places of its first and its last byte behind others.
+// Appends a text to others, and the places of the text's first and last byte to others.
 fn add_edges(places: &mut Vec<usize>, text: &mut Vec<u8>, more: &[u8]) -> Result<(), AllocError> {
     let first = text.len();
     text.extend_from_slice(more)?;
@@ -361,8 +361,8 @@ const OF_THREADS: [Row; 4] = [
     },
 ];
 
-// Each read of a byte fails in turn, then the write of the first and of the last byte of each text, and none. Which went wrong first, counted
-// from 0.
+// Each read of a byte fails in turn, then the write of the first and of the last byte of each text; then nothing fails. Returns the first read or
+// write, counted from 0, whose failure had a wrong outcome.
 fn try_row<W: Threads + Wait + Sync>(
     rt: &W,
     alloc: Global,

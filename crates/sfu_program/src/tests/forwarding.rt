@@ -1,4 +1,4 @@
-// What comes to a publisher's port goes out at a subscriber's.
+// What comes to a publisher's port is forwarded at a subscriber's.
 ghost use Rattle.std.specs.Prelude.{◌≤◌, IfOk, None};
 ghost use Rattle.sfu_base.specs.Links.{IsFresh};
 
@@ -10,7 +10,7 @@ use std::test::Fail;
 use std::thread;
 use std::time::{Clock, Duration};
 
-// How often the subscriber's link looks, with a millisecond between, whether the packet was worked off.
+// How often the subscriber's link checks whether the packet was processed, with a millisecond between two checks.
 const MOST_LOOKS: u32 = 10_000;
 
 // Number 1000 of the publisher (RFC 3550, section 5.1), and the subscriber's first packet, whose number is the 7 of its line.
@@ -29,7 +29,7 @@ fn new_link(alloc: Global, is_publishers: bool) -> Result<MemLink, AllocError>
     }
 }
 
-// A link of the publisher, or of the subscriber. The publisher's second receive tells that what the first one brought was worked off. The
+// A link of the publisher, or of the subscriber. The publisher's second receive shows that what the first one brought was processed. The
 // subscriber's first receive waits for this.
 #[derive(Drop)]
 struct GatedLink<'a, R> {

@@ -25,7 +25,7 @@ fn packets_are_recorded_or_complained_of(rt: HostRuntime) -> Result<(), Fail> {
         // Skipped lines are counted and fed to nobody.
         (&["# a\n", "\r\n", KEY, "#80\n", NEXT], 0, FILE),
         (&["# a\n", "\n", FORBIDDEN], 10, b"line 3 obu\n"),
-        // A line outside the grammar, and what comes behind it isn't judged; nor is what comes behind a complaint or a fault.
+        // A line outside the grammar: what comes after it isn't judged, nor what comes after a complaint or a fault.
         (&[KEY, "take 1\n", KEY], 5, b"line 2\n"),
         (&["\0SF2\n", KEY], 5, b"line 1\n"),
         (&[KEY, KEY, "take 1\n"], 8, b"line 2 sequence 65535 65535\n"),

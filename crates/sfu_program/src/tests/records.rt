@@ -37,7 +37,7 @@ fn command_by_bytes(alloc: Global, word: &str, input: &[u8]) -> Result<(u8, Vec<
     Ok((status, sink.written().to_vec(alloc)?))
 }
 
-// A script of records that ends behind the kind of its first, where so many bytes are said.
+// A script of records that ends after the kind of its first record, whose length says `length` bytes.
 fn begun(alloc: Global, kind: u8, length: u16) -> Result<Vec<u8>, AllocError> {
     let [high, low] = length.to_be_bytes();
     [0, 83, 70, 50, high, low, kind].to_vec(alloc)
@@ -60,12 +60,12 @@ fn records_are_judged_as_soon_as_they_must_be(rt: HostRuntime) -> Result<(), Fai
         (b"\x00SF2\x00\x04", 5, "record 1\n"),
         (b"\x00SF2\x00\x00", 5, "record 1\n"),
         (b"\x00SF2\x08\x0e", 5, "record 1\n"),
-        // A record that is cut off behind each of its bytes.
+        // A record that is cut off after each of its bytes.
         (b"\x00SF2\x00", 5, "record 1\n"),
         (b"\x00SF2\x00\x05\x09", 5, "record 1\n"),
         (b"\x00SF2\x00\x05\x09\x00", 5, "record 1\n"),
         (b"\x00SF2\x00\x05\x09\x00\x00\x00", 5, "record 1\n"),
-        // The replies before it.
+        // The replies to the records before it are written.
         (
             b"\x00SF2\x00\x05\x09\x00\x00\x00\x01\x00\x05\x0c\x00\x00\x00\x02\x00",
             5,
@@ -111,7 +111,7 @@ fn a_kind_has_its_own_length(rt: HostRuntime) -> Result<(), Fail> {
         (13, 5, 5),
         (14, 13, 13),
     ];
-    // Behind the kind a further read fails, which comes first only where the record goes on.
+    // A read after the kind fails; it comes first only where the record goes on.
     for (kind, least, most) in kinds {
         for (length, status) in [
             (least.wrapping_sub(1), 5),
@@ -179,7 +179,7 @@ fn convert_writes_a_header_and_records(rt: HostRuntime) -> Result<(), Fail> {
         ),
         // A script of records is outside the grammar at line 1.
         (b"\x00SF2\x00\x05\x09\x00\x00\x00\x01", &[], 5, b"\x00SF2"),
-        // The source fails before the first line, and behind one that was judged.
+        // The source fails before the first line, and after one that was judged.
         (b"take 1\n", &[0], 3, b"\x00SF2"),
         (
             b"take 1\ntake",

@@ -35,13 +35,13 @@ pub fn run(alloc: Global, script: &str) -> Result<(u8, Vec<u8>), AllocError> {
 fn scripts_get_their_replies_and_statuses(rt: HostRuntime) -> Result<(), Fail> {
     let alloc = rt.alloc();
     for (script, status, replies) in [
-        // The packet goes out under its own number and SSRC; then nothing is left.
+        // The packet is forwarded under the subscriber's number and SSRC; then nothing is left.
         (
             "take 1\ntake 1\n",
             0,
             "packet 806000070000000022222222aabb\nempty\n",
         ),
-        // A line outside the grammar, behind the replies.
+        // A line outside the grammar, after the replies.
         ("packet 1 0 80605", 5, "line 5\n"),
         ("packet 1 0 80605\ntake 1\n", 5, "line 5\n"),
         // A gap is waited for.
@@ -129,7 +129,7 @@ fn lines_are_skipped_and_end_as_they_should(rt: HostRuntime) -> Result<(), Fail>
             "refused nosubscriber\nline 4\n",
         ),
         ("\r\n#\r\n# \u{e9}\ntake 01\n", 5, "line 4\n"),
-        // A CR at the end of input stays, and so does one of two before an LF.
+        // A CR at the end of the input stays, and so does the first of two before an LF.
         ("take 1\r", 5, "line 1\n"),
         ("take 1\r\r\n", 5, "line 1\n"),
         ("\r", 5, "line 1\n"),
@@ -179,7 +179,7 @@ fn other_words_get_the_usage_line(rt: HostRuntime) -> Result<(), Fail> {
             2
         );
         assert_eq!(rt; sink.written(), USAGE.as_bytes());
-        // The number stays where the sink fails.
+        // The status stays where the sink fails.
         let mut sink = MemSink::new(alloc, [0u64].to_vec(alloc)?);
         assert_eq!(rt;
             sfu_alone(alloc, words.as_slice(), &mut source, &mut sink),
@@ -224,7 +224,7 @@ fn hostile_packets_and_lines_are_refused(rt: HostRuntime) -> Result<(), Fail> {
 fn the_read_behind_a_whole_script_fails(rt: HostRuntime) -> Result<(), Fail> {
     let alloc = rt.alloc();
     let words = words(alloc, &["run"])?;
-    // The first read gives the whole script. All its lines have their replies, but for a last one that has no LF; behind a bad line no
+    // The first read gives the whole script. All its lines have their replies, except a last one that has no LF. After a line outside the grammar no
     // second read is made.
     for (more, status, last) in [
         ("", 3, ""),

@@ -15,7 +15,7 @@ use std::thread::Threads;
 pub const CONFIGURATION: &str =
     "publish 1 plain 11111111 100\njoin 1 1 22222222 7 0 0\nport 127.0.0.1:5000 127.0.0.1:6000 publisher 1 11111111\nport 127.0.0.1:5001 127.0.0.1:6001 subscriber 1 22222222\n";
 
-/// The subscriber's resends go out on a stream of their own.
+/// The subscriber's retransmissions are sent on a stream of their own.
 pub const WITH_RTX: &str =
     "publish 1 plain 11111111 100\njoin 1 1 22222222 7 0 0\nport 127.0.0.1:5000 127.0.0.1:6000 publisher 1 11111111\nport 127.0.0.1:5001 127.0.0.1:6001 rtx 1 22222222 33333333 97\n";
 
@@ -84,7 +84,7 @@ pub fn link(
     ))
 }
 
-// Two links, of which the one at a place, 0 or 1, fails its receive of a turn.
+// Two links; the one at `place`, 0 or 1, fails its receive in the turn `turn`.
 fn links(alloc: Global, place: u64, turn: u64) -> Result<Vec<MemLink>, AllocError>
     ensures { IfOk result (λ links. All IsFresh links.items) }
 {
@@ -217,8 +217,8 @@ fn each_receive_and_each_send_of_a_session_fails_in_turn(rt: HostRuntime) -> Res
 #[test]
 fn a_publisher_is_asked_by_the_clock_that_is_handed_in(rt: HostRuntime) -> Result<(), Fail> {
     let alloc = rt.alloc();
-    // 1001 is missing from turn 1 on, at 12 milliseconds, and is held for until 112. Askings are 20 milliseconds apart at least: in the turns
-    // 0, 3 and 6, at 5, 26 and 47.
+    // 1001 is missing from turn 1 on, at 12 milliseconds, and is waited for until 112. The room is asked for missing numbers at least 20 milliseconds
+    // apart: in the turns 0, 3 and 6, at 5, 26 and 47.
     let rows: [(&str, usize); 4] = [("3", 0), ("4", 1), ("6", 1), ("7", 2)];
     for (turns, nacks) in rows {
         let link = link(alloc, &TWO, &[], &[])?;

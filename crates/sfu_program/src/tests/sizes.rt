@@ -68,7 +68,7 @@ fn with_10000(alloc: Global, first: &[u8], each: &[u8]) -> Result<Vec<u8>, Alloc
     Ok(bytes)
 }
 
-// 10,000 lines of a packet each, which is a key frame. Their sequence and frame numbers count from 0.
+// 10,000 lines, each with a packet that is a key frame. The packets' sequence and frame numbers count from 0.
 fn key_frames(alloc: Global) -> Result<Vec<u8>, AllocError> {
     let mut lines = Vec::new(alloc);
     for n in 0..10_000 {
