@@ -4,7 +4,8 @@ beside a plain relay of the same datagrams. Times and costs depend on whatever e
 system buffer dropped, came changed or out of order, or where a session ended early. It is no part of the gate. Needs gcc; where no program is named
 it is built first.
 
-usage: bench/serve/run.py [--program FILE] [--seconds N] [--rate N] [PART...]      30 seconds, 10,000 packets a second and all parts if left out
+usage: bench/serve/run.py [--program FILE] [--seconds N] [--rate N] [--port-rate N] [PART...]
+  30 seconds, 10,000 packets a second, 100 a second on each track of `ports`, and all parts if left out
 
   plain     a plain track at the rate, packets of 1,200 bytes, 1, 2 and 4 subscribers, and a relay beside it that gets the same datagrams
   layered   the same with a layered track
@@ -127,7 +128,7 @@ def ports():
     time.sleep(5)
     rest = processor_seconds(serving.sfu.pid) / (time.monotonic() - begin)
     taking = receivers(range(21, 63), [f'222222{s:02x}' for s in range(1, 43)])
-    sending = [sender(track - 1, kind_of(track), f'111111{track:02x}', 100, 600, answers=1) for track in range(1, 22)]
+    sending = [sender(track - 1, kind_of(track), f'111111{track:02x}', options.port_rate, 600, answers=1) for track in range(1, 22)]
     while time.monotonic() - begin < least:
         time.sleep(1)
         lost = serving.lost()
@@ -166,7 +167,7 @@ def idle():
     took = time.monotonic() - begin
     cost, turned = processor_seconds(serving.sfu.pid) - cost, switches(serving.sfu.pid) - turned
     serving.end()
-    print(f'idle: 64 ports for {took:.0f} s, {cost / took:.3f} processors (the goal is 0.15), {turned / took:.0f} switches of threads a second')
+    print(f'idle: 64 ports for {took:.0f} s, {cost / took:.3f} processors (the goal is 0.17), {turned / took:.0f} switches of threads a second')
 
 
 def resident():
@@ -229,6 +230,7 @@ reader = argparse.ArgumentParser(usage=__doc__.replace('%', '%%'))
 reader.add_argument('--program')
 reader.add_argument('--seconds', type=int, default=30)
 reader.add_argument('--rate', type=int, default=10000)
+reader.add_argument('--port-rate', type=int, default=100)
 reader.add_argument('parts', nargs='*')
 options = reader.parse_args()
 if any(part not in PARTS for part in options.parts):
