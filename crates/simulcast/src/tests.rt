@@ -9,12 +9,12 @@ use std::test::Fail;
 
 const LAYERED: Kind = Kind::Layered { id: 4 };
 
-// A call and its answer.
+// A call and what it returns.
 #[derive(Clone, Copy)]
 enum Step {
     // Of a kind, with a number and an SSRC.
     Publish(Kind, u32, u32),
-    // Subscriber, track, and the answer.
+    // Subscriber and track.
     Join(u32, u32),
     // Of track 1 or 2: sequence number and descriptor.
     Came(u32, u16, &'static [u8]),

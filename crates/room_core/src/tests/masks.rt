@@ -24,7 +24,7 @@ fn laid(marker: u8, seq: u16, ssrc: u8, extension: &[u8]) -> PacketBuf
 // A packet that comes in, and what it goes out as: the byte with the marker, and the header extension.
 type Row<'a> = (u8, &'a [u8], u8, &'a [u8]);
 
-// Each packet goes out so to a subscriber of the wish, with the numbers from 7 on, and so it is resent.
+// Each packet is sent like this to a subscriber with the wish, numbered from 7 on, and resent alike.
 fn check(rt: &impl Abort, room: &mut Room<KeepNone>, wish: Wish, row: &[Row<'_>]) {
     let mut scratch = scratch();
     assert_eq!(rt;
@@ -55,7 +55,7 @@ fn check(rt: &impl Abort, room: &mut Room<KeepNone>, wish: Wish, row: &[Row<'_>]
 #[test]
 fn a_frames_first_packet_tells_the_targets(rt: HostRuntime) {
     let rows: [(Wish, &[Row<'_>]); 7] = [
-        // A key frame, and one that tells nothing.
+        // A key frame, and a frame with neither structure nor mask.
         (
             LOWEST,
             &[
