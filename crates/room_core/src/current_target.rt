@@ -17,7 +17,7 @@ use sfu_base::{Refusal, Wish};
 /// The decode target that a subscriber of a layered track is sent (RTP Payload Format For AV1, Appendix A).
 #[derive(Clone, Copy, Debug, PartialEq, Eq)]
 pub struct DecodeTarget {
-    /// Its index, 0 to 31, in the order of the publisher's structure.
+    /// The target's index, 0 to 31, in the order of the publisher's structure.
     pub index: u8,
     /// The target's greatest spatial and temporal layer at the newest frame; none where no template of that frame's structure is present in
     /// the target.

@@ -122,7 +122,8 @@ impl Feed {
         self.selector.target().is_none()
     }
 
-    /// Why a frame was or wasn't passed.
+    /// Why a frame was or wasn't passed, by its unwrapped number. `Ahead`: the number is above the newest frame's, or no frame came yet. `TooOld`: it
+    /// is 4,096 or more below the newest frame's.
     pub fn why(&self, number: u64) -> Result<Verdict, Refusal>
         ensures tells { Tells self.now number result }
         ensures fed { IsFed result }
@@ -130,7 +131,7 @@ impl Feed {
         self.causes.verdict(number)
     }
 
-    /// Hands out a kept packet again.
+    /// Writes the packet that was taken under this sequence number to `out` again. `NotKept`: none of the last 1,024 packets taken has the number.
     pub fn resend(&self, seq: u16, out: &mut PacketBuf) -> Result<(), Refusal>
         ensures resends { Resends self.now seq result out.old out.new }
         ensures fed { IsFed result }

@@ -107,7 +107,7 @@ fn publish(track: u32, kind: Kind) -> Call {
     }
 }
 
-// A subscriber whose packets go out with SSRC 22222222, from number 7 on.
+// A subscriber whose packets are sent with SSRC 22222222, from number 7 on.
 fn join(subscriber: u32, track: u32, wish: Wish) -> Call {
     Call::Join {
         subscriber,
@@ -133,7 +133,7 @@ fn scratch() -> Scratch {
     }
 }
 
-// What goes out of those bytes with this number and marker, under SSRC 22222222.
+// Those bytes as they are sent with this number and marker, under SSRC 22222222.
 fn outgoing(bytes: &[u8], seq: u16, marker: bool) -> PacketBuf
     requires { length bytes.now ≤ 2048 }
 {

@@ -253,7 +253,7 @@ impl<R: Recorder> Bundles<R> {
     }
 
     /// Writes the bundle's oldest queued packet to `out`, and returns its sequence number. `NoBundle`: no bundle has the number. `Room(Empty)`:
-    /// no packet is queued.
+    /// no packet is queued. An error leaves `out` as it was.
     pub fn draw(&mut self, number: u32, out: &mut PacketBuf) -> Result<u16, BundleFault>
         ensures draws { Draws R.noted self.old self.new number out.new result }
         ensures unchanged { OnErr result (out.new ≡ out.old) }
@@ -269,7 +269,7 @@ impl<R: Recorder> Bundles<R> {
     }
 
     /// Writes the packet that was drawn under this sequence number to `out` again. `NoBundle`: no bundle has the number. `Room(NotKept)`: none
-    /// of the last 1,024 drawn packets has the sequence number.
+    /// of the last 1,024 drawn packets has the sequence number. An error leaves `out` as it was.
     pub fn redraw(&self, number: u32, seq: u16, out: &mut PacketBuf) -> Result<(), BundleFault>
         ensures redraws { Redraws R.noted self.now number seq out.new result }
         ensures unchanged { OnErr result (out.new ≡ out.old) }

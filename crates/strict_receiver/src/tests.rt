@@ -409,7 +409,7 @@ fn each_complaint_is_answered_for_good(rt: HostRuntime) -> Result<(), Fail> {
             missing(4098, 4096),
             (1, 1),
         ),
-        // a frame that isn't whole has no references to ask for
+        // a frame that isn't whole: its missing reference isn't complained of
         (
             &[(0, &KEY_1, &CLOSED), (1, &FRAME_7, &CARRIES)],
             Complaint::NotWhole,

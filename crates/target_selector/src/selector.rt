@@ -1,4 +1,4 @@
-// The standing of a subscriber, as far as it decides on frames.
+// The part of a subscriber's standing that decides on frames.
 ghost use Rattle.std.specs.Prelude.{◌≡◌, ◌+◌, ◌≤◌, ◌||◌, ◌&&◌, ◌∷◌, Option, Some, false};
 ghost use Rattle.std.specs.Option.{option_map};
 ghost use Rattle.sfu_base.specs.declared.frame.FrameMeaning.{FrameMeaning as Meaning};
@@ -40,7 +40,7 @@ pub struct Selector {
     wish: Wish,
     epoch: Option<u64>,
     target: CurrentTarget,
-    // whether a key frame of the epoch was passed: the window forgets it
+    // whether a key frame of the epoch was passed, which the window forgets
     key_passed: bool,
     passed: RefWindow,
     // the targets of the last frame, by which later questions are answered

@@ -44,7 +44,7 @@ pub enum Advance {
     Nothing,
     /// A packet of a plain track.
     Packet,
-    /// A whole frame of a layered track, which means what [`Track::meaning`] says.
+    /// A whole frame of a layered track, whose meaning [`Track::meaning`] returns.
     Frame,
 }
 

@@ -66,7 +66,7 @@ fn a_first_packet_is_stored_once_for_each_mask(rt: HostRuntime) -> Result<(), Fa
     ] {
         assert_eq!(rt; room.serve(0, &call, &mut out), Reply::Done);
     }
-    // As it came, and with two masks.
+    // Three buffers are used: for the packet as it came, and for the packet with each of two masks.
     assert_eq!(rt; free(&room, 1), 512 + 3 * 1024 + 3 * 12 - 3);
     Ok(())
 }
@@ -84,7 +84,7 @@ fn a_packet_that_tells_nothing_is_stored_once(rt: HostRuntime) -> Result<(), Fai
     ] {
         assert_eq!(rt; room.serve(0, &call, &mut out), Reply::Done);
     }
-    // The key frame's with its mask, which both have to take yet, and this one.
+    // Two buffers are used: for the key frame's packet with its mask, which both subscribers have yet to take, and for this packet.
     assert_eq!(rt; free(&room, 1), 512 + 2 * 1024 + 2 * 12 - 2);
     Ok(())
 }
