@@ -15,21 +15,21 @@ use packet_format::Remasker;
 use sfu_base::{NoMemory, PacketBuf};
 use std::alloc::Global;
 
-/// The most packets of a frame that are shared: as many as ever wait for a subscriber, since no longer frame passes.
+/// The most packets of a frame that are shared: as many as a subscriber's queue holds, since no longer frame passes.
 const MOST_SHARED: usize = 512;
 
-/// The most subscribers with different wishes, each of which keeps packets that the others don't, that a track's store has buffers for.
+/// For how many subscribers with different wishes a track's store has buffers. Each of these keeps packets that the others don't.
 const MOST_APART: usize = 3;
 
-/// As many packets as each of them keeps.
+/// How many packets each of these keeps.
 const KEPT: usize = 1024;
 
-/// The packets that each subscriber has of its own: first ones with its mask, and those that wait for it alone.
+/// How many packets of its own each subscriber has buffers for: first packets with its mask, and packets that wait for it alone.
 const OWN: usize = 12;
 
-/// Caches what the subscribers of a track are sent of its current frame: its packets, each of which is stored once for all that get it, and its first
-/// packet rewritten with one mask of active decode targets, the mask that was asked for last, since most subscribers of a frame get the same. It
-/// changes no packet that is sent. The buffer is filled in place, so that no frame clears it.
+/// Caches what the subscribers of a track are sent of its current frame: the frame's packets, each stored once for all subscribers that get it, and
+/// the first packet rewritten with one mask of active decode targets. This is the mask that was asked for last, since most subscribers of a frame get
+/// the same. The cache changes no packet that is sent. `packet` is filled in place, so that no frame clears it.
 #[derive(Drop)]
 pub struct FrameCache {
     pub store: PacketStore,
@@ -44,7 +44,7 @@ pub struct FrameCache {
 }
 
 impl FrameCache {
-    /// An empty cache, whose store has no buffers.
+    /// An empty cache, whose store has no buffers. Takes the memory to share a frame of 512 packets.
     pub fn new(alloc: Global) -> Result<FrameCache, NoMemory>
         ensures mask { IfOk result (λ cache. cache.mask ≡ None) }
         ensures shared { IfOk result (λ cache. cache.shared.items ≡ []) }
@@ -64,9 +64,9 @@ impl FrameCache {
         })
     }
 
-    /// Allocates buffers for the packets of this many subscribers, as far as there are fewer: for what waits, for what is kept for those with different
-    /// wishes, and for some of each one's own. One alone needs none: sharing is for two or more, and its packets are copied into its ring. `NoMemory`:
-    /// out of memory; some of them may have been allocated.
+    /// Allocates the buffers that this many subscribers need and that aren't there yet: for packets that wait, for packets that subscribers with
+    /// different wishes keep, and for some of each subscriber's own. A single subscriber needs none: its packets are copied into its ring.
+    /// `NoMemory`: out of memory; some buffers may have been allocated.
     pub fn reserve(&mut self, alloc: Global, subscribers: usize) -> Result<(), NoMemory>
         ensures free { self.old.store.free ≤ self.new.store.free }
         ensures grown { self.new.store.free + self.old.store.all ≡ self.old.store.free + self.new.store.all }
@@ -76,7 +76,7 @@ impl FrameCache {
         self.store.grow(alloc, capacity_for(subscribers))
     }
 
-    /// Releases the packets of a ring that ends, where `left` subscribers are left, and frees the buffers that those don't need.
+    /// Releases the packets of a ring that ends, and frees buffers that the `left` remaining subscribers don't need.
     pub fn release(&mut self, ring: OutRing, left: usize)
         ensures all { self.new.store.all ≤ self.old.store.all }
         ensures kept { capacity_for left ≤ self.old.store.all → capacity_for left ≤ self.new.store.all }
@@ -117,7 +117,7 @@ impl FrameCache {
         }
     }
 
-    /// Queues the packet at this place of the frame: shared, or copied where it can't be.
+    /// Queues the packet at this place of the frame in the ring: shared, or copied where it can't be shared.
     #[inline(always)]
     pub fn queue(&mut self, ring: &mut OutRing, place: u16, packet: &[u8], marker: bool)
         requires capacity { length ring.old.queued < 512 }
@@ -131,7 +131,7 @@ impl FrameCache {
         ensures all { self.new.store.all ≡ self.old.store.all }
     {
         evict(&mut self.store, ring);
-        // What is shared already is asked for first, since that is so for all subscribers but one.
+        // Tested here, not in `share`, since all subscribers but the first find the packet shared already.
         if self.shared.len() == usize::from(place) {
             self.share(place, packet);
         }
@@ -141,7 +141,7 @@ impl FrameCache {
         }
     }
 
-    /// Queues the remasked packet in the same way.
+    /// Queues the packet that [`FrameCache::remask`] left: shared, or copied where it can't be shared.
     pub fn queue_remasked(&mut self, ring: &mut OutRing, marker: bool)
         requires capacity { length ring.old.queued < 512 }
         requires reads { first_fault self.old.packet ≡ None }
@@ -162,8 +162,8 @@ impl FrameCache {
         }
     }
 
-    /// Rewrites the current frame's first packet with this mask, or copies it where it can't be rewritten, unless that is cached. Its descriptor is
-    /// read by this structure.
+    /// Caches the current frame's first packet, rewritten with this mask, or copied where it can't be rewritten. If a packet with this mask is cached
+    /// already, nothing changes. `id` is the header extension id of the packet's descriptor, which is read by the structure `force`.
     pub fn remask(&mut self, packet: &[u8], id: u8, force: Option<&Structure>, mask: u32)
         requires reads { first_fault packet.now ≡ None }
         requires fits { length packet.now ≤ 1536 }
@@ -179,7 +179,7 @@ impl FrameCache {
         }
     }
 
-    // Whether the cached packet has this mask. Where it says no, the packet is rewritten.
+    // Whether the cached packet has this mask. If not, the packet is rewritten.
     fn has(&self, mask: u32) -> bool
         ensures { result ≡ true → self.now.mask ≡ Some mask }
     {
@@ -213,7 +213,7 @@ impl FrameCache {
     }
 }
 
-// The packet for one more, if it can be counted.
+// The packet for one more ring, if there is a packet and one more can be counted.
 #[inline(always)]
 fn another(shared: Option<&SharedPacket>) -> Option<SharedPacket>
     ensures { IfSome result (λ packet. option_copied shared.entry ≡ Some packet) }
@@ -221,7 +221,7 @@ fn another(shared: Option<&SharedPacket>) -> Option<SharedPacket>
     shared?.another()
 }
 
-// Releases what the ring doesn't keep any more: one packet before each push, since a take leaves one behind at most.
+// Releases the packet that the ring no longer keeps, if there is one. Once before each push is enough, since a take leaves at most one behind.
 #[inline(always)]
 fn evict(store: &mut PacketStore, ring: &mut OutRing)
     ensures ring { ring.new ≡ ring.old }
@@ -232,7 +232,7 @@ fn evict(store: &mut PacketStore, ring: &mut OutRing)
     }
 }
 
-// Queues a packet that is shared, and releases one that its slot still has.
+// Queues a shared packet, and releases the packet that its slot in the ring still has, if any.
 #[inline(always)]
 fn push_shared(store: &mut PacketStore, ring: &mut OutRing, packet: SharedPacket, marker: bool)
     requires { length ring.old.queued < 512 }
@@ -244,7 +244,7 @@ fn push_shared(store: &mut PacketStore, ring: &mut OutRing, packet: SharedPacket
     }
 }
 
-// How many buffers this many subscribers need to share packets: none where there is no other to share with.
+// How many buffers this many subscribers need to share packets: none for fewer than two.
 fn capacity_for(subscribers: usize) -> usize
     ensures { result ≡ capacity_for subscribers }
 {

@@ -1,4 +1,4 @@
-//! What the subscribers of a track share of its current frame, and the store that it lies in. It changes nothing that is sent.
+//! What the subscribers of a track share of its current frame, and the store of the shared packets. Sharing changes nothing that is sent.
 #![tactic(auto)]
 
 mod cache;

@@ -1,4 +1,4 @@
-// The arrays of a frame's meaning. `select_unpredictable` has each item read, whether it counts or not: at an `if` the compiler would branch at
+// The arrays of a frame's meaning. `select_unpredictable` reads every item, whether it counts or not; with an `if` the compiler would branch at
 // each place.
 
 ghost use Rattle.std.specs.Prelude.{◌≡◌, ◌<◌, ◌≤◌, ◌++◌, false, length, nat_lt, replicate, take, true, None};
@@ -18,7 +18,7 @@ const COUNTED: &[bool; 64] = &[
     false, false, false, false, false, false,
 ];
 
-// Whether a place is among the first `count`, by a row whose first 32 places say yes and the others no.
+// Whether a place is among the first `count`, by a row of 32 times true and then 32 times false.
 #[inline(always)]
 fn counts_in(row: &[bool; 64], place: u8, count: u8) -> bool
     requires row { row.now ≡ replicate 32 true ++ replicate 32 false }
@@ -65,8 +65,8 @@ pub fn prefix_numbers(row: &[u8; 32], count: u8) -> [u8; 32]
     out
 }
 
-/// The first `count` distances, and 0 behind them. All places are written, so that the compiler writes many at once. The row has
-/// `count` of them.
+/// The first `count` distances, and 0 behind them. All places are written, so that the compiler writes many at once. As `count` is at most 16,
+/// the row has that many.
 pub fn prefix_distances(row: &[u16; 16], count: u8) -> [u16; 16]
     requires { count ≤ 16 }
     ensures filled { result ≡ filled_up 16 0 (take count row.now) }
@@ -90,7 +90,7 @@ pub fn filled_numbers(row: &[u8]) -> [u8; 32]
     out
 }
 
-/// Each target's greatest layers, and none behind them.
+/// The greatest layers of each decode target, and `None` behind them.
 pub fn filled_pairs(structure: &Structure) -> [Option<Wish>; 32]
     ensures { result ≡ filled_up 32 None (pairs_below structure.now structure.now.target_count) }
 {

@@ -20,18 +20,19 @@ use std::marker::Model;
 use thiserror::Error;
 use wrap_number::above;
 
-/// What a descriptor is to what is in force.
+/// How a descriptor relates to the structure in force.
 #[derive(Clone, Copy, Debug, PartialEq, Eq)]
 pub enum Reading {
     /// It begins a key frame: its structure is in force now.
     Key,
     /// It is read by the structure in force.
     Part,
-    /// It carries another structure and begins no key frame, so it isn't read.
+    /// It begins no key frame and carries a structure other than the one in force, so it isn't read.
     Unread,
 }
 
-/// A whole frame's number isn't above the newest, so it is no frame (own rule).
+/// The number of a whole frame isn't above the newest, so the frame counts as none (own rule). A number is above another if it is 1 to 32,767 ahead,
+/// modulo 65,536.
 #[derive(Clone, Copy, Debug, PartialEq, Eq, Error)]
 #[error("the frame's number isn't above {newest}, the newest")]
 pub struct Stale {
@@ -39,7 +40,8 @@ pub struct Stale {
     pub newest: u64,
 }
 
-/// What of a frame's first descriptor its meaning takes. Of the arrays only the first places count, as in the meaning.
+/// The parts of a frame's first descriptor that the frame's meaning takes. In each array only the first places count, as in the meaning: one for each
+/// decode target, chain or reference.
 #[derive(Clone, Copy, Debug, PartialEq, Eq)]
 pub struct FrameHead {
     /// Whether the frame is a key frame: its first descriptor carries a structure and refers to nothing.
@@ -56,7 +58,7 @@ pub struct FrameHead {
     pub links: [u8; 32],
     /// How many frames this one refers to, at most 16.
     pub ref_count: u8,
-    /// How many frames back each of them is, 1 to 4,096.
+    /// How many frames back each referenced frame is, 1 to 4,096 (frame_fdiff).
     pub refs: [u16; 16],
 }
 
@@ -64,7 +66,7 @@ pub struct FrameHead {
 #[derive(Debug, Drop)]
 pub struct FrameTable {
     structure: Option<Structure>,
-    // What the structure says of targets and chains, filled up as a frame's meaning has it.
+    // The targets and chains of the structure, with arrays filled up as in a frame's meaning.
     target_count: u8,
     chain_count: u8,
     pairs: [Option<Wish>; 32],
@@ -75,7 +77,7 @@ pub struct FrameTable {
     newest: u64,
 }
 
-/// A meaning to be written over: no frame has it.
+/// A placeholder, to be overwritten: no frame has this meaning.
 pub const NO_MEANING: FrameMeaning = FrameMeaning {
     number: 0,
     start: 0,
@@ -94,7 +96,7 @@ pub const NO_MEANING: FrameMeaning = FrameMeaning {
     refs: [0; 16],
 };
 
-/// A number that lies further ahead is read as behind.
+/// How far above the newest a frame number may be, modulo 65,536; a number further ahead counts as behind.
 const FARTHEST_AHEAD: u64 = 32767;
 
 impl Model for FrameTable {
@@ -111,7 +113,7 @@ impl Model for FrameTable {
 }
 
 impl FrameTable {
-    /// Nothing is in force before the first key start.
+    /// A table before the first key start: nothing is in force.
     pub fn new() -> FrameTable
         ensures { result ≡ no_force }
     {
@@ -135,9 +137,9 @@ impl FrameTable {
         self.structure.as_ref()
     }
 
-    /// The next descriptor, which was read by the structure in force. A key start, which carries a structure, has the start bit and refers to
-    /// nothing, puts its structure in force, begins an epoch and is numbered. A structure in any other descriptor must be the one in force,
-    /// or the descriptor isn't read and changes nothing. A mask that it carries is in force from then on.
+    /// Processes the next descriptor, which was read by the structure in force. A key start (a descriptor with a structure, the start bit and no
+    /// references) puts its structure in force, begins an epoch and is numbered. Any other descriptor whose structure isn't the one in force is
+    /// `Unread` and changes nothing. The mask of a descriptor that is read is in force from then on.
     pub fn see(&mut self, descriptor: &Descriptor) -> Reading
         requires read { IsReadBy self.old.structure descriptor.now }
         requires bound { IfSome self.old.structure (λ _. self.old.newest < 2 ^ 63) }
@@ -166,8 +168,9 @@ impl FrameTable {
         }
     }
 
-    /// What the frame means that just got whole, by its first descriptor. Every descriptor of the frame was seen and read. Its number is then
-    /// the newest; where it isn't above the newest the frame is stale, and nothing changes. [`FrameTable::head`] and [`FrameTable::whole_into`] in one.
+    /// Returns what a frame means that just got whole, by its first descriptor. Every descriptor of the frame was seen and read. The frame's number
+    /// becomes the newest. `Stale`: that number isn't above the newest; nothing changes. This is [`FrameTable::head`] and [`FrameTable::whole_into`]
+    /// in one.
     pub fn whole(&mut self, first: &Descriptor) -> Result<FrameMeaning, Stale>
         requires first { IsFirst self.old first.now }
         requires bound { self.old.newest < 2 ^ 63 }
@@ -182,7 +185,7 @@ impl FrameTable {
         or_stale(is_whole, meaning, newest)
     }
 
-    /// What of a frame's first descriptor its meaning takes: all that has to be kept until the frame is whole.
+    /// The parts of a frame's first descriptor that the frame's meaning takes: all that has to be kept until the frame is whole.
     pub fn head(&self, first: &Descriptor) -> FrameHead
         requires { IsFirst self.now first.now }
         ensures head { result ≡ head_of (said_of self.now.structure first.now) }
@@ -193,8 +196,8 @@ impl FrameTable {
         self.fields(first, key)
     }
 
-    /// Writes what the frame means that just got whole, by the head of its first descriptor, and makes its number the newest. Returns false where
-    /// the number isn't above the newest: the frame is stale then, and nothing changes.
+    /// Writes to `out` what a frame means that just got whole, by the head of its first descriptor, and makes the frame's number the newest. Returns
+    /// false if that number isn't above the newest: the frame is stale, and nothing changes.
     pub fn whole_into(&mut self, head: &FrameHead, out: &mut FrameMeaning) -> bool
         requires structure { is_some self.old.structure ≡ true }
         requires references { HasReferences head.now }
@@ -214,7 +217,7 @@ impl FrameTable {
         true
     }
 
-    // What a head has of each field.
+    // The head of a frame with this first descriptor. `key` is whether that is a key start.
     fn fields(&self, first: &Descriptor, key: bool) -> FrameHead
         requires first { IsFirst self.now first.now }
         requires key { key ≡ is_key_start (said_of self.now.structure first.now) }
@@ -232,14 +235,14 @@ impl FrameTable {
         }
     }
 
-    // A lemma, which does nothing: the structure in force is one that bits spell.
+    // A lemma, which does nothing: the structure in force is well-formed.
     fn lemma_is_well_formed(&self)
         ensures { IfSome self.now.structure IsWellFormed }
     {
         let _ = &self.structure;
     }
 
-    // The mask that a descriptor carries, if it does, is in force from now on.
+    // Puts the mask of a descriptor, if it carries one, in force.
     fn take_mask(&mut self, mask: Option<u32>)
         requires { IfSome self.old.structure (IsMaskOf mask) }
         ensures { self.new ≡ masked self.old mask }
@@ -249,7 +252,7 @@ impl FrameTable {
         }
     }
 
-    // A key start with this structure, mask and frame number.
+    // Begins an epoch at a key start with this structure, mask and frame number.
     fn begin_epoch(&mut self, structure: &Structure, mask: Option<u32>, number: u16)
         requires mask { IsMaskOf mask structure.now }
         requires carried { is_some mask ≡ true }
@@ -282,7 +285,7 @@ impl FrameTable {
         }
     }
 
-    // The number of a whole frame with this head.
+    // The unwrapped number of a whole frame with this head.
     fn number(&self, head: &FrameHead) -> Result<u64, Stale>
         requires { self.now.newest < 2 ^ 63 }
         ensures number { result ≡ number_or_stale self.now head.now }
@@ -328,7 +331,7 @@ impl FrameTable {
     }
 }
 
-// A meaning that was written, or that the frame's number isn't above the newest.
+// The meaning, if one was written, else `Stale`.
 fn or_stale(is_whole: bool, meaning: FrameMeaning, newest: u64) -> Result<FrameMeaning, Stale>
     requires { is_whole ≡ true → IsValid meaning }
     ensures result { result ≡ written_or_stale is_whole meaning newest }
@@ -341,7 +344,7 @@ fn or_stale(is_whole: bool, meaning: FrameMeaning, newest: u64) -> Result<FrameM
     }
 }
 
-// Whether a descriptor begins an epoch: it begins a key frame.
+// Whether a descriptor begins a key frame, and so an epoch.
 fn begins_epoch(descriptor: &Descriptor) -> bool
     requires { descriptor.now.ref_count ≤ 16 }
     ensures { (force : Option TemplateStructure) → result ≡ is_key_start (said_of force descriptor.now) }

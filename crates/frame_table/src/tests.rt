@@ -4,21 +4,21 @@ ghost use Rattle.std.specs.Prelude.{◌+◌, ◌<◌, ◌≤◌, ◌^◌};
 
 use crate::{FrameTable, Reading};
 
-// A key descriptor of one target, the same again as the end of its frame, and that of another structure.
+// A key descriptor of one target; a later descriptor with the same structure; and one with another structure.
 const KEY: [u8; 9] = [0xc0, 0xff, 0xff, 0x80, 0x00, 0x3a, 0x41, 0x01, 0x00];
 
 const REPEATED: [u8; 9] = [0x40, 0xff, 0xff, 0x80, 0x00, 0x3a, 0x41, 0x01, 0x00];
 
 const OTHER: [u8; 9] = [0x40, 0xff, 0xff, 0x80, 0x00, 0x3b, 0x41, 0x01, 0x00];
 
-// What the second descriptor is to a table that saw the first, if both read.
+// What a table that saw the first descriptor returns for the second, if both read.
 fn seen_after(first: &[u8], second: &[u8]) -> Option<Reading> {
     let mut table = FrameTable::new();
     see(&mut table, first)?;
     see(&mut table, second)
 }
 
-// What a descriptor is to a table, if it reads.
+// What a table returns for a descriptor, if that reads.
 fn see(table: &mut FrameTable, bytes: &[u8]) -> Option<Reading>
     requires { table.old.newest < 2 ^ 62 }
     ensures { table.new.newest ≤ table.old.newest + 65536 }

@@ -33,9 +33,9 @@ const HEADER: [u8; 32] = [
 #[derive(Clone, Copy)]
 pub enum Growth {
     Grown,
-    /// It would get too long, and is as before.
+    /// The unit would get too long, and is as before.
     TooLong,
-    /// An element isn't an OBU, and all is as before.
+    /// An element of the frame isn't an OBU, and all is as before.
     Unsound,
 }
 
@@ -45,9 +45,11 @@ pub struct IvfFile {
     pub bytes: Vec<u8>,
     /// Whether there is a unit.
     pub begun: bool,
-    /// Where the newest unit begins, its RTP timestamp, and its time in ticks since the first unit.
+    /// The place at which the newest unit begins.
     pub at: usize,
+    /// The RTP timestamp of the newest unit.
     pub timestamp: u32,
+    /// The time of the newest unit, in ticks since the first unit.
     pub time: u64,
     /// How many units there are, modulo 2^32.
     pub count: u32,
@@ -55,7 +57,7 @@ pub struct IvfFile {
     ghost unit: { at + 12 ≤ vec_len bytes },
 }
 
-// Overwrites bytes with as many others.
+// Overwrites the bytes from `at` on with as many new ones.
 fn put_at(bytes: &mut Vec<u8>, at: usize, new: &[u8])
     requires within { at + length new.now ≤ vec_len bytes.old }
     ensures put { (front old rest : List ℕ) → bytes.old.items ≡ front ++ (old ++ rest) → length front ≡ at → length old ≡ length new.now
@@ -65,7 +67,7 @@ fn put_at(bytes: &mut Vec<u8>, at: usize, new: &[u8])
     bytes[at..at + new.len()].copy_from_slice(new);
 }
 
-// A unit before its first frame, with no size yet.
+// A unit before its first frame: its size, still 0, its time and a temporal delimiter.
 fn unit_front(time: u64) -> [u8; UNIT_FRONT]
     ensures { result ≡ to_le_bytes w32 0 ++ (to_le_bytes w64 time ++ delimiter) }
 {
@@ -95,7 +97,7 @@ impl IvfFile {
         })
     }
 
-    /// Reserves memory for a frame whose OBUs have at most `most` bytes.
+    /// Reserves memory for a frame whose OBUs have at most `most` bytes. The file stays as it is.
     pub fn reserve(&mut self, most: usize) -> Result<(), NoMemory>
         requires { UNIT_FRONT + most < 2 ^ 64 }
         ensures ok { OnOk result (vec_len self.new.bytes + (UNIT_FRONT + most) ≤ vec_capacity self.new.bytes) }
@@ -107,7 +109,7 @@ impl IvfFile {
         }
     }
 
-    /// Appends a frame, for which memory is reserved; returns false, and leaves all as before, where an element isn't an OBU.
+    /// Appends a frame, for which memory is reserved. Returns false, and leaves all as before, if an element of the frame isn't an OBU.
     pub fn add(&mut self, frame: &OpenFrame) -> bool
         requires room { vec_len self.old.bytes + (UNIT_FRONT + most_bytes frame.now) ≤ vec_capacity self.old.bytes }
         ensures { (size : Size) (contents : List RecordedFrame) → IsFileOf self.old size contents
@@ -124,7 +126,7 @@ impl IvfFile {
         }
     }
 
-    // Appends a frame to the newest unit, whose timestamp it has.
+    // Appends a frame to the newest unit, which has the frame's timestamp.
     fn grow(&mut self, frame: &OpenFrame) -> Growth
         requires room { vec_len self.old.bytes + most_bytes frame.now ≤ vec_capacity self.old.bytes }
         requires begun { self.old.begun ≡ true }
@@ -163,7 +165,7 @@ impl IvfFile {
         true
     }
 
-    // The size of the newest unit.
+    // Writes the size of the newest unit into its header.
     fn tell_unit_size(&mut self)
         ensures told { TellsUnitSize self.old.at self.old.bytes.items self.new.bytes.items }
         ensures same { HasSameUnit self.old self.new }
@@ -177,7 +179,7 @@ impl IvfFile {
         );
     }
 
-    // The time of the next unit.
+    // The time of the next unit, in ticks since the first unit.
     fn next_time(&self, timestamp: u32) -> u64
         ensures { (size : Size) (contents : List RecordedFrame) → IsFileOf self.now size contents → IsNextTime contents timestamp result }
     {
@@ -188,7 +190,7 @@ impl IvfFile {
         self.time.wrapping_add(u64::from(ticks))
     }
 
-    // The unit that begins at this place is the newest.
+    // Makes the unit that begins at `at` the newest, and writes its size and the number of units.
     fn begin(&mut self, at: usize, timestamp: u32, time: u64)
         requires within { at + UNIT_FRONT ≤ vec_len self.old.bytes }
         ensures told { TellsUnit at self.old.count self.old.bytes.items self.new.bytes.items }
@@ -207,7 +209,7 @@ impl IvfFile {
         put_at(&mut self.bytes, COUNT_AT, &self.count.to_le_bytes());
     }
 
-    /// Writes a width and a height, each modulo 65,536.
+    /// Writes a width and a height in pixels into the header, each modulo 65,536.
     pub fn tell_size(&mut self, width: u32, height: u32)
         ensures told { (size : Size) (contents : List RecordedFrame) → IsFileOf self.old size contents
             → IsFileOf self.new (record { width = width; height = height }) contents }

@@ -8,8 +8,8 @@ use av1_payload::PayloadElements;
 use sfu_base::NoMemory;
 use std::alloc::Global;
 
-/// The elements of the packets of the frame that has begun and not ended: their bytes, concatenated, and where each begins. There are no
-/// bytes before the first.
+/// The elements of an unfinished frame's packets: their bytes, concatenated, and the places (`cuts`) at which elements begin. Bytes before
+/// the first of these places belong to an element that began before the frame; a frame that is accepted has no such bytes.
 #[derive(Drop)]
 pub struct OpenFrame {
     /// The RTP timestamp of the first packet, if one came.
@@ -19,7 +19,7 @@ pub struct OpenFrame {
     ghost within: { are_cuts 0 cuts.items (vec_len bytes) ≡ true },
 }
 
-/// How far an open frame had come.
+/// A point in an open frame to go back to.
 #[derive(Clone, Copy)]
 pub struct Mark {
     pub timestamp: Option<u32>,
@@ -34,7 +34,7 @@ impl OpenFrame {
     ghost use Rattle.ivf_recorder.specs.Obus.{obus_in};
     ghost use Rattle.ivf_recorder.specs.Taken.{Grown, HasTaken, IsReadable, with_element};
 
-    /// No packet yet; takes no memory.
+    /// A frame without packets. Takes no memory.
     pub fn new(alloc: Global) -> OpenFrame
         ensures timestamp { result.timestamp ≡ None }
         ensures elements { segments_in result ≡ no_elements }
@@ -46,8 +46,8 @@ impl OpenFrame {
         }
     }
 
-    /// Takes the next packet, where it is an RTP packet and its payload reads; else takes nothing of it. After `NoMemory` it may have taken a
-    /// part.
+    /// Takes the elements of the next packet. A packet that isn't RTP, or whose payload doesn't read, changes nothing. After `NoMemory` a
+    /// part of the elements may have been taken.
     pub fn take(&mut self, packet: &[u8]) -> Result<(), NoMemory>
         ensures taken { OnOk result (IsReadable packet.now → HasTaken self.old self.new packet.now) }
         ensures grown { Grown self.old self.new }
@@ -65,7 +65,7 @@ impl OpenFrame {
         Ok(())
     }
 
-    // Elements of a packet, of which the first may continue the last one before.
+    // Appends the elements of a packet. If `continues`, the first one continues the last element so far.
     fn append(&mut self, continues: bool, elements: PayloadElements) -> Result<(), NoMemory>
         ensures added { OnOk result (segments_in self.new ≡ add_elements continues (segments_in self.old) elements.entry) }
         ensures grown { Grown self.old self.new }
@@ -80,7 +80,7 @@ impl OpenFrame {
         Ok(())
     }
 
-    // One element, or the rest of the last one.
+    // Appends an element, or if `goes_on`, more bytes of the last one.
     fn add(&mut self, goes_on: bool, element: &[u8]) -> Result<(), NoMemory>
         ensures added { OnOk result (segments_in self.new ≡ with_element goes_on (segments_in self.old) element.now) }
         ensures grown { Grown self.old self.new }
@@ -93,7 +93,7 @@ impl OpenFrame {
         self.go_on(element)
     }
 
-    // An element with no bytes yet.
+    // Begins an element, with no bytes yet.
     fn begin(&mut self) -> Result<(), NoMemory>
         ensures begun { OnOk result (segments_in self.new ≡ segments_in self.old ++ [] ∷ []) }
         ensures grown { Grown self.old self.new }
@@ -105,7 +105,7 @@ impl OpenFrame {
         }
     }
 
-    // Bytes that continue the last element.
+    // Appends bytes to the last element.
     fn go_on(&mut self, bytes: &[u8]) -> Result<(), NoMemory>
         ensures more { OnOk result (segments_in self.new ≡ onto_last (segments_in self.old) bytes.now) }
         ensures grown { Grown self.old self.new }
@@ -117,7 +117,7 @@ impl OpenFrame {
         }
     }
 
-    /// A mark of how far it has come.
+    /// Marks this point, for [`OpenFrame::back_to`].
     pub fn mark(&self) -> Mark
         ensures timestamp { result.timestamp ≡ self.now.timestamp }
         ensures bytes { result.bytes ≡ vec_len self.now.bytes }
@@ -130,7 +130,7 @@ impl OpenFrame {
         }
     }
 
-    /// Goes back to this mark.
+    /// Removes all that was taken since this mark.
     pub fn back_to(&mut self, mark: Mark)
         requires within { are_cuts 0 (take mark.cuts self.old.cuts.items) mark.bytes ≡ true }
         requires bytes { mark.bytes ≤ vec_len self.old.bytes }
@@ -143,7 +143,7 @@ impl OpenFrame {
         self.bytes.truncate(mark.bytes);
     }
 
-    /// No packet of the next frame yet.
+    /// Removes all packets, for the next frame.
     pub fn clear(&mut self)
         ensures timestamp { self.new.timestamp ≡ None }
         ensures elements { segments_in self.new ≡ no_elements }
@@ -153,7 +153,7 @@ impl OpenFrame {
         self.bytes.clear();
     }
 
-    /// The most bytes that its OBUs have.
+    /// An upper bound of the bytes of the frame's OBUs, with size fields.
     pub fn most_bytes(&self) -> usize
         ensures most { result ≡ most_bytes self.now }
         ensures small { result < 2 ^ 64 - 2 ^ 32 }
@@ -164,7 +164,7 @@ impl OpenFrame {
         bytes.len() + (cuts.len() + 1) * MORE_BYTES
     }
 
-    // Appends its OBUs, up to the first element that isn't one.
+    // Appends the frame's OBUs. Stops, and returns false, at the first element that isn't one.
     fn lay_all(&self, out: &mut Vec<u8>) -> bool
         requires room { vec_len out.old + most_bytes self.now ≤ vec_capacity out.old }
         ensures lays { LaysOr result (obus_in (segments_in self.now)) out.old.items out.new.items }
@@ -185,7 +185,7 @@ impl OpenFrame {
         append_obu(left, out)
     }
 
-    /// Appends a head and its OBUs, where the capacity allows; appends nothing where an element isn't an OBU.
+    /// Appends a head and the frame's OBUs, for which there is capacity. Returns false, and appends nothing, if an element isn't an OBU.
     pub fn lay(&self, head: &[u8], out: &mut Vec<u8>) -> bool
         requires room { vec_len out.old + length head.now + most_bytes self.now ≤ vec_capacity out.old }
         ensures lays { Lays result head.now (obus_in (segments_in self.now)) out.old.items out.new.items }

@@ -8,7 +8,7 @@ ghost use Rattle.ivf_recorder.specs.Obus.{Obu};
 ghost use Rattle.ivf_recorder.specs.ReadFiles.{IsFileWith};
 ghost use Rattle.ivf_recorder.specs.Units.{no_size, units_of};
 
-/// A law: a file is read as at most one list of OBUs, without delimiters and size fields.
+/// A law: a file reads as at most one list of OBUs. Temporal delimiters and size fields aren't part of the list.
 pub fn files_have_one_reading()
     ensures one { (bytes : List ℕ) (obus others : List Obu) → IsFileWith bytes obus → IsFileWith bytes others → obus ≡ others }
 {}
@@ -21,12 +21,13 @@ pub fn files_read_back()
         → AllByRecursion (λ unit. length unit.bytes < 2 ^ 32) (units_of (contents_over id history)) }
 {}
 
-/// A law: the frames of packets are as many as a strict receiver counts.
+/// A law: packets have as many frames here as a strict receiver of the packets counts.
 pub fn frames_are_those_that_are_accepted()
     ensures count { (id : ℕ) (history : List (List ℕ)) → length (gathered_over id history).frames ≡ frames_over id history }
 {}
 
-/// A law: where a frame is recorded, the first packet begins a key frame, and the width and height are those of the structure that it carries.
+/// A law: where a frame is recorded, the first packet begins a key frame, and width and height are those of the structure that this packet
+/// carries. Where none is recorded, both are 0.
 pub fn sizes_are_of_the_first_structure()
     ensures none { (id : ℕ) (history : List (List ℕ)) → contents_over id history ≡ [] → size_over id history ≡ no_size }
     ensures first { (id : ℕ) (history : List (List ℕ)) → (contents_over id history ≡ [] → ⊥) → IsFirstSize id history }

@@ -7,8 +7,9 @@ use sfu_base::{Blob, NoMemory};
 use std::alloc::Global;
 use std::marker::Model;
 
-/// Records the packets of one layered AV1 track as an IVF file (own rule): the OBUs of the frames that a strict receiver accepts, of which those
-/// with one RTP timestamp are a temporal unit. It takes memory for the file, and for the elements of the frame that hasn't ended.
+/// Records the packets of one layered AV1 track as an IVF file (own rule): the OBUs of the frames that a strict receiver accepts. Frames in a
+/// row with one RTP timestamp are a temporal unit, of at most 16,777,216 bytes if it has several. Memory is taken for the file, and for the
+/// elements of an unfinished frame.
 #[derive(Drop)]
 pub struct IvfRecorder {
     recording: Recording,
@@ -38,9 +39,9 @@ impl IvfRecorder {
         })
     }
 
-    /// Takes the next packet's bytes, at most 2,048 of them. Returns the first fault that applies: a complaint of the strict receiver;
-    /// `Obu`, where the packet ends a frame one of whose elements isn't an OBU, which isn't recorded then. From then on each call returns
-    /// that one and changes nothing. Before, `NoMemory` may come instead, after which all is as before.
+    /// Takes the next packet's bytes, at most 2,048 of them. Returns the first fault that applies. `Complaint`: the strict receiver's. `Obu`:
+    /// the packet ends a frame with an element that isn't an OBU, and the frame isn't recorded. After either, each call returns the same fault
+    /// and changes nothing. `NoMemory` comes only before these, and leaves all as before.
     pub fn feed(&mut self, packet: &[u8]) -> Result<(), RecordFault>
         requires { length packet.now ≤ 2048 }
         ensures id { self.new.receiver.id ≡ self.old.receiver.id }
@@ -52,8 +53,7 @@ impl IvfRecorder {
         self.recording.feed(packet)
     }
 
-    /// The file of the frames so far. A frame that hasn't ended is left out, and so is one with an element that isn't an OBU. No memory is
-    /// taken.
+    /// The file of the frames so far. An unfinished frame is left out, and so is one with an element that isn't an OBU. Takes no memory.
     pub fn finish(self) -> Blob
         ensures file { (history : List (List ℕ)) → StandsFor self history → result ≡ ivf_over self.receiver.id history }
         ensures reads { (history : List (List ℕ)) → StandsFor self history → IsFileWith result (obus_over self.receiver.id history) }

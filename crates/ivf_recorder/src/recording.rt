@@ -11,7 +11,7 @@ use sfu_base::{Blob, NoMemory};
 use std::alloc::Global;
 use strict_receiver::Receiver;
 
-/// The receiver that judges the packets, what is kept of the frame that hasn't ended, the file so far, and the fault that was returned.
+/// The receiver that judges the packets, the elements of the unfinished frame, the file so far, and the fault that was returned, if any.
 #[derive(Drop)]
 pub struct Recording {
     pub receiver: Receiver,
@@ -42,7 +42,7 @@ impl Recording {
         })
     }
 
-    /// Takes the next packet's bytes. All memory is taken before the receiver looks at them, since it can't take a packet back.
+    /// Takes the next packet's bytes. All memory is taken before the receiver sees them, since the receiver can't undo a packet.
     pub fn feed(&mut self, packet: &[u8]) -> Result<(), RecordFault>
         requires { length packet.now ≤ 2048 }
         ensures id { self.new.receiver.id ≡ self.old.receiver.id }
@@ -79,7 +79,7 @@ impl Recording {
         self.file.reserve(self.frame.most_bytes())
     }
 
-    // From now on this is returned.
+    // Keeps the fault, which every later call returns.
     fn fail(&mut self, fault: RecordFault) -> RecordFault
         ensures result { result ≡ fault }
         ensures fault { self.new.fault ≡ Some fault }
@@ -111,7 +111,7 @@ impl Recording {
         Ok(())
     }
 
-    /// The file so far, which is whole after each frame.
+    /// The file so far, which is complete after each frame. Takes no memory.
     pub fn finish(self) -> Blob
         ensures file { (history : List (List ℕ)) → StandsFor self history → result ≡ ivf_over self.receiver.id history }
         ensures reads { (history : List (List ℕ)) → StandsFor self history → IsFileWith result (obus_over self.receiver.id history) }
@@ -120,7 +120,7 @@ impl Recording {
     }
 }
 
-// The width and height of the greatest spatial id.
+// The width and height of the greatest spatial id; 0 and 0 if the structure says none.
 fn size(structure: Option<&Structure>) -> (u32, u32)
     ensures { size_in (option_copied structure.entry) ≡ record { width = result.0; height = result.1 } }
 {

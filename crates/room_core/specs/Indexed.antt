@@ -1,4 +1,5 @@
--- Where the subscribers of a track stand in their table. Each track has a set of places, so that what it makes doesn't look at the subscribers of others.
+-- Where the subscribers of a track are in their table. Each track has a set of places, so that what it makes doesn't look at the subscribers of
+-- others.
 use Rattle.std.specs.Prelude.{◌≡◌, ◌≢◌, ◌≤◌, ℕ, true, List, [], ◌∷◌, Option, Some, slice_get}
 use Rattle.place_set.specs.Places.{has_place}
 use Rattle.room_core.specs.Passing.{Both}
@@ -10,7 +11,7 @@ abbrev pub tracks_of : List (ℕ × LiveSubscriber) → List ℕ
 tracks_of [] = []
 tracks_of (e ∷ es) = e.1.track ∷ tracks_of es
 
--- the set has each place at which a subscriber of the track stands; it may have others
+-- the set has each place at which a subscriber of the track is; it may have others
 abbrev pub HasPlaces : List ℕ → ℕ → List ℕ → Type 0
 HasPlaces places number on = (place : ℕ) → slice_get on place ≡ Some number → has_place places place ≡ true
 

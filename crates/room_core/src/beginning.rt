@@ -1,4 +1,4 @@
-// Tracks and subscribers begin. What needs memory is done before anything changes.
+// How tracks and subscribers begin. Memory is taken before anything changes.
 ghost use Rattle.std.specs.Prelude.{◌≡◌, ◌≢◌, [], IfOk, List, OnErr, false, ℕ};
 ghost use Rattle.sfu_base.specs.Answer.{is_starved};
 ghost use Rattle.sfu_base.specs.declared.call.Call.{Call};
@@ -20,7 +20,7 @@ use std::alloc::Global;
 use track_core::Track;
 
 impl Content {
-    /// Nothing is live. It takes no memory.
+    /// A content in which nothing is live. Takes no memory.
     pub fn new(alloc: Global) -> Content
         ensures { IsAfter result [] }
     {
@@ -34,7 +34,8 @@ impl Content {
         }
     }
 
-    /// Finds the memory that a call needs: the pipeline of an accepted publish, or what an accepted join is sent, and room in the tables.
+    /// Takes the memory that a call needs: for the pipeline and the frame cache of an accepted publish, or the feed of an accepted join,
+    /// and for its entry in the table.
     pub fn prepare(&mut self, alloc: Global, call: &Call) -> Result<Ready, NoMemory>
         ensures same { (past : List Call) → IsAfter self.old past → IsAfter self.new past }
         ensures ready { IfOk result (IsReady self.new call.now) }
@@ -61,7 +62,7 @@ impl Content {
         }
     }
 
-    // Apart, as the three below are: a call of another kind then needs no room for a track or a subscriber.
+    // Out of line, as are the three below: a call of another kind then needs no stack for a track or a subscriber.
     #[inline(never)]
     fn prepare_track(
         &mut self,
@@ -111,7 +112,7 @@ impl Content {
         }
         let others = count_on(&self.subscribers, track);
         let Some(known) = self.tracks.get_mut(&track) else {
-            // A join of no track was refused.
+            // Can't be: a join of no track was refused.
             return Ok(Ready::Nothing);
         };
         known.frame_cache.reserve(alloc, others + 1)?;
@@ -125,7 +126,7 @@ impl Content {
         }
     }
 
-    /// A track begins, where its pipeline was made ready.
+    /// Begins a track, if its pipeline was made ready; else returns why it is refused.
     #[inline(never)]
     pub fn publish(&mut self, track: u32, kind: Kind, ready: Ready) -> Reply
         requires { (ssrc : ℕ) × (hold : ℕ) × IsReady self.old (call.Publish track kind ssrc hold) ready }
@@ -148,19 +149,19 @@ impl Content {
                         self.highest_track = track;
                         Reply::Done
                     }
-                    // There was room in the table.
+                    // Can't be: the table has capacity for it.
                     Err(_) => Reply::Refused(Refusal::NoMemory),
                 }
             }
             _ => match self.publish_refusal(track, kind) {
                 Some(why) => Reply::Refused(why),
-                // An accepted publish had its pipeline made ready.
+                // Can't be: an accepted publish has its pipeline ready.
                 None => Reply::Refused(Refusal::NoMemory),
             },
         }
     }
 
-    /// A subscriber begins, where what it is sent was made ready.
+    /// Begins a subscriber, if its feed was made ready; else returns why it is refused.
     #[inline(never)]
     pub fn join(&mut self, subscriber: u32, track: u32, ready: Ready) -> Reply
         requires { (ssrc : ℕ) × (first : ℕ) × (wish : Wish) × IsReady self.old (call.Join subscriber track ssrc first wish) ready }
@@ -179,12 +180,12 @@ impl Content {
                     put_place(&mut self.tracks, track, place);
                     Reply::Done
                 }
-                // There was room in the table.
+                // Can't be: the table has capacity for it.
                 Err(_) => Reply::Refused(Refusal::NoMemory),
             },
             _ => match self.join_refusal(subscriber, track) {
                 Some(why) => Reply::Refused(why),
-                // An accepted join had its feed made ready.
+                // Can't be: an accepted join has its feed ready.
                 None => Reply::Refused(Refusal::NoMemory),
             },
         }

@@ -1,4 +1,4 @@
-// What is asked of a live subscriber: no call of the history.
+// Questions about a live subscriber, which are no calls of the history.
 ghost use Rattle.std.specs.Prelude.{◌≡◌, List};
 ghost use Rattle.sfu_base.specs.declared.call.Call.{Call};
 ghost use Rattle.room_core.specs.Content.{IsAfter};
@@ -17,26 +17,28 @@ use sfu_base::{Refusal, Wish};
 /// The decode target that a subscriber of a layered track is sent (RTP Payload Format For AV1, Appendix A).
 #[derive(Clone, Copy, Debug, PartialEq, Eq)]
 pub struct DecodeTarget {
-    /// Its index, 0 to 31, in the order of the publisher's structure.
+    /// The target's index, 0 to 31, in the order of the publisher's structure.
     pub index: u8,
-    /// Its greatest spatial and temporal layer at the newest frame; none where no template of that frame's structure is present in it.
+    /// The target's greatest spatial and temporal layer at the newest frame; none where no template of that frame's structure is present in
+    /// the target.
     pub layers: Option<Wish>,
 }
 
 impl<R: Recorder> Room<R> {
-    /// The decode target that the subscriber is sent: the one that is open after its newest frame. None before the first key frame that it
-    /// can begin with, where a chain broke, and on a plain track. Where its track ended it is as at the last frame. It is no call of the
-    /// history, changes nothing, and takes no memory. `NoSubscriber`: no live subscriber has the number. Own rule.
+    /// The decode target that the subscriber is sent: the one that is open after its newest frame. None before the first key frame with
+    /// which the subscriber can begin, after a chain broke, and on a plain track. After the end of the track the target is that of the last
+    /// frame. Asking is no call of the history, changes nothing, and takes no memory. `NoSubscriber`: no live subscriber has the number.
+    /// Own rule.
     pub fn target_of(&self, subscriber: u32) -> Result<Option<DecodeTarget>, Refusal>
         ensures target { (history : List Entry) → Stands R.noted self.now history → IsTargetOf history subscriber result }
     {
         self.content.target_of(subscriber)
     }
 
-    /// Whether the target that the subscriber is sent is the best that its present wish allows at its newest frame. False where it has no
-    /// target, and so on a plain track. A wish that is raised is mostly reached by a key frame alone, so whoever finds false pleads.
-    /// Where the track ended it is as at the last frame. It is no call of the history, changes nothing, and takes no memory.
-    /// `NoSubscriber`: no live subscriber has the number. Own rule.
+    /// Whether the target that the subscriber is sent is the best that its present wish allows at its newest frame. False without a target,
+    /// and so on a plain track. A raised wish is mostly reached only at a key frame, so a caller that gets false pleads. After the end of
+    /// the track the last frame decides. Asking is no call of the history, changes nothing, and takes no memory. `NoSubscriber`: no live
+    /// subscriber has the number. Own rule.
     pub fn reaches_wish(&self, subscriber: u32) -> Result<bool, Refusal>
         ensures reaches { (history : List Entry) → Stands R.noted self.now history → IsReachedBy history subscriber result }
     {
@@ -55,7 +57,7 @@ impl Content {
         }
     }
 
-    /// Whether it is the best that the subscriber's wish allows.
+    /// Whether the target that the subscriber is sent is the best that its wish allows.
     pub fn reaches_wish(&self, subscriber: u32) -> Result<bool, Refusal>
         ensures { (past : List Call) → IsAfter self.now past → result ≡ told_of (joined subscriber past) (λ j. reaches_for subscriber j past) }
     {

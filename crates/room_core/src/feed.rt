@@ -15,8 +15,8 @@ use std::alloc::Global;
 use target_selector::{FrameOffer, MOST_QUEUED, Selector};
 use track_core::Track;
 
-/// The kind of the subscriber's track, the selection of frames, the packets that wait or are kept, and the verdicts on frames. All its
-/// memory is taken when it is made.
+/// The kind of the subscriber's track, the selection of frames, the packets that wait or are kept, and the verdicts on frames. All memory of a feed
+/// is taken when it is made.
 #[derive(Drop)]
 pub struct Feed {
     pub kind: Kind,
@@ -26,7 +26,7 @@ pub struct Feed {
 }
 
 impl Feed {
-    /// Creates the state of a new subscriber of a track of this kind. Its packets go out with this SSRC, numbered from `first` on.
+    /// Creates the state of a new subscriber of a track of this kind. The subscriber's packets are sent with this SSRC, numbered from `first` on.
     pub fn new(
         alloc: Global,
         kind: Kind,
@@ -51,7 +51,7 @@ impl Feed {
         self.selector.aim(wish);
     }
 
-    /// Offers the next packet of a plain track: it is queued where fewer than 512 are. `cache` shares it with the other subscribers.
+    /// Offers the next packet of a plain track, which is queued if fewer than 512 packets are. `cache` shares the packet with the other subscribers.
     pub fn pass_packet(&mut self, packet: &[u8], cache: &mut FrameCache)
         requires reads { first_fault packet.now ≡ None }
         requires fits { length packet.now ≤ 1500 }
@@ -64,9 +64,9 @@ impl Feed {
         }
     }
 
-    /// Offers a layered track's most recently completed frame. `tells` is whether its first packet carries a structure or a mask. Where it does, or the
-    /// frame opens the target, that packet goes out with the mask of the targets that the subscriber gets; `cache` shares what goes out with the
-    /// frame's next subscribers.
+    /// Offers a layered track's most recently completed frame. `tells` is whether the frame's first packet carries a structure or a mask. If so, or
+    /// if the frame opens its target, the first packet is sent with the mask of the targets that the subscriber gets. `cache` shares the packets with
+    /// the next subscribers that are offered the frame.
     pub fn pass_frame(
         &mut self,
         track: &Track,
@@ -83,7 +83,7 @@ impl Feed {
         let number = offer.number();
         let verdict = self.selector.admit_offered(offer, self.ring.queued());
         if let Verdict::Passed = verdict {
-            // Written by its name, so that no look is had at which it is.
+            // A constant, so that the verdict isn't tested again.
             self.causes.write(number, Verdict::Passed);
             let is_top = self.selector.marks_last();
             if is_told(self.selector.opened(), tells) {
@@ -97,7 +97,7 @@ impl Feed {
         }
     }
 
-    /// Hands out the oldest queued packet, if one is queued.
+    /// Hands out the oldest queued packet, if one is queued, and returns whether one was.
     pub fn take(&mut self, out: &mut PacketBuf) -> bool
         ensures follows { FollowsTake self.old self.new result out.old out.new }
         ensures unchanged { result ≡ false → self.new ≡ self.old }
@@ -107,7 +107,7 @@ impl Feed {
         self.ring.take(out).is_ok()
     }
 
-    /// Ends the subscriber: what it shares goes back to its track, where so many subscribers are left.
+    /// Ends the subscriber: `cache` gets back what the subscriber shared. `left` subscribers remain on the track.
     pub fn give_back(self, cache: &mut FrameCache, left: usize)
         ensures { cache.new.store.all ≤ cache.old.store.all }
     {
@@ -122,7 +122,8 @@ impl Feed {
         self.selector.target().is_none()
     }
 
-    /// Why a frame was or wasn't passed.
+    /// Why a frame was or wasn't passed, by its unwrapped number. `Ahead`: the number is above the newest frame's, or no frame came yet. `TooOld`: it
+    /// is 4,096 or more below the newest frame's.
     pub fn why(&self, number: u64) -> Result<Verdict, Refusal>
         ensures tells { Tells self.now number result }
         ensures fed { IsFed result }
@@ -130,7 +131,7 @@ impl Feed {
         self.causes.verdict(number)
     }
 
-    /// Hands out a kept packet again.
+    /// Writes the packet that was taken under this sequence number to `out` again. `NotKept`: none of the last 1,024 packets taken has the number.
     pub fn resend(&self, seq: u16, out: &mut PacketBuf) -> Result<(), Refusal>
         ensures resends { Resends self.now seq result out.old out.new }
         ensures fed { IsFed result }
@@ -141,7 +142,7 @@ impl Feed {
     }
 }
 
-// Whether the first packet of a frame that passed goes out with the mask of the subscriber's targets.
+// Whether the first packet of a passed frame is sent with the mask of the subscriber's targets.
 fn is_told(opened: bool, tells: bool) -> bool
     ensures { result ≡ (opened || tells) }
 {

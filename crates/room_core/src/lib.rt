@@ -1,5 +1,5 @@
-//! The room: who publishes and who subscribes, what goes out to each subscriber, and the reply to each call. Its contracts speak of the
-//! history of the calls on it, which no code keeps unless its recorder does.
+//! The room: who publishes and who subscribes, what each subscriber is sent, and the reply to each call. The room's contracts speak of the
+//! history of calls on it; no code keeps that history, except a recorder.
 #![tactic(auto)]
 
 mod beginning;

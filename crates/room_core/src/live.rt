@@ -9,8 +9,9 @@ use place_set::PlaceSet;
 use sfu_base::Kind;
 use track_core::Track;
 
-/// A live track: its kind, whether a plea for a key frame stands, its pipeline, its frames' cache, and the places of its subscribers in their
-/// table. No item waits between calls. The long parts lie on the heap, so that a room is small: a lock that holds one moves it twice a turn.
+/// A live track: its kind, whether a plea for a key frame is pending, its pipeline, the cache of its current frame, and the places of its
+/// subscribers in their table. No item waits between calls. The large parts are on the heap, so that a room is small: a lock moves the room
+/// that it holds twice a turn.
 #[derive(Drop)]
 pub struct LiveTrack {
     pub kind: Kind,
@@ -21,16 +22,16 @@ pub struct LiveTrack {
     ghost idle: { pipeline.value.window.waiting ≡ [] },
 }
 
-/// A live subscriber: the number of its track, and what it is sent. The entries of the table are small, so that a packet finds the
-/// subscribers of its track by one look over all of them.
+/// A live subscriber: the number of its track, and what it is sent. The feed is on the heap, so that the entries of the table are small: a
+/// leave moves one, and `count_on` reads all.
 #[derive(Drop)]
 pub struct LiveSubscriber {
     pub track: u32,
     pub feed: Box<Feed>,
 }
 
-/// What a call has ready before anything changes: the pipeline of an accepted publish and what its frames will tell, what an accepted join
-/// is sent, or nothing.
+/// What is made ready for a call before anything changes: the pipeline and the frame cache of an accepted publish, the feed of an accepted
+/// join, or nothing.
 #[derive(Drop)]
 pub enum Ready {
     Nothing,
@@ -38,7 +39,7 @@ pub enum Ready {
     Sent(Box<Feed>),
 }
 
-/// How many of these subscribers are of this track.
+/// How many of these subscribers belong to this track.
 pub fn count_on(subscribers: &IndexMap<u32, LiveSubscriber>, track: u32) -> usize
     ensures { result ≤ index_map_len subscribers.now }
 {

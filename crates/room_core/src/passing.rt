@@ -20,7 +20,7 @@ use sfu_base::FrameMeaning;
 use target_selector::FrameOffer;
 use track_core::{Advance, Track};
 
-/// Works off all items of a track that wait: what they make goes to each of its subscribers, and a key frame ends a plea.
+/// Processes all waiting items of a track. What they make goes to each subscriber of the track; a key frame ends a plea.
 pub fn work_off(
     pipeline: &mut Track,
     pleaded: &mut bool,
@@ -37,7 +37,7 @@ pub fn work_off(
     while work_off_one(pipeline, pleaded, number, subscribers, places, cache) {}
 }
 
-// Works off one item, if one waits.
+// Processes one item, and returns whether one waited.
 fn work_off_one(
     pipeline: &mut Track,
     pleaded: &mut bool,
@@ -67,7 +67,7 @@ fn work_off_one(
     }
 }
 
-// One step of a track, told by its items.
+// One step of a track. The contract speaks of the track's items.
 fn step(pipeline: &mut Track) -> Advance
     ensures steps { Steps pipeline.old pipeline.new (with_meaning pipeline.new.meaning result) }
     ensures valid { IsMadeValid (with_meaning pipeline.new.meaning result) pipeline.new.packets }
@@ -82,7 +82,7 @@ fn still_pleaded(pleaded: bool, key: bool) -> bool
     pleaded && !key
 }
 
-// The packet that a plain track made last goes to each of its subscribers.
+// The packet that a plain track made last goes to each subscriber of the track.
 fn pass_packet_to_all(
     subscribers: &mut IndexMap<u32, LiveSubscriber>,
     places: &PlaceSet,
@@ -107,7 +107,7 @@ fn pass_packet_to_all(
     }
 }
 
-// One subscriber gets it, where it is the track's.
+// Offers the packet to one subscriber, if that is one of the track's.
 fn pass_packet(subscriber: &mut LiveSubscriber, number: u32, packet: &[u8], cache: &mut FrameCache)
     requires reads { first_fault packet.now ≡ None }
     requires fits { length packet.now ≤ 1500 }
@@ -120,7 +120,7 @@ fn pass_packet(subscriber: &mut LiveSubscriber, number: u32, packet: &[u8], cach
     }
 }
 
-// The frame that a layered track made last goes to each of its subscribers. Apart, so that the loop has the registers for itself.
+// The frame that a layered track made last goes to each subscriber of the track. Out of line: the loop has the registers for itself.
 #[inline(never)]
 fn pass_frame_to_all(
     subscribers: &mut IndexMap<u32, LiveSubscriber>,
@@ -148,7 +148,7 @@ fn pass_frame_to_all(
     }
 }
 
-// One subscriber gets it, where it is the track's.
+// Offers the frame to one subscriber, if that is one of the track's.
 fn pass_frame(
     subscriber: &mut LiveSubscriber,
     number: u32,

@@ -6,13 +6,13 @@ use sfu_base::{Call, NoMemory};
 
 /// Keeps the seats and calls of a room, or nothing. Own rule.
 pub trait Recorder: Drop {
-    /// Whether a call may be refused for want of memory.
+    /// Whether [`Recorder::note`] may run out of memory.
     ghost may_refuse: { Self → Bool };
 
-    /// The seats and calls that were noted, the oldest first, where it tells them.
+    /// The seats and calls noted so far, the oldest first, or none if the recorder doesn't show them.
     ghost noted: { Self → Option (List Noted) };
 
-    /// Puts a seat and its call last in what is kept. After `NoMemory` all is as before.
+    /// Adds a seat and its call behind what is kept. After `NoMemory` what is kept is as before.
     fn note(&mut self, seat: u32, call: &Call) -> Result<(), NoMemory>
         ensures ok { OnOk result (Notes (noted self.old) (noted self.new) seat call.now) }
         ensures err { OnErr result (noted self.new ≡ noted self.old) }

@@ -21,7 +21,7 @@ const PADDING_ID: u8 = 0;
 const LAST_ID: u8 = 15;
 
 impl Content {
-    /// Why a track can't be published, the first that stands.
+    /// The first refusal that applies to publishing this track, if one does.
     pub fn publish_refusal(&self, track: u32, kind: Kind) -> Option<Refusal>
         ensures fed { IfSome result (λ why. is_memory why ≡ false) }
         ensures refusal { result ≡ refusal_to_publish self.now track kind }
@@ -41,7 +41,7 @@ impl Content {
         None
     }
 
-    /// Why a subscriber can't join, the first that stands.
+    /// The first refusal that applies to joining this subscriber, if one does.
     pub fn join_refusal(&self, subscriber: u32, track: u32) -> Option<Refusal>
         ensures fed { IfSome result (λ why. is_memory why ≡ false) }
         ensures refusal { result ≡ refusal_to_join self.now subscriber track }
@@ -62,7 +62,7 @@ impl Content {
     }
 }
 
-// Whether a layered track's element can't be found by its id.
+// Whether a layered track has the id of padding, or the id that ends processing.
 fn has_bad_id(kind: Kind) -> bool
     ensures { result ≡ is_bad_id kind }
 {

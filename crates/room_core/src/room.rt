@@ -5,14 +5,14 @@ use sfu_base::{Call, Kind, PacketBuf, Refusal, Reply, Scratch, Wish};
 use std::alloc::Global;
 
 /// A room: tracks, each with one publisher's packets, and subscribers, each of one track. `publish` begins a track, `packet` brings its
-/// packets, `tick` tells its time; `join` begins a subscriber, `take` hands out what waits for it, `resend` what it took before. Moments
+/// packets, `tick` advances its time; `join` begins a subscriber, `take` hands out what waits for it, `resend` what it took before. Moments
 /// and holds are milliseconds.
 ///
-/// A layered track's packets become frames (RTP Payload Format For AV1, Appendix A), and each subscriber gets those of the best decode
-/// target that its wish allows. A plain track's packets pass in order as they come.
+/// A layered track's packets become frames (RTP Payload Format For AV1, Appendix A), and each subscriber gets those of the best decode target
+/// that its wish allows. A plain track's packets are forwarded in order.
 ///
-/// A call is refused by the first refusal of its own that stands, and then changes nothing but what the recorder keeps. Over a recorder
-/// that refuses nothing only `publish` and `join` may want memory. All of it is an own rule.
+/// A refused call returns the first refusal that applies, and changes nothing but what the recorder keeps. With a recorder that never refuses,
+/// only `publish` and `join` may run out of memory. These are own rules.
 #[derive(Drop)]
 pub struct Room<R: Recorder> {
     alloc: Global,
@@ -29,7 +29,7 @@ impl<R: Recorder> Room<R> {
     ghost use Rattle.room_core.specs.Silent.{IsSilent};
     ghost use Rattle.room_core.specs.Kinds.{IsKindOf};
 
-    /// A room on which no call was made. The recorder has kept nothing yet. It takes no memory.
+    /// A room on which no call was made, with a recorder that has kept nothing yet. Takes no memory.
     pub fn new(alloc: Global, recorder: R) -> Room<R>
         requires { IfSome (R.noted recorder) (λ notes. notes ≡ []) }
         ensures stands { Stands R.noted result [] }
@@ -42,8 +42,8 @@ impl<R: Recorder> Room<R> {
         }
     }
 
-    /// Serves one call of a seat, the one entry to the room. A `Packet` leaves its bytes in `scratch.packet`, `Names` leave their numbers in
-    /// `scratch.names`; no other reply changes the scratch.
+    /// Serves one call of a seat; the methods from `publish` to `why` do the same with one kind of call each. A `Packet` reply leaves its
+    /// bytes in `scratch.packet`, a `Names` reply its numbers in `scratch.names`; no other reply changes the scratch.
     pub fn serve(&mut self, seat: u32, call: &Call, scratch: &mut Scratch) -> Reply
         ensures { ServesInto R.noted R.may_refuse self.old self.new seat call.now result scratch.old scratch.new }
     {
@@ -60,7 +60,7 @@ impl<R: Recorder> Room<R> {
         }
     }
 
-    // The same of a call of any kind.
+    // The same for a call of any kind.
     fn serve_any(&mut self, seat: u32, call: &Call, scratch: &mut Scratch) -> Reply
         ensures { ServesInto R.noted R.may_refuse self.old self.new seat call.now result scratch.old scratch.new }
     {
@@ -73,7 +73,7 @@ impl<R: Recorder> Room<R> {
         }
     }
 
-    // The same of a call whose reply leaves nothing in a scratch.
+    // The same for a call whose reply leaves nothing in a scratch.
     fn serve_silently(&mut self, seat: u32, call: &Call) -> Reply
         requires { IsSilent call.now }
         ensures { DoesAsServe R.noted R.may_refuse self.old self.new seat call.now result }
@@ -104,7 +104,7 @@ impl<R: Recorder> Room<R> {
         )
     }
 
-    /// Ends a track, as [`Call::Unpublish`] does. Its subscribers stay, and may take, have resent, aim and ask why. `NoTrack`: no live
+    /// Ends a track, as [`Call::Unpublish`] does. Its subscribers stay, with `take`, `resend`, `aim` and `why` as before. `NoTrack`: no live
     /// track has the number.
     pub fn unpublish(&mut self, seat: u32, track: u32) -> Reply
         ensures { DoesAsServe R.noted R.may_refuse self.old self.new seat (call.Unpublish track) result }
@@ -112,8 +112,9 @@ impl<R: Recorder> Room<R> {
         self.serve_silently(seat, &Call::Unpublish { track })
     }
 
-    /// Brings a packet, as [`Call::Packet`] does. The recorder is shown a copy. `NoTrack`; then `TooBig`: more than 1,500 bytes;
-    /// `Unreadable`: they aren't RTP; `WrongSsrc`; `Spent`, `Late` and `Repeat`, by the packet's number in the track's order.
+    /// Brings a track a packet that arrives at `moment`, as [`Call::Packet`] does. The recorder is shown a copy. `NoTrack`: no live track has
+    /// the number. `TooBig`: more than 1,500 bytes. `Unreadable`: the bytes aren't RTP. `WrongSsrc`: the packet's SSRC isn't the track's.
+    /// `Spent`, `Late` and `Repeat`: by the packet's unwrapped sequence number.
     pub fn packet(&mut self, seat: u32, track: u32, moment: u64, bytes: &PacketBuf) -> Reply
         ensures { DoesAsServe R.noted R.may_refuse self.old self.new seat (call.Packet track moment bytes.now) result }
     {
@@ -127,7 +128,7 @@ impl<R: Recorder> Room<R> {
         self.serve_packet(seat, &call, track, moment, bytes)
     }
 
-    // The same of a packet's call, whose bytes stand beside it.
+    // The same with the call made already, and its bytes beside it.
     fn serve_packet(
         &mut self,
         seat: u32,
@@ -145,7 +146,8 @@ impl<R: Recorder> Room<R> {
         }
     }
 
-    /// Tells a track that it is this moment, as [`Call::Tick`] does: gaps that were waited for long enough are given up. `NoTrack`.
+    /// Advances a track's time to `moment`, as [`Call::Tick`] does: gaps are given up once the hold is over. `NoTrack`: no live track has the
+    /// number.
     pub fn tick(&mut self, seat: u32, track: u32, moment: u64) -> Reply
         ensures { DoesAsServe R.noted R.may_refuse self.old self.new seat (call.Tick track moment) result }
     {
@@ -155,8 +157,8 @@ impl<R: Recorder> Room<R> {
         }
     }
 
-    /// Begins a subscriber, as [`Call::Join`] does. `NoTrack`; `NumberUsed`: the number is at most the highest that a subscriber ever had;
-    /// `TooMany`: 256 subscribers are live; `NoMemory`: none was found for what it will be sent.
+    /// Begins a subscriber, as [`Call::Join`] does. `NoTrack`: no live track has the number. `NumberUsed`: the number is at most the highest
+    /// that a subscriber ever had. `TooMany`: 256 subscribers are live. `NoMemory` comes last.
     pub fn join(
         &mut self,
         seat: u32,
@@ -187,15 +189,15 @@ impl<R: Recorder> Room<R> {
         self.serve_silently(seat, &Call::Leave { subscriber })
     }
 
-    /// Changes a subscriber's wish, as [`Call::Aim`] does. `NoSubscriber`.
+    /// Changes a subscriber's wish, as [`Call::Aim`] does. `NoSubscriber`: no live subscriber has the number.
     pub fn aim(&mut self, seat: u32, subscriber: u32, wish: Wish) -> Reply
         ensures { DoesAsServe R.noted R.may_refuse self.old self.new seat (call.Aim subscriber wish) result }
     {
         self.serve_silently(seat, &Call::Aim { subscriber, wish })
     }
 
-    /// Hands out the oldest packet that waits, as [`Call::Take`] does: `Packet`, with its bytes in `scratch.packet`. `NoSubscriber`;
-    /// `Empty`: none waits.
+    /// Hands out the oldest packet that waits for a subscriber, as [`Call::Take`] does: `Packet`, with its bytes in `scratch.packet`.
+    /// `NoSubscriber`: no live subscriber has the number. `Empty`: no packet waits.
     pub fn take(&mut self, seat: u32, subscriber: u32, scratch: &mut Scratch) -> Reply
         ensures { ServesInto R.noted R.may_refuse self.old self.new seat (call.Take subscriber) result scratch.old scratch.new }
     {
@@ -206,47 +208,48 @@ impl<R: Recorder> Room<R> {
     }
 
     /// Hands out a packet again that was taken under this sequence number, as [`Call::Resend`] does: `Packet`, with its bytes in
-    /// `scratch.packet` (RFC 4585, section 6.2.1). `NoSubscriber`; `NotKept`: none of the last 1,024 that were taken has the number.
+    /// `scratch.packet` (RFC 4585, section 6.2.1). `NoSubscriber`: no live subscriber has the number. `NotKept`: none of the last 1,024
+    /// packets taken has the sequence number.
     pub fn resend(&mut self, seat: u32, subscriber: u32, seq: u16, scratch: &mut Scratch) -> Reply
         ensures { ServesInto R.noted R.may_refuse self.old self.new seat (call.Resend subscriber seq) result scratch.old scratch.new }
     {
         self.serve(seat, &Call::Resend { subscriber, seq }, scratch)
     }
 
-    /// Hands out the sequence numbers that a track waits for, ascending in their unwrapped order, as [`Call::Missing`] does: `Names`, with
-    /// the numbers in `scratch.names`. `NoTrack`.
+    /// Hands out the sequence numbers that a track waits for, ascending in their unwrapped order, as [`Call::Missing`] does: `Names`, with the
+    /// numbers in `scratch.names`. `NoTrack`: no live track has the number.
     pub fn missing(&mut self, seat: u32, track: u32, scratch: &mut Scratch) -> Reply
         ensures { ServesInto R.noted R.may_refuse self.old self.new seat (call.Missing track) result scratch.old scratch.new }
     {
         self.serve(seat, &Call::Missing { track }, scratch)
     }
 
-    /// Tells whether a track's publisher is to be asked for a key frame, as [`Call::KeyWanted`] does: where the track is layered, and a
-    /// plea stands or a live subscriber of it has no target. `NoTrack`.
+    /// Returns whether a track's publisher is to be asked for a key frame, as [`Call::KeyWanted`] does. It is if the track is layered, and a
+    /// plea is pending or a live subscriber of the track has no target. `NoTrack`: no live track has the number.
     pub fn key_wanted(&mut self, seat: u32, track: u32) -> Reply
         ensures { DoesAsServe R.noted R.may_refuse self.old self.new seat (call.KeyWanted track) result }
     {
         self.serve_silently(seat, &Call::KeyWanted { track })
     }
 
-    /// Asks for a key frame, as [`Call::Plead`] does (RFC 4585, section 6.3.1): the plea stands until the track's next whole key frame.
-    /// `NoSubscriber`; `NoTrack`: its track ended; `Plain`: its track is plain.
+    /// Asks for a key frame, as [`Call::Plead`] does (RFC 4585, section 6.3.1): the plea is pending until the track's next whole key frame.
+    /// `NoSubscriber`: no live subscriber has the number. `NoTrack`: the subscriber's track ended. `Plain`: that track is plain.
     pub fn plead(&mut self, seat: u32, subscriber: u32) -> Reply
         ensures { DoesAsServe R.noted R.may_refuse self.old self.new seat (call.Plead subscriber) result }
     {
         self.serve_silently(seat, &Call::Plead { subscriber })
     }
 
-    /// Tells why a frame was or wasn't passed to a subscriber, as [`Call::Why`] does. `NoSubscriber`; `Ahead`: the number is above the
-    /// newest frame's, or there is none; `TooOld`: it is 4,096 or more below.
+    /// Returns why a frame was or wasn't passed to a subscriber, as [`Call::Why`] does. `NoSubscriber`: no live subscriber has the number.
+    /// `Ahead`: the frame number is above the newest frame's, or no frame came yet. `TooOld`: it is 4,096 or more below the newest frame's.
     pub fn why(&mut self, seat: u32, subscriber: u32, number: u64) -> Reply
         ensures { DoesAsServe R.noted R.may_refuse self.old self.new seat (call.Why subscriber number) result }
     {
         self.serve_silently(seat, &Call::Why { subscriber, number })
     }
 
-    /// The kind that the subscriber's track had at its join, also where the track ended since. It is no call of the history, and takes no
-    /// memory. `NoSubscriber`: no live subscriber has the number.
+    /// The kind that the subscriber's track had when the subscriber joined, even if the track has ended. Asking is no call of the history, and
+    /// takes no memory. `NoSubscriber`: no live subscriber has the number.
     pub fn kind_of(&self, subscriber: u32) -> Result<Kind, Refusal>
         ensures kind { (history : List Entry) → Stands R.noted self.now history → IsKindOf history subscriber result }
     {

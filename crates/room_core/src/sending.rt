@@ -15,7 +15,7 @@ use out_ring::OutRing;
 use packet_format::tells;
 use track_core::Track;
 
-/// Whether the first packet of the frame that the track made last tells which decode targets there are.
+/// Whether the first packet of the frame that the track made last carries a structure or a mask.
 pub fn first_tells(track: &Track) -> bool
     ensures { result ≡ tells_by track.now.layers track.now.packets }
 {
@@ -28,8 +28,8 @@ pub fn first_tells(track: &Track) -> bool
     tells(track.packet(0), id)
 }
 
-/// Queues the packets of the frame that the track made last, of which there are so many, from this place on. The last one's marker is set where
-/// the frame ends the target's layer.
+/// Queues the packets of the frame that the track made last, from the place `from` on; the frame has `count` packets. The last packet's marker
+/// is set if `is_top`, that is if the frame ends the target's layer.
 pub fn push_from(
     ring: &mut OutRing,
     cache: &mut FrameCache,
@@ -54,7 +54,8 @@ pub fn push_from(
     }
 }
 
-/// Queues them all, the first with this mask. `cache` keeps that one for the frame's next subscriber.
+/// Queues all packets of the frame that the track made last, the first with this mask. `cache` keeps the first packet for the frame's next
+/// subscriber.
 #[inline(never)]
 pub fn push_remasked(
     ring: &mut OutRing,
@@ -99,7 +100,7 @@ fn push_first(
 {
     match track.id() {
         Some(id) => {
-            // Those behind it are shared only where it is.
+            // The packets behind it can be shared only if it is.
             cache.share(0, packet);
             push_told(ring, cache, packet, marker, id, track.force(), mask);
         }
@@ -107,7 +108,7 @@ fn push_first(
     }
 }
 
-// Queues a packet with this mask, or as it is where it can't be remasked.
+// Queues a packet with this mask, or unchanged where it can't be remasked.
 fn push_told(
     ring: &mut OutRing,
     cache: &mut FrameCache,
@@ -130,7 +131,7 @@ fn push_told(
     cache.queue_remasked(ring, marker);
 }
 
-// The marker with which a packet of a frame is sent: that of the frame's last packet is set where the frame ends the target's layer.
+// The marker with which a packet of a frame is sent: set on the last packet if the frame ends the target's layer, else the packet's own.
 fn sent_marker(packet: &[u8], is_top: bool, is_last: bool) -> bool
     requires { first_fault packet.now ≡ None }
     ensures { result ≡ (is_top && is_last || marker_of packet.now) }

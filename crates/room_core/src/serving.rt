@@ -11,7 +11,7 @@ use crate::live::Ready;
 use sfu_base::{Call, Reply, Scratch};
 
 impl Content {
-    /// Does a call and answers it, with what was made ready for it.
+    /// Does a call, with what was made ready for it, and returns its reply.
     pub fn serve(&mut self, call: &Call, ready: Ready, scratch: &mut Scratch) -> Reply
         requires { IsReady self.old call.now ready }
         ensures does { Does self.old self.new call.now result scratch.new.packet scratch.new.names }
@@ -30,7 +30,7 @@ impl Content {
         }
     }
 
-    /// The same of a call whose reply leaves nothing in a scratch.
+    /// The same for a call whose reply leaves nothing in a scratch.
     pub fn serve_silently(&mut self, call: &Call, ready: Ready) -> Reply
         requires silent { IsSilent call.now }
         requires ready { IsReady self.old call.now ready }

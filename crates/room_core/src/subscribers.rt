@@ -20,7 +20,7 @@ use indexmap::IndexMap;
 use sfu_base::{Kind, PacketBuf, Refusal, Reply, Wish};
 
 impl Content {
-    /// The subscriber ends.
+    /// Ends the subscriber.
     pub fn leave(&mut self, subscriber: u32) -> Reply
         ensures does { DoesSilently self.old self.new (call.Leave subscriber) result }
         ensures fed { is_starved result ≡ false }
@@ -37,7 +37,7 @@ impl Content {
         }
     }
 
-    /// The wish of the subscriber is changed.
+    /// Changes the subscriber's wish.
     pub fn aim(&mut self, subscriber: u32, wish: Wish) -> Reply
         ensures does { DoesSilently self.old self.new (call.Aim subscriber wish) result }
         ensures fed { is_starved result ≡ false }
@@ -72,7 +72,7 @@ impl Content {
                     Reply::Refused(Refusal::Empty)
                 }
             }
-            // The place is one of the table's.
+            // Can't be: the place is one of the table's.
             None => Reply::Refused(Refusal::NoSubscriber),
         }
     }
@@ -93,7 +93,7 @@ impl Content {
         }
     }
 
-    /// The subscriber asks for a key frame.
+    /// Records that the subscriber asks for a key frame.
     pub fn plead(&mut self, subscriber: u32) -> Reply
         ensures does { DoesSilently self.old self.new (call.Plead subscriber) result }
         ensures fed { is_starved result ≡ false }
@@ -130,7 +130,7 @@ impl Content {
         }
     }
 
-    /// The kind that the subscriber's track had at its join.
+    /// The kind that the subscriber's track had when the subscriber joined; none if no live subscriber has the number.
     pub fn kind_of(&self, subscriber: u32) -> Option<Kind>
         ensures { (past : List Call) → IsAfter self.now past → result ≡ kind_joined (joined subscriber past) past }
     {
@@ -140,7 +140,8 @@ impl Content {
     }
 }
 
-// The subscriber of this place ended: what it shares goes back to its track, where so many subscribers are left.
+// Ends the feed of the subscriber that left this place: the track's set loses the place, and the track's cache gets back what the feed
+// shared. `left` subscribers remain on the track.
 fn end_feed(
     tracks: &mut IndexMap<u32, LiveTrack>,
     track: u32,

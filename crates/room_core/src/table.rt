@@ -1,12 +1,12 @@
-// Where the entry of a number stands in a table.
+// The place of a number's entry in a table.
 ghost use Rattle.std.specs.Prelude.{◌≡◌, Some, nat_eq, true};
 ghost use Rattle.indexmap.specs.IndexMap.{get};
 ghost use Rattle.room_core.specs.Tables.{IsPlace};
 
 use indexmap::IndexMap;
 
-/// The place of the number's entry in the table, if it has one. `likely` is tried first, and then the place behind it, since those that are asked for
-/// in turn stand there.
+/// The place in the table, from 0, of the entry with this number, if there is one. Tries `likely` and the place behind it before it searches: mostly
+/// the same number comes again, or the numbers come in the table's order.
 pub fn place_of<V>(table: &IndexMap<u32, V>, likely: usize, number: u32) -> Option<usize>
     ensures { IsPlace number table.now.entries (get nat_eq table.now number) result }
 {
@@ -20,7 +20,7 @@ pub fn place_of<V>(table: &IndexMap<u32, V>, likely: usize, number: u32) -> Opti
     table.get_index_of(&number)
 }
 
-// Whether the number's entry stands at this place.
+// Whether the entry with this number is at this place.
 #[inline(always)]
 fn is_at<V>(table: &IndexMap<u32, V>, place: usize, number: u32) -> bool
     ensures { result ≡ true → IsPlace number table.now.entries (get nat_eq table.now number) (Some place) }

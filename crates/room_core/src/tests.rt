@@ -1,4 +1,4 @@
-// Rooms with plain and layered tracks. Rows are calls with the replies that they are to get. The packets are laid as RFC 3550 and RFC 8285
+// Rooms with plain and layered tracks. Rows are calls with the replies that they have to get. The packets are laid as RFC 3550 and RFC 8285
 // lay them, the descriptors as Appendix A of RTP Payload Format For AV1 does.
 ghost use Rattle.std.specs.Prelude.{◌≤◌, length};
 
@@ -39,7 +39,7 @@ const KEY: [u8; 47] = [
     0x08, 0x64, 0x22, 0x22, 0x26, 0x40, 0, 0x18, 0x30, 0x00,
 ];
 
-// The same as it goes out: the mask of these targets, bit i for target i, follows the structure.
+// The same as it is sent: the mask of these targets, bit i for target i, follows the structure.
 fn key_telling(mask: u8) -> [u8; 47] {
     let mut key = KEY;
     key[21] = 0xc0;
@@ -107,7 +107,7 @@ fn publish(track: u32, kind: Kind) -> Call {
     }
 }
 
-// A subscriber whose packets go out with SSRC 22222222, from number 7 on.
+// A subscriber whose packets are sent with SSRC 22222222, from number 7 on.
 fn join(subscriber: u32, track: u32, wish: Wish) -> Call {
     Call::Join {
         subscriber,
@@ -133,7 +133,7 @@ fn scratch() -> Scratch {
     }
 }
 
-// What goes out of those bytes with this number and marker, under SSRC 22222222.
+// Those bytes as they are sent with this number and marker, under SSRC 22222222.
 fn outgoing(bytes: &[u8], seq: u16, marker: bool) -> PacketBuf
     requires { length bytes.now ≤ 2048 }
 {
@@ -283,7 +283,7 @@ fn the_kind_is_that_of_the_join(rt: HostRuntime) {
     assert_eq!(rt; room.kind_of(2), Ok(LAYERED));
 }
 
-// Takes one packet, and compares it with what these bytes are to go out as.
+// Takes one packet, and compares it with these bytes as they have to be sent.
 fn expect(
     rt: &impl Abort,
     room: &mut Room<KeepNone>,
@@ -321,7 +321,8 @@ fn each_subscriber_gets_its_own(rt: HostRuntime) {
         ],
     );
     expect(&rt, &mut room, &mut scratch, 3, &outgoing(&PLAIN, 7, false));
-    // The highest target gets both frames, the lowest the first, which ends its layer. The key frame tells each of them its targets.
+    // The highest target gets both frames, the lowest the first, which ends its layer. The key frame has for each of them the mask of its
+    // targets.
     expect(
         &rt,
         &mut room,

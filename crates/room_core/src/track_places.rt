@@ -8,7 +8,7 @@ ghost use Rattle.room_core.specs.declared.live.LiveTrack.{LiveTrack};
 use crate::live::{LiveSubscriber, LiveTrack};
 use indexmap::IndexMap;
 
-/// A subscriber of the track stands at this place.
+/// Adds a place at which a subscriber of the track is, if the track is live.
 pub fn put_place(tracks: &mut IndexMap<u32, LiveTrack>, track: u32, place: usize)
     requires { place < 256 }
     ensures changed { AreSameBut place (get nat_eq tracks.old) (get nat_eq tracks.new) }
@@ -20,7 +20,7 @@ pub fn put_place(tracks: &mut IndexMap<u32, LiveTrack>, track: u32, place: usize
     }
 }
 
-/// No subscriber of the track stands at this place any more.
+/// Removes a place at which no subscriber of the track is any more, if the track is live.
 pub fn take_place(tracks: &mut IndexMap<u32, LiveTrack>, track: u32, place: usize)
     requires { place < 256 }
     ensures changed { AreSameBut place (get nat_eq tracks.old) (get nat_eq tracks.new) }
@@ -31,7 +31,7 @@ pub fn take_place(tracks: &mut IndexMap<u32, LiveTrack>, track: u32, place: usiz
     }
 }
 
-/// Where one was removed from this place, the subscriber that was the last stands there now.
+/// Moves the place of the subscriber that was the last in the table, once another was removed from `place`: it is at `place` now.
 pub fn move_last(
     tracks: &mut IndexMap<u32, LiveTrack>,
     subscribers: &IndexMap<u32, LiveSubscriber>,

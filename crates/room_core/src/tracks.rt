@@ -15,7 +15,7 @@ use place_set::PlaceSet;
 use sfu_base::{Kind, PacketBuf, Refusal, Reply, SeqList};
 
 impl Content {
-    /// The track ends. Its subscribers stay.
+    /// Ends the track. Its subscribers stay.
     pub fn unpublish(&mut self, track: u32) -> Reply
         ensures does { DoesSilently self.old self.new (call.Unpublish track) result }
         ensures fed { is_starved result ≡ false }
@@ -27,7 +27,7 @@ impl Content {
         }
     }
 
-    /// A packet of the track came: what its pipeline makes goes to the track's subscribers.
+    /// Brings the track a packet. What the pipeline makes of it goes to the track's subscribers.
     pub fn packet(&mut self, track: u32, moment: u64, bytes: &PacketBuf) -> Reply
         ensures does { DoesSilently self.old self.new (call.Packet track moment bytes.now) result }
         ensures fed { is_starved result ≡ false }
@@ -52,12 +52,12 @@ impl Content {
                 }
                 Err(why) => Reply::Refused(why),
             },
-            // The place is one of the table's.
+            // Can't be: the place is one of the table's.
             None => Reply::Refused(Refusal::NoTrack),
         }
     }
 
-    /// Time has come to a moment: what the pipeline gives up and makes goes to the track's subscribers.
+    /// Advances the track's time. What the pipeline makes then goes to the track's subscribers.
     pub fn tick(&mut self, track: u32, moment: u64) -> Reply
         ensures does { DoesSilently self.old self.new (call.Tick track moment) result }
         ensures fed { is_starved result ≡ false }
@@ -80,7 +80,7 @@ impl Content {
                 );
                 Reply::Done
             }
-            // The place is one of the table's.
+            // Can't be: the place is one of the table's.
             None => Reply::Refused(Refusal::NoTrack),
         }
     }

@@ -11,11 +11,11 @@ use rtp_packet::restamp;
 use sfu_base::{NoMemory, PacketBuf, Refusal};
 use std::alloc::Global;
 
-/// So many packets of a bundle are queued at most (own rule).
+/// The most packets of a bundle that are queued (own rule).
 const MOST_QUEUED: u16 = 512;
 
 /// A bundle: its number, the header extension id of its legs' descriptors, the subscribers that are its legs, which of them is chosen and
-/// active, and what goes out.
+/// which is active, and the outgoing packets.
 #[derive(Drop)]
 pub struct Bundle {
     pub number: u32,
@@ -67,7 +67,7 @@ impl Bundle {
         self.legs.iter().any(|leg| *leg == subscriber)
     }
 
-    /// Chooses a leg, and answers its subscriber where it isn't active.
+    /// Chooses a leg, counted from 1, and returns the leg's subscriber if it isn't active. `NoLeg`: there is no such leg.
     pub fn choose(&mut self, leg: u8) -> Result<Option<u32>, BundleFault>
         ensures chooses { ChoosesIn self.old self.new leg result }
         ensures fault { IfErr result (λ why. why ≡ BundleFault.NoLeg (length self.old.legs.items)) }
@@ -85,7 +85,7 @@ impl Bundle {
         }
     }
 
-    /// Hands out the oldest queued packet. `Empty`.
+    /// Writes the oldest queued packet to `out`, and returns its sequence number. `Empty`: no packet is queued.
     pub fn draw(&mut self, out: &mut PacketBuf) -> Result<u16, Refusal>
         ensures draws { DrawsIn self.old self.new out.new result }
         ensures unchanged { OnErr result (out.new ≡ out.old) }
@@ -93,7 +93,8 @@ impl Bundle {
         self.ring.take(out)
     }
 
-    /// Hands out a packet again that was drawn. `NotKept`.
+    /// Writes the packet that was drawn under this sequence number to `out` again. `NotKept`: none of the last 1,024 drawn packets has the
+    /// number.
     pub fn redraw(&self, seq: u16, out: &mut PacketBuf) -> Result<(), Refusal>
         ensures redraws { RedrawsIn self.now seq out.new result }
         ensures unchanged { OnErr result (out.new ≡ out.old) }
@@ -101,7 +102,7 @@ impl Bundle {
         self.ring.resend(seq, out)
     }
 
-    /// The legs in the order in which a pump takes from them.
+    /// The legs in the order in which a pump takes from them; `None` is skipped.
     pub fn order(&self) -> [Option<u8>; 5]
         ensures { result ≡ order self.now.switch }
     {
@@ -116,7 +117,7 @@ impl Bundle {
         ]
     }
 
-    /// The subscriber that is this leg, counted from 1.
+    /// The subscriber that is this leg, counted from 1, if there is such a leg.
     pub fn leg(&self, leg: u8) -> Option<u32>
         ensures { result ≡ leg_at leg self.now.legs.items }
     {
@@ -133,14 +134,14 @@ impl Bundle {
         self.ring.queued()
     }
 
-    /// Whether no more packets may be queued.
+    /// Whether 512 packets are queued, the most that may be.
     pub fn is_full(&self) -> bool
         ensures { result ≡ nat_le 512 (length self.now.ring.queued) }
     {
         self.ring.queued() >= MOST_QUEUED
     }
 
-    /// A packet was taken from a leg: it goes out or is dropped.
+    /// Queues a packet that was taken from a leg, or drops it.
     pub fn take_in(&mut self, leg: u8, packet: &mut PacketBuf, newest: &mut NewestDescriptor)
         requires room { length self.old.ring.queued < 512 }
         requires reads { first_fault packet.old ≡ None }

@@ -13,12 +13,12 @@ use room_core::{Recorder, Room};
 use sfu_base::{Call, Kind, PacketBuf, Refusal, Reply, Scratch};
 use std::alloc::Global;
 
-/// So many bundles there are at most (own rule).
+/// The most bundles that there can be (own rule).
 const MOST_BUNDLES: usize = 64;
 
-/// A room with bundles: each is one outgoing stream out of what two or three subscribers of the room are sent, its legs. `choose` says which
-/// leg is to go out, `pump` takes what waits for the legs, `draw` hands out what goes out, `redraw` hands it out again. Bundles live on, and
-/// so do their legs.
+/// A room with bundles. A bundle makes one outgoing stream of what its legs, two or three subscribers of the room, are sent. `choose` selects
+/// the leg to forward, `pump` takes what waits for the legs, `draw` returns the stream's next packet, and `redraw` a packet that was drawn.
+/// Neither bundles nor their legs end.
 #[derive(Drop)]
 pub struct Bundles<R: Recorder> {
     alloc: Global,
@@ -27,14 +27,14 @@ pub struct Bundles<R: Recorder> {
     bundles: Vec<Bundle>,
 }
 
-// Whether a number stands twice.
+// Whether a leg is listed twice.
 fn stands_twice(legs: &[u32], leg: u32) -> bool
     ensures { result ≡ nat_le 2 (count_by (λ l. l == leg) legs.now) }
 {
     legs.iter().filter(|l| **l == leg).count() >= 2
 }
 
-// The bundle that a leg is bound to.
+// The bundle that a leg is bound to: its owner, or this bundle if the leg is listed twice.
 fn bound_or(owner: Option<u32>, twice: bool, number: u32) -> Option<u32>
     ensures { result ≡ bound_or owner twice number None }
 {
@@ -65,7 +65,7 @@ impl<R: Recorder> Bundles<R> {
     ghost use Rattle.simulcast.specs.Bundles.{Bundled, BundlesHeadline, Calls, CallsWhole, CallStarvesBy, Chooses, Draws, PleasesReceivers, PumpsOne, Redraws, Simulcast, StandsFor, StarvesBy};
     ghost use Rattle.simulcast.specs.Bundles.{bound_leg, bundle_refusal, forbids_by, has_kind, is_live, may_starve, nothing_made};
 
-    /// The room, and no bundle yet.
+    /// The room, with no bundle yet. Takes no memory.
     pub fn new(alloc: Global, room: Room<R>) -> Bundles<R>
         ensures stands { (history : List Entry) → Stands R.noted room history → StandsFor R.noted result (nothing_made history) }
         ensures recorder { may_starve R.may_refuse result ≡ recorder_may_refuse R.may_refuse room }
@@ -78,7 +78,7 @@ impl<R: Recorder> Bundles<R> {
         }
     }
 
-    // Where the bundle with this number stands.
+    // The place of the bundle with this number, if there is one.
     fn place(&self, number: u32) -> Option<usize>
         ensures { result ≡ position (λ b. b.number == number) self.now.bundles.items }
     {
@@ -130,7 +130,7 @@ impl<R: Recorder> Bundles<R> {
         true
     }
 
-    // The bundle that has the first of these that is a leg already, or this number where the leg stands twice.
+    // The bundle that the first bound leg is bound to: one that has the leg already, or this number if the leg is listed twice.
     fn bound(&self, number: u32, legs: &[u32]) -> Option<u32>
         ensures { result ≡ bound_leg (λ n. option_map (λ b. b.number) (find (λ b. has_leg n b.legs.items) self.now.bundles.items)) number legs.now legs.now }
     {
@@ -142,7 +142,7 @@ impl<R: Recorder> Bundles<R> {
         None
     }
 
-    // The first refusal of a bundle with these legs that stands.
+    // The first refusal that applies to a bundle with these legs.
     fn refusal(&self, number: u32, id: u8, legs: &[u32]) -> Option<BundleFault>
         ensures { (h : Simulcast) → StandsFor R.noted self.now h → result ≡ bundle_refusal h number id legs.now }
     {
@@ -168,10 +168,10 @@ impl<R: Recorder> Bundles<R> {
         }
     }
 
-    /// Begins a bundle of two or three legs, subscribers of layered tracks with this header extension id: what it sends has this SSRC, and
-    /// sequence numbers from `first` on. The first leg is chosen. `NumberUsed`: the number is at most the highest of a bundle; `TooMany`:
-    /// there are 64; `Room(NoSubscriber)`: a leg isn't live; `Bound`: a leg is one already, of that bundle, or stands twice, of this;
-    /// `WrongKind`; `NoMemory`.
+    /// Begins a bundle of two or three legs, which are subscribers of layered tracks with this header extension id. The bundle sends with this
+    /// SSRC, and sequence numbers from `first` on. The first leg is chosen. `NumberUsed`: the number is at most the highest of a bundle.
+    /// `TooMany`: there are 64 bundles. `Room(NoSubscriber)`: a leg isn't live. `Bound`: a leg belongs to that bundle already, or is listed
+    /// twice; then that bundle is this one. `WrongKind`: a leg's track isn't layered with this id. `NoMemory` comes last.
     pub fn bundle(
         &mut self,
         number: u32,
@@ -197,7 +197,7 @@ impl<R: Recorder> Bundles<R> {
         }
     }
 
-    // The bundle that forbids a call.
+    // The bundle that forbids a call, if one does.
     fn forbids(&self, call: &Call) -> Option<u32>
         ensures { result ≡ forbids_by (λ n. option_map (λ b. b.number) (find (λ b. has_leg n b.legs.items) self.now.bundles.items)) call.now }
     {
@@ -208,8 +208,8 @@ impl<R: Recorder> Bundles<R> {
         }
     }
 
-    /// Serves a call of a seat on the room, as `Room::serve` does. `Bound`: it is a `take` or a `leave` of a leg of that bundle; nothing changes
-    /// then, in the scratch neither.
+    /// Serves a call of a seat on the room, as `Room::serve` does. `Bound`: the call is a `Take` or a `Leave` of a leg of that bundle; nothing
+    /// changes, including the scratch.
     pub fn call(
         &mut self,
         seat: u32,
@@ -227,8 +227,9 @@ impl<R: Recorder> Bundles<R> {
         }
     }
 
-    /// Takes what waits for the bundle's legs: from the active leg, then from the chosen one where it is another, then from the rest in order;
-    /// from each until nothing waits for it or 512 packets of the bundle are queued. `NoBundle`; `NoMemory`: the room refused a take.
+    /// Takes what waits for the bundle's legs: from the active leg, then from the chosen one if that is another, then from the rest in order. It
+    /// takes from a leg until nothing waits for it, or 512 packets of the bundle are queued. `NoBundle`: no bundle has the number. `NoMemory`: a
+    /// take ran out of memory; the takes before it stay.
     pub fn pump(&mut self, number: u32, scratch: &mut Scratch) -> Result<Pumped, BundleFault>
         ensures pumps { PumpsOne R.noted self.old self.new number result }
         ensures unchanged { result ≡ Err BundleFault.NoBundle → scratch.new ≡ scratch.old }
@@ -251,7 +252,8 @@ impl<R: Recorder> Bundles<R> {
         }
     }
 
-    /// Hands out the bundle's oldest queued packet, and answers its sequence number. `NoBundle`; `Room(Empty)`: none is queued.
+    /// Writes the bundle's oldest queued packet to `out`, and returns its sequence number. `NoBundle`: no bundle has the number. `Room(Empty)`:
+    /// no packet is queued. An error leaves `out` as it was.
     pub fn draw(&mut self, number: u32, out: &mut PacketBuf) -> Result<u16, BundleFault>
         ensures draws { Draws R.noted self.old self.new number out.new result }
         ensures unchanged { OnErr result (out.new ≡ out.old) }
@@ -266,8 +268,8 @@ impl<R: Recorder> Bundles<R> {
         }
     }
 
-    /// Hands out a packet again that was drawn under this sequence number. `NoBundle`; `Room(NotKept)`: none of the last 1,024 that were drawn
-    /// has the number.
+    /// Writes the packet that was drawn under this sequence number to `out` again. `NoBundle`: no bundle has the number. `Room(NotKept)`: none
+    /// of the last 1,024 drawn packets has the sequence number. An error leaves `out` as it was.
     pub fn redraw(&self, number: u32, seq: u16, out: &mut PacketBuf) -> Result<(), BundleFault>
         ensures redraws { Redraws R.noted self.now number seq out.new result }
         ensures unchanged { OnErr result (out.new ≡ out.old) }
@@ -281,8 +283,8 @@ impl<R: Recorder> Bundles<R> {
         }
     }
 
-    /// Chooses a leg, counted from 1, and asks for a key frame of it where it isn't active. `NoBundle`; `NoLeg`: the bundle has no such leg;
-    /// `NoMemory`: the room refused to be asked, and the leg is chosen.
+    /// Chooses a leg, counted from 1. If the leg isn't active, seat 0 pleads for a key frame of the leg's track. `NoBundle`: no bundle has the
+    /// number. `NoLeg`: the bundle has no such leg. `NoMemory`: the plea ran out of memory; the leg is chosen nevertheless.
     pub fn choose(&mut self, number: u32, leg: u8, scratch: &mut Scratch) -> Result<(), BundleFault>
         ensures chooses { Chooses R.noted self.old self.new number leg result }
         ensures memory { StarvesBy R.may_refuse self.old result }

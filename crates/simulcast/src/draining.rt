@@ -11,10 +11,10 @@ use dd_descriptor::NewestDescriptor;
 use room_core::{Recorder, Room};
 use sfu_base::{NoMemory, Scratch};
 
-/// So many takes of one leg find no packet more: one more than are queued for a subscriber.
+/// One more than a subscriber's queue holds: after this many takes no packet waits for a leg.
 const MOST_TAKES: u32 = 513;
 
-// Takes what waits for a leg, until nothing does or 512 packets are queued, and says how many were taken.
+// Takes what waits for a leg, until nothing waits or 512 packets of the bundle are queued. Returns how many packets were taken.
 fn drain<R: Recorder>(
     room: &mut Room<R>,
     bundle: &mut Bundle,
@@ -46,7 +46,7 @@ fn drain<R: Recorder>(
     Ok(MOST_TAKES)
 }
 
-// The same of this leg, if there is such a leg.
+// The same for this leg of the bundle, if there is such a leg.
 fn drain_leg<R: Recorder>(
     room: &mut Room<R>,
     bundle: &mut Bundle,
@@ -70,7 +70,7 @@ fn drain_leg<R: Recorder>(
     }
 }
 
-// The same of legs one after another.
+// The same for these legs, one after another.
 fn drain_legs<R: Recorder>(
     room: &mut Room<R>,
     bundle: &mut Bundle,
@@ -94,8 +94,8 @@ fn drain_legs<R: Recorder>(
     Ok(taken)
 }
 
-/// Takes what waits for the legs of a bundle: from the active leg, then from the chosen one where it is another, then from the rest in order;
-/// from each until nothing waits for it or 512 packets of the bundle are queued.
+/// Takes what waits for the legs of a bundle: from the active leg, then from the chosen one if that is another, then from the rest in order.
+/// It takes from a leg until nothing waits for it, or 512 packets of the bundle are queued.
 pub fn pump<R: Recorder>(
     room: &mut Room<R>,
     bundle: &mut Bundle,

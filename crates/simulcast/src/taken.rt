@@ -1,4 +1,4 @@
-// What a take of a leg gave.
+// What a take of a leg returned.
 ghost use Rattle.std.specs.Prelude.{◌≡◌, None, true, false};
 ghost use Rattle.sfu_base.specs.Answer.{is_starved};
 ghost use Rattle.sfu_base.specs.declared.call.Reply.TheVariants as reply;
@@ -7,7 +7,7 @@ ghost use Rattle.rtp_packet.specs.Fields.{marker_of};
 
 use sfu_base::{Refusal, Reply};
 
-/// Whether a reply is want of memory.
+/// Whether a reply is out of memory.
 pub fn is_starved(reply: &Reply) -> bool
     ensures { result ≡ is_starved reply.now }
 {

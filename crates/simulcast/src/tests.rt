@@ -9,12 +9,12 @@ use std::test::Fail;
 
 const LAYERED: Kind = Kind::Layered { id: 4 };
 
-// A call and its answer.
+// A call and what it returns.
 #[derive(Clone, Copy)]
 enum Step {
     // Of a kind, with a number and an SSRC.
     Publish(Kind, u32, u32),
-    // Subscriber, track, and the answer.
+    // Subscriber and track.
     Join(u32, u32),
     // Of track 1 or 2: sequence number and descriptor.
     Came(u32, u16, &'static [u8]),
@@ -42,7 +42,8 @@ const FRAME_2: &[u8] = b"\x00\x01\x42\xc1\x00\x02\x10\x30\x00";
 
 const FRAME_3: &[u8] = b"\x00\x01\x42\xc1\x00\x03\x10\x30\x00";
 
-// The first one as it goes out, with the mask of its target, and the others behind it; the last one 3,000 behind them, as leg 2 is active then.
+// The first one as it is sent, with the mask of its target, and the others behind it. The last one's timestamp is 3,000 higher, as leg 2 is
+// active then.
 const OUT_10: &[u8] =
     b"\x90\xe0\x00\x0a\x00\x00\x00\x00\x55\x55\x55\x55\xbe\xde\x00\x03\x48\xc0\x00\x01\xc0\x00\x3a\x41\x01\x40\x00\x00\x18\x30\x00";
 

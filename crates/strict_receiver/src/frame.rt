@@ -8,11 +8,11 @@ ghost use Rattle.strict_receiver.specs.Near.{are_near};
 pub struct FrameStart {
     /// The frame number modulo 65,536.
     pub number: u16,
-    /// Whether it is a key frame.
+    /// Whether the frame is a key frame.
     pub key: bool,
-    /// How many frames it refers to.
+    /// How many frames the frame refers to, at most 16.
     pub ref_count: u8,
-    /// How many frames back each of them is, 1 to 4,096.
+    /// How many frames back each referenced frame is, 1 to 4,096 (frame_fdiff). Only the first `ref_count` places count.
     pub refs: [u16; 16],
     ghost few: { ref_count ≤ 16 },
     ghost near: { are_near ref_count refs ≡ true },
@@ -22,8 +22,8 @@ pub struct FrameStart {
 #[derive(Clone, Copy, Debug)]
 pub struct OpenFrame {
     pub start: FrameStart,
-    /// How many packets it has, at most 512.
+    /// How many packets the frame has so far, at most 512.
     pub packets: u16,
-    /// Whether its last packet left an element open.
+    /// Whether the last packet left an element open, which the next packet continues (RTP Payload Format For AV1, section 4.4: Y).
     pub carries: bool,
 }

@@ -13,7 +13,7 @@ use packet_format::begins_epoch;
 /// The most packets of a frame.
 const MOST_PACKETS: u16 = 512;
 
-/// Whether a frame begins with a packet with this descriptor, where none is open: it starts one, and continues no element.
+/// Whether a packet with this descriptor begins a frame, where none is open: it has the start bit, and continues no element.
 pub fn begins(first: &Descriptor, continues: bool) -> bool
     ensures { result ≡ (first.now.start && not continues) }
 {
@@ -46,8 +46,8 @@ fn start_of(first: &Descriptor) -> FrameStart
     }
 }
 
-/// Whether a packet with this descriptor continues the frame: it starts none, has the frame's number, continues an element where one was
-/// left open, and isn't the 513th.
+/// Whether a packet with this descriptor continues the frame: it has no start bit, has the frame's number, continues an element exactly if
+/// one was left open, and is at most the 512th.
 pub fn goes_on(frame: &OpenFrame, descriptor: &Descriptor, continues: bool) -> bool
     ensures follows { (force : Option TemplateStructure) → result ≡ follows (frame_said frame.now) (said_by force descriptor.now) continues }
     ensures few { result ≡ true → frame.now.packets < 512 }

@@ -1,5 +1,6 @@
-//! A strict receiver: it sees the packets of one layered track and the id of its descriptors' header extension, and returns the first thing
-//! that is wrong with them. What a forwarder sends is right where such a receiver has no complaint. Only its constructor takes memory.
+//! A strict receiver: it sees only the packets of one layered track and the header extension id of their dependency descriptors, and
+//! returns the first complaint about the packets. What a forwarder sends is right where the receiver has no complaint. Only the constructor
+//! takes memory.
 #![tactic(auto)]
 
 mod frame;

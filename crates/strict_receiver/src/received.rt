@@ -13,8 +13,9 @@ use ref_window::RefWindow;
 use std::marker::Model;
 use wrap_number::above;
 
-/// The newest frame's number, and which of the numbers up to it were received. Only distances below it and its number modulo 65,536 count,
-/// so all numbers are lowered by the same multiple of 65,536 before they get too high. Clauses see both as the definition has them.
+/// The newest frame's number, and which of the numbers up to it were received. Only the newest number modulo 65,536 and the distances below
+/// it count, so all numbers are lowered by the same multiple of 65,536 before they get too high. Clauses see a `Received` of
+/// `forwarding_model`.
 #[derive(Debug, Drop)]
 pub struct ReceivedFrames {
     newest: u64,
@@ -35,10 +36,10 @@ impl Model for ReceivedFrames {
 /// From this number on, all numbers are lowered.
 const TOO_HIGH: u64 = 1 << 24;
 
-/// A number that is further ahead is read as behind.
+/// How far above the newest a frame number may be, modulo 65,536; a number further ahead counts as behind.
 const FARTHEST_AHEAD: u64 = 32767;
 
-/// How far back a frame may lie that the next one refers to.
+/// The greatest distance at which a frame may refer to another (frame_fdiff).
 const SPAN: u64 = 4096;
 
 impl ReceivedFrames {
@@ -52,8 +53,8 @@ impl ReceivedFrames {
         }
     }
 
-    /// A whole frame begins so. Returns the first distance at which a frame isn't received that it refers to; where there is none, the
-    /// frame counts as received.
+    /// Judges a whole frame by its first descriptor. Returns the distance of the first reference to a frame that wasn't received. If there
+    /// is none, the frame itself counts as received.
     pub fn judge(&mut self, start: &FrameStart) -> Option<u16>
         ensures { (received : Received) → AreKeptOf self.old received
             → Judges self.new result (judge received (header_said start.now)) }
@@ -67,7 +68,7 @@ impl ReceivedFrames {
         missing
     }
 
-    // The frame's number becomes the newest. A key frame, and one whose number isn't above the newest, empties the received numbers.
+    // The frame's number becomes the newest. A key frame, or a frame whose number isn't above the newest, clears the received numbers.
     fn place(&mut self, key: bool, number: u16)
         requires { self.old.newest < 2 ^ 24 }
         ensures { (references : List ℕ) → self.new ≡ placed self.old (record { number = number; key = key; references = references }) }
@@ -81,7 +82,7 @@ impl ReceivedFrames {
         }
     }
 
-    // The first of these distances below the newest number whose number isn't received.
+    // The first of these distances for which the number so far below the newest wasn't received.
     fn first_missing(&self, distances: &[u16]) -> Option<u16>
         ensures { result ≡ first_failing (is_received self.now.numbers self.now.newest) distances.now }
     {
@@ -93,7 +94,7 @@ impl ReceivedFrames {
         None
     }
 
-    // Whether the number so far below the newest is received.
+    // Whether the number at this distance below the newest was received.
     fn has(&self, distance: u16) -> bool
         ensures { result ≡ is_received self.now.numbers self.now.newest distance }
     {
@@ -101,7 +102,7 @@ impl ReceivedFrames {
         distance <= self.newest && self.window.holds(self.newest - distance)
     }
 
-    // Numbers that are too high are lowered.
+    // Lowers the numbers if they are too high.
     fn keep_low(&mut self)
         ensures low { self.new.newest < 2 ^ 24 }
         ensures same { (received : Received) → AreKeptOf self.old received → AreKeptOf self.new received }
@@ -111,7 +112,7 @@ impl ReceivedFrames {
         }
     }
 
-    // All numbers are lowered by the same multiple of 65,536.
+    // Lowers all numbers by the same multiple of 65,536.
     #[cold]
     #[inline(never)]
     fn lower(&mut self)
@@ -125,7 +126,7 @@ impl ReceivedFrames {
     }
 }
 
-// What a window holds of the last 4,096 numbers up to the newest, each lowered by so much.
+// Those of the last 4,096 numbers up to `newest` that a window holds, each lowered by `by`.
 fn lowered(window: &RefWindow, newest: u64, by: u64) -> RefWindow
     requires high { by + 4096 ≤ newest }
     requires small { newest < 2 ^ 63 }

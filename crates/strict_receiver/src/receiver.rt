@@ -14,12 +14,12 @@ use sfu_base::NoMemory;
 use std::alloc::Global;
 use std::marker::Model;
 
-/// A strict receiver of the packets of one layered track (own rule): it sees only them, and knows the id of the header extension that has
-/// their dependency descriptors. Clauses see the id, the receiver of `forwarding_model` with those received numbers that are kept, and both
-/// counts.
+/// A strict receiver of the packets of one layered track (own rule): it sees only the packets and the header extension id of their
+/// dependency descriptors. Clauses see that id, the receiver of `forwarding_model` with those received numbers that are kept, and the
+/// counts of packets and frames.
 #[derive(Drop)]
 pub struct Receiver {
-    // On the heap, since it has two template structures, and a receiver is moved about.
+    // On the heap, since a state has two template structures, and receivers are moved about.
     state: Box<State>,
     packets: u64,
     frames: u64,
@@ -38,7 +38,7 @@ impl Model for Receiver {
 }
 
 impl Receiver {
-    /// A receiver that has seen no packet yet, for descriptors with this header extension id. All its memory is taken here.
+    /// A receiver that has seen no packet yet, for descriptors with this header extension id. All memory of the receiver is taken here.
     pub fn new(alloc: Global, id: u8) -> Result<Receiver, NoMemory>
         ensures id { IfOk result (λ receiver. receiver.id ≡ id) }
         ensures stands { IfOk result (λ receiver. StandsFor receiver []) }
@@ -50,8 +50,8 @@ impl Receiver {
         })
     }
 
-    /// Takes the next packet's bytes. The complaint is the first thing that is wrong with them. From then on each call returns that
-    /// complaint and changes nothing.
+    /// Takes the next packet's bytes. Returns the first complaint about the packets so far, if there is one. After a complaint each call
+    /// returns it again and changes nothing.
     pub fn feed(&mut self, packet: &[u8]) -> Result<(), Complaint>
         ensures id { self.new.id ≡ self.old.id }
         ensures stands { (history : List (List ℕ)) → StandsFor self.old history → StandsFor self.new (history ++ packet.now ∷ []) }
@@ -71,14 +71,14 @@ impl Receiver {
         Ok(())
     }
 
-    /// How many frames were accepted: all whose last packet was. At most 2^64 - 1.
+    /// How many frames were accepted: those whose last packet was accepted. The count stops at 2^64 - 1.
     pub fn frames(&self) -> u64
         ensures { result ≡ self.now.frames }
     {
         self.frames
     }
 
-    /// How many packets were accepted, those of an unfinished frame among them. At most 2^64 - 1.
+    /// How many packets were accepted, including those of an unfinished frame. The count stops at 2^64 - 1.
     pub fn packets(&self) -> u64
         ensures { result ≡ self.now.packets }
     {
@@ -92,7 +92,8 @@ impl Receiver {
         self.state.has_ended_a_frame()
     }
 
-    /// The template structure in force, where all packets were accepted; none before the first.
+    /// The template structure in force while all packets are accepted; none before the first packet. After a complaint no clause says
+    /// which.
     pub fn structure(&self) -> Option<&Structure>
         ensures { (r : Reception TemplateStructure) → self.now.receiver ≡ Receiving r → option_copied result ≡ r.structure }
     {

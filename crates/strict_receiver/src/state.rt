@@ -29,7 +29,7 @@ pub enum Stage {
     Waiting,
     /// All packets so far were accepted.
     Receiving(Last),
-    /// It has a complaint, for good.
+    /// A packet had this complaint, which stays.
     Complaining(Complaint),
 }
 
@@ -40,7 +40,7 @@ pub struct Last {
     pub sequence: u16,
 }
 
-/// What a receiver keeps. The newest descriptor is scratch space for the parser.
+/// What a receiver keeps. `id` is the header extension id of the descriptors; `newest` is scratch space for the parser.
 #[derive(Drop)]
 pub struct State {
     pub id: u8,
@@ -69,7 +69,7 @@ impl State {
         }
     }
 
-    /// The next packet.
+    /// Takes the next packet. A complaint is kept, and returned by every later call.
     pub fn next(&mut self, packet: &[u8]) -> Result<(), Complaint>
         ensures id { self.new.id ≡ self.old.id }
         ensures again { (complaint : Complaint) → self.old.stage ≡ Stage.Complaining complaint → result ≡ Err complaint }
@@ -89,7 +89,7 @@ impl State {
         }
     }
 
-    /// Whether a packet was accepted and left no frame open.
+    /// Whether the last packet was accepted and left no frame open.
     pub fn has_ended_a_frame(&self) -> bool
         ensures { (m : Receiver TemplateStructure) → IsStateOf self.now m → (if result then 1 else 0) ≡ ends_frame m }
     {
@@ -99,7 +99,7 @@ impl State {
         }
     }
 
-    // The next packet of a receiver that has no complaint.
+    // Takes the next packet of a receiver that has no complaint.
     fn accept(&mut self, bytes: &[u8]) -> Result<(), Complaint>
         ensures id { self.new.id ≡ self.old.id }
         ensures accepted { (m : Receiver TemplateStructure) → IsStateOf self.old m → is_content m ≡ true
@@ -114,7 +114,7 @@ impl State {
         }
     }
 
-    // Whether a packet is of the source and has the next number.
+    // Whether a packet has the last one's SSRC and the next sequence number, or is the first.
     fn expect(&self, ssrc: u32, sequence: u16) -> Result<(), Complaint>
         ensures { (m : Receiver TemplateStructure) → IsStateOf self.now m → Expects self.now ssrc result (reception_for m ssrc sequence) }
     {
@@ -139,7 +139,7 @@ impl State {
         }
     }
 
-    // A packet of the source with the next number.
+    // Takes a packet with the expected SSRC and sequence number.
     fn take(&mut self, rtp: &Rtp<'_>) -> Result<(), Complaint>
         ensures id { self.new.id ≡ self.old.id }
         ensures taken { (bytes : List ℕ) (r : Reception TemplateStructure) → IsOf bytes rtp.now → IsExpected self.old rtp.now.ssrc r
@@ -161,7 +161,7 @@ impl State {
         }
     }
 
-    // A packet whose descriptor, the newest, and payload are read.
+    // Takes a packet whose payload was read, and whose descriptor was read into `newest`.
     fn part(&mut self, last: Last, continues: bool, carries: bool) -> Result<(), Complaint>
         requires { HasDistances self.old.newest }
         ensures id { self.new.id ≡ self.old.id }
@@ -196,7 +196,8 @@ impl State {
         }
     }
 
-    // The newest packet begins a frame, where none is open, or continues the open one; else the frame isn't whole.
+    // Joins the newest packet to the open frame, or begins a frame with it where none is open. Returns false if it can't: the frame isn't
+    // whole then.
     fn join(&mut self, continues: bool, carries: bool) -> bool
         requires { HasDistances self.old.newest }
         ensures rest { self.new ≡ record self.old { frame = self.new.frame } }
@@ -225,7 +226,8 @@ impl State {
         }
     }
 
-    // The open frame, with the newest packet's end bit: it continues, or has ended, or isn't whole or lacks a reference.
+    // Ends the open frame if the newest packet has the end bit. Complains if the frame then has an open element (`NotWhole`) or lacks a
+    // reference (`MissingReference`).
     fn finish(&mut self) -> Result<(), Complaint>
         requires { is_some self.old.frame ≡ true }
         ensures rest { self.new ≡ record self.old { frame = self.new.frame; received = self.new.received } }

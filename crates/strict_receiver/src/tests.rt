@@ -126,7 +126,8 @@ const END_2: [u8; 3] = [0x41, 0x00, 0x02];
 
 const END_3: [u8; 3] = [0x41, 0x00, 0x03];
 
-// One element; one that continues in the next packet; one that does so and comes from the one before; one that only does that.
+// One element; one that continues in the next packet; one that continues in the next packet and began in an earlier one; one that only
+// began earlier.
 const CLOSED: [u8; 3] = [0x10, 0x30, 0x00];
 
 const CARRIES: [u8; 3] = [0x50, 0x30, 0x00];
@@ -141,7 +142,7 @@ const BROKEN: [u8; 1] = [0x20];
 // ---- rows
 
 // All but the last of these are accepted, and this is returned for the last. The counts are those of what was accepted. After a complaint
-// that one is returned whatever comes, and nothing changes.
+// every further packet gets that complaint, and nothing changes.
 fn answers_last(
     rt: &impl Abort,
     receiver: &mut Receiver,
@@ -408,7 +409,7 @@ fn each_complaint_is_answered_for_good(rt: HostRuntime) -> Result<(), Fail> {
             missing(4098, 4096),
             (1, 1),
         ),
-        // a frame that isn't whole has no references to ask for
+        // a frame that isn't whole: its missing reference isn't complained of
         (
             &[(0, &KEY_1, &CLOSED), (1, &FRAME_7, &CARRIES)],
             Complaint::NotWhole,
@@ -514,7 +515,7 @@ fn frame_numbers_go_on_however_far_apart_they_lie(rt: HostRuntime) -> Result<(),
     );
     assert_eq!(rt; (receiver.packets(), receiver.frames()), (514, 514));
 
-    // 1,200 frames, each as far above the one before as a number can be and be read as above; each is followed by one that refers to it.
+    // 1,200 frames, each 32,767 above the one before, the most that counts as above; each is followed by a frame that refers to it.
     let mut receiver = Receiver::new(rt.alloc(), 4)?;
     assert_eq!(rt;
         answer_to(&mut receiver, (0, &KEY_1, &CLOSED)),

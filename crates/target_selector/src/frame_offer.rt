@@ -1,4 +1,4 @@
-// What a frame says to all subscribers of its track, found once.
+// What is the same for all subscribers of a frame's track, found once.
 ghost use Rattle.std.specs.Prelude.{◌≡◌, ◌≤◌, ◌<◌, ◌&&◌, ◌||◌, ℕ, Bool, true, false};
 ghost use Rattle.sfu_base.specs.Frame.{IsValid};
 ghost use Rattle.forwarding_model.specs.forwarding.Outgoing.{is_top_layer};
@@ -18,14 +18,14 @@ use std::marker::Model;
 // How many decode targets a frame may have.
 const TARGETS: u8 = 32;
 
-// No layers are beyond it.
+// The wish that allows all layers.
 const EVERYTHING: Wish = Wish {
     spatial: u8::MAX,
     temporal: u8::MAX,
 };
 
-/// A frame of so many packets, and what it says to all subscribers of its track: at which of its targets a decoder can begin, and which of these is
-/// best. It is made once a frame. Clauses see the frame and the count.
+/// A frame, how many packets it has, and what is the same for all subscribers of its track: at which of the frame's targets a decoder can begin, and
+/// which of these is best. An offer is made once a frame. Clauses see the frame and the count of packets.
 #[derive(Debug, Drop)]
 pub struct FrameOffer<'a> {
     frame: &'a FrameMeaning,
@@ -47,7 +47,7 @@ impl<'a> Model for FrameOffer<'a> {
 }
 
 impl<'a> FrameOffer<'a> {
-    /// What this frame of so many packets says.
+    /// The offer of a frame of `packets` packets.
     pub fn new(frame: &'a FrameMeaning, packets: u16) -> FrameOffer<'a>
         requires { IsValid frame.now }
         ensures { result ≡ record { frame = frame.now; packets = packets } }
@@ -70,22 +70,22 @@ impl<'a> FrameOffer<'a> {
         self.frame
     }
 
-    /// Its number.
+    /// The frame's number.
     pub fn number(&self) -> u64
         ensures { result ≡ self.now.frame.number }
     {
         self.frame.number
     }
 
-    /// How many packets it has.
+    /// How many packets the frame has.
     pub fn packets(&self) -> u16
         ensures { result ≡ self.now.packets }
     {
         self.packets
     }
 
-    /// The best target that the frame opens for this wish in place of the current one. `ready` is whether all its references were passed, and it is a
-    /// key frame or its epoch's was passed.
+    /// The best target that the frame opens for this wish in place of the current one, if it opens one. `ready` is whether all references of the
+    /// frame were passed, and it is a key frame or its epoch's key frame was passed.
     pub fn opening(&self, wish: Wish, ready: bool, current: CurrentTarget) -> Option<u8>
         requires { IsIndexBelow 32 current }
         ensures value { (complete keyed : Bool) → ready ≡ (complete && keyed) → result ≡ best self.now.frame (can_open wish complete keyed self.now.frame current) }
@@ -111,7 +111,7 @@ impl<'a> FrameOffer<'a> {
         ensures value { result ≡ best self.now.frame (begins_within wish self.now.frame) }
         ensures below { IsBelow 32 result }
     {
-        // The check knows the range of what is read.
+        // The checker knows the range of fields that are read.
         let Wish { .. } = wish;
         match self.top {
             Some(top) => {
@@ -125,7 +125,7 @@ impl<'a> FrameOffer<'a> {
         }
     }
 
-    // Whether no target is open, or the open one isn't allowed, or this one, the best that begins, is better.
+    // Whether `chosen`, the best target that begins, replaces the current one: no target is open, the open one isn't allowed, or `chosen` is better.
     fn is_upgrade(&self, wish: Wish, current: CurrentTarget, chosen: u8) -> bool
         requires best { Some chosen ≡ best self.now.frame (begins_within wish self.now.frame) }
         requires below { chosen < 32 }
@@ -144,7 +144,7 @@ impl<'a> FrameOffer<'a> {
         }
     }
 
-    /// The best target that the wish allows.
+    /// The best target that the wish allows, if it allows one.
     pub fn aim(&self, wish: Wish) -> Option<u8>
         ensures { result ≡ aim wish self.now.frame }
     {
@@ -163,7 +163,7 @@ impl<'a> FrameOffer<'a> {
         is_present(self.frame, target)
     }
 
-    /// Whether it belongs to the target that is open, if one is.
+    /// Whether a target is open and the frame belongs to it.
     pub fn is_present_in(&self, current: CurrentTarget) -> bool
         ensures { result ≡ is_present_in self.now.frame current }
     {
@@ -173,7 +173,7 @@ impl<'a> FrameOffer<'a> {
         }
     }
 
-    /// Whether it has the spatial id of the open target's layers.
+    /// Whether a target is open and the frame has the spatial id of that target's layers.
     pub fn is_top_layer(&self, current: CurrentTarget) -> bool
         requires { IsIndexBelow 32 current }
         ensures { result ≡ is_top_layer self.now.frame current }
@@ -187,8 +187,8 @@ impl<'a> FrameOffer<'a> {
         }
     }
 
-    /// The mask of the targets that a subscriber with this target gets of the frame: those that the frame's mask has, and whose layers are at most
-    /// the target's own. Bit i, the lowest first, is target i.
+    /// The mask of the targets that a subscriber with this target gets of the frame: those in the frame's mask whose layers are at most those of
+    /// `target`. Bit i, the lowest first, is target i. Without a target the mask is 0.
     #[inline(never)]
     pub fn mask_for(&self, target: Option<u8>) -> u32
         requires { IsBelow 32 target }
@@ -209,7 +209,7 @@ impl<'a> FrameOffer<'a> {
     }
 }
 
-// The targets that are active, and that a decoder can begin at the frame: at a switch, or at a key frame that belongs to it.
+// The active targets at which a decoder can begin: the frame is a switch for the target, or a key frame that belongs to the target.
 fn begun_targets(frame: &FrameMeaning) -> u32
     requires { IsValid frame.now }
     ensures { (t : ℕ) → t < frame.now.target_count → is_bit result t ≡ begins frame.now t }
@@ -234,7 +234,7 @@ fn begun_ones(frame: &FrameMeaning) -> u32
     }
 }
 
-// Whether the frame is a key frame, or a switch for a target. In this and in the two below all places are looked at, so that the compiler compares many
+// Whether the frame is a key frame, or a switch for a target. This function and the two below look at all places, so that the compiler compares many
 // at once.
 #[inline(always)]
 fn begins_some(frame: &FrameMeaning) -> bool
@@ -257,7 +257,7 @@ fn switch_ones(frame: &FrameMeaning) -> u32
     ones
 }
 
-// Those that say that the frame belongs to the target.
+// The targets to which the frame belongs, as a mask.
 fn present_ones(frame: &FrameMeaning) -> u32
     ensures { result ≡ targets_where (λ t. says_present (indication frame.now t)) 32 }
 {
@@ -268,7 +268,7 @@ fn present_ones(frame: &FrameMeaning) -> u32
     ones
 }
 
-// The best of them.
+// The best of the targets in the mask `begun`.
 fn best_begun(frame: &FrameMeaning, begun: u32) -> Option<u8>
     requires { frame.now.target_count ≤ 32 }
     ensures value { result ≡ best_in frame.now.pairs (allows everything begun frame.now.pairs) frame.now.target_count }

@@ -1,5 +1,5 @@
-// A frame's decode targets (AV1 RTP payload format, Appendix A: templates' layers, active_decode_targets_bitmask), and which of them is allowed
-// and best (own rules).
+// A frame's decode targets (AV1 RTP payload format, Appendix A: templates' layers, active_decode_targets_bitmask), which of them a wish allows,
+// and which is best (own rules).
 ghost use Rattle.std.specs.Prelude.{◌≡◌, ◌+◌, ◌≤◌, ◌<◌, ◌^◌, ◌==◌, ◌||◌, ◌&&◌, nat_lt, if◌then◌else◌};
 ghost use Rattle.forwarding_model.specs.forwarding.Targets.{is_better_of, is_better_pair, is_within};
 ghost use Rattle.target_selector.specs.Masks.{targets_where};
@@ -8,7 +8,7 @@ ghost use Rattle.target_selector.specs.Targets.{IsBelow, IsRanked, allows, best_
 
 use sfu_base::{FrameMeaning, Wish};
 
-/// The layers of each decode target: none where no template of the frame is present in it.
+/// The highest layers of each decode target: none where no template of the structure is present in the target.
 pub type Pairs = [Option<Wish>; 32];
 
 /// A frame's decode targets: how many, which are active, and the layers of each.
@@ -31,7 +31,7 @@ impl FrameTargets {
         }
     }
 
-    /// The targets become the frame's.
+    /// Replaces the targets by the frame's.
     pub fn set(&mut self, frame: &FrameMeaning)
         ensures { self.new ≡ targets_of frame.now }
     {
@@ -41,14 +41,14 @@ impl FrameTargets {
     }
 }
 
-/// The best target so far, if there is one, and the least height of a better one behind it.
+/// The best target so far, if there is one, and the least height with which a target behind it is better.
 #[derive(Clone, Copy, Debug)]
 pub struct Ranked {
     pub target: Option<u8>,
     pub least: u32,
 }
 
-/// The best of these targets below `count` whose layers are within the wish.
+/// The best of the targets below `count` that are in the mask `among` and whose layers are within the wish.
 #[tactic(auto, using(crate::proofs::Bests::best_step))]
 pub fn best_of(wish: Wish, among: u32, count: u8, pairs: &Pairs) -> Option<u8>
     requires { count ≤ 32 }
@@ -65,7 +65,7 @@ pub fn best_of(wish: Wish, among: u32, count: u8, pairs: &Pairs) -> Option<u8>
     best.target
 }
 
-// The target, if it is one of these, its layers are within the wish, and it is better than the best of those before it; else that one.
+// `target`, if it is in the mask `among`, its layers are within the wish, and it is better than `best`; else `best`.
 fn better(wish: Wish, among: u32, pairs: &Pairs, target: u8, best: Ranked) -> Ranked
     requires target { target < 32 }
     requires best { IsRanked pairs.now target best }
@@ -87,7 +87,7 @@ fn better(wish: Wish, among: u32, pairs: &Pairs, target: u8, best: Ranked) -> Ra
     }
 }
 
-// Of two targets that with the higher layers is better.
+// The rank of layers, by the spatial and then the temporal id: of two targets the one whose layers have the greater height is better.
 fn height(layers: Wish) -> u32
     ensures height { result ≡ height layers }
     ensures temporal { layers.temporal < 256 }
@@ -96,7 +96,7 @@ fn height(layers: Wish) -> u32
     u32::from(layers.spatial) * 256 + u32::from(layers.temporal)
 }
 
-/// The target's layers.
+/// The target's layers, if it has any.
 pub fn layers(pairs: &Pairs, target: u8) -> Option<Wish>
     requires { target < 32 }
     ensures { result ≡ layers_in pairs.now target }
@@ -104,7 +104,7 @@ pub fn layers(pairs: &Pairs, target: u8) -> Option<Wish>
     pairs[usize::from(target)]
 }
 
-/// Whether the target is one of these, and its layers are within the wish.
+/// Whether the target is in the mask `among`, and its layers are within the wish.
 pub fn is_allowed(wish: Wish, among: u32, pairs: &Pairs, target: u8) -> bool
     requires { target < 32 }
     ensures { result ≡ allows wish among pairs.now target }
@@ -112,7 +112,7 @@ pub fn is_allowed(wish: Wish, among: u32, pairs: &Pairs, target: u8) -> bool
     has_bit(among, target) && is_within(wish, layers(pairs, target))
 }
 
-/// Whether the target is better than another.
+/// Whether `target` is better than `other`.
 pub fn is_better(pairs: &Pairs, target: u8, other: u8) -> bool
     requires target { target < 32 }
     requires other { other < 32 }
@@ -125,7 +125,7 @@ pub fn is_better(pairs: &Pairs, target: u8, other: u8) -> bool
     }
 }
 
-// The greater spatial id first, then the greater temporal id, then the lower index.
+// The greater spatial id is better, then the greater temporal id, then the lower index.
 fn is_better_pair(pair: Wish, other_pair: Wish, target: u8, other: u8) -> bool
     ensures { result ≡ is_better_pair pair other_pair target other }
 {
@@ -135,7 +135,7 @@ fn is_better_pair(pair: Wish, other_pair: Wish, target: u8, other: u8) -> bool
                 || (pair.temporal == other_pair.temporal && target < other)))
 }
 
-/// The mask of these targets below `count` whose layers are at most the given ones.
+/// The mask of the targets below `count` that are in the mask `among` and whose layers are at most `most`.
 pub fn mask_within(most: Wish, among: u32, count: u8, pairs: &Pairs) -> u32
     requires { count ≤ 32 }
     ensures { result ≡ targets_where (allows most among pairs.now) count }
@@ -147,7 +147,7 @@ pub fn mask_within(most: Wish, among: u32, count: u8, pairs: &Pairs) -> u32
     mask
 }
 
-/// The mask with the target's bit, if it is to have it.
+/// The mask, which has only bits below the target's, with the target's bit added if `has`.
 pub fn with_target(mask: u32, target: u8, has: bool) -> u32
     requires target { target < 32 }
     requires mask { mask < 2 ^ target }

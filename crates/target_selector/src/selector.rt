@@ -1,4 +1,4 @@
-// The standing of a subscriber, as far as it decides on frames.
+// The part of a subscriber's standing that decides on frames.
 ghost use Rattle.std.specs.Prelude.{◌≡◌, ◌+◌, ◌≤◌, ◌||◌, ◌&&◌, ◌∷◌, Option, Some, false};
 ghost use Rattle.std.specs.Option.{option_map};
 ghost use Rattle.sfu_base.specs.declared.frame.FrameMeaning.{FrameMeaning as Meaning};
@@ -23,7 +23,8 @@ use ref_window::RefWindow;
 use sfu_base::{FrameMeaning, Verdict, Wish};
 use std::marker::Model;
 
-/// What is found of a frame: its first reference that wasn't passed, the best target that it can open, and whether it passes.
+/// What is found of a frame: the distance to its first reference that wasn't passed, the best target that it can open, and whether it
+/// passes.
 #[derive(Clone, Copy, Debug)]
 pub struct Judgement {
     pub missing: Option<u16>,
@@ -31,14 +32,15 @@ pub struct Judgement {
     pub passes: bool,
 }
 
-/// Which frames a subscriber is sent. Clauses see its wish, the epoch, the target or why there is none, which of the epoch's frames were
-/// passed, as far as a later frame can refer to them, the targets of the last frame, and two facts about it.
+/// Decides which frames a subscriber is sent. Clauses see the wish, the epoch, the target or why there is none, those passed frames of the
+/// epoch to which a later frame can refer, and the last frame's targets. They also see what [`Selector::marks_last`] and
+/// [`Selector::opened`] return.
 #[derive(Debug, Drop)]
 pub struct Selector {
     wish: Wish,
     epoch: Option<u64>,
     target: CurrentTarget,
-    // whether a key frame of the epoch was passed: the window forgets it
+    // whether a key frame of the epoch was passed, which the window forgets
     key_passed: bool,
     passed: RefWindow,
     // the targets of the last frame, by which later questions are answered
@@ -67,7 +69,7 @@ impl Model for Selector {
 }
 
 impl Selector {
-    /// Of a subscriber that has just joined with this wish. No target is open.
+    /// The selector of a subscriber that has just joined with this wish. No target is open.
     pub fn new(wish: Wish) -> Selector
         ensures begun { result ≡ begun wish }
         ensures stands { StandsFor result (joined wish) }
@@ -86,7 +88,7 @@ impl Selector {
         }
     }
 
-    /// Changes the wish. It closes nothing: the next frame is judged by it.
+    /// Changes the wish, by which the next frame is judged. The open target stays open.
     pub fn aim(&mut self, wish: Wish)
         ensures wish { self.new ≡ record self.old { wish = wish } }
         ensures stands { (s : Standing) → StandsFor self.old s → StandsFor self.new (record s { wish = wish }) }
@@ -106,7 +108,8 @@ impl Selector {
         }
     }
 
-    /// The layers of the open target at the last frame: none where no target is open, or no template of that frame is present in it.
+    /// The layers of the open target at the last frame: none where no target is open, or no template of that frame's structure is present
+    /// in the target.
     pub fn layers(&self) -> Option<Wish>
         ensures layers { (newest : Option Meaning) → self.now.newest ≡ option_map targets_of newest → result ≡ target_layers newest self.now.target }
     {
@@ -132,7 +135,7 @@ impl Selector {
         }
     }
 
-    /// The verdict on a frame of so many packets, where so many are queued: whether it is passed on, or why it isn't.
+    /// Returns the verdict on a frame of `packets` packets while `queued` packets are queued: `Passed`, or why the frame is withheld.
     pub fn admit(&mut self, frame: &FrameMeaning, packets: u16, queued: u16) -> Verdict
         requires { IsValid frame.now }
         ensures verdict { (s : Standing) → StandsFor self.old s → IsAboveAll frame.now s → s.queued ≡ queued → result ≡ verdict_at s frame.now packets }
@@ -150,7 +153,7 @@ impl Selector {
         self.admit_offered(&FrameOffer::new(frame, packets), queued)
     }
 
-    /// The same of an offered frame, whose offer was made once for all subscribers.
+    /// The same as [`Selector::admit`], with an offer that was made once for all subscribers.
     #[inline(always)]
     pub fn admit_offered(&mut self, offer: &FrameOffer<'_>, queued: u16) -> Verdict
         ensures verdict { (s : Standing) → StandsFor self.old s → IsAboveAll offer.now.frame s → s.queued ≡ queued
@@ -176,8 +179,8 @@ impl Selector {
         }
     }
 
-    /// Whether the frame that was just passed has the spatial id of its target's layers, so that its last packet ends the temporal unit.
-    /// False where the last frame wasn't passed.
+    /// Whether the last frame was passed and has the spatial id of its target's layers, so that the frame's last packet ends the temporal
+    /// unit.
     pub fn marks_last(&self) -> bool
         ensures { result ≡ self.now.top }
     {
@@ -191,7 +194,8 @@ impl Selector {
         self.opened
     }
 
-    // What a frame leaves before it is judged: its epoch begins, where it is of another, and its target may be closed.
+    // Prepares for a frame before it is judged. Begins the frame's epoch if that is another one, and closes the open target if that isn't
+    // in the frame's mask or its chain is broken.
     #[inline(always)]
     fn meet(&mut self, offer: &FrameOffer<'_>)
         ensures stands { (s : Standing) → StandsFor self.old s → IsAboveAll offer.now.frame s → KeepsAt self.new s offer.now.frame }
@@ -205,7 +209,7 @@ impl Selector {
         close(&mut self.target, reason);
     }
 
-    // Where the frame is of another epoch, what was passed is forgotten, and no target is open.
+    // If the frame is of another epoch, forgets what was passed and closes the target.
     fn begin_epoch(&mut self, frame: &FrameMeaning)
         ensures stands { (s : Standing) → StandsFor self.old s → StandsAt self.new s frame.now }
         ensures newest { self.new.newest ≡ self.old.newest }
@@ -223,7 +227,7 @@ impl Selector {
         self.passed.reset();
     }
 
-    // What is found of the frame, with what is left of the target.
+    // What is found of the frame, once `meet` has prepared for it.
     #[inline(always)]
     fn judge(&self, offer: &FrameOffer<'_>, queued: u16) -> Judgement
         ensures judged { (s : Standing) → KeepsAt self.now s offer.now.frame → IsAboveAll offer.now.frame s → s.queued ≡ queued
@@ -243,7 +247,7 @@ impl Selector {
         }
     }
 
-    // The frame passes, and its target is the one that it opens, if it opens one.
+    // Passes the frame, and opens the target `opening`, if there is one.
     #[inline(always)]
     fn pass(&mut self, offer: &FrameOffer<'_>, opening: Option<u8>)
         requires opening { IsBelow 32 opening }
@@ -284,7 +288,7 @@ impl Selector {
     }
 }
 
-// The targets of the last frame become this one's. They are written in place.
+// Replaces the last frame's targets by this frame's, in place.
 #[inline(always)]
 fn keep_targets(newest: &mut Option<FrameTargets>, frame: &FrameMeaning)
     ensures { newest.new ≡ Some (targets_of frame.now) }
@@ -296,7 +300,7 @@ fn keep_targets(newest: &mut Option<FrameTargets>, frame: &FrameMeaning)
     }
 }
 
-// The target is closed, where there is a reason.
+// Closes the target if there is a reason.
 #[inline(always)]
 fn close(target: &mut CurrentTarget, reason: Option<Reason>)
     ensures { target.new ≡ closed_or reason target.old }
@@ -306,7 +310,7 @@ fn close(target: &mut CurrentTarget, reason: Option<Reason>)
     }
 }
 
-// The target that is opened at this number, if one is.
+// Opens the target `opening`, if there is one, at this frame number.
 #[inline(always)]
 fn open(target: &mut CurrentTarget, opening: Option<u8>, number: u64)
     requires opening { IsBelow 32 opening }
@@ -322,7 +326,7 @@ fn open(target: &mut CurrentTarget, opening: Option<u8>, number: u64)
     }
 }
 
-// The target that the frame opens, if it opens one.
+// The target that the frame opens, else `kept`.
 fn opened_or(frame: &FrameMeaning, opening: Option<u8>, kept: CurrentTarget) -> CurrentTarget
     ensures { result ≡ opened_or frame.now opening kept }
 {
@@ -335,14 +339,14 @@ fn opened_or(frame: &FrameMeaning, opening: Option<u8>, kept: CurrentTarget) -> 
     }
 }
 
-// Whether all references were passed, and it is a key frame or its epoch's was passed.
+// Whether all references of the frame were passed, and it is a key frame or its epoch's key frame was passed.
 fn is_ready(offer: &FrameOffer<'_>, missing: Option<u16>, key_passed: bool) -> bool
     ensures { result ≡ (is_nothing missing && (offer.now.frame.key || key_passed)) }
 {
     missing.is_none() && (offer.frame().key || key_passed)
 }
 
-// Whether the frame belongs to its target, all its references were passed, and there is room.
+// Whether the frame belongs to its target, all its references were passed, and its packets fit in the queue.
 #[inline(always)]
 fn passes(
     offer: &FrameOffer<'_>,
@@ -356,7 +360,7 @@ fn passes(
     is_present(offer, opening, kept) && missing.is_none() && has_room(offer.packets(), queued)
 }
 
-// Whether it belongs to the target that it opens, else to the one that is left, if one is.
+// Whether the frame belongs to the target that it opens, or if it opens none, to the open target `kept`.
 #[inline(always)]
 fn is_present(offer: &FrameOffer<'_>, opening: Option<u8>, kept: CurrentTarget) -> bool
     ensures { result ≡ is_present_in offer.now.frame (opened_or offer.now.frame opening kept) }

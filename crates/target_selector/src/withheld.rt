@@ -1,4 +1,4 @@
-// Why a frame is withheld. Own rules; the first that fits.
+// Why a frame is withheld: the first reason that applies. Own rules.
 ghost use Rattle.std.specs.Prelude.{◌≡◌, ◌+◌, ◌-◌, ◌&&◌, false, if◌then◌else◌, nat_lt};
 ghost use Rattle.sfu_base.specs.Frame.{IsValid};
 ghost use Rattle.sfu_base.specs.declared.frame.Verdict.TheVariants.{Behind, Passed, Reference};
@@ -12,8 +12,8 @@ use sfu_base::{FrameMeaning, Verdict, Wish};
 /// How many packets a subscriber's queue has at most (own rule).
 pub const MOST_QUEUED: u16 = 512;
 
-/// Why a frame doesn't pass, by its first reference that wasn't passed, if there is one, and the best target that it can open, else the one that is
-/// open. Out of line: most frames pass.
+/// Returns why a frame is withheld. `missing` is the distance to its first reference that wasn't passed, if there is one; `candidate` is the best
+/// target that it can open, else the current one. Out of line: most frames pass.
 #[inline(never)]
 pub fn withheld(
     offer: &FrameOffer<'_>,
@@ -47,7 +47,7 @@ pub fn withheld(
     }
 }
 
-// The candidate, or the aim where there is none.
+// The candidate's target, or the aim if the candidate is closed.
 fn target_of(offer: &FrameOffer<'_>, wish: Wish, candidate: CurrentTarget) -> Option<u8>
     ensures { result ≡ target_of wish offer.now.frame candidate }
 {
@@ -83,7 +83,7 @@ fn reason_verdict(reason: Reason) -> Verdict
     }
 }
 
-/// Whether a frame of so many packets has room in the queue.
+/// Whether a frame of `packets` packets fits in a queue of `queued` packets.
 pub fn has_room(packets: u16, queued: u16) -> bool
     ensures { result ≡ has_room queued packets }
 {

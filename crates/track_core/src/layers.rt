@@ -23,8 +23,8 @@ use rtp_packet::Rtp;
 use sfu_base::{Dti, FrameMeaning, NoMemory};
 use std::alloc::Global;
 
-/// A layered track between two items: what is in force, the frame under assembly, and what is kept of that frame's first descriptor. The
-/// newest descriptor is scratch space for the parser.
+/// A layered track between two items: the header extension id (RFC 8285) of its descriptors, what is in force, the frame under assembly, and
+/// what is kept of that frame's first descriptor. `newest` is scratch space for the parser.
 #[derive(Drop)]
 pub struct Layers {
     pub id: u8,
@@ -46,7 +46,7 @@ const NO_HEAD: FrameHead = FrameHead {
 };
 
 impl Layers {
-    /// No packet came yet.
+    /// A layered track before its first packet, with descriptors under this header extension id. Takes the memory for the frame under assembly.
     pub fn new(alloc: Global, id: u8) -> Result<Layers, NoMemory>
         ensures id { IfOk result (λ layers. layers.id ≡ id) }
         ensures stands { IfOk result (λ layers. IsAfter layers []) }
@@ -61,7 +61,7 @@ impl Layers {
         })
     }
 
-    /// Numbers were given up: the frame so far is torn.
+    /// Sequence numbers were given up: the frame under assembly is torn.
     pub fn give_up(&mut self)
         ensures id { self.new.id ≡ self.old.id }
         ensures near { self.new.table.newest ≤ self.old.table.newest }
@@ -70,8 +70,8 @@ impl Layers {
         let _ = self.assembly.push(&Mark::Gone, &[]);
     }
 
-    /// The next packet, in a slot, which changes places with another where the packet is a frame's. Returns whether it made a frame whole, whose
-    /// meaning is written then.
+    /// Processes the next packet, which is in `slot`. If the packet belongs to a frame, the assembly keeps that slot and leaves another in its
+    /// place. Returns whether the packet made a frame whole; then the frame's meaning is written to `meaning`.
     pub fn take(&mut self, slot: &mut Box<PacketSlot>, meaning: &mut FrameMeaning) -> bool
         requires taken { IsTaken slot.old.value }
         requires stood { HasStood self.old }
@@ -87,7 +87,7 @@ impl Layers {
         self.push(&mark, slot, meaning)
     }
 
-    // What a packet that was taken in is to the frame under assembly.
+    // What an accepted packet is to the frame under assembly.
     fn read(&mut self, slot: &Box<PacketSlot>) -> Mark
         requires taken { IsTaken slot.now.value }
         requires bound { self.old.table.newest ≤ 2 ^ 63 - 131072 }
@@ -100,12 +100,12 @@ impl Layers {
         let bytes = slot.bytes();
         match rtp_packet::read(bytes) {
             Ok(packet) => self.look(&packet, bytes),
-            // It was taken in, so RTP reads it.
+            // The packet was accepted, so RTP reads it.
             Err(_) => Mark::Unread,
         }
     }
 
-    // What a packet is to the frame under assembly. Its descriptor, where it has one that is read, acts on what is in force.
+    // What a packet is to the frame under assembly. If the packet has a descriptor that is read, what is in force changes with it.
     fn look(&mut self, packet: &Rtp<'_>, bytes: &[u8]) -> Mark
         requires packet { IsOf bytes.now packet.now }
         requires bound { self.old.table.newest ≤ 2 ^ 63 - 131072 }
@@ -141,7 +141,7 @@ impl Layers {
         }
     }
 
-    // The mark goes to the frame under assembly, with its packet.
+    // Pushes a packet with its mark onto the frame under assembly. Returns whether that made a frame whole.
     fn push(&mut self, mark: &Mark, slot: &mut Box<PacketSlot>, meaning: &mut FrameMeaning) -> bool
         requires bound { self.old.table.newest < 2 ^ 63 }
         requires pushable { IsPushable self.old mark.now slot.old.value }
@@ -160,7 +160,7 @@ impl Layers {
     }
 }
 
-// The first descriptor of a frame is kept from the mark on that starts it.
+// At a mark that starts a frame, keeps the head of the newest descriptor.
 fn keep_head(mark: &Mark, table: &FrameTable, newest: &Descriptor, head: &mut FrameHead)
     requires { starts mark.now ≡ true → IsFirst table.now newest.now }
     ensures started { starts mark.now ≡ true → IsHeadOf table.now newest.now head.new }
@@ -171,8 +171,8 @@ fn keep_head(mark: &Mark, table: &FrameTable, newest: &Descriptor, head: &mut Fr
     }
 }
 
-/// Works off one item of a layered track: the packet in this slot, or numbers that were given up. Returns whether it made a frame whole, whose
-/// meaning is written then.
+/// Processes one item of a layered track: if `came`, the packet in `slot`, else sequence numbers that were given up. Returns whether the item
+/// made a frame whole; then the frame's meaning is written to `meaning`.
 pub fn work_off(
     layers: &mut Layers,
     came: bool,

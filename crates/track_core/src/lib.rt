@@ -1,4 +1,4 @@
-//! One publisher's pipeline: packets come in any order, are put into one, and become plain packets or whole frames. Only the constructor
+//! One publisher's pipeline: packets arrive in any order, are put in order, and become plain packets or whole frames. Only the constructor
 //! takes memory.
 #![tactic(auto)]
 

@@ -1,5 +1,5 @@
-// Rows of a track: what each arrival and each moment makes. A row is text; its lines are worked off one by one, and each ends in what it
-// is to make.
+// Rows of a track: what each arrival and each moment makes. A row is text; its lines are processed one by one, and each ends with what it
+// has to make.
 mod real;
 mod rows;
 mod text;
@@ -23,7 +23,7 @@ const KEY: [u8; 9] = [0xc0, 0x00, 0x01, 0x80, 0x00, 0x3a, 0x41, 0x01, 0x00];
 // One element, all of which is in the packet.
 const PAYLOAD: [u8; 3] = [0x10, 0x30, 0x00];
 
-// A packet with one element, the descriptor under id 4, in the one-byte form where that has the room, else in the two-byte form.
+// A packet with one element, the descriptor under id 4: in the one-byte form if the descriptor fits that, else in the two-byte form.
 fn packet(seq: u16, descriptor: &[u8], payload: &[u8]) -> PacketBuf {
     let mut out = PacketBuf::new();
     put(&mut out, &[0x90, 0x60]);
@@ -46,7 +46,7 @@ fn packet(seq: u16, descriptor: &[u8], payload: &[u8]) -> PacketBuf {
     out
 }
 
-// Says the sequence numbers of what the last step made.
+// Writes the sequence numbers of what the last step made.
 fn say_packets(
     rt: &impl Abort,
     alloc: Global,
@@ -63,7 +63,7 @@ fn say_packets(
     Ok(())
 }
 
-// Works off all that waits, and says what that made.
+// Processes all that waits, and returns what that made.
 fn drain(rt: &impl Abort, alloc: Global, track: &mut Track) -> Result<String, Fail>
     ensures { IfOk result (λ said. track.new.window.waiting ≡ []) }
 {
@@ -86,7 +86,7 @@ fn drain(rt: &impl Abort, alloc: Global, track: &mut Track) -> Result<String, Fa
     }
 }
 
-// A packet arrives: says its refusal, or what it made.
+// Returns the refusal of a packet that arrives, or what the packet made.
 fn arrive(
     rt: &impl Abort,
     alloc: Global,
@@ -104,7 +104,7 @@ fn arrive(
     }
 }
 
-// Works off a line, and says what it made.
+// Processes a line, and returns what it made.
 fn work_off(rt: &impl Abort, alloc: Global, track: &mut Track, line: &[u8]) -> Result<String, Fail>
     requires { track.old.window.waiting ≡ [] }
     ensures { IfOk result (λ said. track.new.window.waiting ≡ []) }
@@ -177,7 +177,7 @@ fn rows_make_what_the_rules_say(rt: HostRuntime) -> Result<(), Fail> {
     Ok(())
 }
 
-// A frame of so many packets behind a key frame, and what its last packet made.
+// Sends a key frame and then a frame of `count` packets, and returns what the last packet made.
 fn frame_of(rt: &impl Abort, alloc: Global, count: u16) -> Result<String, Fail> {
     let mut track = Track::new(alloc, Kind::Layered { id: 4 }, SSRC, 0)?;
     let key = packet(0, &KEY, &PAYLOAD);
@@ -219,7 +219,7 @@ fn has(descriptor: &PacketBuf, bit: u8) -> bool {
         .is_some_and(|first| first & bit != 0)
 }
 
-// What else the descriptor says, on a packet that only begins its frame, or only ends it.
+// The descriptor with its start and end bits replaced by `bit`.
 fn edge(descriptor: &PacketBuf, bit: u8) -> PacketBuf {
     let mut out = PacketBuf::new();
     if let [first, rest @ ..] = descriptor.bytes() {
@@ -229,8 +229,8 @@ fn edge(descriptor: &PacketBuf, bit: u8) -> PacketBuf {
     out
 }
 
-// The descriptors of a key frame and of the frame with this descriptor, which may be one. Packets that a frame lacks to be whole are added.
-// Answers them and where the frame begins.
+// The descriptors of a key frame and of the frame with the descriptor `own`, which may be the same frame. Adds packets so that each frame
+// is whole. Returns the descriptors, and the place at which the frame begins.
 fn frames_with(
     alloc: Global,
     key: &PacketBuf,
@@ -255,7 +255,7 @@ fn frames_with(
     Ok((all, first))
 }
 
-// A new track takes packets with these descriptors. Says what the last one made.
+// Returns what the last of the packets with these descriptors makes on a new track.
 fn made_of(rt: &impl Abort, alloc: Global, descriptors: &[PacketBuf]) -> Result<String, Fail> {
     let mut track = Track::new(alloc, Kind::Layered { id: 4 }, SSRC, 0)?;
     let mut said = String::new(alloc);

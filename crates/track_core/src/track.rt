@@ -35,7 +35,7 @@ pub enum Made {
     Frame(FrameMeaning),
 }
 
-/// What one item made, where the track keeps what a frame means.
+/// What one item made. A frame's meaning is kept by the track.
 #[derive(Clone, Copy, Debug)]
 pub enum Advance {
     /// No item waits.
@@ -44,23 +44,23 @@ pub enum Advance {
     Nothing,
     /// A packet of a plain track.
     Packet,
-    /// A whole frame of a layered track, which means what [`Track::meaning`] says.
+    /// A whole frame of a layered track, whose meaning [`Track::meaning`] returns.
     Frame,
 }
 
-/// One publisher's packets, from their arrival to plain packets or whole frames. Clauses see it as its SSRC, the order with the pieces that
-/// wait, what a layered track keeps, the packets of what the last step made, and the meaning of the last frame that was made.
+/// One publisher's packets, from their arrival to plain packets or whole frames. Clauses see the SSRC, the order with the pieces that wait,
+/// what a layered track keeps, the packets that the last step made, and the meaning of the last frame made.
 #[derive(Drop)]
 pub struct Track {
     ssrc: u32,
     window: Window,
-    // The slot of the packet that is worked off, which came from the window. On a layered track the frame under assembly takes it where it is a
-    // frame's, and leaves one of its own; after padding or a torn packet it still holds that packet.
+    // The slot of the packet that is being processed, which came from the window. On a layered track the frame under assembly takes the slot of
+    // a packet that belongs to it, and leaves another; after padding or a torn packet the slot still holds that packet.
     slot: Box<PacketSlot>,
     layers: Option<Layers>,
     // Whether the last step made a packet or a frame.
     given: bool,
-    // Of the last frame that was made. It is written in place, since it is some 260 bytes.
+    // The meaning of the last frame made. It is written in place, since it has some 260 bytes.
     meaning: FrameMeaning,
 }
 
@@ -77,7 +77,8 @@ impl Model for Track {
 }
 
 impl Track {
-    /// A track before its first packet, that holds a packet behind a gap for `hold` milliseconds. All its memory is taken here.
+    /// A track before its first packet. A packet behind a gap is held until the gap is filled, or is given up after `hold` milliseconds. All
+    /// memory of the track is taken here.
     pub fn new(alloc: Global, kind: Kind, ssrc: u32, hold: u32) -> Result<Track, NoMemory>
         ensures stands { IfOk result (λ track. StandsFor track [] []) }
         ensures ssrc { IfOk result (λ track. track.ssrc ≡ ssrc) }
@@ -100,8 +101,9 @@ impl Track {
         })
     }
 
-    /// Takes in a packet that arrives at this moment, in milliseconds. The refusal is the first that applies, and changes nothing. All that
-    /// waited was worked off; what the last step made can still be read.
+    /// Accepts a packet that arrives at `moment`, in milliseconds. First call [`Track::advance`] until it returns `Idle`. What the last step
+    /// made can still be read. Returns the first refusal that applies, which changes nothing. `TooBig`: more than 1,500 bytes. `Unreadable`:
+    /// not RTP. `WrongSsrc`: another SSRC than the track's. `Spent`, `Late` and `Repeat`: by the sequence number.
     pub fn arrive(&mut self, moment: u64, bytes: &[u8]) -> Result<(), Refusal>
         requires idle { self.old.window.waiting ≡ [] }
         requires length { length bytes.now ≤ 4294967295 }
@@ -133,7 +135,8 @@ impl Track {
         }
     }
 
-    /// Time has come to this moment, in milliseconds. All that waited was worked off; what the last step made can still be read.
+    /// Advances the time to `moment`, in milliseconds. First call [`Track::advance`] until it returns `Idle`. What the last step made can still
+    /// be read.
     pub fn tick(&mut self, moment: u64)
         requires idle { self.old.window.waiting ≡ [] }
         ensures stands { (events : List Event) (worked : List Piece) → StandsFor self.old events worked → StandsFor self.new (Ticks moment ∷ events) worked }
@@ -143,15 +146,15 @@ impl Track {
         self.window.tick(moment);
     }
 
-    /// The missing sequence numbers, ascending by their unwrapped numbers.
+    /// Writes the missing sequence numbers to `out`, ascending by their unwrapped numbers.
     pub fn missing(&self, out: &mut SeqList)
         ensures { out.new ≡ missing_sequences self.now.window.order }
     {
         self.window.missing(out);
     }
 
-    /// The template structure in force on a layered track, once its newest item was worked off: none before the first key start, and none
-    /// on a plain track.
+    /// The template structure in force on a layered track after the items processed so far: none before the first key start, and none on a
+    /// plain track.
     pub fn force(&self) -> Option<&Structure>
         ensures kept { option_copied result ≡ structure_in self.now.layers }
         ensures stands { (events : List Event) (worked : List Piece) → StandsFor self.now events worked
@@ -160,7 +163,7 @@ impl Track {
         structure_of(&self.layers)
     }
 
-    /// The id of the track's header extension element (RFC 8285) that has the dependency descriptor: none on a plain track.
+    /// The id of the header extension element (RFC 8285) with the track's dependency descriptors: none on a plain track.
     pub fn id(&self) -> Option<u8>
         ensures { result ≡ option_map id_of self.now.layers }
     {
@@ -170,7 +173,7 @@ impl Track {
         }
     }
 
-    /// Works off one item, and keeps what a frame means for [`Track::meaning`]. `Idle` comes exactly where no item waits.
+    /// Processes one item. If that makes a frame, [`Track::meaning`] then returns its meaning. `Idle` comes exactly where no item waits.
     pub fn advance(&mut self) -> Advance
         ensures rest { self.new.window ≡ record self.old.window { waiting = drop 1 self.old.window.waiting } }
         ensures idle { (result ≡ Advance.Idle) ↔ (self.old.window.waiting ≡ []) }
@@ -200,7 +203,7 @@ impl Track {
         made
     }
 
-    /// Works off one item as [`Track::advance`] does, and returns a copy of what a frame means.
+    /// Processes one item as [`Track::advance`] does, and returns a frame with a copy of its meaning.
     pub fn step(&mut self) -> Made
         ensures rest { self.new.window ≡ record self.old.window { waiting = drop 1 self.old.window.waiting } }
         ensures idle { (result ≡ Made.Idle) ↔ (self.old.window.waiting ≡ []) }
@@ -220,14 +223,14 @@ impl Track {
         with_meaning(advance, self.meaning())
     }
 
-    /// What the last frame means that was made.
+    /// The meaning of the last frame made; before the first frame a placeholder.
     pub fn meaning(&self) -> &FrameMeaning
         ensures { result.now ≡ self.now.meaning }
     {
         &self.meaning
     }
 
-    /// How many packets the last step made: 1 after a packet, those of the frame after a frame, else 0.
+    /// How many packets the last step made: 1 for a plain packet, those of the frame for a frame (at most 512), else 0.
     pub fn count(&self) -> u16
         ensures count { result ≡ length self.now.packets }
         ensures few { length self.now.packets ≤ 512 }
@@ -241,7 +244,7 @@ impl Track {
         }
     }
 
-    /// The bytes of a packet that the last step made, by its place from 0: at most 1,500, and RTP reads them.
+    /// The bytes of the packet at `place`, counted from 0, among those that the last step made: at most 1,500 bytes, which RTP reads.
     pub fn packet(&self, place: u16) -> &[u8]
         requires { place < length self.now.packets }
         ensures at { slice_get self.now.packets place ≡ Some result.now }
@@ -252,7 +255,7 @@ impl Track {
         self.packet_at(place)
     }
 
-    // A lemma, which does nothing: each packet that the last step made was taken in.
+    // A lemma, which does nothing: each packet that the last step made was accepted.
     fn lemma_are_taken(&self)
         ensures { AllByRecursion IsTaken self.now.packets }
     {
@@ -304,7 +307,7 @@ fn with_meaning(advance: Advance, meaning: &FrameMeaning) -> Made
     }
 }
 
-// Works off one item: the packet in this slot, or numbers that were given up. On a plain track the packet stays there.
+// Processes one item: if `came`, the packet in `slot`, else sequence numbers that were given up. On a plain track the packet stays in the slot.
 fn worked(
     layers: &mut Option<Layers>,
     came: bool,

@@ -1,4 +1,4 @@
-// What a room tells of a subscriber's decode target, and whether the wish is reached. The structure is that of `KEY`: targets 0 to 3 are both
+// What a room says of a subscriber's decode target, and whether the wish is reached. The structure is that of `KEY`: targets 0 to 3 are both
 // spatial layers with both temporal layers, or the first; and the lower one with both, or the first. Templates 0 and 1 are switches for
 // targets 2 and 3, templates 3 and 4 for targets 0 and 1 (Appendix A of RTP Payload Format For AV1).
 
@@ -54,7 +54,7 @@ fn a_raised_wish_is_reached_by_a_key_frame(rt: HostRuntime) {
         // Frame 12 is a switch for the least target.
         (aim(LOWEST), Ok(Some(BOTH)), false),
         (packet(1, &frame(6, 12, 1)), Ok(Some(LEAST)), true),
-        // The track ends: the last frame still tells what a wish allows.
+        // The track ends: the last frame still decides what a wish allows.
         (Call::Unpublish { track: 1 }, Ok(Some(LEAST)), true),
         (aim(HIGHEST), Ok(Some(LEAST)), false),
         (aim(LOWEST), Ok(Some(LEAST)), true),

@@ -1,4 +1,4 @@
-// The mask that a frame's first packet goes out with, byte by byte: RFC 8285 for the header extension's elements, and Appendix A of RTP
+// The mask with which a frame's first packet is sent, byte by byte: RFC 8285 for the header extension's elements, and Appendix A of RTP
 // Payload Format For AV1 for the descriptors, whose structures have one target, and two targets of which target 1 is the lower layer alone.
 ghost use Rattle.std.specs.Prelude.{◌≤◌, length};
 
@@ -9,7 +9,7 @@ use std::process::Abort;
 
 const PAYLOAD: [u8; 3] = [0x10, 0x30, 0x00];
 
-// A packet, by the byte with its marker: its number, its SSRC and its header extension.
+// A packet with this byte for marker and payload type, this number, SSRC and header extension.
 fn laid(marker: u8, seq: u16, ssrc: u8, extension: &[u8]) -> PacketBuf
     requires { length extension.now ≤ 100 }
 {
@@ -21,10 +21,10 @@ fn laid(marker: u8, seq: u16, ssrc: u8, extension: &[u8]) -> PacketBuf
     packet
 }
 
-// A packet that comes in, and what it goes out as: the byte with the marker, and the header extension.
+// A packet that comes in, and the packet that is sent: of each the byte with the marker, and the header extension.
 type Row<'a> = (u8, &'a [u8], u8, &'a [u8]);
 
-// Each packet goes out so to a subscriber of the wish, with the numbers from 7 on, and so it is resent.
+// Each packet is sent like this to a subscriber with the wish, numbered from 7 on, and resent alike.
 fn check(rt: &impl Abort, room: &mut Room<KeepNone>, wish: Wish, row: &[Row<'_>]) {
     let mut scratch = scratch();
     assert_eq!(rt;
@@ -55,7 +55,7 @@ fn check(rt: &impl Abort, room: &mut Room<KeepNone>, wish: Wish, row: &[Row<'_>]
 #[test]
 fn a_frames_first_packet_tells_the_targets(rt: HostRuntime) {
     let rows: [(Wish, &[Row<'_>]); 7] = [
-        // A key frame, and one that tells nothing.
+        // A key frame, and a frame with neither structure nor mask.
         (
             LOWEST,
             &[
@@ -131,7 +131,7 @@ fn a_frames_first_packet_tells_the_targets(rt: HostRuntime) {
                 ),
             ],
         ),
-        // Of a frame of two packets the first alone, though the other carries a mask too.
+        // Only the first of a frame's two packets is rewritten, though the other carries a mask too.
         (
             LOWEST,
             &[

@@ -1,7 +1,7 @@
 //! Rows of tracks with a hold of 100 milliseconds.
 //!
 //! A line is a packet with one element (moment, sequence number, descriptor under id 4, payload), a packet byte by byte (`raw`, moment,
-//! bytes), a moment that comes (`tick`), or the question which numbers are missing. Behind `>` stands what it makes: frames and packets
+//! bytes), a moment that comes (`tick`), or the question which numbers are missing. Behind `>` is what the line makes: frames and packets
 //! with the sequence numbers of their packets, the refusal, the missing numbers, or nothing.
 
 /// What is shown, and the lines, on a layered track.

@@ -6,7 +6,7 @@ use sfu_base::{Dti, FrameMeaning, PacketBuf};
 use std::alloc::{AllocError, Global};
 use std::process::Abort;
 
-/// Takes what stands before the next such byte, and that byte.
+/// Takes all before the next such byte, and that byte.
 pub fn cut<'a>(text: &mut &'a [u8], at: u8) -> &'a [u8] {
     let all = *text;
     for (i, byte) in all.iter().enumerate() {
@@ -51,7 +51,7 @@ pub fn hex(text: &mut &[u8]) -> PacketBuf {
     out
 }
 
-/// Puts bytes last, if there is room.
+/// Appends bytes, if they fit.
 pub fn put(out: &mut PacketBuf, bytes: &[u8]) {
     if out.bytes().len() + bytes.len() <= 1500 {
         out.append(bytes);
