@@ -33,7 +33,7 @@ pub fn read_indications_into<E: Copy>(
     Ok(())
 }
 
-/// The indications of each template, in place of what was there.
+/// Reads the indications of each template, in place of what was there.
 pub fn fill_indication_table(
     bits: &mut BitReader<'_>,
     targets: u8,
