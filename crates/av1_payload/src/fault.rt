@@ -12,7 +12,7 @@ pub enum PayloadFault {
     /// is 2^32 or more.
     #[error("no length stands where one is due")]
     Leb,
-    /// An element's length is more than the bytes that are left.
+    /// An element's length is more than the number of bytes that are left.
     #[error("an element isn't all there")]
     Length,
     /// W is 0, and nothing follows the aggregation header.

@@ -1,4 +1,4 @@
-// The length of an element, spelled in leb128.
+// The length of an element, in leb128.
 
 ghost use Rattle.std.specs.Prelude.{◌≡◌, None, Some, MatchOption};
 ghost use Rattle.av1_payload.specs.Reading.{length_at};

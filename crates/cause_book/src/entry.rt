@@ -1,4 +1,4 @@
-// One place of the book.
+// One entry of the book.
 ghost use Rattle.std.specs.Prelude.{◌≡◌, None, Some};
 
 use sfu_base::{Step, Verdict};

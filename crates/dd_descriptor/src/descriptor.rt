@@ -24,7 +24,7 @@ pub struct Descriptor {
     pub start: bool,
     /// Whether the packet is the last of its frame.
     pub end: bool,
-    /// The template id as the descriptor has it, 0 to 63.
+    /// frame_dependency_template_id, 0 to 63.
     pub template: u8,
     /// The frame number modulo 65,536.
     pub number: u16,
@@ -101,7 +101,7 @@ impl Default for Descriptor {
     }
 }
 
-/// Whether a packet is the first and the last of its frame, and the frame's number.
+/// Whether a packet is the first of its frame, whether it is the last, and the frame's number.
 #[derive(Clone, Copy, Debug, PartialEq, Eq)]
 pub struct Edges {
     pub start: bool,

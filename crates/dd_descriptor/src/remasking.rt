@@ -24,7 +24,7 @@ use dd_bits::{BitReader, BitWriter, NoRoom};
 use dd_structure::Structure;
 use sfu_base::{Dti, NoFit, PacketBuf};
 
-/// The bits between two places.
+/// The bits between two places of a reader.
 #[derive(Clone, Copy)]
 pub struct Part<'a> {
     pub from: BitReader<'a>,

@@ -13,7 +13,7 @@ pub struct Distances {
     ghost within: { count ≤ 16 },
 }
 
-/// The width and height of each spatial id, from 0 on, where the structure has them.
+/// The width and height of each spatial id in pixels, from id 0 on, where the structure has them.
 #[derive(Clone, Copy, Debug)]
 pub struct Resolutions {
     pub count: u8,

@@ -38,7 +38,7 @@ impl Remasker {
     ghost use Rattle.rtp_packet.specs.Faults.{first_fault};
     ghost use Rattle.packet_format.specs.Remasked.{remasked};
 
-    /// A remasker, which any packet can use.
+    /// A remasker that can be used for any packet.
     pub fn new() -> Remasker {
         Remasker {
             room: RemaskRoom::new(),

@@ -69,7 +69,7 @@ impl FeedbackQueue {
         }
     }
 
-    /// Takes the first item, if one is left.
+    /// Removes and returns the first item, if one is left.
     pub fn pop(&mut self) -> Option<Feedback>
         ensures { MatchOption result ((self.old ≡ []) × (self.new ≡ [])) (λ item. self.old ≡ item ∷ self.new) }
     {

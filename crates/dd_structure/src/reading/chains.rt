@@ -51,7 +51,7 @@ pub fn fill_guards(
     fill_guard_list(bits, chains, guarded_targets(chains, targets), out)
 }
 
-/// Reads a link of `width` bits for each chain, in place of what was there, or returns `short` where there are too few bits; the reader may
+/// Reads a link of `width` bits for each chain, in place of what was there. Returns `short` where there are too few bits; the reader may
 /// then have moved on, and `out` may hold any links. Out of line: few frames have links of their own.
 #[inline(never)]
 pub fn read_links_into<E: Copy>(
