@@ -99,9 +99,8 @@ impl WakeTable {
     /// This link is busy: until this moment of the clock it expects to have received all that comes. Zero says that it isn't busy any more.
     pub fn expect(&self, number: u64, moment: Duration) {
         if let Some(entry) = self.entries.get(number as usize) {
-            entry
-                .expected
-                .store(moment.as_micros() as u64, Ordering::SeqCst);
+            let micros = u64::try_from(moment.as_micros()).unwrap_or(0);
+            entry.expected.store(micros, Ordering::SeqCst);
         }
     }
 
