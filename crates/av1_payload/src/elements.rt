@@ -3,7 +3,8 @@
 use crate::left::{Left, first_element};
 use std::marker::Model;
 
-/// An iterator over the elements of a payload, each borrowed from it, seen as the list of those that are left.
+/// An iterator over the elements of a payload, each borrowed from the payload's bytes. Clauses see it as the list of the
+/// elements that are left.
 #[derive(Debug, Drop)]
 pub struct PayloadElements<'a> {
     pub(crate) left: Left<'a>,

@@ -7,7 +7,7 @@ ghost use Rattle.av1_payload.specs.Faults.{HasFault};
 ghost use Rattle.av1_payload.specs.Payloads.{Flags, IsPayload};
 ghost use Rattle.av1_payload.specs.Reading.{elements_of, first_fault, flags_of};
 
-/// Each payload without a fault is in the grammar, with the flags and the elements that are read from it.
+/// Bytes without a fault are a payload in the grammar, with the flags and the elements that are read from them.
 pub fn each_faultless_payload_is_in_the_grammar()
     ensures { (bytes : List ℕ) → AreBytes bytes → first_fault bytes ≡ None
         → IsPayload bytes (flags_of bytes) (elements_of bytes) }
@@ -25,7 +25,7 @@ pub fn a_payload_has_one_reading()
         → IsPayload bytes more_flags more → (flags ≡ more_flags) × (elements ≡ more) }
 {}
 
-/// Bytes have a fault exactly when they are put together as it says.
+/// `first_fault` finds a fault in bytes exactly when the bytes are laid out as `HasFault` says of that fault.
 pub fn faults_are_what_they_say()
     ensures { (fault : PayloadFault) (bytes : List ℕ) → AreBytes bytes → (first_fault bytes ≡ Some fault) ↔ HasFault fault bytes }
 {}

@@ -1,19 +1,19 @@
-// The length of an element, spelled in leb128.
+// The length of an element, in leb128.
 
 ghost use Rattle.std.specs.Prelude.{◌≡◌, None, Some, MatchOption};
 ghost use Rattle.av1_payload.specs.Reading.{length_at};
 
-/// The most bytes of a length.
+/// The most bytes that a length has.
 const MOST_BYTES: usize = 8;
 
 /// Every length is below this.
 const BOUND: u64 = 0x1_0000_0000;
 
-/// The highest bit of a byte, which says that more follow.
+/// The highest bit of a byte, which says that more bytes follow.
 const MORE: u8 = 0x80;
 
-/// Reads the length that the bytes begin with (AV1 Bitstream Specification, section 4.10.5), and returns it with the bytes after it, or
-/// `None` where there is none.
+/// Reads the leb128 length that the bytes begin with (AV1 Bitstream Specification, section 4.10.5). Returns the length and the bytes after
+/// it, or `None` where the bytes end before or within it, or it has more than 8 bytes or is 2^32 or more.
 pub fn split_length<'a>(bytes: &'a [u8]) -> Option<(usize, &'a [u8])>
     ensures { MatchOption result (length_at bytes.now ≡ None) (λ x. length_at bytes.now ≡ Some (x.0, x.1.now)) }
 {

@@ -12,7 +12,7 @@ use crate::leb::split_length;
 pub(crate) enum Layout {
     /// Each has its length before it.
     EachSized,
-    /// So many have their length before them, and then comes the last, without a length.
+    /// This many elements have their length before them; then comes the last, without a length.
     LastBare(u8),
 }
 
@@ -33,7 +33,7 @@ pub(crate) fn layout_behind(header: u8) -> Layout
     }
 }
 
-/// The first element that is left, and what is left after it; `None` where none is left.
+/// The first element that is left, and what is left after it; `None` where none is left. The error is the fault of the element's length.
 pub(crate) fn first_element<'a>(
     left: Left<'a>,
 ) -> Result<Option<(&'a [u8], Left<'a>)>, PayloadFault>
@@ -66,7 +66,7 @@ pub(crate) fn first_element<'a>(
     }
 }
 
-/// The element at the start, which has its length before it, and the bytes after it.
+/// The element that the bytes begin with, behind its length, and the bytes after it.
 fn split_sized<'a>(bytes: &'a [u8]) -> Result<(&'a [u8], &'a [u8]), PayloadFault>
     ensures { MatchResult result (λ x. sized_at bytes.now ≡ Ok (x.0.now, x.1.now)) (λ e. sized_at bytes.now ≡ Err e) }
 {

@@ -9,14 +9,15 @@ use sfu_base::{NoMemory, Refusal, Step, Verdict};
 use std::alloc::Global;
 use std::marker::Model;
 
-/// The numbers that are kept, up to the newest (own rule).
+/// How many numbers are kept, the newest being the last (own rule).
 const SPAN: u64 = 4096;
 
-/// Why the frames of the last 4,096 numbers were or weren't passed on. Clauses see it as the list of their verdicts, the newest first.
+/// The verdicts on the frames of the last 4,096 numbers: why each was or wasn't forwarded. Clauses see the book as the list of these
+/// verdicts with their numbers, the newest first.
 #[derive(Debug, Drop)]
 pub struct CauseBook {
     newest: Option<u64>,
-    // A frame's verdict stands at its number modulo 4,096, and what stood there is forgotten.
+    // The verdict on a frame is at the index of its number modulo 4,096, in place of what was there.
     steps: Vec<Entry>,
 }
 
@@ -34,7 +35,7 @@ impl Model for CauseBook {
 }
 
 impl CauseBook {
-    /// Nothing is written. All memory is taken here.
+    /// A book without verdicts. All memory is taken here; `NoMemory`: out of memory.
     pub fn new(alloc: Global) -> Result<CauseBook, NoMemory>
         ensures { IfOk result (λ book. book ≡ []) }
     {
@@ -50,7 +51,8 @@ impl CauseBook {
         })
     }
 
-    /// Writes the verdict on the frame with this number, which is above all numbers before. Of another number nothing is written.
+    /// Writes the verdict on the frame with this number, and forgets the verdicts on numbers 4,096 or more below. Where the number isn't
+    /// above all that were written before, nothing changes.
     pub fn write(&mut self, number: u64, verdict: Verdict)
         ensures written { IsAboveAll number self.old → self.new ≡ recent (record { number = number; verdict = verdict } ∷ self.old) }
         ensures unchanged { is_ahead (newest_number self.old) number ≡ false → self.new ≡ self.old }
@@ -66,9 +68,9 @@ impl CauseBook {
         self.newest = Some(number);
     }
 
-    /// The cause of a number: the verdict on its frame, or the hole that no frame has. `Ahead`: the number is above the newest, or there is
-    /// none. `TooOld`: it is 4,096 or more below. A verdict is found in constant time. A hole is as long as its frames are apart, and its
-    /// numbers are all that is looked at.
+    /// The cause of a number: the verdict on the frame with this number, or a hole where no frame has it. `Ahead`: the number is above the
+    /// newest, or there is no newest. `TooOld`: the number is 4,096 or more below the newest. A verdict is found in constant time. For a
+    /// hole, the search goes from the number to the nearest frame on either side.
     pub fn verdict(&self, number: u64) -> Result<Verdict, Refusal>
         ensures judged { result ≡ judged self.now number }
         ensures stands { (steps : Steps) → IsAfter self.now steps → AreFalling steps → result ≡ judged steps number }
@@ -96,7 +98,7 @@ impl CauseBook {
     }
 }
 
-// The step with this number, if it is there.
+// The step with this number, if it is still kept.
 fn step_in(steps: &[Entry], number: u64) -> Option<Step>
     requires { length steps.now ≡ 4096 }
     ensures { result ≡ step_at steps.now number }
@@ -122,7 +124,7 @@ fn next_above(steps: &[Entry], number: u64, newest: u64) -> u64
     newest
 }
 
-// The greatest number below this one that has a step, from the lowest one on.
+// The greatest number below this one that has a step, and is at least `lowest`; `None` where none has.
 fn next_below(steps: &[Entry], lowest: u64, number: u64) -> Option<u64>
     requires places { length steps.now ≡ 4096 }
     requires within { lowest ≤ number }

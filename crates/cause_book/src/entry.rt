@@ -1,10 +1,10 @@
-// One place of the book.
+// One entry of the book.
 ghost use Rattle.std.specs.Prelude.{◌≡◌, None, Some};
 
 use sfu_base::{Step, Verdict};
 use std::marker::Model;
 
-/// A verdict in at most three words, or none. A hole below which no frame is has a name of its own.
+/// A verdict in at most three 64-bit words, or none. `HoleAbove` is a hole with no frame below it.
 #[derive(Clone, Copy, Debug)]
 enum Kept {
     Nothing,
@@ -19,7 +19,7 @@ enum Kept {
     HoleAbove { above: u64 },
 }
 
-/// A frame's number and the verdict on it, or nothing, in 32 bytes. Clauses see the step.
+/// A frame number with the verdict on that frame, or nothing, in 32 bytes. Clauses see it as a step or none.
 #[derive(Debug, Drop)]
 pub struct Entry {
     number: u64,
@@ -38,7 +38,7 @@ impl Model for Entry {
 }
 
 impl Entry {
-    /// No step.
+    /// An entry without a step.
     pub fn nothing() -> Entry
         ensures { result ≡ None }
     {
@@ -48,7 +48,7 @@ impl Entry {
         }
     }
 
-    /// A step.
+    /// The entry with this step: a frame number and the verdict on that frame.
     pub fn new(number: u64, verdict: Verdict) -> Entry
         ensures { result ≡ Some (record { number = number; verdict = verdict }) }
     {

@@ -1,4 +1,4 @@
-//! Why the frames of the last 4,096 numbers were or weren't passed on to a subscriber, and whether a list of causes is a path to a root.
+//! Why the frames of the last 4,096 numbers were or weren't forwarded to a subscriber, and whether a list of causes is a path to a root.
 //! Only the constructor takes memory.
 #![tactic(auto)]
 

@@ -1,20 +1,22 @@
-// The test of a path of causes.
+// Tests whether steps are a path of causes.
 ghost use Rattle.std.specs.Prelude.{◌≡◌, ◌↔◌, IsTrue};
 ghost use Rattle.forwarding_model.specs.forwarding.Causes.{IsPath, followed};
 ghost use Rattle.cause_book.specs.Path.{is_path, is_root, leads_to};
 
 use sfu_base::{Step, Verdict};
 
-/// Whether the steps lead from a withheld frame to the root of its cause: there is one at least; each before the last is a missing
-/// reference or a broken link and names the number of the next; numbers fall; and the last is a full queue, a hole, a frame of no target,
-/// an unopened target, or a reference behind the epoch. Own rule.
+/// Whether the steps are a path from a withheld frame to its root cause (own rule). They are where there is at least one step and
+/// - each step but the last is a missing reference (`Reference`) or a broken chain link (`Link`), and names the number of the next step;
+/// - each number is below the number before it;
+/// - the last step is a root: a full queue (`Full`), a hole (`Hole`), a frame that isn't of the target (`NotOfTarget`), an unopened target
+///   (`Unopened`), or a reference to before the epoch (`Behind`).
 pub fn check_path(steps: &[Step]) -> bool
     ensures { IsTrue result ↔ IsPath steps.now }
 {
     leads_to_root(steps)
 }
 
-// The same as a test of neighbours.
+// The same, as a test of each step and the next.
 fn leads_to_root(steps: &[Step]) -> bool
     ensures { result ≡ is_path steps.now }
 {
@@ -29,7 +31,7 @@ fn leads_to_root(steps: &[Step]) -> bool
     is_end(&steps[steps.len() - 1].verdict)
 }
 
-// Whether the step names the next one, which is lower.
+// Whether a step names the number of the next step, and that number is below its own.
 fn leads(step: &Step, next: &Step) -> bool
     ensures { result ≡ leads_to step.now next.now }
 {
@@ -39,7 +41,7 @@ fn leads(step: &Step, next: &Step) -> bool
     }
 }
 
-// The number of the frame that a verdict names as its cause.
+// The number of the frame that a verdict names as its cause, if it names one.
 fn named(verdict: &Verdict) -> Option<u64>
     ensures { result ≡ followed verdict.now }
 {
@@ -49,7 +51,7 @@ fn named(verdict: &Verdict) -> Option<u64>
     }
 }
 
-// Whether a verdict has no cause before it.
+// Whether a verdict is a root, at which a path ends.
 fn is_end(verdict: &Verdict) -> bool
     ensures { result ≡ is_root verdict.now }
 {

@@ -4,46 +4,48 @@ ghost use Rattle.dd_descriptor.specs.Seen.{IsBlank};
 use dd_structure::Structure;
 use sfu_base::Dti;
 
-/// Which parts of a frame's definition are its own and not its template's.
+/// Which parts of a frame's definition are the frame's own, and not its template's.
 #[derive(Clone, Copy, Debug, PartialEq, Eq)]
 pub struct Custom {
     /// The decode target indications.
     pub dtis: bool,
-    /// The distances to the frames that it refers to.
+    /// The distances to the frames that this frame refers to.
     pub fdiffs: bool,
     /// The distances to the chains' previous frames.
     pub chains: bool,
 }
 
-/// What the dependency descriptor of a packet says. Only the first entries of the arrays count: as many as the structure that applies has
-/// decode targets and chains, and `ref_count`.
+/// What the dependency descriptor of a packet says (RTP Payload Format For AV1 v1.0, Appendix A). Only the first entries of the arrays
+/// count: in `dtis` as many as the structure that applies has decode targets, in `links` as many as it has chains, and in `refs`
+/// `ref_count`.
 #[derive(Debug, Drop)]
 pub struct Descriptor {
     /// Whether the packet is the first of its frame.
     pub start: bool,
     /// Whether the packet is the last of its frame.
     pub end: bool,
-    /// The template id as the descriptor has it, 0 to 63.
+    /// frame_dependency_template_id, 0 to 63.
     pub template: u8,
     /// The frame number modulo 65,536.
     pub number: u16,
-    /// The structure that the descriptor carries.
+    /// The structure that the descriptor carries, if it carries one.
     pub structure: Option<Structure>,
-    /// The active decode targets: bit i, the lowest first, is target i. A structure that is carried without a mask makes
-    /// all its targets active.
+    /// The active decode targets: bit i, the lowest being bit 0, is 1 where target i is active. A structure that is carried without a mask
+    /// makes all its targets active. `None` where the descriptor has neither.
     pub mask: Option<u32>,
     /// Spatial id, 0 to 3.
     pub spatial: u8,
     /// Temporal id, 0 to 7.
     pub temporal: u8,
+    /// Which parts of the frame's definition are its own.
     pub custom: Custom,
     /// The frame's indication for each decode target.
     pub dtis: [Dti; 32],
     /// How many frames this one refers to, at most 16.
     pub ref_count: u8,
-    /// How many frames back each of them is, 1 to 4,096.
+    /// How many frame numbers back each of these frames is, 1 to 4,096.
     pub refs: [u16; 16],
-    /// How many frames back each chain's previous frame is, 0 where none is needed.
+    /// For each chain, how many frame numbers back the chain's previous frame is; 0 where none is needed.
     pub links: [u8; 32],
 }
 
@@ -73,7 +75,7 @@ impl Descriptor {
         }
     }
 
-    // How many frames back each frame is that this one refers to.
+    // How many frame numbers back each frame is that this one refers to.
     fn references(&self) -> &[u16]
         requires { self.now.ref_count ≤ 16 }
         ensures { result.now ≡ take self.now.ref_count self.now.refs }
@@ -81,7 +83,8 @@ impl Descriptor {
         &self.refs[..self.ref_count as usize]
     }
 
-    /// Whether it begins a key frame: it carries a structure, is the first of its frame, and the frame refers to nothing (own rule).
+    /// Whether the descriptor begins a key frame: it carries a structure, the packet is the first of its frame, and the frame refers to
+    /// nothing (own rule).
     pub fn begins_key_frame(&self) -> bool
         requires { self.now.ref_count ≤ 16 }
         ensures { result ≡ (is_some self.now.structure && (self.now.start && length (take self.now.ref_count self.now.refs) == 0)) }
@@ -98,7 +101,7 @@ impl Default for Descriptor {
     }
 }
 
-/// Whether a packet is the first and the last of its frame, and the frame's number.
+/// Whether a packet is the first of its frame, whether it is the last, and the frame's number.
 #[derive(Clone, Copy, Debug, PartialEq, Eq)]
 pub struct Edges {
     pub start: bool,

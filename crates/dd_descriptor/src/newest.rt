@@ -13,14 +13,14 @@ use crate::reading::read_into;
 use dd_structure::Structure;
 use std::marker::Model;
 
-/// The newest descriptor of packets that are read one after another, which clauses see. There are two buffers, one for descriptors that carry a
-/// structure: a structure is long, so none is cleared for the next descriptor, which mostly carries none, and none is made for the next that
-/// does.
+/// The newest of the descriptors that are read one after another; clauses see that one. Descriptors that carry a structure have a buffer of
+/// their own, since a structure is long. The next descriptor, which mostly carries none, needn't clear that buffer, and the next that carries
+/// one is read over it.
 #[derive(Debug, Drop)]
 pub struct NewestDescriptor {
     carrying: Descriptor,
     plain: Descriptor,
-    // Which of the two buffers holds it.
+    // Whether `carrying` holds the newest descriptor, and not `plain`.
     carries: bool,
 }
 
@@ -34,7 +34,7 @@ impl Model for NewestDescriptor {
 }
 
 impl NewestDescriptor {
-    /// A blank descriptor: none was read.
+    /// Before any read: the newest descriptor is a blank one.
     pub fn new() -> NewestDescriptor
         ensures { IsBlank result }
     {
@@ -73,7 +73,8 @@ impl NewestDescriptor {
     }
 }
 
-// Whether the flag of a structure is set, the first bit after the first three bytes. Either buffer is right for any descriptor.
+// Whether the first bit after the first three bytes, the flag of a carried structure, is set. A wrong answer does no harm: either buffer can
+// hold any descriptor.
 fn is_flagged(bytes: &[u8]) -> bool {
     match bytes {
         [_, _, _, flags, ..] => *flags >= 0x80,

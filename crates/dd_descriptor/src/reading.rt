@@ -25,7 +25,7 @@ use dd_bits::BitReader;
 use dd_structure::Structure;
 use sfu_base::Dti;
 
-/// Reads the structure that is carried, in place of what was there. Out of line: few descriptors carry one.
+/// Reads the carried structure, in place of what was there. Out of line: few descriptors carry one.
 #[tactic(auto, unfolding(crate::specs::Reading::carried_at, dd_structure::specs::Reading::some_structure_at))]
 #[inline(never)]
 fn put_structure(bits: &mut BitReader<'_>, out: &mut Option<Structure>) -> Result<(), DdFault>
@@ -46,7 +46,7 @@ fn clear(out: &mut Option<Structure>)
     *out = None;
 }
 
-/// The structure that is carried, if one is, in place of what was there.
+/// Reads the carried structure, if there is one, in place of what was there; else `out` becomes `None`.
 #[tactic(auto, unfolding(crate::specs::Reading::carried_at))]
 #[inline(always)]
 pub fn put_carried(
@@ -59,14 +59,14 @@ pub fn put_carried(
     if is_present {
         return put_structure(bits, out);
     }
-    // A structure is long: where there was none, none is written again.
+    // A structure is long: where `out` is `None` already, it isn't written.
     if out.is_some() {
         clear(out);
     }
     Ok(())
 }
 
-/// The active decode targets, where the descriptor has a mask or carries a structure.
+/// Reads the active decode targets, where the descriptor has a mask or carries a structure.
 #[tactic(auto, unfolding(crate::specs::Reading::mask_at))]
 #[inline(always)]
 pub fn mask(
@@ -88,7 +88,7 @@ pub fn mask(
     }
 }
 
-/// What follows the structure: the mask and the frame's definition.
+/// Reads what follows the structure: the mask and the frame's definition.
 #[tactic(auto, unfolding(crate::specs::Reading::body_at))]
 #[inline(always)]
 fn body(
@@ -111,7 +111,7 @@ fn body(
     Ok((mask, frame))
 }
 
-/// The structure that is carried, or else the one in force.
+/// The carried structure, or else the one in force.
 #[inline(always)]
 fn held<'a>(carried: &'a Option<Structure>, force: Option<&'a Structure>) -> Option<&'a Structure>
     ensures { option_copied result ≡ holding carried.now (option_copied force.entry) }
@@ -122,7 +122,7 @@ fn held<'a>(carried: &'a Option<Structure>, force: Option<&'a Structure>) -> Opt
     }
 }
 
-/// The same by the structure that is carried, or else the one in force.
+/// The same as `body`, by the carried structure or else the one in force.
 #[tactic(auto, unfolding(crate::specs::Reading::held_body_at))]
 #[inline(always)]
 fn held_body(
@@ -158,7 +158,7 @@ fn held_body(
     }
 }
 
-/// What a structure keeps, where one is in force.
+/// A lemma, which does nothing: a structure in force is well formed.
 pub fn lemma_force_is_well_formed(force: Option<&Structure>)
     ensures { IfSome (option_copied force.entry) IsWellFormed }
 {
@@ -167,7 +167,7 @@ pub fn lemma_force_is_well_formed(force: Option<&Structure>)
     }
 }
 
-/// Each field, in place of what was there.
+/// Reads each field, in place of what was there.
 #[tactic(auto, unfolding(crate::specs::Reading::descriptor_at))]
 #[inline(always)]
 fn fill_fields(bytes: &[u8], force: Option<&Structure>, out: &mut Descriptor) -> Result<(), DdFault>
@@ -203,7 +203,7 @@ fn fill_fields(bytes: &[u8], force: Option<&Structure>, out: &mut Descriptor) ->
     Ok(())
 }
 
-/// The same where there are flags. Out of line, so that what depends on flags is removed from the code for descriptors without them.
+/// The same, for descriptors with flags. Out of line, so that the code for descriptors without flags has nothing that depends on them.
 #[inline(never)]
 fn fill_flagged(
     bytes: &[u8],
@@ -229,8 +229,9 @@ fn fill(bytes: &[u8], force: Option<&Structure>, out: &mut Descriptor) -> Result
     }
 }
 
-/// Reads a descriptor into `out`, in place of what it held, with the structure in force where it carries none. The fault is the first from
-/// left to right, and `out` may then say anything; bits after the frame's definition are ignored. What is read can be written.
+/// Reads a descriptor (RTP Payload Format For AV1 v1.0, Appendix A) into `out`, in place of what `out` held. A descriptor that carries no
+/// structure is read with `force`, the structure in force. Bits after the frame's definition are ignored. The error is the first fault from
+/// left to right; `out` may then say anything. What is read can be written.
 #[inline(always)]
 pub fn read_into(
     bytes: &[u8],
@@ -245,7 +246,7 @@ pub fn read_into(
     fill(bytes, force, out)
 }
 
-/// The same as [`read_into`], into a new descriptor. A descriptor is long: where many are read, one that is reused costs less.
+/// The same as [`read_into`], into a new descriptor. A descriptor takes 5 KB: where many are read, reusing one costs less.
 pub fn read(bytes: &[u8], force: Option<&Structure>) -> Result<Descriptor, DdFault>
     ensures read { Answers (option_copied force.entry) result (descriptor_at bytes.now (option_copied force.entry)) }
     ensures writable { IfOk result (λ d. IsWritableBy (holding d.structure (option_copied force.entry)) (content_of (option_copied force.entry) d)) }

@@ -24,14 +24,14 @@ use dd_bits::{BitReader, BitWriter, NoRoom};
 use dd_structure::Structure;
 use sfu_base::{Dti, NoFit, PacketBuf};
 
-/// The bits between two places.
+/// The bits between two places of a reader.
 #[derive(Clone, Copy)]
 pub struct Part<'a> {
     pub from: BitReader<'a>,
     pub to: BitReader<'a>,
 }
 
-/// The parts of a descriptor that stay.
+/// The parts of a descriptor that stay under another mask.
 #[derive(Clone, Copy)]
 pub struct Parts<'a> {
     pub head: Part<'a>,
@@ -65,7 +65,7 @@ fn body_parts<'a>(
     Ok((structure.target_count(), Part { from, to: *bits }))
 }
 
-/// The same by the structure that is carried, or else the one in force.
+/// The same as `body_parts`, by the carried structure or else the one in force.
 #[tactic(auto, unfolding(crate::specs::Parts::held_parts_at))]
 fn held_parts<'a>(
     bits: &mut BitReader<'a>,
@@ -86,7 +86,7 @@ fn held_parts<'a>(
     }
 }
 
-/// Where the parts lie in the bytes of a descriptor. A structure that it carries is read into `carried`.
+/// Where the parts lie in the bytes of a descriptor. A structure that the descriptor carries is read into `carried`.
 #[tactic(auto, unfolding(crate::specs::Parts::parts_at))]
 fn parts_in<'a>(
     bytes: &'a [u8],
@@ -114,7 +114,7 @@ fn parts_in<'a>(
     })
 }
 
-/// The lowest `count` bits of a mask, or all.
+/// The lowest `count` bits of a mask, or all where `count` is 32 or more.
 fn lowest(mask: u32, count: u8) -> u32
     ensures { result ≡ mask % 2 ^ count }
 {
@@ -148,7 +148,7 @@ fn put_mask(out: &mut BitWriter, targets: u8, mask: u32) -> Result<(), NoRoom>
     out.put(targets, lowest(mask, targets))
 }
 
-/// The working memory of a remask, 7 KB of whatever was there before: where a caller keeps it, nothing is cleared.
+/// The working memory of a remask, 7 KB; what it holds doesn't matter. A caller that keeps it saves clearing it for each call.
 #[derive(Debug, Drop)]
 pub struct RemaskRoom {
     structure: Option<Structure>,
@@ -156,7 +156,7 @@ pub struct RemaskRoom {
 }
 
 impl RemaskRoom {
-    /// One for all descriptors.
+    /// Working memory that can serve any descriptor.
     pub fn new() -> RemaskRoom {
         RemaskRoom {
             structure: None,
@@ -171,8 +171,8 @@ impl Default for RemaskRoom {
     }
 }
 
-/// Fills `out` anew as [`remask`] does, with as many of the mask's lowest bits as there are decode targets. Returns `NoFit` also where the
-/// bytes don't read with the structure in force; `out` is then as before. The bytes are read once.
+/// Does the same as [`remask`], for any bytes and any mask. The mask's lowest bits are written, as many as there are decode targets. Returns
+/// `NoFit` also where the bytes don't read with the structure in force; `out` is then as before. The bytes are read once.
 pub fn remask_lowest(
     bytes: &[u8],
     force: Option<&Structure>,
@@ -201,11 +201,11 @@ pub fn remask_lowest(
     }
 }
 
-/// Fills `out` anew with the same descriptor but for its mask: bit i of the mask, the lowest first, says whether decode target i is active.
-/// Each part is copied bit by bit, the bits after the frame's definition are dropped, and zeros fill the last byte. Returns `NoFit` where there
-/// would be more than 255 bytes; `out` is then as before.
+/// Replaces the contents of `out` with the same descriptor under another mask. Bit i of the mask, the lowest being bit 0, says whether decode
+/// target i is active. Each other part is copied bit by bit, the bits after the frame's definition are dropped, and zeros fill the last byte.
+/// Returns `NoFit` where there would be more than 255 bytes; `out` is then as before.
 ///
-/// The bytes must read with the structure in force, and the mask has no bit past the last decode target.
+/// The bytes must read with the structure in force, and the mask must have no bit past the last decode target.
 pub fn remask(
     bytes: &[u8],
     force: Option<&Structure>,

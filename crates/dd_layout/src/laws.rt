@@ -6,12 +6,12 @@ ghost use Rattle.dd_structure.specs.Spelling.{IsWellFormed};
 ghost use Rattle.dd_structure.specs.TemplateStructure.{TemplateStructure};
 ghost use Rattle.dd_layout.specs.Layouts.{is_same_structure, layout_of};
 
-/// A law: a structure that bits spell has at most 32 decode targets and 32 chains, and each target is protected by one of its chains.
+/// A law: a well-formed structure has at most 32 decode targets and 32 chains. Where it has chains, each target is protected by one of them.
 pub fn carried_structures_have_layouts()
     ensures { (s : TemplateStructure) → IsWellFormed s → IsLayout (layout_of s) }
 {}
 
-/// A law: two structures are the same, field by field, exactly when they are equal.
+/// A law: `is_same_structure`, which compares two structures field by field, holds exactly when they are equal.
 pub fn same_structures_are_equal()
     ensures { (a b : TemplateStructure) → (is_same_structure a b ≡ true) ↔ (a ≡ b) }
 {}

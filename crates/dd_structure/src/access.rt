@@ -64,7 +64,8 @@ impl Structure {
         &columns.indications[template as usize][..columns.target_count as usize]
     }
 
-    /// The same at the start of an array, which is copied faster; the entries behind them don't count.
+    /// The indications at the start of a whole array, which is copied faster than a slice. Entries past the last decode
+    /// target don't count.
     pub fn indication_row(&self, template: u8) -> &[Dti; 32]
         requires { template < length self.now.templates }
         ensures value { take self.now.target_count result.now ≡ (template_at self.now template).indications }
@@ -72,7 +73,8 @@ impl Structure {
         &self.columns.indications[template as usize]
     }
 
-    /// A template's frame differences: how many frames back each frame is that it refers to.
+    /// A template's frame differences: how many frame numbers back each frame is that the template refers to. There are
+    /// at most 16, each 1 to 16.
     pub fn distances(&self, template: u8) -> &[u8]
         requires { template < length self.now.templates }
         ensures value { result.now ≡ (template_at self.now template).distances }
@@ -82,7 +84,8 @@ impl Structure {
         &distances.items[..distances.count as usize]
     }
 
-    /// How many they are, at most 16, and the same at the start of an array; the entries behind them don't count.
+    /// How many frame differences a template has, at most 16, and the differences at the start of a whole array. Entries
+    /// behind them don't count.
     pub fn distance_row(&self, template: u8) -> (u8, &[u8; 16])
         requires { template < length self.now.templates }
         ensures value { take result.0 result.1.now ≡ (template_at self.now template).distances }
@@ -92,7 +95,7 @@ impl Structure {
         (distances.count, &distances.items)
     }
 
-    /// How many frames back a template's previous frame in each chain is, 0 where none is needed.
+    /// For each chain, how many frame numbers back the chain's previous frame is, 0 to 15; 0 where none is needed.
     pub fn links(&self, template: u8) -> &[u8]
         requires { template < length self.now.templates }
         ensures value { result.now ≡ (template_at self.now template).links }
@@ -103,7 +106,7 @@ impl Structure {
         &columns.links[template as usize][..columns.chain_count as usize]
     }
 
-    /// The same at the start of an array; the entries behind them don't count.
+    /// The links at the start of a whole array. Entries past the last chain don't count.
     pub fn link_row(&self, template: u8) -> &[u8; 32]
         requires { template < length self.now.templates }
         ensures value { take self.now.chain_count result.now ≡ (template_at self.now template).links }
@@ -111,7 +114,7 @@ impl Structure {
         &self.columns.links[template as usize]
     }
 
-    /// The chain that protects each decode target; none where there are no chains.
+    /// The chain that protects each decode target; empty where there are no chains.
     pub fn guards(&self) -> &[u8]
         ensures value { result.now ≡ self.now.guards }
         ensures few { length result.now ≤ 32 }
@@ -120,7 +123,8 @@ impl Structure {
         &columns.guards[..guarded_targets(columns.chain_count, columns.target_count) as usize]
     }
 
-    /// The width and height of each spatial id, from 0 to the greatest; none where the structure has no resolutions.
+    /// The width and height of each spatial id in pixels, from id 0 to the greatest; empty where the structure has no
+    /// resolutions.
     pub fn resolutions(&self) -> &[(u32, u32)]
         ensures { result.now ≡ self.now.resolutions }
     {

@@ -30,7 +30,8 @@ pub const BLANK: Columns = Columns {
     resolutions: NO_RESOLUTIONS,
 };
 
-/// Makes columns valid again that a fault left half read: as [`BLANK`] in the entries that count; the others stay.
+/// Makes columns valid again after a fault left them half read: the entries that count become those of [`BLANK`], and
+/// the others stay.
 #[inline(never)]
 pub fn mend(out: &mut Columns)
     ensures { IsWhole out.new }

@@ -13,7 +13,7 @@ pub struct Distances {
     ghost within: { count ≤ 16 },
 }
 
-/// The width and height of each spatial id, from 0 on, where the structure has them.
+/// The width and height of each spatial id in pixels, from id 0 on, where the structure has them.
 #[derive(Clone, Copy, Debug)]
 pub struct Resolutions {
     pub count: u8,
@@ -21,8 +21,8 @@ pub struct Resolutions {
     ghost within: { count ≤ 4 },
 }
 
-/// The fields of a structure, of which only the first entries count: `template_count` of those that go by template, `target_count` of those
-/// that go by decode target, `chain_count` of those that go by chain.
+/// The fields of a structure, in arrays of which only the first entries count: `template_count` where there is an entry for each template,
+/// `target_count` where there is one for each decode target, `chain_count` where there is one for each chain.
 #[derive(Clone, Copy, Debug)]
 pub struct Columns {
     pub offset: u8,
@@ -33,7 +33,7 @@ pub struct Columns {
     pub indications: [[Dti; 32]; 64],
     pub distances: [Distances; 64],
     pub links: [[u8; 32]; 64],
-    /// They count only where there are chains.
+    /// The chain that protects each decode target. The entries count only where there are chains.
     pub guards: [u8; 32],
     pub resolutions: Resolutions,
 }

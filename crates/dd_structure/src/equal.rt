@@ -32,7 +32,7 @@ fn same_resolutions(a: &[(u32, u32)], b: &[(u32, u32)]) -> bool
     a == b
 }
 
-/// Whether the first `targets` entries of each row are equal.
+/// Whether rows at the same index have the same first `targets` entries.
 fn same_indication_tables(a: &[[Dti; 32]], b: &[[Dti; 32]], targets: usize) -> bool
     requires targets { targets ≤ 32 }
     requires len { length a.now ≡ length b.now }
@@ -60,7 +60,7 @@ fn same_distance_tables(a: &[Distances], b: &[Distances]) -> bool
     true
 }
 
-/// Whether the first `chains` entries of each row are equal.
+/// Whether rows at the same index have the same first `chains` entries.
 fn same_link_tables(a: &[[u8; 32]], b: &[[u8; 32]], chains: usize) -> bool
     requires chains { chains ≤ 32 }
     requires len { length a.now ≡ length b.now }
@@ -106,7 +106,7 @@ fn same_fields(a: &Columns, b: &Columns) -> bool
         )
 }
 
-/// Whether the entries of the arrays that count are equal.
+/// Whether all entries that count are equal.
 pub fn same_columns(a: &Columns, b: &Columns) -> bool
     requires a { IsWhole a.now }
     requires b { IsWhole b.now }

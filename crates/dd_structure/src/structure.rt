@@ -7,8 +7,8 @@ use crate::writing::put_columns;
 use dd_bits::{BitReader, BitWriter, NoRoom};
 use std::marker::Model;
 
-/// A template structure: contracts see its offset, its numbers of decode targets and chains, its templates, the chains that
-/// protect decode targets, and the resolutions.
+/// A template structure (RTP Payload Format For AV1 v1.0, Appendix A, template_dependency_structure). Contracts see its offset, its numbers
+/// of decode targets and chains, its templates, the chains that protect decode targets, and the resolutions.
 #[derive(Debug, Drop)]
 pub struct Structure {
     pub(crate) columns: Columns,
@@ -57,7 +57,7 @@ impl Structure {
     ghost use Rattle.dd_structure.specs.Reading.{structure_at, some_structure_at};
     ghost use Rattle.dd_structure.specs.Spelling.{structure_bits, IsWellFormed};
 
-    /// Reads the structure that the bits begin with. The fault is the first from left to right; the reader is then as before.
+    /// Reads the structure that the bits begin with, or returns the first fault from left to right; after a fault the reader is as before.
     pub fn read(bits: &mut BitReader<'_>) -> Result<Structure, StructureFault>
         ensures read { Gives (λ s. s) result bits.new (structure_at (bits_left bits.old)) }
         ensures unchanged { OnErr result (bits.new ≡ bits.old) }
@@ -67,8 +67,8 @@ impl Structure {
         Ok(Structure { columns })
     }
 
-    /// The same, in place of what `out` held; after a fault `out` holds none. A structure is long: where `out` holds one already, nothing is
-    /// cleared or moved.
+    /// Reads as [`Structure::read`] does, but into `out`, in place of what `out` held; after a fault `out` is `None`. A structure takes 5.4
+    /// KB: where `out` holds one already, a new one is read over it, and nothing is cleared or moved.
     #[tactic(auto, unfolding(crate::specs::Reading::some_structure_at))]
     pub fn read_into(
         bits: &mut BitReader<'_>,
@@ -90,7 +90,7 @@ impl Structure {
         }
     }
 
-    /// Appends the bits of the structure. Returns `NoRoom` where they would pass 2,040 bytes; the writer is then as before.
+    /// Appends the bits of the structure. Returns `NoRoom` where the writer would hold more than 2,040 bytes; the writer is then as before.
     pub fn write(&self, out: &mut BitWriter) -> Result<(), NoRoom>
         ensures put { Puts result out.old out.new (structure_bits self.now) }
         ensures unchanged { OnErr result (out.new ≡ out.old) }
@@ -122,7 +122,7 @@ impl Structure {
         }
     }
 
-    /// Every structure has its numbers in the ranges of their fields, and its counts agree with one another.
+    /// A lemma, which does nothing: every structure has its numbers in the ranges of their fields, and its counts agree with one another.
     pub fn is_well_formed(&self)
         ensures { IsWellFormed self.now }
     {

@@ -4,7 +4,7 @@ use sfu_base::{Dti, Wish};
 use std::process::Abort;
 use std::test::Fail;
 
-/// What a template is to say.
+/// What a template has to read as.
 #[derive(Clone, Copy)]
 struct Row {
     layer: Layer,
@@ -39,7 +39,7 @@ const fn template(
 /// The five flags of a descriptor that carries a structure and nothing else.
 const FLAGS: u32 = 0b10000;
 
-/// One target in one chain: a key frame, and one that refers to the frame before it.
+/// One target in one chain. The templates are a key frame, and a frame that refers to the frame before it.
 const A: [u8; 6] = [0x80, 0x00, 0x3a, 0x41, 0x01, 0x00];
 
 /// Two spatial layers, each target protected by a chain of its own.
@@ -65,7 +65,7 @@ fn read(bytes: &[u8]) -> Result<Structure, Fail> {
     Ok(Structure::read(&mut bits)?)
 }
 
-/// The structure says what the rows say, and writes back to the bytes that it was read from.
+/// Checks that the structure says what the rows say, and that it is written back to the bytes that it was read from.
 fn expect(
     rt: &impl Abort,
     bytes: &[u8],
@@ -119,8 +119,8 @@ fn structures_are_read_field_by_field_and_written_back(rt: HostRuntime) -> Resul
     expect(&rt, &D_BYTES, &read(&D_BYTES)?, &[1, 1, 0, 0], &d)
 }
 
-/// A structure that is written by hand: the codes that lead to new layers, how many more templates of the last layer follow, the
-/// code after them, and its numbers of targets, chains and distances of each template.
+/// A structure that a test writes: the codes that lead to new layers, how many more templates of the last layer follow (`same`), and the
+/// code after them (`end`); the numbers of targets and of chains, and the number of distances of each template.
 #[derive(Clone, Copy)]
 struct Case {
     codes: &'static [u32],
@@ -129,7 +129,7 @@ struct Case {
     targets: u32,
     chains: u32,
     distances: u32,
-    /// The greatest spatial id and the greatest temporal id, or the fault that is to be found.
+    /// What has to be found: the greatest spatial id and the greatest temporal id, or a fault.
     found: Result<(u8, u8), StructureFault>,
 }
 
@@ -175,7 +175,7 @@ fn put_head(out: &mut BitWriter, case: &Case) -> Result<(), NoRoom> {
     put(out, 2, case.end)
 }
 
-/// Every target is required, and every distance is 16.
+/// Writes the templates: every target is required, and every distance is 16.
 fn put_templates(out: &mut BitWriter, case: &Case) -> Result<(), NoRoom> {
     for _ in 0..templates(case) {
         for _ in 0..case.targets {
@@ -191,7 +191,7 @@ fn put_templates(out: &mut BitWriter, case: &Case) -> Result<(), NoRoom> {
     Ok(())
 }
 
-/// Every target is protected by the last chain, and every link is 15.
+/// Writes the chains: every target is protected by the last chain, and every link is 15.
 fn put_chains(out: &mut BitWriter, case: &Case) -> Result<(), NoRoom> {
     put_ns(out, case.targets.saturating_add(1), case.chains)?;
     if case.chains > 0 {
@@ -207,7 +207,7 @@ fn put_chains(out: &mut BitWriter, case: &Case) -> Result<(), NoRoom> {
     Ok(())
 }
 
-/// The greatest width and the least height.
+/// Writes the resolutions: the greatest width and the least height.
 fn put_resolutions(out: &mut BitWriter, case: &Case) -> Result<(), NoRoom> {
     put(out, 1, 1)?;
     put(out, 16, 0xffff)?;
@@ -321,7 +321,7 @@ fn structures_are_read_up_to_their_limits(rt: HostRuntime) -> Result<(), Fail> {
             chains: 32,
             ..PLAIN
         },
-        // Of two faults at one place the layer's comes, of two places the first one's.
+        // Of two faults at one place the layer's is found, of faults at two places the first.
         Case {
             codes: &[2, 2, 2],
             same: 60,

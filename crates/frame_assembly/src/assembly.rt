@@ -1,4 +1,4 @@
-// Packets, in order, become whole frames.
+// Puts packets together into whole frames.
 ghost use Rattle.std.specs.Prelude.{◌≡◌, ◌<◌, ◌≤◌, ◌↔◌, ◌∷◌, [], IfOk, List, None, Some, length, map, slice_get, ℕ};
 ghost use Rattle.forwarding_model.specs.frames.Cuts.{EndsIn, IsWholeCut, Mark as CutMark, Part, outcome, run_of};
 ghost use Rattle.frame_assembly.specs.Assembled.{EndsNothing, EndsUnfinished, EndsWhole, IsAfter, answer, marked};
@@ -11,12 +11,12 @@ use sfu_base::NoMemory;
 use std::alloc::Global;
 use std::marker::Model;
 
-/// Puts the packets of a layered track together to frames (RTP Payload Format For AV1, section 4.4 and Appendix A). Clauses see it as
-/// the frame under assembly, if there is one, and the packets of the frame that the last call made whole, or none.
+/// Puts the packets of a layered track together into frames (RTP Payload Format For AV1, section 4.4 and Appendix A). Clauses see the frame
+/// under assembly, if there is one, and the packets of the frame that the last call completed, or none.
 #[derive(Drop)]
 pub struct Assembly {
     frame: Frame,
-    // a packet that comes as bytes goes through this slot
+    // `push` copies its packet into this slot first
     spare: Box<PacketSlot>,
 }
 
@@ -29,7 +29,7 @@ impl Model for Assembly {
 }
 
 impl Assembly {
-    /// No packet yet. All its memory is taken here: slots for 512 packets, and a spare one.
+    /// An assembly without packets. All memory is taken here: slots for 512 packets, and a spare one. `NoMemory`: out of memory.
     pub fn new(alloc: Global) -> Result<Assembly, NoMemory>
         ensures value { IfOk result (λ assembly. assembly ≡ record { unfinished = None; frame = [] }) }
         ensures stands { IfOk result (λ assembly. IsAfter assembly []) }
@@ -40,13 +40,13 @@ impl Assembly {
         })
     }
 
-    /// The next packet, at most 1,500 bytes, which are copied. Returns
-    /// - `Whole` where it ends a whole frame: parts in a row, padding left aside, of one frame number; the first and no other starts, the
-    ///   last and no other ends; the first continues no element, each next one exactly when the one before carries one on, and the last
-    ///   carries none on. There are at most 512 of them (own rule);
-    /// - `Partial` where such a frame hasn't ended; an element may be open then;
+    /// Takes the next packet, at most 1,500 bytes, which are copied. Returns
+    /// - `Whole` where the packet completes a frame: at most 512 parts (own rule) in a row, apart from padding, all with one frame number.
+    ///   Only the first part has `start`, and only the last has `end`. The first part's Z is 0, each next part's Z is the Y of the part
+    ///   before, and the last part's Y is 0;
+    /// - `Partial` where such a frame isn't complete yet; an element may be open then;
     /// - `Pad` at padding;
-    /// - `Torn` at anything else: what there was of a frame is dropped (own rule).
+    /// - `Torn` at anything else: the frame under assembly, if there is one, is dropped (own rule).
     pub fn push(&mut self, mark: &Mark, packet: &[u8]) -> Outcome
         requires { length packet.now ≤ 1500 }
         ensures stands { (past : List (CutMark (List ℕ))) → IsAfter self.old past → IsAfter self.new (marked mark.now packet.now ∷ past) }
@@ -67,8 +67,8 @@ impl Assembly {
         self.frame.take_mark(mark, &mut self.spare)
     }
 
-    /// The next packet as [`Assembly::push`] takes it, in a slot; where it is a part of the frame under assembly the slot changes places with
-    /// one of the assembly's, so that no byte is copied. What the slot has then is no frame's.
+    /// Takes the next packet as [`Assembly::push`] does, but in a slot. Where the packet becomes a part of the frame under assembly, the
+    /// slot is swapped with one of the assembly's, so that no byte is copied. The bytes in the slot then belong to no frame.
     pub fn push_slot(&mut self, mark: &Mark, slot: &mut Box<PacketSlot>) -> Outcome
         ensures stands { (past : List (CutMark (List ℕ))) → IsAfter self.old past → IsAfter self.new (marked mark.now slot.old.value ∷ past) }
         ensures outcome { (past : List (CutMark (List ℕ))) → IsAfter self.old past
@@ -87,7 +87,7 @@ impl Assembly {
         self.frame.take_mark(mark, slot)
     }
 
-    /// How many packets the frame has that the last call made whole, at most 512; 0 where it made none whole.
+    /// How many packets the frame has that the last call completed, at most 512; 0 where that call completed none.
     pub fn count(&self) -> u16
         ensures count { result ≡ length self.now.frame }
         ensures few { length self.now.frame ≤ 512 }
@@ -95,7 +95,7 @@ impl Assembly {
         self.frame.count()
     }
 
-    /// The bytes of a packet, by its place from 0, of the frame that the last call made whole. The place is below `count`.
+    /// The bytes of one packet of the frame that the last call completed. Places count from 0; `place` must be below `count`.
     pub fn packet(&self, place: u16) -> &[u8]
         requires { place < length self.now.frame }
         ensures { slice_get self.now.frame place ≡ Some result.now }

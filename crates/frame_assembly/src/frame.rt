@@ -1,4 +1,4 @@
-// The frame under assembly, and what a packet in a slot makes of it.
+// The frame under assembly, and how a mark with a packet in a slot changes it.
 ghost use Rattle.std.specs.Prelude.{◌≡◌, ◌<◌, ◌≤◌, [], IfOk, None, Some, is_some, length, slice_get, true};
 ghost use Rattle.frame_assembly.specs.Assembled.{marked};
 ghost use Rattle.frame_assembly.specs.Steps.{answered, begun, continued, ended, made_of, nothing, pushed};
@@ -11,18 +11,18 @@ use sfu_base::NoMemory;
 use std::alloc::Global;
 use std::marker::Model;
 
-/// How far the frame is whose packets are kept.
+/// The state of the frame whose packets are stored.
 #[derive(Clone, Copy, Debug)]
 enum Progress {
-    /// There is none.
+    /// There is no frame.
     Nothing,
-    /// It goes on.
+    /// The frame is unfinished.
     Unfinished,
-    /// It is whole, since the last call.
+    /// The last call completed the frame.
     Whole,
 }
 
-/// The frame under assembly, if there is one, and the packets of the frame that the last call made whole, or none.
+/// The frame under assembly, if there is one, and the packets of the frame that the last call completed, or none.
 #[derive(Drop)]
 pub struct Frame {
     progress: Progress,
@@ -41,7 +41,7 @@ impl Model for Frame {
 }
 
 impl Frame {
-    /// No packet yet, and room for all that there will be.
+    /// No frame. All memory is taken here; `NoMemory`: out of memory.
     pub fn new(alloc: Global) -> Result<Frame, NoMemory>
         ensures { IfOk result (λ frame. frame ≡ nothing) }
     {
@@ -53,8 +53,9 @@ impl Frame {
         })
     }
 
-    // What is made of what is seen is proved here, and what that says of whole lists of marks by the calls of the assembly.
-    /// What the mark makes of the frame so far. Where its packet, in the slot, is added, the slot changes places with one of the frame's.
+    // Clauses here say how one call changes what is seen; those of `Assembly` say what follows for whole lists of marks.
+    /// Applies a mark, whose packet is in the slot, to the frame so far. Where the packet is added, the slot is swapped with one of the
+    /// frame's.
     pub fn take_mark(&mut self, mark: &Mark, slot: &mut Box<PacketSlot>) -> Outcome
         ensures seen { self.new ≡ pushed self.old (marked mark.now slot.old.value) }
         ensures made { result ≡ made_of self.old (marked mark.now slot.old.value) }
@@ -95,7 +96,7 @@ impl Frame {
         Outcome::Torn
     }
 
-    // A whole frame stays only until the next packet.
+    // Forgets a whole frame, which stays only until the next packet.
     fn forget_whole(&mut self)
         ensures { self.new ≡ record { unfinished = self.old.unfinished; frame = [] } }
     {
@@ -114,7 +115,7 @@ impl Frame {
         self.packets.clear();
     }
 
-    // Adds a packet, if the frame so far goes on with it.
+    // Adds a packet, if it continues the unfinished frame. Returns whether it does.
     fn extend(
         &mut self,
         number: u16,
@@ -138,7 +139,7 @@ impl Frame {
         true
     }
 
-    // The frame so far has its end: it is whole, or torn where an element is open.
+    // Ends the frame so far: it is whole, or is dropped as torn where an element is open.
     fn finish(&mut self) -> Outcome
         requires { is_some self.old.unfinished ≡ true }
         ensures seen { self.new ≡ ended true self.old.unfinished }
@@ -151,7 +152,7 @@ impl Frame {
         Outcome::Whole
     }
 
-    /// How many packets the whole frame has; 0 where there is none.
+    /// How many packets the whole frame has; 0 where no frame is whole.
     pub fn count(&self) -> u16
         ensures count { result ≡ length self.now.frame }
         ensures few { length self.now.frame ≤ 512 }
@@ -162,7 +163,7 @@ impl Frame {
         }
     }
 
-    /// The bytes of a packet of the whole frame.
+    /// The bytes of one packet of the whole frame, by its place from 0.
     pub fn packet(&self, place: u16) -> &[u8]
         requires { place < length self.now.frame }
         ensures { slice_get self.now.frame place ≡ Some result.now }

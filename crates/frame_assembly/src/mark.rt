@@ -1,13 +1,13 @@
-// What a packet is to the frame under assembly, and what comes of it.
+// What a packet is to the frame under assembly, and what the packet makes of that frame.
 
 /// What comes next in the order of a layered track, as the frame under assembly sees it.
 #[derive(Clone, Copy, Debug, PartialEq, Eq)]
 pub enum Mark {
-    /// Packets that were given up.
+    /// Packets are missing here, and were given up.
     Gone,
     /// A packet without a payload.
     Pad,
-    /// A packet whose descriptor or payload wasn't read.
+    /// A packet whose descriptor or payload doesn't read.
     Unread,
     /// A part of a frame.
     Part {
@@ -27,12 +27,12 @@ pub enum Mark {
 /// What a packet made of the frame under assembly.
 #[derive(Clone, Copy, Debug, PartialEq, Eq)]
 pub enum Outcome {
-    /// The frame so far goes on.
+    /// The frame so far isn't complete yet.
     Partial,
     /// The frame is whole.
     Whole,
     /// No frame is under assembly any more: what there was is dropped, with this packet.
     Torn,
-    /// Nothing: the packet is padding, and the frame so far goes on.
+    /// Nothing: the packet is padding, and an unfinished frame stays as it is.
     Pad,
 }

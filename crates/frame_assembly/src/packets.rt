@@ -10,7 +10,8 @@ use std::mem;
 /// How many packets a frame has at most (own rule).
 pub const MOST_PACKETS: usize = 512;
 
-/// Up to 512 packets, seen as the list of their bytes, in slots that are made once and change places with others.
+/// Up to 512 packets, in slots that are made once and are swapped with the callers' slots. Clauses see the list of the
+/// packets' bytes.
 #[derive(Drop)]
 pub struct Packets {
     slots: Vec<Box<PacketSlot>>,
@@ -29,7 +30,7 @@ impl Model for Packets {
 }
 
 impl Packets {
-    /// No packets, and room for all that there will be.
+    /// No packets. All 512 slots are allocated here; `NoMemory`: out of memory.
     pub fn new(alloc: Global) -> Result<Packets, NoMemory>
         ensures { IfOk result (λ packets. packets ≡ []) }
     {
@@ -40,7 +41,7 @@ impl Packets {
         Ok(Packets { slots, count: 0 })
     }
 
-    /// How many there are.
+    /// How many packets there are.
     pub fn len(&self) -> usize
         ensures count { result ≡ length self.now }
         ensures few { length self.now ≤ 512 }
@@ -48,14 +49,14 @@ impl Packets {
         self.count
     }
 
-    /// None are left.
+    /// Removes all packets.
     pub fn clear(&mut self)
         ensures { self.new ≡ [] }
     {
         self.count = 0;
     }
 
-    /// One packet more. Its slot changes places with one of these.
+    /// Adds a packet. Its slot is swapped with one of these.
     pub fn push(&mut self, slot: &mut Box<PacketSlot>)
         requires { length self.old < 512 }
         ensures { self.new ≡ self.old ++ slot.old.value ∷ [] }

@@ -50,7 +50,7 @@ fn verdicts_are_kept_for_4096_numbers(rt: HostRuntime) -> Result<(), Fail> {
     book.write(4107, Verdict::Passed);
     assert_eq!(rt; book.verdict(11), Err(Refusal::TooOld { oldest: 12 }));
     assert_eq!(rt; book.verdict(12), hole(None, 4106));
-    // another frame of these numbers isn't written
+    // nothing is written for a number that isn't above the newest
     book.write(4107, last);
     book.write(4000, last);
     assert_eq!(rt; book.verdict(4107), Ok(Verdict::Passed));
@@ -133,9 +133,9 @@ fn a_path_names_its_next_number_falls_and_ends_at_a_root(rt: HostRuntime) {
     for root in roots {
         assert!(rt; check_path(&[step(2, root)]));
         assert!(rt; check_path(&[step(5, to_three), step(3, to_two), step(2, root)]));
-        // a root that isn't the last
+        // a root before the last step
         assert!(rt; !check_path(&[step(3, root), step(2, root)]));
-        // another number than the one that is named
+        // a step with another number than the one that the step before names
         assert!(rt; !check_path(&[step(5, to_three), step(2, root)]));
         // numbers that don't decrease
         assert!(rt; !check_path(&[step(3, to_three), step(3, root)]));

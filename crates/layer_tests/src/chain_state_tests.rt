@@ -24,7 +24,7 @@ const FRAME: FrameMeaning = FrameMeaning {
     refs: [0; 16],
 };
 
-// Of the frames before number 6, those with the numbers 1, 4 and 5 were forwarded.
+// Checks the chain's state at frame 6. Of the frames before it, those with the numbers 1, 4 and 5 were forwarded.
 fn check_row(rt: &impl Abort, chains: u8, link: u8, opened: u64, state: LinkState)
     requires { chains ≤ 1 }
 {

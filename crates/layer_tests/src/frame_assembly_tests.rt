@@ -5,7 +5,7 @@ use packet_slot::PacketSlot;
 use std::process::Abort;
 use std::test::Fail;
 
-// Packets of frame 2, by what they begin and end, and by the elements that they continue and carry on.
+// Packets of frame 2, by whether they start and end it, and by whether they continue an element and carry one on.
 const FIRST: Mark = Mark::Part {
     start: true,
     end: false,
@@ -87,7 +87,7 @@ const OTHER_LAST: Mark = Mark::Part {
     carries: false,
 };
 
-// Each mark comes with a packet of one byte, its place in the row; `frame` has the bytes of the frame that the last one made whole.
+// Pushes each mark with a packet of one byte, the mark's place in the row. `frame` has the bytes of the frame that the last mark made whole.
 fn check_row(rt: &impl Abort, assembly: &mut Assembly, marks: &[(Mark, Outcome)], frame: &[u8]) {
     let mut place = 0u8;
     for (mark, outcome) in marks {
@@ -100,7 +100,7 @@ fn check_row(rt: &impl Abort, assembly: &mut Assembly, marks: &[(Mark, Outcome)]
     }
 }
 
-// Marks and what is returned for each, and the first bytes of the packets of the frame that the last made whole.
+// Rows: marks with what is returned for each, and the first byte of each packet of the frame that the last mark made whole.
 const ROWS: [(&[(Mark, Outcome)], &[u8]); 20] = [
     // before the first frame
     (
@@ -113,7 +113,7 @@ const ROWS: [(&[(Mark, Outcome)], &[u8]); 20] = [
         &[],
     ),
     (&[(Mark::Pad, Outcome::Pad), (ALONE, Outcome::Whole)], &[1]),
-    // a packet was given up inside
+    // a packet inside the frame was given up
     (
         &[
             (OPEN_FIRST, Outcome::Partial),
@@ -139,7 +139,7 @@ const ROWS: [(&[(Mark, Outcome)], &[u8]); 20] = [
         ],
         &[0, 2],
     ),
-    // a start drops the frame so far, also one of the same number
+    // a start drops the frame so far, even one with the same number
     (
         &[(FIRST, Outcome::Partial), (OTHER_ALONE, Outcome::Whole)],
         &[1],
@@ -175,7 +175,7 @@ const ROWS: [(&[(Mark, Outcome)], &[u8]); 20] = [
         ],
         &[],
     ),
-    // broken joins: an element that isn't continued, and one that is though none is open
+    // broken joins: an open element isn't continued; a packet continues one though none is open
     (
         &[
             (OPEN_FIRST, Outcome::Partial),
@@ -208,7 +208,7 @@ const ROWS: [(&[(Mark, Outcome)], &[u8]); 20] = [
         ],
         &[],
     ),
-    // an element left open at the end, and a start that continues one
+    // an element left open at the end, and a start that continues an element
     (
         &[(OPEN_ALONE, Outcome::Torn), (JOINED_LAST, Outcome::Torn)],
         &[],
@@ -230,7 +230,7 @@ const ROWS: [(&[(Mark, Outcome)], &[u8]); 20] = [
         ],
         &[],
     ),
-    // a whole frame is over with the next packet, also with padding
+    // the next packet ends a whole frame, even if it is padding
     (&[(ALONE, Outcome::Whole), (LAST, Outcome::Torn)], &[]),
     (&[(ALONE, Outcome::Whole), (Mark::Pad, Outcome::Pad)], &[]),
 ];
@@ -270,7 +270,7 @@ fn check_frame(rt: &impl Abort, assembly: &Assembly, frame: &[&[u8]]) {
     }
 }
 
-// One slot brings all packets, so it has what the assembly gave for the packet before.
+// One slot brings all packets. So it holds what the assembly gave in exchange for the packet before.
 #[test]
 fn packets_in_slots_make_the_same_frames_as_their_bytes(rt: HostRuntime) -> Result<(), Fail> {
     let mut bytes = Assembly::new(rt.alloc())?;

@@ -14,7 +14,7 @@ fn packet(word: u32) -> [u8; 16] {
     bytes
 }
 
-// Queues that packet, where fewer than 512 are queued.
+// Queues `packet(word)` if fewer than 512 packets are queued.
 fn push(ring: &mut OutRing, word: u32, marker: bool) {
     let bytes = packet(word);
     if let (Ok(_), 0..512) = (read(&bytes), ring.queued()) {
@@ -22,7 +22,7 @@ fn push(ring: &mut OutRing, word: u32, marker: bool) {
     }
 }
 
-// What is sent of that packet under SSRC 22222222.
+// `packet(word)` as it is sent with SSRC 22222222.
 fn outgoing(word: u32, seq: u16, marker: bool) -> [u8; 16] {
     let mut bytes = packet(word);
     bytes[1] = if marker { 0xE0 } else { 0x60 };
@@ -148,7 +148,7 @@ fn a_ring_is_made_where_there_is_memory(rt: HostRuntime) -> Result<(), Fail> {
     Ok(())
 }
 
-// Puts that packet into the store.
+// Puts `packet(word)` into the store.
 fn put(store: &mut PacketStore, word: u32) -> Option<SharedPacket> {
     let bytes = packet(word);
     match read(&bytes) {
@@ -157,7 +157,7 @@ fn put(store: &mut PacketStore, word: u32) -> Option<SharedPacket> {
     }
 }
 
-// Queues a packet that is shared, where fewer than 512 are queued. Returns what the ring shared before.
+// Queues a shared packet if fewer than 512 packets are queued. Returns the shared packet that had its slot before, if there was one.
 fn push_shared(ring: &mut OutRing, packet: SharedPacket, marker: bool) -> Option<SharedPacket> {
     match ring.queued() {
         0..512 => ring.push_shared(packet, marker),
@@ -190,7 +190,7 @@ fn a_packet_that_rings_share_has_each_ones_fields_and_its_buffer_is_used_again(
     assert_eq!(rt; out.bytes(), outgoing(1, 65_535, true).as_slice());
     assert_eq!(rt; second.take(&mut out), Ok(7));
     assert_eq!(rt; out.bytes(), outgoing(1, 7, false).as_slice());
-    // The first ring keeps it until it gave 1,024 more.
+    // The first ring keeps the packet until 1,024 more were taken.
     for word in 2..1026u32 {
         assert!(rt; first.evict().is_none());
         push(&mut first, word, false);
@@ -205,7 +205,7 @@ fn a_packet_that_rings_share_has_each_ones_fields_and_its_buffer_is_used_again(
     assert_eq!(rt; out.bytes(), outgoing(1, 7, false).as_slice());
     second.release(&mut store);
     assert_eq!(rt; store.spare(), 1);
-    // Where it isn't evicted, the push that takes its slot returns it.
+    // A shared packet that isn't evicted is returned by the push that takes its slot.
     let Some(shared) = put(&mut store, 3) else {
         return Err(Fail::from("its buffer isn't used again"));
     };

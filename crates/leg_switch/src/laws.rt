@@ -1,7 +1,8 @@
 // What follows from the definitions of what is forwarded.
 ghost use Rattle.leg_switch.specs.Laws.{BundlesPlease, ChangesStep, KeyStartsGoOut, OutgoingGrows};
 
-/// A strict receiver that has no complaint of what each leg gave has none of what is forwarded, nor of any prefix of it.
+/// Where a strict receiver has no complaint about what was taken from each leg, it has none about what is forwarded, nor
+/// about any prefix of that.
 pub fn bundles_please_receivers()
     ensures { BundlesPlease }
 {}
@@ -11,7 +12,7 @@ pub fn key_starts_go_out_between_frames()
     ensures { KeyStartsGoOut }
 {}
 
-/// At a change of leg the first packet is forwarded with the last timestamp plus 3,000.
+/// At a change of leg the first packet is forwarded with the last timestamp plus 3,000, modulo 2^32.
 pub fn changes_step_the_timestamp()
     ensures { ChangesStep }
 {}

@@ -1,5 +1,5 @@
-//! Which of the packets that were taken from a bundle's legs are forwarded, and with which timestamp: packets of one leg after another, each
-//! change of leg between whole frames and at a key frame. No call takes memory.
+//! Decides which of the packets that were taken from a bundle's legs are forwarded, and with which timestamp. One leg's packets are
+//! forwarded at a time. The leg changes only between whole frames, and at a key frame. No call takes memory.
 #![tactic(auto)]
 
 mod laws;

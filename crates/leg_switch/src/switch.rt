@@ -7,19 +7,19 @@ use crate::marks::{ends_frame, starts_key};
 use dd_descriptor::NewestDescriptor;
 use std::marker::Model;
 
-/// What the timestamps of a stream rise by at a change of leg, in ticks of the media's clock (own rule).
+/// By how much a stream's timestamps rise at a change of leg, in ticks of the media's clock (own rule).
 const STEP: u32 = 3000;
 
-/// Which of a bundle's legs, counted from 1, is chosen, and which is active. The packets of the active leg are forwarded. The chosen one
-/// becomes active with a packet that is a key start, where the last packet that was forwarded ended its frame, or none was forwarded yet.
-/// Timestamps continue over a change of leg.
+/// Which of a bundle's legs, counted from 1, is chosen, and which is active. The packets of the active leg are forwarded. The chosen leg
+/// becomes active with a key start, but only where no packet was forwarded yet or the last forwarded packet ended its frame. Timestamps
+/// continue over a change of leg.
 #[derive(Debug, Drop)]
 pub struct Switch {
     chosen: u8,
     active: Option<u8>,
     // What is added to the timestamps of the active leg.
     offset: u32,
-    // Of the last packet that was forwarded: whether it ended its frame, and its timestamp.
+    // Of the last forwarded packet: whether it ended its frame, and the timestamp that it was forwarded with.
     ended: bool,
     timestamp: u32,
 }
@@ -58,22 +58,23 @@ impl Switch {
         self.chosen
     }
 
-    /// The active leg, if a packet was forwarded.
+    /// The active leg: `None` until a packet is forwarded.
     pub fn active(&self) -> Option<u8>
         ensures { result ≡ self.now.active }
     {
         self.active
     }
 
-    /// Chooses a leg.
+    /// Chooses a leg, counted from 1. The active leg stays the same.
     pub fn choose(&mut self, leg: u8)
         ensures { self.new ≡ record self.old { chosen = leg } }
     {
         self.chosen = leg;
     }
 
-    /// Decides on a packet that was taken from a leg: the timestamp that it is forwarded with, or `None` where it is dropped. Its
-    /// dependency descriptor has this header extension id (RFC 8285), and it must be an RTP packet. `newest` may say anything afterwards.
+    /// Decides on a packet that was taken from this leg, and must be an RTP packet. Returns the timestamp that the packet is forwarded with,
+    /// or `None` where it is dropped. `id` is the header extension id of the packet's dependency descriptor (RFC 8285). `newest` is working
+    /// memory, and may say anything afterwards.
     pub fn pass(
         &mut self,
         id: u8,
@@ -101,7 +102,7 @@ impl Switch {
         Some(self.timestamp)
     }
 
-    // Whether a key start of this leg would become active.
+    // Whether this leg would become active with a key start.
     fn may_change_to(&self, leg: u8) -> bool
         ensures { result ≡ (self.now.chosen == leg && may_change self.now.active self.now.ended) }
     {

@@ -1,5 +1,5 @@
-// Packets of two legs, and which of them are forwarded. The wanted timestamps are worked out by hand from the rule: own plus offset, and 3,000
-// after the last one at a change of leg.
+// Packets of two legs, and which of them are forwarded. The wanted timestamps are worked out by hand from the rule: the packet's own plus the
+// leg's offset, and 3,000 after the last one at a change of leg.
 
 use crate::Switch;
 use dd_descriptor::NewestDescriptor;
@@ -8,9 +8,9 @@ use std::test::Fail;
 
 #[test]
 fn legs_change_between_frames_at_key_frames(rt: HostRuntime) -> Result<(), Fail> {
-    // The leg that is chosen before, the leg that the packet was taken from, the packet, and the timestamp that it is forwarded with.
+    // The leg that was chosen before, the leg that the packet was taken from, the packet, and the timestamp that it is forwarded with.
     let rows: [(u8, u8, &[u8], Option<u32>); 17] = [
-        // a key frame of a leg that is not chosen, and no key frame of the chosen one
+        // a key frame of a leg that is not chosen, then a packet of the chosen leg that begins no key frame
         (
             1,
             2,
@@ -23,7 +23,7 @@ fn legs_change_between_frames_at_key_frames(rt: HostRuntime) -> Result<(), Fail>
             b"\x90\xe0\x00\x01\x00\x00\x00\x06\x11\x11\x11\x11\xbe\xde\x00\x01\x42\xc1\x00\x02\x10\x30\x00",
             None,
         ),
-        // the first key frame of the chosen one, with its own timestamp
+        // the first key frame of the chosen leg, with its own timestamp
         (
             1,
             1,
@@ -74,7 +74,7 @@ fn legs_change_between_frames_at_key_frames(rt: HostRuntime) -> Result<(), Fail>
             b"\x90\xe0\x00\x05\x00\x00\x00\x09\x11\x11\x11\x11\xbe\xde\x00\x01\x42\xc1\x00\x05\x10\x30\x00",
             None,
         ),
-        // the active leg goes on where another is chosen
+        // the active leg is still forwarded where another is chosen
         (
             1,
             2,
@@ -94,7 +94,7 @@ fn legs_change_between_frames_at_key_frames(rt: HostRuntime) -> Result<(), Fail>
             b"\x90\xe0\x00\x07\x00\x00\x00\x04\x11\x11\x11\x11\xbe\xde\x00\x01\x42\xc1\x00\x07\x10\x30\x00",
             Some(6020),
         ),
-        // a packet without a descriptor, and one with two bytes of it: of the active leg both are forwarded, and end no frame
+        // a packet without a descriptor, and one with two bytes of it: both are forwarded, since their leg is active, and end no frame
         (
             2,
             1,

@@ -10,14 +10,14 @@ use thiserror::Error;
 #[derive(Clone, Copy, Debug, PartialEq, Eq, Error)]
 #[error("the packet's Z is {continues}, and the former Y {carried}")]
 pub struct JoinFault {
-    /// Y of the packet before, or false before the first: its last element continues in the next packet.
+    /// Y of the packet before: whether that packet's last element continues in the next one. False before the first packet.
     pub carried: bool,
-    /// Z of this packet: its first element continues one.
+    /// Z of this packet: whether its first element continues the last one of the packet before.
     pub continues: bool,
 }
 
-/// The packets of a frame as far as their elements join (RTP Payload Format For AV1, section 4.4), seen as whether an element is open: Y of
-/// the last packet, and false before the first.
+/// Checks that the elements of a frame's packets join (RTP Payload Format For AV1, section 4.4). Clauses see it as a flag, whether an
+/// element is open: Y of the last packet, or false before the first.
 #[derive(Debug, Drop)]
 pub struct Joiner {
     carries: bool,
@@ -32,7 +32,7 @@ impl Model for Joiner {
 }
 
 impl Joiner {
-    /// No packet yet.
+    /// A joiner before the first packet.
     pub fn new() -> Joiner
         ensures flag { result ≡ false }
         ensures packets { IsAfter result [] }
@@ -40,7 +40,8 @@ impl Joiner {
         Joiner { carries: false }
     }
 
-    /// Takes the next packet, with its Z and Y. It is refused exactly when its Z differs from the former Y, and nothing changes then.
+    /// Takes Z (`continues`) and Y (`carries`) of the next packet. The packet is refused exactly when its Z differs from Y of the last
+    /// packet that joined, which counts as 0 before the first; nothing changes then.
     pub fn feed(&mut self, continues: bool, carries: bool) -> Result<(), JoinFault>
         ensures ok { OnOk result ((continues ≡ self.old) × (self.new ≡ carries)) }
         ensures fault { IfErr result (λ e. (continues ≢ self.old) × (e ≡ record { carried = self.old; continues = continues })) }
@@ -60,7 +61,7 @@ impl Joiner {
         Ok(())
     }
 
-    /// Whether no element is open: the packets so far may be a whole frame.
+    /// Whether no element is open, so that the packets so far may be a whole frame.
     pub fn is_closed(&self) -> bool
         ensures flag { result ≡ not self.now }
         ensures packets { (packets : List Flags) → IsAfter self.now packets → (result ≡ true) ↔ Join packets }

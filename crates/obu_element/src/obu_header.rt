@@ -36,8 +36,8 @@ pub enum ObuFault {
     Cut,
 }
 
-/// Reads the header that the bytes begin with (AV1 Bitstream Specification, sections 5.3.2 and 5.3.3). Reserved bits are ignored. It is
-/// refused by the first fault that applies: `Empty`, `Forbidden`, `Cut`.
+/// Reads the header that the bytes begin with (AV1 Bitstream Specification, sections 5.3.2 and 5.3.3). Reserved bits are ignored. The error
+/// is the first fault that applies: `Empty`, `Forbidden` or `Cut`.
 pub fn header(bytes: &[u8]) -> Result<ObuHeader, ObuFault>
     ensures found { IfOk result (λ h. BeginsWith bytes.now h) }
     ensures none { IfErr result (λ _. (h : ObuHeader) → BeginsWith bytes.now h → ⊥) }
@@ -48,7 +48,7 @@ pub fn header(bytes: &[u8]) -> Result<ObuHeader, ObuFault>
     located(bytes)
 }
 
-/// Each field where it lies, or the first fault.
+/// Reads each field at its place, or returns the first fault.
 #[tactic(auto, unfolding(crate::specs::Reading::first_fault))]
 fn located(bytes: &[u8]) -> Result<ObuHeader, ObuFault>
     ensures fields { IfOk result (λ h. h ≡ header_of bytes.now) }

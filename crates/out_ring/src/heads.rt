@@ -1,4 +1,4 @@
-// The heads of the slots.
+// The heads of the slots: the packet that each slot shares, if any, and its marker.
 ghost use Rattle.std.specs.Prelude.{◌≡◌, ◌<◌, ◌≤◌, ◌∷◌, ◌++◌, All, IfOk, None, Some, [], drop, length, slice_get};
 ghost use Rattle.out_ring.specs.Slots.{evict, shared_at};
 
@@ -9,7 +9,7 @@ use std::alloc::Global;
 use std::marker::Model;
 use std::mem;
 
-/// A slot's packet where it is shared, and the marker that it goes out with.
+/// The shared packet of one slot, if the slot has one, and the marker that the slot's packet is sent with.
 #[derive(Debug, Drop)]
 pub struct Head {
     pub shared: Option<SharedPacket>,
@@ -20,7 +20,7 @@ pub struct Head {
 #[derive(Debug, Drop)]
 pub struct Heads {
     ring: Vec<Head>,
-    // where the oldest stands; the others stand behind it in turn, around the end
+    // the index of the oldest; the others follow in order and wrap around at the end
     oldest: usize,
 }
 
@@ -38,7 +38,7 @@ impl Model for Heads {
 }
 
 impl Heads {
-    /// Heads that share nothing. All memory that they need is taken here.
+    /// Heads without shared packets. All memory that they need is taken here; `NoMemory`: out of memory.
     pub fn new(alloc: Global) -> Result<Heads, NoMemory>
         ensures size { IfOk result (λ heads. length heads ≡ 1536) }
         ensures unshared { IfOk result (λ heads. All (λ head. head.shared ≡ None) heads) }
@@ -55,7 +55,7 @@ impl Heads {
         Ok(Heads { ring, oldest: 0 })
     }
 
-    /// The head at this place, the oldest's being 0.
+    /// The head at this place, counted from 0 at the oldest.
     #[inline(always)]
     pub fn get(&self, place: usize) -> &Head
         requires { place < 1536 }
@@ -64,7 +64,8 @@ impl Heads {
         &self.ring[place_from(self.oldest, place)]
     }
 
-    /// Takes what the head at this place shares, the oldest's being 0; none where there is no head.
+    /// Removes and returns the shared packet of the head at this place, counted from 0 at the oldest. `None` where that head has none, or
+    /// there is no such head.
     #[inline(always)]
     pub fn evict(&mut self, place: usize) -> Option<SharedPacket>
         ensures shared { result ≡ shared_at self.old place }
@@ -77,7 +78,7 @@ impl Heads {
         self.ring[place_from(oldest, place)].shared.take()
     }
 
-    /// Puts a head in as the newest. The oldest is gone: returns what it shared.
+    /// Puts a head in as the newest, in place of the oldest. Returns the packet that the oldest shared, if any.
     #[inline(always)]
     pub fn put_last(&mut self, shared: Option<SharedPacket>, marker: bool) -> Option<SharedPacket>
         ensures shared { result ≡ shared_at self.old 0 }
@@ -92,7 +93,7 @@ impl Heads {
         before
     }
 
-    /// Releases what is shared to the store.
+    /// Releases all shared packets to the store.
     pub fn release(self, store: &mut PacketStore)
         ensures all { store.new.all ≡ store.old.all }
         ensures free { store.old.free ≤ store.new.free }

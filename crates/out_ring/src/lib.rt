@@ -1,5 +1,5 @@
-//! What is sent to one subscriber: the packets that wait to be taken, and the last that were taken, for retransmissions. A packet that is sent to
-//! many is stored once, where there is a store for it. Only constructors and `PacketStore::grow` take memory.
+//! What is sent to one subscriber: the packets that are queued, and the last 1,024 that were taken, for retransmissions. A packet for many
+//! subscribers is stored once, where a `PacketStore` has a free buffer for it. Only `OutRing::new` and `PacketStore::grow` take memory.
 #![tactic(auto)]
 
 mod heads;

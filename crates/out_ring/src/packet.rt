@@ -1,4 +1,4 @@
-// One packet, in a buffer for the longest that is sent.
+// One packet, in a buffer that holds the longest one.
 ghost use Rattle.std.specs.Prelude.{◌≡◌, ◌≤◌, None, length};
 ghost use Rattle.rtp_packet.specs.Faults.{first_fault};
 ghost use Rattle.out_ring.specs.Packet.{least_packet};
@@ -6,10 +6,10 @@ ghost use Rattle.out_ring.specs.Packet.{least_packet};
 use rtp_packet::plain_packets_read;
 use std::marker::Model;
 
-/// The most bytes of a packet that is sent (own rule).
+/// The most bytes that a sent packet has (own rule).
 const MOST_BYTES: usize = 1536;
 
-/// An RTP packet of at most 1,536 bytes, as it was handed in. Clauses see it as its bytes. No call takes memory.
+/// An RTP packet of at most 1,536 bytes, as it was put in. Clauses see it as its bytes. No call takes memory.
 #[derive(Debug, Drop)]
 pub struct StoredPacket {
     buf: [u8; MOST_BYTES],
@@ -29,7 +29,8 @@ impl Model for StoredPacket {
 }
 
 impl StoredPacket {
-    /// The least packet: a fixed header of version 2, and nothing else.
+    /// The shortest RTP packet (RFC 3550, section 5.1): a fixed header of version 2 with all other fields 0, and nothing
+    /// behind it.
     pub fn new() -> StoredPacket
         ensures { result ≡ least_packet }
     {
@@ -39,7 +40,7 @@ impl StoredPacket {
         StoredPacket { buf, count: 12 }
     }
 
-    /// Puts a packet in, over what was there.
+    /// Replaces the packet with this one.
     pub fn fill(&mut self, packet: &[u8])
         requires reads { first_fault packet.now ≡ None }
         requires fits { length packet.now ≤ 1536 }
@@ -50,7 +51,7 @@ impl StoredPacket {
         self.count = count;
     }
 
-    /// Its bytes.
+    /// The packet's bytes.
     pub fn bytes(&self) -> &[u8]
         ensures bytes { result.now ≡ self.now }
         ensures reads { first_fault self.now ≡ None }

@@ -1,10 +1,10 @@
-// Places of slots, which stand in turn, around the end.
+// Places of slots, which wrap around at the end.
 ghost use Rattle.std.specs.Prelude.{◌≡◌, ◌<◌, ◌+◌, ◌%◌};
 
-/// The slots of a ring: as many packets as are ever kept, and as many as are ever queued (own rule).
+/// How many slots a ring has: 1,024 for kept packets and 512 for queued ones (own rule).
 pub const SLOTS: usize = 1536;
 
-/// The place that comes so many places behind this one.
+/// The place `count` places behind this one, modulo 1,536.
 #[inline(always)]
 pub fn place_from(place: usize, count: usize) -> usize
     requires place { place < 1536 }
@@ -16,7 +16,7 @@ pub fn place_from(place: usize, count: usize) -> usize
     if there < SLOTS { there } else { there - SLOTS }
 }
 
-/// The place behind this one.
+/// The place behind this one, modulo 1,536.
 #[inline(always)]
 pub fn next_place(place: usize) -> usize
     requires { place < 1536 }

@@ -14,18 +14,18 @@ use std::marker::Model;
 /// The most packets that are kept after they were taken (own rule).
 const MOST_KEPT: u16 = 1024;
 
-/// The packets that go out to a subscriber. Clauses see it as its SSRC, the sequence number of the next take, the packets that are queued,
-/// and those that are kept with their numbers.
+/// The packets that are sent to one subscriber. Clauses see the subscriber's SSRC, the sequence number of the next take, the queued packets, and the kept
+/// packets with their numbers.
 #[derive(Debug, Drop)]
 pub struct OutRing {
     ssrc: u32,
-    // the sequence number of the oldest packet that is queued, or will be
+    // the sequence number of the oldest queued packet, or of the next push where none is queued
     next: u16,
     queued: u16,
     kept: u16,
-    // the slots before those of the kept packets of which one may still share a packet that was kept before
+    // how many of the slots right before those of the kept packets may still share a packet that isn't kept any more
     spent: u16,
-    // The last ones, as many as are queued, have the packets that are; before them stand those that are kept.
+    // The newest slots have the queued packets; the slots right before those have the kept packets.
     slots: Slots,
 }
 
@@ -42,8 +42,8 @@ impl Model for OutRing {
 }
 
 impl OutRing {
-    /// Nothing is queued and nothing kept: packets will go out with this SSRC, and with sequence numbers from `first` on. All memory is
-    /// taken here: 1,536 slots of 1,536 bytes.
+    /// A ring with nothing queued and nothing kept. Its packets will have this SSRC, and sequence numbers from `first` on. All memory is taken here: 1,536
+    /// slots of 1,536 bytes. `NoMemory`: out of memory.
     pub fn new(alloc: Global, ssrc: u32, first: u16) -> Result<OutRing, NoMemory>
         ensures begun { IfOk result (λ ring. ring ≡ begun ssrc first) }
         ensures stands { IfOk result (λ ring. IsAfter ring (nothing_done ssrc first)) }
@@ -66,8 +66,8 @@ impl OutRing {
         self.queued
     }
 
-    /// Queues an RTP packet of at most 1,536 bytes behind the others. It will go out with the next sequence number, the subscriber's SSRC
-    /// and this marker, and with no other bit changed. Its bytes are copied once. Fewer than 512 are queued before.
+    /// Queues an RTP packet of at most 1,536 bytes behind the others. It will be sent with the next sequence number, the subscriber's SSRC and this marker,
+    /// and with no other bit changed. Its bytes are copied once. Fewer than 512 packets must be queued before the call.
     #[inline(always)]
     pub fn push(&mut self, packet: &[u8], marker: bool)
         requires capacity { length self.old.queued < 512 }
@@ -81,8 +81,8 @@ impl OutRing {
         let _ = self.slots.fill(packet, marker);
     }
 
-    /// Queues a packet that is shared behind the others, as `push` does with a copy. No byte is copied. Returns the packet that was shared in the slot
-    /// that it takes, if it wasn't evicted before.
+    /// Queues a shared packet behind the others, as `push` queues a copy. No byte is copied. The new packet takes the oldest slot. Returns the packet that
+    /// this slot still shared, if any; release that packet to its store.
     #[inline(always)]
     pub fn push_shared(&mut self, packet: SharedPacket, marker: bool) -> Option<SharedPacket>
         requires capacity { length self.old.queued < 512 }
@@ -94,8 +94,8 @@ impl OutRing {
         self.slots.share(packet, marker)
     }
 
-    /// Evicts a shared packet that isn't kept any more: the oldest, if there may be one. To be called before each push, so that none stays for long: a take
-    /// leaves one behind at most.
+    /// Looks at the oldest slot that may still share a packet that isn't kept any more. Removes and returns that packet, if there is one. Call this before
+    /// each push, and release what it returns: a take leaves at most one such slot behind, so no packet stays for long.
     #[inline(always)]
     pub fn evict(&mut self) -> Option<SharedPacket>
         ensures { self.new ≡ self.old }
@@ -117,8 +117,8 @@ impl OutRing {
         slots.release(store);
     }
 
-    /// Copies the oldest queued packet out, and returns its sequence number. It is kept from then on, and the oldest of 1,025 kept ones is
-    /// forgotten. `Empty`: none is queued; nothing changes then. The bytes are copied once.
+    /// Takes the oldest queued packet: replaces the contents of `out` with it, and returns its sequence number. The packet is kept from then on; of 1,025
+    /// kept packets the oldest is forgotten. `Empty`: none is queued; nothing changes then. The bytes are copied once.
     #[inline(always)]
     pub fn take(&mut self, out: &mut PacketBuf) -> Result<u16, Refusal>
         ensures takes { Takes self.old self.new result out.old out.new }
@@ -143,8 +143,8 @@ impl OutRing {
         Ok(number)
     }
 
-    /// Copies the kept packet with this sequence number out, with the bytes that its take gave. `NotKept`: none of the last 1,024 that were
-    /// taken has it; nothing changes then. It is found in constant time, and its bytes are copied once.
+    /// Replaces the contents of `out` with the kept packet that has this sequence number, byte for byte as its take gave it. `NotKept`: none of the last
+    /// 1,024 packets taken has this number; nothing changes then. The packet is found in constant time, and its bytes are copied once.
     pub fn resend(&self, seq: u16, out: &mut PacketBuf) -> Result<(), Refusal>
         ensures resends { Resends self.now seq result out.old out.new }
         ensures first_bytes { (h : History) → IsAfter self.now h
@@ -166,7 +166,7 @@ impl OutRing {
     }
 }
 
-// How many slots before those of the queued and kept packets may still share a packet, of those that did.
+// How many of the `spent` slots are left where this many packets are queued and kept: a push reuses the oldest slot.
 #[inline(always)]
 fn spent_in(spent: u16, queued: u16, kept: u16) -> u16
     requires queued { queued ≤ 512 }

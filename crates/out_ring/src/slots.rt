@@ -15,13 +15,13 @@ use sfu_base::{NoMemory, PacketBuf};
 use std::alloc::Global;
 use std::marker::Model;
 
-/// The last 1,536 packets that were put in, each with its marker: shared, or a copy of the slots' own. Memory for the copies is taken at the
-/// beginning, and is touched from the first copy on, one packet's at each push. Clauses see the packets, the oldest first; before 1,536 were put
-/// in, least packets stand before them.
+/// The last 1,536 packets that were put in, each with its marker: either shared, or a copy of the slots' own. Memory for the copies is taken at
+/// the beginning. It is first touched by the first copy, and from then on by one more buffer at each push. Clauses see the packets, the oldest
+/// first. Until 1,536 packets were put in, the places before them have the shortest RTP packet.
 #[derive(Debug, Drop)]
 pub struct Slots {
     heads: Heads,
-    // copies in turn, as far as there was one since: that of the oldest slot stands at `first`, that of the one behind the last at the front
+    // The copies: that of the oldest slot is at index `first`, the others follow in order and wrap around. There is none until a copy is put in.
     own: Vec<StoredPacket>,
     first: usize,
 }
@@ -40,7 +40,7 @@ impl Model for Slots {
 }
 
 impl Slots {
-    /// Takes all memory that the slots ever need.
+    /// Takes all memory that the slots ever need. `NoMemory`: out of memory.
     pub fn new(alloc: Global) -> Result<Slots, NoMemory>
         ensures { IfOk result (λ slots. length slots ≡ 1536) }
     {
@@ -54,7 +54,8 @@ impl Slots {
         })
     }
 
-    /// Puts a copy of a packet in as the newest, with this marker. The oldest is gone: returns what it shared.
+    /// Puts a copy of a packet in as the newest, with this marker, in place of the oldest. Returns the packet that the oldest slot shared, if
+    /// any.
     pub fn fill(&mut self, packet: &[u8], marker: bool) -> Option<SharedPacket>
         requires reads { first_fault packet.now ≡ None }
         requires fits { length packet.now ≤ 1536 }
@@ -67,7 +68,7 @@ impl Slots {
         self.heads.put_last(None, marker)
     }
 
-    /// Puts a packet that is shared in as the newest, with this marker. The oldest is gone: returns what it shared.
+    /// Puts a shared packet in as the newest, with this marker, in place of the oldest. Returns the packet that the oldest slot shared, if any.
     #[inline(always)]
     pub fn share(&mut self, packet: SharedPacket, marker: bool) -> Option<SharedPacket>
         ensures { self.new ≡ drop 1 self.old ++ record { bytes = packet; marker = marker } ∷ [] }
@@ -77,7 +78,8 @@ impl Slots {
         self.heads.put_last(Some(packet), marker)
     }
 
-    /// Evicts what the slot at this place shares, the oldest's being 0. Another packet is in that slot then, and all behind it are as they were.
+    /// Removes and returns the packet that the slot at this place shares, if any; places count from 0 at the oldest. Another packet may be in
+    /// that slot then, and all packets behind it are unchanged.
     #[inline(always)]
     pub fn evict(&mut self, place: usize) -> Option<SharedPacket>
         ensures size { length self.new ≡ length self.old }
@@ -86,7 +88,7 @@ impl Slots {
         self.heads.evict(place)
     }
 
-    /// Releases what is shared to the store.
+    /// Releases all shared packets to the store.
     pub fn release(self, store: &mut PacketStore)
         ensures all { store.new.all ≡ store.old.all }
         ensures free { store.old.free ≤ store.new.free }
@@ -95,8 +97,8 @@ impl Slots {
         heads.release(store);
     }
 
-    /// Copies the packet at this place out, the oldest's being 0, and gives it this sequence number and SSRC, and its marker. RTP still reads it,
-    /// and it is as long.
+    /// Replaces the contents of `out` with the packet at this place, counted from 0 at the oldest, with this sequence number and SSRC and the
+    /// slot's marker. The result is an RTP packet of the same length.
     pub fn send(&self, place: usize, seq: u16, ssrc: u32, out: &mut PacketBuf)
         requires place { place < 1536 }
         ensures sends { SendsFrom self.now place seq ssrc out.new }
@@ -113,7 +115,7 @@ impl Slots {
     }
 }
 
-// Where the next copy is put: at the front, if it is the first one.
+// The index of the next copy: 0 if it is the first one, and else `first`.
 fn place_for(own: &[StoredPacket], first: usize) -> usize
     requires { first < 1536 }
     ensures below { result < 1536 }
@@ -122,7 +124,7 @@ fn place_for(own: &[StoredPacket], first: usize) -> usize
     if own.is_empty() { 0 } else { first }
 }
 
-// Makes the copy at this place, and those before it, where there are none yet: no slot has another packet then.
+// Adds shortest packets until there is a copy at this place. The slots' packets stay the same.
 fn make_own(own: &mut Vec<StoredPacket>, place: usize)
     requires place { place < 1536 }
     requires few { vec_len own.old ≤ 1536 }
@@ -137,7 +139,7 @@ fn make_own(own: &mut Vec<StoredPacket>, place: usize)
     }
 }
 
-// The same where there are copies.
+// The same, but only where there are copies already.
 #[inline(always)]
 fn go_on(own: &mut Vec<StoredPacket>, place: usize)
     requires place { place < 1536 }
@@ -159,7 +161,7 @@ fn own_in(own: &[StoredPacket], place: usize) -> Option<&StoredPacket>
     own.get(place)
 }
 
-// Copies out the packet that is shared, or else the copy of the slot's own, or else the least one.
+// Replaces the contents of `out` with the shared packet, or else with the slot's own copy, or else with the shortest packet.
 fn fill_out(shared: &Option<SharedPacket>, own: Option<&StoredPacket>, out: &mut PacketBuf)
     ensures bytes { out.new ≡ bytes_by shared.now (option_copied own.entry) }
     ensures reads { first_fault out.new ≡ None }

@@ -8,8 +8,8 @@ use std::alloc::Global;
 use std::marker::Model;
 use std::sync::Arc;
 
-/// A packet that rings share: its bytes lie in one place, counted by those that have it, and stay as they are until none does. Clauses see it
-/// as its bytes.
+/// A counted reference to a packet that rings share. The packet's bytes are stored once, and don't change while a reference is left. Clauses see the
+/// reference as the packet's bytes.
 #[derive(Debug, Drop)]
 pub struct SharedPacket {
     packet: Arc<StoredPacket>,
@@ -26,7 +26,7 @@ impl Model for SharedPacket {
 }
 
 impl SharedPacket {
-    /// The same packet for one more; none where so many have it that they can't be counted. It takes no memory.
+    /// One more reference to the same packet, or `None` where there are too many to be counted. It takes no memory.
     #[inline(always)]
     pub fn another(&self) -> Option<SharedPacket>
         ensures { IfSome result (λ shared. shared ≡ self.now) }
@@ -37,7 +37,7 @@ impl SharedPacket {
         }
     }
 
-    /// Its bytes.
+    /// The packet's bytes.
     pub fn bytes(&self) -> &[u8]
         ensures bytes { result.now ≡ self.now }
         ensures reads { first_fault self.now ≡ None }
@@ -47,12 +47,13 @@ impl SharedPacket {
     }
 }
 
-/// A pool of buffers of 1,536 bytes for packets that rings share. A buffer whose packet no ring has any more is reused, the last released first, so that
-/// the memory that is touched is what is in use. Clauses see how many buffers there are in all, and how many of them are free.
+/// A pool of buffers of 1,536 bytes for packets that rings share. A buffer is free again once the last reference to its packet is released. The buffer
+/// that was released last is reused first, so that few buffers are touched. Clauses see how many buffers there are in all, and how many of them are
+/// free.
 #[derive(Drop)]
 pub struct PacketStore {
     free: Vec<Arc<StoredPacket>>,
-    // those that are free, and those that are shared
+    // how many buffers there are, free or shared
     all: usize,
 }
 
@@ -83,7 +84,7 @@ impl PacketStore {
         self.free.len()
     }
 
-    /// Allocates buffers until there are `all` of them. `NoMemory`: out of memory; some of them may have been allocated.
+    /// Allocates buffers until there are `all` of them. `NoMemory`: out of memory; some buffers may have been added by then.
     pub fn grow(&mut self, alloc: Global, all: usize) -> Result<(), NoMemory>
         ensures enough { OnOk result (all ≤ self.new.all) }
         ensures free { self.old.free ≤ self.new.free }
@@ -108,7 +109,7 @@ impl PacketStore {
         Ok(())
     }
 
-    /// Frees free buffers until there are `all` of them, or none is free. Where there are fewer already nothing changes.
+    /// Deallocates free buffers until there are `all` buffers in total, or none is free. Where there are at most `all` already, nothing changes.
     pub fn shrink(&mut self, all: usize)
         ensures all { self.new.all ≡ self.old.all - min self.old.free (self.old.all - all) }
         ensures free { self.new.free ≡ self.old.free - min self.old.free (self.old.all - all) }
@@ -118,7 +119,7 @@ impl PacketStore {
         }
     }
 
-    /// Copies a packet into a free buffer, if there is one. It takes no memory.
+    /// Copies an RTP packet of at most 1,536 bytes into a free buffer, if there is one. It takes no memory.
     pub fn put(&mut self, packet: &[u8]) -> Option<SharedPacket>
         requires reads { first_fault packet.now ≡ None }
         requires fits { length packet.now ≤ 1536 }
@@ -136,8 +137,8 @@ impl PacketStore {
         Some(SharedPacket { packet: buf })
     }
 
-    /// Drops one reference to a packet; the last one returns the buffer to the pool. It takes no memory. Dropping a `SharedPacket` without this leaks its
-    /// buffer from the pool.
+    /// Drops one reference to a packet; the last one returns the packet's buffer to the pool. It takes no memory. A `SharedPacket` that is dropped
+    /// without this call leaks its buffer from the pool.
     #[inline(always)]
     pub fn release(&mut self, packet: SharedPacket)
         ensures all { self.new.all ≡ self.old.all }

@@ -12,19 +12,19 @@ use dd_descriptor::{RemaskRoom, remask_lowest};
 use dd_structure::Structure;
 use sfu_base::{NoFit, PacketBuf};
 
-/// The bytes of the fixed header (RFC 3550, section 5.1).
+/// The length of the fixed header, in bytes (RFC 3550, section 5.1).
 const FIXED_HEADER: usize = 12;
 
-/// The bytes of a CSRC identifier.
+/// The length of a CSRC identifier, in bytes.
 const CSRC: usize = 4;
 
-/// The bytes of the header extension's profile and count of words (RFC 3550, section 5.3.1).
+/// The length of the header extension's profile and count of words, in bytes (RFC 3550, section 5.3.1).
 const EXTENSION_HEADER: usize = 4;
 
 /// The most bytes that a remasked packet has.
 const MOST: usize = 1536;
 
-/// Gives packets another mask. It keeps its working memory, some 12 KB, so that no packet has to clear it.
+/// Gives packets another mask. A remasker keeps its working memory, some 12 KB, which then isn't cleared for each packet.
 #[derive(Drop)]
 pub struct Remasker {
     room: RemaskRoom,
@@ -38,7 +38,7 @@ impl Remasker {
     ghost use Rattle.rtp_packet.specs.Faults.{first_fault};
     ghost use Rattle.packet_format.specs.Remasked.{remasked};
 
-    /// A remasker, which any packet can use.
+    /// A remasker that can be used for any packet.
     pub fn new() -> Remasker {
         Remasker {
             room: RemaskRoom::new(),
@@ -47,12 +47,12 @@ impl Remasker {
         }
     }
 
-    /// Fills `out` with the packet, its dependency descriptor given another mask (AV1 RTP payload format, Appendix A): bit i of the mask,
-    /// the lowest first, says whether decode target i is active, and bits past the last decode target are left out. The descriptor is the
-    /// value of the first header extension element with the id (RFC 8285); the elements keep their order, and a descriptor of more than 16
-    /// bytes turns the one-byte form into the two-byte form. Fixed header, CSRC identifiers, payload and padding (RFC 3550, section 5.1)
-    /// are copied bit by bit. Returns `NoFit` where the packet can't be remasked: it has no descriptor, or one that doesn't read with the
-    /// structure in force, or the descriptor would have more than 255 bytes or the packet more than 1,536; `out` is then as it was.
+    /// Replaces the contents of `out` with the packet, whose dependency descriptor gets another mask (AV1 RTP payload format, Appendix A).
+    /// Bit i of the mask, the lowest being bit 0, says whether decode target i is active; bits past the last decode target are left out. The
+    /// descriptor is the value of the first header extension element with the id (RFC 8285). The elements keep their order, and a descriptor
+    /// of more than 16 bytes turns the one-byte form into the two-byte form. Fixed header, CSRC identifiers, payload and padding (RFC 3550,
+    /// section 5.1) are copied bit by bit. Returns `NoFit` where the packet has no descriptor, or one that doesn't read with the structure
+    /// in force, or where the new descriptor would have more than 255 bytes or the new packet more than 1,536; `out` is then as it was.
     ///
     /// The packet must be an RTP packet.
     pub fn remask(
@@ -92,7 +92,7 @@ impl Default for Remasker {
     }
 }
 
-/// Fills `out` with the descriptor, given this mask.
+/// Replaces the contents of `out` with the descriptor under this mask.
 fn fill_value(
     descriptor: &[u8],
     force: Option<&Structure>,
@@ -108,14 +108,14 @@ fn fill_value(
     result
 }
 
-/// A lemma, which does nothing: what bytes are.
+/// A lemma, which does nothing: each item of a byte slice is below 256.
 fn lemma_are_bytes(bytes: &[u8])
     ensures { AreBytes bytes.now }
 {
     let _ = bytes;
 }
 
-/// Fills `out` with the packet, its header extension of `old` bytes replaced by `extension`.
+/// Replaces the contents of `out` with the packet, with `extension` in place of its header extension, which has `old` bytes.
 fn fill_packet(
     packet: &[u8],
     old: usize,

@@ -21,14 +21,14 @@ use rtp_packet::Rtp;
 pub enum Shown {
     /// Its descriptor needs a structure, and none is carried or in force.
     LacksStructure,
-    /// It has no descriptor, or one that doesn't read or carries another structure without beginning a key frame.
+    /// It has no descriptor, or one that doesn't read, or one that carries a structure other than that in force and begins no key frame.
     Unread,
     /// Its descriptor reads, and its payload has these flags.
     Shows(PayloadFlags),
 }
 
-/// What a packet shows by the structure in force. Its descriptor, where it has one that reads, is left in `newest`; otherwise `newest` may
-/// say anything.
+/// What a packet shows by the structure in force. Where the packet has a descriptor that reads, `newest` has that descriptor afterwards;
+/// otherwise `newest` may say anything.
 pub fn show(
     packet: &Rtp<'_>,
     id: u8,
@@ -64,7 +64,7 @@ fn of_fault(fault: DdFault) -> Shown
     }
 }
 
-/// Whether a structure that isn't in force may come only with a key frame's first packet.
+/// Whether the descriptor obeys the rule that a structure other than that in force comes only with a key frame's first packet.
 fn obeys(descriptor: &Descriptor, force: Option<&Structure>) -> bool
     requires { descriptor.now.ref_count ≤ 16 }
     ensures { result ≡ obeys_structure structures_alone (option_copied force.entry) (said (content_of (option_copied force.entry) descriptor.now)) }

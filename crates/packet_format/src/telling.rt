@@ -6,10 +6,10 @@ ghost use Rattle.packet_format.specs.Telling.{tells};
 
 use crate::look::descriptor_bytes;
 
-/// The bytes of the mandatory descriptor fields (AV1 RTP payload format, Appendix A).
+/// The length of the mandatory descriptor fields, in bytes (AV1 RTP payload format, Appendix A).
 const MANDATORY: usize = 3;
 
-/// Either flag of the fourth byte: a structure is carried, or a mask.
+/// The least fourth byte with either of the two highest bits set: the flags of a carried structure and of a mask.
 const STRUCTURE_OR_MASK: u8 = 0x40;
 
 /// Whether the packet's dependency descriptor carries a structure or a mask (AV1 RTP payload format, Appendix A,

@@ -1,11 +1,11 @@
-// What lies on the heap behind a session's handle.
+// What is on the heap behind a session's handle.
 use crate::code::Code;
 use crate::plain_reply::PlainReply;
 use room_sessions::EitherSession;
 use session_steps::{Output, Session};
 use sfu_base::{PacketBuf, Scratch, SeqList};
 
-/// A session, and where the datagrams that it gets and sends lie.
+/// A session with the buffers of the datagrams that it receives and sends.
 #[derive(Drop)]
 pub struct Attended {
     pub session: EitherSession,
@@ -17,7 +17,7 @@ impl Attended {
     ghost use Rattle.sfu_base.specs.Links.{datagram};
     ghost use Rattle.room_c.specs.Attending.{HearsAs};
 
-    /// A session before its first datagram.
+    /// This session, with empty buffers.
     pub fn new(session: EitherSession) -> Attended
         ensures { result.session ≡ session }
     {
@@ -30,7 +30,8 @@ impl Attended {
         }
     }
 
-    /// Hands a datagram to the session or, where `came` is false, that none came.
+    /// Begins a turn of the session: with this datagram or, where `came` is false, with none. `Busy`: the session has a call left to make, and
+    /// nothing changes.
     pub fn hear(&mut self, came: bool, moment: u64, bytes: &[u8]) -> PlainReply
         requires { length bytes.now ≤ 2048 }
         ensures { HearsAs self.old self.new (datagram came bytes.now) moment result }

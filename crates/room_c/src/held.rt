@@ -8,8 +8,8 @@ use crate::parts::Parts;
 use std::alloc::Global;
 use std::marker::Model;
 
-/// The pointer of a `Box<Home>`, or one that owns nothing. No type that holds or names a `Box` may cross to C, so the pointer's own type says
-/// nothing, and what it owns is told by `home`. It is linear: a handle that owns a room can only be turned into its box again.
+/// The pointer of a `Box<Home>`, or a pointer that owns nothing. No type that holds or names a `Box` may cross to C. So the pointer is a plain
+/// `*mut u8`, and the ghost field `home` says what it owns. This type is linear: a value that owns a room can only be turned into its box again.
 #[repr(C)]
 pub struct Held {
     at: *mut u8,
@@ -21,11 +21,11 @@ impl Model for Held {
     ghost also_owns = { λ h. home_owned h.alloc h.at h.home };
 }
 
-// It may go to another thread, as the box may.
+// The pointer may go to another thread, as the box may.
 unsafe impl Send for Held {}
 
 impl Held {
-    /// Owns the box of these parts.
+    /// A value that owns the box of these parts.
     pub fn of_parts(parts: Parts<Home, Global>) -> Held
         ensures { result.home ≡ Some parts.value }
     {
@@ -36,7 +36,7 @@ impl Held {
         }
     }
 
-    /// The parts of the box that it owns.
+    /// The parts of the box that this value owns.
     pub fn into_parts(self) -> Parts<Home, Global>
         requires { is_some self.home ≡ true }
         ensures { Some result.value ≡ self.home }
@@ -48,7 +48,7 @@ impl Held {
         }
     }
 
-    /// Owns nothing: the pointer is null.
+    /// A value that owns nothing: the pointer is null.
     pub fn nothing(alloc: Global) -> Held
         ensures { result.home ≡ None }
     {
@@ -58,7 +58,7 @@ impl Held {
         }
     }
 
-    /// The allocator of one that owns nothing.
+    /// Ends a value that owns nothing. Returns its allocator.
     pub fn end(self) -> Global
         requires { is_some self.home ≡ false }
         ensures { result ≡ self.alloc }

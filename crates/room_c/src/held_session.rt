@@ -8,8 +8,8 @@ use crate::parts::Parts;
 use std::alloc::Global;
 use std::marker::Model;
 
-/// The pointer of a `Box<Attended>`, or one that owns nothing. No type that holds or names a `Box` may cross to C, so the pointer's own type says
-/// nothing, and what it owns is told by `attended`. It is linear: a handle that owns a session can only be turned into its box again.
+/// The pointer of a `Box<Attended>`, or a pointer that owns nothing. No type that holds or names a `Box` may cross to C. So the pointer is a plain
+/// `*mut u8`, and the ghost field `attended` says what it owns. This type is linear: a value that owns a session can only be turned into its box again.
 #[repr(C)]
 pub struct HeldSession {
     at: *mut u8,
@@ -21,11 +21,11 @@ impl Model for HeldSession {
     ghost also_owns = { λ h. attended_owned h.alloc h.at h.attended };
 }
 
-// It may go to another thread, as the box may.
+// The pointer may go to another thread, as the box may.
 unsafe impl Send for HeldSession {}
 
 impl HeldSession {
-    /// Owns the box of these parts.
+    /// A value that owns the box of these parts.
     pub fn of_parts(parts: Parts<Attended, Global>) -> HeldSession
         ensures { result.attended ≡ Some parts.value }
     {
@@ -36,7 +36,7 @@ impl HeldSession {
         }
     }
 
-    /// The parts of the box that it owns.
+    /// The parts of the box that this value owns.
     pub fn into_parts(self) -> Parts<Attended, Global>
         requires { is_some self.attended ≡ true }
         ensures { Some result.value ≡ self.attended }
@@ -48,7 +48,7 @@ impl HeldSession {
         }
     }
 
-    /// Owns nothing: the pointer is null.
+    /// A value that owns nothing: the pointer is null.
     pub fn nothing(alloc: Global) -> HeldSession
         ensures { result.attended ≡ None }
     {
@@ -58,7 +58,7 @@ impl HeldSession {
         }
     }
 
-    /// The allocator of one that owns nothing.
+    /// Ends a value that owns nothing. Returns its allocator.
     pub fn end(self) -> Global
         requires { is_some self.attended ≡ false }
         ensures { result ≡ self.alloc }

@@ -1,6 +1,5 @@
-//! The room for callers in C. A handle that C keeps stands for a room, and each export is one call on it; another stands for a session of a
-//! publisher or a subscriber, which makes its calls on a room. Whatever numbers C hands in, the call
-//! is served or answered with a code; `examples/c/zoftemar.h` is the header.
+//! The room for callers in C. C keeps a handle for each room, and one for each session of a publisher or a subscriber, whose calls are made on a
+//! room. Whatever numbers C passes, a call is served or returns a code. The header is `libzoftemar/zoftemar.h`.
 #![tactic(auto)]
 
 mod answers;

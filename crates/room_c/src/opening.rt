@@ -10,7 +10,8 @@ use crate::handle::Handle;
 use crate::home::Home;
 use std::alloc::Global;
 
-/// Opens a room behind a handle of none: `Done`. `HasRoom`: there is one already, and nothing changes; `NoMemory`: there is still none.
+/// Opens a room behind a handle of none: `Done`. `HasRoom`: the handle has a room already, and nothing changes. `NoMemory`: the handle still has
+/// none.
 #[unsafe(no_mangle)]
 pub extern "C" fn zoftemar_open(alloc: Global, room: &mut Handle) -> u32
     ensures opened { result ≡ code_number Done → IfSome room.new.held.home (λ home. Stands untold home.room []) × IsSome room.new.held.home }
@@ -33,7 +34,7 @@ pub extern "C" fn zoftemar_open(alloc: Global, room: &mut Handle) -> u32
     }
 }
 
-/// Gives a room up, with all its tracks and subscribers. Its handle is then one of no room, and may be opened again.
+/// Closes a room, with all its tracks and subscribers. The handle is then one of no room, and a room may be opened behind it again.
 #[unsafe(no_mangle)]
 pub extern "C" fn zoftemar_close(alloc: Global, room: &mut Handle)
     ensures { room.new.held.home ≡ None }

@@ -5,7 +5,7 @@ ghost use Rattle.std.specs.Box.Ownership.{box_owns};
 use std::alloc::Allocator;
 use std::marker::Model;
 
-/// A `Box` with its fields in sight: it owns what a box at this pointer owns.
+/// A `Box` whose fields can be seen. It owns what a box at this pointer owns.
 pub struct Parts<T, A: Allocator> {
     pub ptr: *mut T,
     pub alloc: A,

@@ -7,8 +7,8 @@ ghost use Rattle.room_c.specs.Telling.{bare_of, flag_of, number_of_fault, one_of
 use crate::code::Code;
 use sfu_base::{Refusal, Reply, RtpFault, Scratch, Verdict};
 
-/// A reply as numbers: its code, whether an optional number is there, and its numbers, which `Code` names beside each code. What it doesn't
-/// have is 0.
+/// A reply as numbers: its code, a flag, and two numbers. [`Code`] says what they mean with each code; a number without a meaning is 0. The flag is
+/// a yes or no, or says whether an optional number is there.
 #[repr(C)]
 #[derive(Clone, Copy, Debug)]
 pub struct PlainReply {
@@ -19,7 +19,7 @@ pub struct PlainReply {
 }
 
 impl PlainReply {
-    /// The code alone.
+    /// The code alone, with zeros beside it.
     pub fn bare(code: Code) -> PlainReply
         ensures { result ≡ bare_of code }
     {
@@ -31,7 +31,7 @@ impl PlainReply {
         }
     }
 
-    /// A code with a yes or no.
+    /// A code with a yes or no, and zeros beside them.
     pub fn telling(code: Code, has: bool) -> PlainReply
         ensures { result ≡ flag_of code has }
     {
@@ -67,7 +67,7 @@ impl PlainReply {
         }
     }
 
-    /// The numbers of a reply, which left its bytes or sequence numbers in a scratch: of these, how many there are.
+    /// The numbers of a reply. If the reply left bytes or sequence numbers in the scratch, `first` is how many.
     #[tactic(auto, unfolding(crate::specs::Telling::plain_of))]
     pub fn of(reply: &Reply, scratch: &Scratch) -> PlainReply
         ensures told { reply_in result ≡ reply.now }

@@ -6,22 +6,22 @@ ghost use Rattle.room_c.specs.Telling.{plain_target};
 use room_core::DecodeTarget;
 use sfu_base::Wish;
 
-/// A decode target as numbers: its index, and its greatest layers, where they are known.
+/// A decode target as numbers: its index and, where they are known, its greatest spatial and temporal layers.
 #[repr(C)]
 #[derive(Clone, Copy, Debug)]
 pub struct PlainTarget {
-    /// 0 to 31.
+    /// The target's index, 0 to 31.
     pub index: u8,
     /// Whether the layers are known.
     pub known: bool,
-    /// 0 to 3.
+    /// The greatest spatial layer, 0 to 3. 0 where the layers aren't known.
     pub spatial: u8,
-    /// 0 to 7.
+    /// The greatest temporal layer, 0 to 7. 0 where the layers aren't known.
     pub temporal: u8,
 }
 
 impl PlainTarget {
-    /// The numbers of a decode target: nothing is lost.
+    /// The numbers of a decode target, which determine it.
     pub fn of(target: &DecodeTarget) -> PlainTarget
         ensures index { result.index ≡ target.now.index }
         ensures layers { layers_in result ≡ target.now.layers }

@@ -1,4 +1,4 @@
-// A session at work: what it is told, and what is to be sent.
+// A session at work: what comes to it, and what has to be sent.
 ghost use Rattle.std.specs.Prelude.{◌≡◌, ◌<◌, ◌≤◌, None, Some, drop, length, take};
 ghost use Rattle.session_steps.specs.declared.session.Output.TheVariants as sends;
 ghost use Rattle.room_c.specs.declared.code.Code.TheVariants.{NoSpace, TooLong};
@@ -17,8 +17,8 @@ use session_steps::Output;
 use sfu_base::PacketBuf;
 use std::alloc::Global;
 
-/// Tells a session that a datagram came at a moment, as `received` of `Session` does: `Done`. `Busy`: it has something left to do. `TooLong`: the
-/// datagram has more than 2,048 bytes. At each but `Done` nothing changes.
+/// Begins a turn of a session with a datagram that came at a moment in milliseconds, as `received` of `Session` does: `Done`. `TooLong`: the
+/// datagram has more than 2,048 bytes. `NoSession`. `Busy`: the session has a call left to make. With each code but `Done` nothing changes.
 #[unsafe(no_mangle)]
 pub extern "C" fn zoftemar_session_received(
     alloc: Global,
@@ -42,7 +42,8 @@ pub extern "C" fn zoftemar_session_received(
     }
 }
 
-/// Tells a session that it is this moment, and no datagram came. `Done`, or `Busy`, and nothing changes.
+/// Begins a turn of a session at a moment in milliseconds, where no datagram came: `Done`. `NoSession`. `Busy`: the session has a call left to
+/// make. With each code but `Done` nothing changes.
 #[unsafe(no_mangle)]
 pub extern "C" fn zoftemar_session_waited(
     alloc: Global,
@@ -61,8 +62,9 @@ pub extern "C" fn zoftemar_session_waited(
     }
 }
 
-/// Makes a session's calls on a room, up to the next datagram that is to be sent: `Packet`, and its bytes were written. `Done`: nothing is left
-/// to do, and the session waits. `NoSpace`: the buffer has fewer than 2,048 bytes, and nothing changes.
+/// Makes a session's calls on a room, up to the next datagram that has to be sent. `Packet`: that datagram is at the start of `out`. `Done`: no
+/// call is left, and the session waits for the next datagram. `NoSpace`: `out` has fewer than 2,048 bytes. `NoSession`, `NoRoom`. With these three
+/// nothing changes.
 #[unsafe(no_mangle)]
 pub extern "C" fn zoftemar_session_work(
     alloc: Global,
@@ -89,7 +91,7 @@ pub extern "C" fn zoftemar_session_work(
     }
 }
 
-// The same for a session that is there, and a buffer that has room for any packet.
+// The same for a session that is there, and a buffer that fits any packet.
 fn work_on(
     alloc: Global,
     room: &mut Handle,
@@ -112,7 +114,7 @@ fn work_on(
     }
 }
 
-// Writes the packet of an output into a buffer that has room for any.
+// Writes an output's packet, if there is one, into a buffer that fits any packet. Returns the output as a reply.
 fn give_output(output: Output, packet: &PacketBuf, out: &mut [u8]) -> PlainReply
     requires { 2048 ≤ length out.old }
     ensures tells { result ≡ output_reply output packet.now }

@@ -8,7 +8,7 @@ use crate::parts::Parts;
 use std::alloc::Global;
 use std::mem::replace;
 
-/// A session's handle, 16 bytes of C's, or one of no session, whose bytes are all 0. C keeps it, and may pass it from thread to thread.
+/// The handle of a session, or of none. C keeps its 16 bytes, all 0 at first, and may pass it from thread to thread.
 #[repr(C)]
 pub struct SessionHandle {
     made: bool,
@@ -37,7 +37,7 @@ impl SessionHandle {
         }
     }
 
-    /// The session of the handle.
+    /// The session behind the handle, if there is one.
     pub fn into_attended(self) -> Option<Box<Attended>>
         ensures { self.held.attended ≡ option_map (λ attended. attended.value) result }
     {
@@ -58,7 +58,7 @@ impl SessionHandle {
         replace(self, SessionHandle::empty(alloc)).into_attended()
     }
 
-    /// Puts a session into the handle; one that was there is dropped.
+    /// Puts a session into the handle. A session that was there is dropped.
     pub fn put(&mut self, attended: Box<Attended>)
         ensures { self.new.held.attended ≡ Some attended.value }
     {

@@ -15,8 +15,8 @@ use rtx_stream::Rtx;
 use session_steps::{PublisherSession, SubscriberSession};
 use std::alloc::Global;
 
-/// Opens the session of a publisher of a track behind a handle of none, as `PublisherSession::new` does: `Done`. `HasSession`: there is one
-/// already, and nothing changes; `NoMemory`: there is still none.
+/// Opens the session of a track's publisher behind a handle of none, as `PublisherSession::new` does: `Done`. `HasSession`: the handle has a
+/// session already, and nothing changes. `NoMemory`: the handle still has none. `ssrc` is the SSRC of the packets that the publisher sends.
 #[unsafe(no_mangle)]
 pub extern "C" fn zoftemar_open_publisher(
     alloc: Global,
@@ -33,7 +33,8 @@ pub extern "C" fn zoftemar_open_publisher(
     )
 }
 
-/// Opens the session of a subscriber, whose retransmissions go out as the packets were sent.
+/// Opens the session of a subscriber, with retransmissions sent as the packets were first sent. `ssrc` is the SSRC of the media that are sent to the
+/// subscriber. The codes are those of `zoftemar_open_publisher`.
 #[unsafe(no_mangle)]
 pub extern "C" fn zoftemar_open_subscriber(
     alloc: Global,
@@ -50,8 +51,8 @@ pub extern "C" fn zoftemar_open_subscriber(
     )
 }
 
-/// Opens the session of a subscriber, whose retransmissions go out on a stream of their own (RFC 4588), numbered from 0. `BadStream`: its payload
-/// type is 128 or more, or its SSRC is that of the media, and nothing changes.
+/// Opens the session of a subscriber, as `zoftemar_open_subscriber` does, but with retransmissions sent on a stream of their own (RFC 4588), numbered
+/// from 0. `BadStream`: the stream's payload type is 128 or more, or its SSRC is that of the media, and nothing changes.
 #[unsafe(no_mangle)]
 pub extern "C" fn zoftemar_open_rtx_subscriber(
     alloc: Global,
@@ -82,7 +83,7 @@ pub extern "C" fn zoftemar_open_rtx_subscriber(
     )
 }
 
-/// Gives a session up. Its handle is then one of no session, and may be opened again.
+/// Closes a session. The handle is then one of no session, and a session may be opened behind it again.
 #[unsafe(no_mangle)]
 pub extern "C" fn zoftemar_close_session(alloc: Global, session: &mut SessionHandle)
     ensures { session.new.held.attended ≡ None }

@@ -1,4 +1,5 @@
-// Calls on a subscriber. The seat says who calls, for a recorder of the room; this room has one that keeps nothing.
+// Calls on a subscriber. `seat` says who calls, for the room's recorder; that of this room keeps nothing. A call returns
+// `Done` where its comment names no other code. On a handle of no room it returns `NoRoom`, unless `NoSpace` applies.
 ghost use Rattle.std.specs.Prelude.{◌≡◌, ◌<◌, ◌≤◌, drop, length};
 ghost use Rattle.sfu_base.specs.declared.call.Call.TheVariants as call;
 ghost use Rattle.room_c.specs.declared.code.Code.TheVariants.{NoSpace};
@@ -13,8 +14,8 @@ use crate::plain_reply::PlainReply;
 use sfu_base::{Call, Wish};
 use std::alloc::Global;
 
-/// Begins a subscriber of a track, as `Room::join` does: what goes out to it has this SSRC and sequence numbers from `first` on. `NoTrack`,
-/// `NumberUsed`, `TooMany`, `NoMemory`.
+/// Begins a subscriber of a track, as `Room::join` does. The packets that are sent to the subscriber have this SSRC and sequence numbers from
+/// `first` on. `spatial` and `temporal` are the wish. Refusals: `NoTrack`, `NumberUsed`, `TooMany`, `NoMemory`.
 #[unsafe(no_mangle)]
 pub extern "C" fn zoftemar_join(
     alloc: Global,
@@ -44,7 +45,7 @@ pub extern "C" fn zoftemar_join(
     )
 }
 
-/// Ends a subscriber, as `Room::leave` does. `NoSubscriber`.
+/// Ends a subscriber, as `Room::leave` does. Refusal: `NoSubscriber`.
 #[unsafe(no_mangle)]
 pub extern "C" fn zoftemar_leave(
     alloc: Global,
@@ -57,7 +58,7 @@ pub extern "C" fn zoftemar_leave(
     room.serve(alloc, seat, &Call::Leave { subscriber })
 }
 
-/// Changes a subscriber's wish, as `Room::aim` does, from the next frame on. `NoSubscriber`.
+/// Changes a subscriber's wish from the next frame on, as `Room::aim` does. Refusal: `NoSubscriber`.
 #[unsafe(no_mangle)]
 pub extern "C" fn zoftemar_aim(
     alloc: Global,
@@ -73,8 +74,8 @@ pub extern "C" fn zoftemar_aim(
     room.serve(alloc, seat, &Call::Aim { subscriber, wish })
 }
 
-/// Hands out the oldest packet that waits for a subscriber, as `Room::take` does: `Packet`. `NoSubscriber`, `Empty`. `NoSpace`: the buffer
-/// has fewer than 2,048 bytes, and nothing changes.
+/// Takes the oldest packet that waits for a subscriber, as `Room::take` does, and writes it at the start of `out`: `Packet`. Refusals:
+/// `NoSubscriber`, `Empty`. `NoSpace`: `out` has fewer than 2,048 bytes, and nothing changes.
 #[unsafe(no_mangle)]
 pub extern "C" fn zoftemar_take(
     alloc: Global,
@@ -107,8 +108,8 @@ pub extern "C" fn zoftemar_take(
     }
 }
 
-/// Hands out a packet again that was taken under this sequence number, as `Room::resend` does: `Packet` (RFC 4585, section 6.2.1).
-/// `NoSubscriber`, `NotKept`. `NoSpace`: the buffer has fewer than 2,048 bytes, and nothing changes.
+/// Writes the packet that was taken with this sequence number again, at the start of `out`, as `Room::resend` does for a NACK (RFC 4585, section
+/// 6.2.1): `Packet`. Refusals: `NoSubscriber`, `NotKept`. `NoSpace`: `out` has fewer than 2,048 bytes, and nothing changes.
 #[unsafe(no_mangle)]
 pub extern "C" fn zoftemar_resend(
     alloc: Global,
@@ -142,7 +143,8 @@ pub extern "C" fn zoftemar_resend(
     }
 }
 
-/// Asks for a key frame, as `Room::plead` does (RFC 4585, section 6.3.1). `NoSubscriber`, `NoTrack`, `Plain`.
+/// Asks for a key frame, as `Room::plead` does for a picture loss indication (RFC 4585, section 6.3.1). Refusals: `NoSubscriber`, `NoTrack`,
+/// `Plain`.
 #[unsafe(no_mangle)]
 pub extern "C" fn zoftemar_plead(
     alloc: Global,
@@ -155,7 +157,8 @@ pub extern "C" fn zoftemar_plead(
     room.serve(alloc, seat, &Call::Plead { subscriber })
 }
 
-/// Tells why a frame was or wasn't passed to a subscriber, as `Room::why` does: a code from 16 to 23. `NoSubscriber`, `Ahead`, `TooOld`.
+/// Returns why a frame was or wasn't forwarded to a subscriber, as `Room::why` does: a code from 16 to 23. `number` is the unwrapped frame number.
+/// Refusals: `NoSubscriber`, `Ahead`, `TooOld`.
 #[unsafe(no_mangle)]
 pub extern "C" fn zoftemar_why(
     alloc: Global,

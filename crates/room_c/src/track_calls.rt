@@ -1,4 +1,5 @@
-// Calls on a track. The seat says who calls, for a recorder of the room; this room has one that keeps nothing.
+// Calls on a track. `seat` says who calls, for the room's recorder; that of this room keeps nothing. A call returns
+// `Done` where its comment names no other code. On a handle of no room it returns `NoRoom`, unless `TooLong` or `NoSpace` applies.
 ghost use Rattle.std.specs.Prelude.{◌≡◌, ◌<◌, ◌≤◌, drop, length};
 ghost use Rattle.sfu_base.specs.declared.call.Call.TheVariants as call;
 ghost use Rattle.sfu_base.specs.declared.call.Kind.TheVariants.{Layered, Plain};
@@ -14,8 +15,8 @@ use crate::plain_reply::PlainReply;
 use sfu_base::{Call, Kind};
 use std::alloc::Global;
 
-/// Begins a plain track, as `Room::publish` does. A gap in its packets' numbers is waited for `hold` milliseconds. `NumberUsed`, `TooMany`,
-/// `NoMemory`.
+/// Begins a plain track, as `Room::publish` does. At a gap in its sequence numbers the track waits for `hold` milliseconds. Refusals:
+/// `NumberUsed`, `TooMany`, `NoMemory`.
 #[unsafe(no_mangle)]
 pub extern "C" fn zoftemar_publish_plain(
     alloc: Global,
@@ -40,8 +41,8 @@ pub extern "C" fn zoftemar_publish_plain(
     )
 }
 
-/// Begins a layered track, whose dependency descriptors stand in the header extension element of this id (RFC 8285). `NumberUsed`,
-/// `TooMany`, `BadExtensionId`, `NoMemory`.
+/// Begins a layered track, as `Room::publish` does. The track's Dependency Descriptors are in the header extension element with this id (RFC
+/// 8285). Refusals: `NumberUsed`, `TooMany`, `BadExtensionId`, `NoMemory`.
 #[unsafe(no_mangle)]
 pub extern "C" fn zoftemar_publish_layered(
     alloc: Global,
@@ -67,7 +68,7 @@ pub extern "C" fn zoftemar_publish_layered(
     )
 }
 
-/// Ends a track, as `Room::unpublish` does. `NoTrack`.
+/// Ends a track, as `Room::unpublish` does. Refusal: `NoTrack`.
 #[unsafe(no_mangle)]
 pub extern "C" fn zoftemar_unpublish(
     alloc: Global,
@@ -80,8 +81,8 @@ pub extern "C" fn zoftemar_unpublish(
     room.serve(alloc, seat, &Call::Unpublish { track })
 }
 
-/// Brings a packet to a track, as `Room::packet` does, at a moment in milliseconds. `NoTrack`, `TooBig`, `Unreadable`, `WrongSsrc`, `Spent`,
-/// `Late`, `Repeat`. `TooLong`: it has more than 2,048 bytes, and nothing changes.
+/// Brings a packet to a track at a moment in milliseconds, as `Room::packet` does. Refusals: `NoTrack`, `TooBig`, `Unreadable`, `WrongSsrc`,
+/// `Spent`, `Late`, `Repeat`. `TooLong`: the packet has more than 2,048 bytes, and nothing changes.
 #[unsafe(no_mangle)]
 pub extern "C" fn zoftemar_packet(
     alloc: Global,
@@ -113,7 +114,7 @@ pub extern "C" fn zoftemar_packet(
     }
 }
 
-/// Tells a track that it is this moment, as `Room::tick` does. `NoTrack`.
+/// Brings a track to a moment in milliseconds without a packet, as `Room::tick` does. Refusal: `NoTrack`.
 #[unsafe(no_mangle)]
 pub extern "C" fn zoftemar_tick(
     alloc: Global,
@@ -135,8 +136,8 @@ pub extern "C" fn zoftemar_tick(
     }
 }
 
-/// Hands out the sequence numbers that a track waits for, as `Room::missing` does: `Names`. `NoTrack`. `NoSpace`: the buffer has fewer than
-/// 1,024 places, and nothing changes.
+/// Writes the sequence numbers that a track waits for at the start of `out`, as `Room::missing` has them: `Names`. Refusal: `NoTrack`. `NoSpace`:
+/// `out` has fewer than 1,024 places, and nothing changes.
 #[unsafe(no_mangle)]
 pub extern "C" fn zoftemar_missing(
     alloc: Global,
@@ -169,7 +170,7 @@ pub extern "C" fn zoftemar_missing(
     }
 }
 
-/// Tells whether a track's publisher is to be asked for a key frame, as `Room::key_wanted` does: `Key`. `NoTrack`.
+/// Returns whether a track's publisher is to be asked for a key frame, as `Room::key_wanted` does: `Key`, in `has`. Refusal: `NoTrack`.
 #[unsafe(no_mangle)]
 pub extern "C" fn zoftemar_key_wanted(
     alloc: Global,

@@ -6,19 +6,19 @@ ghost use Rattle.session_steps.specs.Stepping.{Waits, heard};
 use session_steps::{Output, PublisherSession, Session, SubscriberSession};
 use sfu_base::{Call, Reply, Scratch};
 
-/// The session of a publisher or of a subscriber, for who keeps both kinds in one place.
+/// The session of a publisher or of a subscriber, for callers that keep both kinds in one place.
 #[derive(Debug, Drop)]
 pub enum EitherSession {
-    /// That of a publisher.
+    /// The session of a publisher.
     Publisher(PublisherSession),
-    /// That of a subscriber.
+    /// The session of a subscriber.
     Subscriber(SubscriberSession),
 }
 
 impl EitherSession {
     ghost use Rattle.room_sessions.specs.Either.{either_left};
 
-    /// Begins a turn, as [`received`](Session::received) does. Nothing is to be sent before the first call.
+    /// Begins a turn, as [`received`](Session::received) does. There is no output: nothing has to be sent before the turn's first call.
     pub fn hear(&mut self, came: bool, moment: u64, scratch: &mut Scratch)
         requires { (turns : ℕ) → Waits (either_left self.old turns) turns }
         ensures { (turns : ℕ) → heard (either_left self.old (suc turns)) (datagram came scratch.old.packet) moment ≡ either_left self.new turns }

@@ -1,4 +1,4 @@
-//! The sessions of publishers and subscribers on a room of one thread: a session's calls are made on the room, up to the next datagram that is
+//! The sessions of publishers and subscribers on a room of one thread: a session's calls are made on the room, up to the next datagram that has
 //! to be sent.
 #![tactic(auto)]
 

@@ -20,7 +20,8 @@ pub(crate) struct Cursor {
     pub(crate) packets: usize,
 }
 
-/// The cursor before the pairs of a NACK in the bytes `pairs..end` and the packets from byte `packets` on.
+/// A cursor without a current pair: what is left are the pairs of a NACK for `media` in the bytes `pairs..end`, and the packets from byte
+/// `packets` on.
 pub(crate) fn cursor_at(media: u32, pairs: usize, end: usize, packets: usize) -> Cursor
     ensures left { (bytes : List ℕ) → left_at bytes result ≡ nacks media (names_in (slice_range bytes pairs end)) ++ feedback_of (drop packets bytes) }
     ensures fields { (result.pairs ≡ pairs) × (result.end ≡ end) × (result.packets ≡ packets) }
@@ -35,7 +36,7 @@ pub(crate) fn cursor_at(media: u32, pairs: usize, end: usize, packets: usize) ->
     }
 }
 
-/// The item of the packet that begins at byte `start`, if it is a picture loss indication, and the cursor behind its header: before the pairs
+/// Enters the packet that begins at byte `start`. Returns its item, if it is a picture loss indication, and the next cursor: before the pairs
 /// of a NACK, and behind any other packet.
 fn enter_packet(bytes: &[u8], start: usize) -> (Option<Feedback>, Cursor)
     requires some { start < length bytes.now }
@@ -60,7 +61,7 @@ fn enter_packet(bytes: &[u8], start: usize) -> (Option<Feedback>, Cursor)
     }
 }
 
-/// The first item behind the cursor, and the cursor behind that item.
+/// The first item behind the cursor, and the cursor behind that item; `None` where no item is left.
 pub(crate) fn first_item(bytes: &[u8], cursor: Cursor) -> Option<(Feedback, Cursor)>
     requires { LiesIn bytes.now cursor }
     ensures item { MatchOption result (left_at bytes.now cursor ≡ []) (λ x. left_at bytes.now cursor ≡ x.0 ∷ left_at bytes.now x.1) }

@@ -1,4 +1,4 @@
-// A queue of the feedback of one datagram, which owns the datagram.
+// A queue that owns one datagram and gives the datagram's feedback.
 ghost use Rattle.std.specs.Prelude.{◌≡◌, ◌≤◌, ◌∷◌, [], length, MatchOption, IfOk, IfErr, None, Some};
 ghost use Rattle.rtcp_feedback.specs.Faults.{first_fault};
 ghost use Rattle.rtcp_feedback.specs.Reading.{feedback_of};
@@ -10,8 +10,8 @@ use crate::reader::read;
 use sfu_base::PacketBuf;
 use std::marker::Model;
 
-/// The feedback of one datagram, seen as the list of the items that are left. It owns a copy of the datagram, so a session can keep it between
-/// two calls; [`Feedbacks`](crate::Feedbacks) borrows the datagram.
+/// A queue of the feedback of one datagram. Clauses see it as the list of the items that are left. The queue owns a copy of the datagram, so a
+/// session can keep the queue between two calls; [`Feedbacks`](crate::Feedbacks) borrows the datagram.
 #[derive(Debug, Drop)]
 pub struct FeedbackQueue {
     datagram: PacketBuf,
@@ -49,8 +49,8 @@ impl FeedbackQueue {
         self.cursor = cursor_at(0, end, end, end);
     }
 
-    /// Replaces the items that are left by the feedback of a datagram of at most 2,048 bytes, as [`read`] reads it. Where a packet of the
-    /// datagram has a fault, the queue is empty afterwards.
+    /// Replaces the items that are left with the feedback of a datagram of at most 2,048 bytes, as [`read`] gives it. The error is that of
+    /// [`read`]; the queue is then empty.
     pub fn fill(&mut self, datagram: &[u8]) -> Result<(), RtcpFault>
         requires { length datagram.now ≤ 2048 }
         ensures ok { IfOk result (λ done. (first_fault datagram.now ≡ None) × (self.new ≡ feedback_of datagram.now)) }
@@ -69,7 +69,7 @@ impl FeedbackQueue {
         }
     }
 
-    /// Takes the first item, if one is left.
+    /// Removes and returns the first item, if one is left.
     pub fn pop(&mut self) -> Option<Feedback>
         ensures { MatchOption result ((self.old ≡ []) × (self.new ≡ [])) (λ item. self.old ≡ item ∷ self.new) }
     {

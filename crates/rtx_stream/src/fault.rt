@@ -9,7 +9,7 @@ pub enum RtxFault {
     /// The bytes aren't an RTP packet.
     #[error("no RTP packet: {0}")]
     Unreadable(RtpFault),
-    /// The payload has fewer than the two bytes of the original sequence number.
+    /// The payload is shorter than the two bytes of the original sequence number.
     #[error("the original sequence number isn't there")]
     Cut,
 }

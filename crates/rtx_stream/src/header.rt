@@ -10,14 +10,14 @@ ghost use Rattle.rtx_stream.specs.Retransmission.{with_address};
 use rtp_packet::Rtp;
 use sfu_base::PacketBuf;
 
-/// The bytes of the fixed header (RFC 3550, section 5.1).
+/// The length of the fixed header, in bytes (RFC 3550, section 5.1).
 const FIXED_HEADER: usize = 12;
 
-/// The bytes of the extension's profile and count (RFC 3550, section 5.3.1).
+/// The length of the header extension's profile and count of words, in bytes (RFC 3550, section 5.3.1).
 const EXTENSION_HEADER: usize = 4;
 
-/// Replaces the buffer's contents by the header of a packet, whose parts were read from it, without the padding bit and with another
-/// payload type, sequence number and SSRC.
+/// Replaces the contents of `out` with the packet's header, but with the padding bit cleared, and with this payload type, sequence number
+/// and SSRC. `read` is what was read from the packet.
 pub(crate) fn fill_header(
     packet: &[u8],
     read: &Rtp<'_>,

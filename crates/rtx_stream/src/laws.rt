@@ -7,7 +7,7 @@ ghost use Rattle.rtx_stream.specs.Faults.{unwrap_fault};
 ghost use Rattle.rtx_stream.specs.Retransmission.{IsOriginal, IsRetransmission};
 ghost use Rattle.rtx_stream.specs.declared.retransmission.Rtx.{Rtx};
 
-/// A packet has one retransmission packet for a sequence number and a stream.
+/// A packet has at most one retransmission packet for a sequence number and a stream.
 pub fn a_packet_has_one_retransmission()
     ensures { (packet bytes others : List ℕ) (seq : ℕ) (rtx : Rtx) → IsRetransmission packet seq rtx bytes
         → IsRetransmission packet seq rtx others → bytes ≡ others }
@@ -15,7 +15,7 @@ pub fn a_packet_has_one_retransmission()
     rtp_packet::a_packet_is_read();
 }
 
-/// A packet has one form without padding, and is that form where its padding bit is 0.
+/// A packet has at most one form without padding. Where its padding bit is 0, that form is the packet itself.
 pub fn a_packet_without_padding_is_bare()
     ensures one { (packet bare other : List ℕ) → IsBare packet bare → IsBare packet other → bare ≡ other }
     ensures same { (packet bare : List ℕ) → is_padded packet ≡ false → IsBare packet bare → bare ≡ packet }
@@ -31,7 +31,7 @@ pub fn a_retransmission_has_one_original()
     rtp_packet::a_packet_is_read();
 }
 
-/// Each retransmission packet has no fault.
+/// A retransmission packet has none of the faults for which `unwrap` refuses bytes.
 pub fn each_retransmission_unwraps()
     ensures { (packet bytes : List ℕ) (seq : ℕ) (rtx : Rtx) → IsRetransmission packet seq rtx bytes → unwrap_fault bytes ≡ None }
 {

@@ -1,4 +1,5 @@
-//! Retransmission packets (RFC 4588, section 4): a packet wrapped for a stream of its own, and unwrapped. No call takes memory.
+//! Retransmission packets (RFC 4588, section 4): wraps a packet for a separate retransmission stream, and unwraps it again. No call takes
+//! memory.
 #![tactic(auto)]
 
 mod fault;

@@ -13,11 +13,11 @@ use byteorder::{BigEndian, ByteOrder};
 use rtp_packet::read;
 use sfu_base::PacketBuf;
 
-/// The bytes of the original sequence number.
+/// The length of the original sequence number, in bytes.
 const ORIGINAL_SEQUENCE: usize = 2;
 
-/// Replaces the buffer's contents by the packet that a retransmission packet carries (RFC 4588, section 4), without padding, with this SSRC
-/// and this payload type. The bytes are refused, and the buffer is then as it was: `Unreadable` where they aren't an RTP packet, and else
+/// Replaces the contents of `out` with the original that a retransmission packet carries (RFC 4588, section 4). The original has this SSRC
+/// and payload type, and no padding. Errors, after which `out` is as it was: `Unreadable` where the bytes aren't an RTP packet, and else
 /// `Cut` where the payload has fewer than two bytes.
 pub fn unwrap(
     bytes: &[u8],

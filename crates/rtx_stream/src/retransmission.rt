@@ -18,8 +18,9 @@ pub struct Rtx {
     pub payload_type: u8,
 }
 
-/// Replaces the buffer's contents by the retransmission packet (RFC 4588, section 4) of a packet that [`read`](rtp_packet::read) accepts,
-/// with this sequence number: the packet without its padding, with its own sequence number as two bytes before the payload.
+/// Replaces the contents of `out` with the retransmission packet (RFC 4588, section 4) of a packet that [`read`](rtp_packet::read) accepts.
+/// The retransmission packet has the SSRC and payload type of `rtx` and the sequence number `seq`. The packet's own sequence number is put
+/// as two bytes before the payload, and its padding is left out.
 pub fn wrap(packet: &[u8], seq: u16, rtx: &Rtx, out: &mut PacketBuf)
     requires reads { first_fault packet.now ≡ None }
     requires room { length packet.now ≤ 2046 }

@@ -1,4 +1,4 @@
-//! Sessions whose resent packets go out on a stream of their own, over links in memory.
+//! Sessions whose retransmissions are sent on a stream of their own, over links in memory.
 
 use crate::session_tests::{has_sent, link, room_after, rtp};
 use crate::shared_room_tests::{empty_scratch, join, packet, publish};
@@ -7,28 +7,28 @@ use sfu_base::StepClock;
 use sfu_serve::{SessionEnd, rtx_session};
 use std::test::Fail;
 
-// The stream of resent packets: SSRC 33333333 and payload type 97.
+// The retransmission stream: SSRC 33333333 and payload type 97.
 const RTX: Rtx = Rtx {
     ssrc: 0x3333_3333,
     payload_type: 97,
 };
 
-// A NACK of the packets 1 and 0, in this order, for the SSRC that goes out (RFC 4585, section 6.2.1).
+// A NACK of the packets 1 and 0, in this order, for the SSRC of the media that are sent (RFC 4585, section 6.2.1).
 const BOTH: [u8; 20] = [
     0x81, 0xcd, 0, 4, 0, 0, 0, 9, 0x22, 0x22, 0x22, 0x22, 0, 1, 0, 0, 0, 0, 0, 0,
 ];
 
-// One of the packet 0 for the SSRC of the stream of resent packets.
+// A NACK of the packet 0 for the SSRC of the retransmission stream.
 const OTHER: [u8; 16] = [
     0x81, 0xcd, 0, 3, 0, 0, 0, 9, 0x33, 0x33, 0x33, 0x33, 0, 0, 0, 0,
 ];
 
-// One of the packet 5, which never went out, and of the packet 1.
+// A NACK of the packet 5, which was never sent, and of the packet 1.
 const NEVER_SENT: [u8; 20] = [
     0x81, 0xcd, 0, 4, 0, 0, 0, 9, 0x22, 0x22, 0x22, 0x22, 0, 5, 0, 0, 0, 1, 0, 0,
 ];
 
-// The packets 0 and 1 as they go out first (RFC 3550, section 5.1).
+// The packets 0 and 1 as they are sent first (RFC 3550, section 5.1).
 const TAKEN: [[u8; 14]; 2] = [
     [
         0x80, 0x60, 0, 0, 0, 0, 0, 0, 0x22, 0x22, 0x22, 0x22, 0xaa, 0xbb,
@@ -38,7 +38,7 @@ const TAKEN: [[u8; 14]; 2] = [
     ],
 ];
 
-// The packets 1, 0 and 1 as they are resent, with the numbers 0, 1 and 2 there (RFC 4588, section 4).
+// The packets 1, 0 and 1 as they are resent, with the numbers 0, 1 and 2 on the retransmission stream (RFC 4588, section 4).
 const RESENT: [[u8; 16]; 3] = [
     [
         0x80, 0x61, 0, 0, 0, 0, 0, 0, 0x33, 0x33, 0x33, 0x33, 0, 1, 0xaa, 0xbb,
@@ -51,8 +51,8 @@ const RESENT: [[u8; 16]; 3] = [
     ],
 ];
 
-// Two packets are taken, and both are asked for again. Then one is asked for by the wrong SSRC, and one that is asked for never went out: neither
-// uses up a number. Each send fails in turn.
+// Two packets are taken, and both are asked for again. Then one NACK has the wrong SSRC, and one names a packet that was never sent: neither uses
+// up a number. Each send fails in turn.
 #[test]
 fn resent_packets_have_numbers_of_their_own(rt: HostRuntime) -> Result<(), Fail> {
     let [first, second] = &TAKEN;

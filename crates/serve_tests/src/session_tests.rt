@@ -14,7 +14,7 @@ pub const SSRC: u32 = 0x1111_1111;
 
 pub const OUT_SSRC: u32 = 0x2222_2222;
 
-/// The lock of a room on which these calls were made, with its first seat.
+/// The lock of a room on which these calls were made, with the lock's first seat.
 pub fn room_after<W: Wait + Sync>(
     rt: &W,
     alloc: Global,
@@ -32,7 +32,7 @@ pub fn room_after<W: Wait + Sync>(
     Ok((turns, seat))
 }
 
-/// A link that brings these datagrams, and fails at these places.
+/// A link that brings these datagrams. Its receives and sends with these indices, counted from 0, fail.
 pub fn link(
     alloc: Global,
     datagrams: &[&[u8]],
@@ -63,7 +63,7 @@ pub fn rtp(number: u16) -> [u8; 14] {
     ]
 }
 
-/// The same packet as it goes out to subscriber 1.
+/// The same packet as it is sent to subscriber 1.
 pub fn outgoing(number: u16) -> [u8; 14] {
     let [high, low] = number.to_be_bytes();
     [
@@ -197,7 +197,7 @@ fn a_controllers_link_fails(rt: HostRuntime) -> Result<(), Fail> {
     Ok(())
 }
 
-// A link that moves the clock on in each receive but its first.
+// A link whose receives, except the first, move the clock on.
 #[derive(Drop)]
 struct MovingLink<'a> {
     inner: MemLink,
@@ -225,8 +225,8 @@ impl<'a> Link for MovingLink<'a> {
     }
 }
 
-// The moments of two turns lie 20 milliseconds apart, and so a NACK is sent in the second one, only where each is looked at behind its receive:
-// else they lie 10 apart.
+// The clock is read after each receive. So the moments of the two turns are 20 milliseconds apart, and the second turn sends a NACK. If the clock
+// were read before, they would be 10 apart.
 #[test]
 fn the_clock_is_looked_at_behind_the_receive(rt: HostRuntime) -> Result<(), Fail> {
     let (turns, mut seat) = room_after(&rt, rt.alloc(), &[publish()])?;

@@ -41,7 +41,7 @@ pub(crate) fn publish() -> Call {
     }
 }
 
-// What goes out to subscriber 1 is numbered from 0 on.
+// The packets that are sent to subscriber 1 are numbered from 0 on.
 pub(crate) fn join() -> Call {
     Call::Join {
         subscriber: 1,
@@ -99,7 +99,7 @@ fn a_packet_of_one_seat_is_taken_by_another(rt: HostRuntime) -> Result<(), Fail>
     Ok(())
 }
 
-// Brings all packets, in order. Answers whether each was accepted.
+// Brings all packets, in order. Returns whether each was accepted.
 fn bring<W: Wait + Sync>(rt: &W, turns: &Turns<Shared>, mut seat: Seat<Shared>) -> bool
     requires { seat.lock ≡ turns.now }
 {
@@ -115,7 +115,8 @@ fn bring<W: Wait + Sync>(rt: &W, turns: &Turns<Shared>, mut seat: Seat<Shared>) 
     true
 }
 
-// Takes so often, and answers how many packets were taken. Each must have the number behind the one before, from `first` on.
+// Makes `PACKETS` takes. Each packet must have the number after the one before, from `first` on. Returns the number after the last packet. `None`: a
+// turn failed, a take was refused for another reason than `Empty`, or a packet had another number.
 fn take_in_order<W: Wait + Sync>(
     rt: &W,
     turns: &Turns<Shared>,

@@ -13,7 +13,7 @@ use sfu_base::{Call, Kind, PacketBuf, Wish};
 use std::alloc::{AllocError, Global};
 use std::test::Fail;
 
-// What a socket's receive brings: a datagram, or, where it has no bytes, nothing.
+// A socket's receive. It brings this datagram or, if the datagram has no bytes or too many, nothing.
 fn receive(datagram: &[u8], into: &mut PacketBuf) -> bool {
     if datagram.is_empty() {
         return false;
@@ -35,7 +35,7 @@ fn send(sent: &mut Vec<PacketBuf>, output: Output, packet: &PacketBuf) -> Result
     Ok(())
 }
 
-// A server's loop: runs a session on a room, a turn for each receive and its moment. What the session sends is put behind what was sent before.
+// A server's loop: runs a session on a room, with one turn for each receive and its moment. Appends what the session sends to `sent`.
 fn serve_alone<R: Recorder, S: Session>(
     room: &mut Room<R>,
     session: &mut S,
@@ -72,7 +72,7 @@ fn room_of(alloc: Global, calls: &[Call]) -> Room<KeepNone>
     room
 }
 
-// Whether a session on a room on which these calls were made sends exactly these datagrams.
+// Whether a session sends exactly the datagrams `wanted`, on a room on which `calls` were made.
 fn sends<S: Session>(
     alloc: Global,
     calls: &[Call],
@@ -155,7 +155,7 @@ fn a_publisher_is_asked_for_a_key_frame(rt: HostRuntime) -> Result<(), Fail> {
     Ok(())
 }
 
-// The packets 0 and 1 as they go out to subscriber 1 (RFC 3550, section 5.1).
+// The packets 0 and 1 as they are sent to subscriber 1 (RFC 3550, section 5.1).
 const ZERO: [u8; 14] = [
     0x80, 0x60, 0, 0, 0, 0, 0, 0, 0x22, 0x22, 0x22, 0x22, 0xaa, 0xbb,
 ];
@@ -164,7 +164,7 @@ const ONE: [u8; 14] = [
     0x80, 0x60, 0, 1, 0, 0, 0, 0, 0x22, 0x22, 0x22, 0x22, 0xaa, 0xbb,
 ];
 
-// A NACK of the packet 0 for the SSRC that goes out, and one for another SSRC (RFC 4585, section 6.2.1).
+// A NACK of the packet 0 for the SSRC of the media that are sent, and one for another SSRC (RFC 4585, section 6.2.1).
 const RESEND: [u8; 16] = [
     0x81, 0xcd, 0, 3, 0, 0, 0, 9, 0x22, 0x22, 0x22, 0x22, 0, 0, 0, 0,
 ];
@@ -173,12 +173,12 @@ const OTHER: [u8; 16] = [
     0x81, 0xcd, 0, 3, 0, 0, 0, 9, 0x33, 0x33, 0x33, 0x33, 0, 0, 0, 0,
 ];
 
-// The packet 0 as it is resent on a stream of its own, with the number 0 there (RFC 4588, section 4).
+// The packet 0 as it is resent on a retransmission stream, with the number 0 there (RFC 4588, section 4).
 const RESENT: [u8; 16] = [
     0x80, 0x61, 0, 0, 0, 0, 0, 0, 0x33, 0x33, 0x33, 0x33, 0, 0, 0xaa, 0xbb,
 ];
 
-// What waits is taken each turn, behind the feedback that came.
+// In each turn the feedback that came is served, and then the waiting packets are taken.
 #[test]
 fn a_subscriber_is_answered_its_feedback(rt: HostRuntime) -> Result<(), Fail> {
     let rtx = Rtx {
@@ -207,7 +207,7 @@ fn a_subscriber_is_answered_its_feedback(rt: HostRuntime) -> Result<(), Fail> {
     Ok(())
 }
 
-// A line is a call, whose reply is sent; nothing that came is answered nothing.
+// A line is a call, whose reply is sent. Where no datagram came, nothing is sent.
 #[test]
 fn a_controller_is_answered(rt: HostRuntime) -> Result<(), Fail> {
     let cases: [(&[u8], &[u8]); 6] = [
@@ -232,7 +232,7 @@ fn a_controller_is_answered(rt: HostRuntime) -> Result<(), Fail> {
     Ok(())
 }
 
-// A key frame and a frame that refers to it, as they come to a layered track and as they go out to a subscriber from number 65535 on.
+// A key frame and a frame that refers to it, as they come to a layered track and as they are sent to a subscriber, numbered from 65535 on.
 const CAME: [&[u8]; 2] = [
     b"\x90\xe0\x03\xe8\0\0\0\0\x11\x11\x11\x11\xbe\xde\0\x03\x48\xc0\0\x01\x80\0\x3a\x41\x01\0\0\0\x18\x30\0",
     b"\x90\xe0\x03\xe9\0\0\0\0\x11\x11\x11\x11\xbe\xde\0\x01\x42\xc1\0\x02\x10\x30\0",

@@ -10,16 +10,16 @@ use sfu_script::{read_call, write_short};
 /// The reply to a datagram that is no control line.
 const FAULT_LINE: &[u8] = b"fault line";
 
-/// The session of a controller. Each datagram that is one line of publish, unpublish, join, leave, aim, key, plead or why, without a line end,
-/// is a call, and the text of its reply is sent, without a line end; any other datagram is answered `fault line`.
+/// The session of a controller. A datagram that is one line of publish, unpublish, join, leave, aim, key, plead or why, without a line end, is a
+/// call. The text of the call's reply is sent, also without a line end. Any other datagram is answered `fault line`.
 #[derive(Debug, Drop)]
 pub struct ControlSession {
-    /// The call of the line that came.
+    /// The call of the line that came, until its reply is sent.
     said: Option<Call>,
     ghost control: { if_control said ≡ said },
 }
 
-/// Whether a control line may make the call.
+/// Whether a control line may ask for the call.
 fn is_control(call: &Call) -> bool
     ensures { result ≡ is_control call.now }
 {
@@ -33,7 +33,7 @@ fn is_control(call: &Call) -> bool
     }
 }
 
-/// The call of a control line. None: the datagram is no control line.
+/// The call of a control line. `None`: the datagram is no control line.
 fn read_control(line: &[u8]) -> Option<Call>
     ensures { result ≡ control_call line.now }
 {

@@ -1,7 +1,8 @@
 //! The sessions that publishers, subscribers and controllers have with a room, as state machines without input and output.
 //!
-//! A session knows no lock, no socket and no clock: whoever runs it hands in each datagram and the moment, makes the calls that it asks for, and
-//! sends what it puts into the scratch. So a server with sockets of its own runs it in one loop, over a room of its own or a shared one:
+//! A session knows no lock, no socket and no clock. Its caller passes each datagram and the moment, makes the calls that the session asks for,
+//! and sends what the session puts into the scratch. So a server with sockets of its own runs a session in one loop, on its own room or a shared
+//! one:
 //!
 //! ```text
 //! loop {
@@ -20,7 +21,8 @@
 //! }
 //! ```
 //!
-//! What such a loop calls and sends is the session's rule (`specs/Sessions.antt`), step by step: that is the contract of [`Session`].
+//! By the contract of [`Session`], such a loop makes exactly the calls and sends exactly the datagrams of the session's rule
+//! (`specs/Sessions.antt`), in order.
 #![tactic(auto)]
 
 mod control;

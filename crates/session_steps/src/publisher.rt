@@ -15,32 +15,33 @@ use sfu_base::{Call, PacketBuf, Reply, Scratch};
 /// The sender's SSRC in the feedback.
 const SENDER: u32 = 1;
 
-/// The least distance between two questions for missing packets, in milliseconds.
+/// The least time between two turns that ask for missing packets, in milliseconds.
 const ASKING_APART: u64 = 20;
 
-/// The least distance between two picture loss indications, in milliseconds.
+/// The least time between two picture loss indications, in milliseconds.
 const PLIS_APART: u64 = 500;
 
 /// What comes next in a publisher's session.
 #[derive(Clone, Copy, Debug)]
 enum Next {
-    /// A datagram is waited for.
+    /// The next datagram.
     Datagram,
-    /// The packet that came.
+    /// The call with the packet that came.
     Packet,
-    /// The moment of this turn.
+    /// The tick at this turn's moment.
     Tick,
-    /// The question for missing packets, then the one for a key frame.
+    /// The call that asks for missing packets, before the one that asks whether a key frame is wanted.
     Missing,
-    /// The question for a key frame.
+    /// The call that asks whether a key frame is wanted.
     KeyWanted,
 }
 
-/// The session of a publisher of one track. In each turn an RTP packet that came is brought to the track, and the moment passes. At the first
-/// turn, and then at least 20 milliseconds apart, it asks the room what is missing, and sends one NACK (RFC 4585, section 6.2.1) for all of it;
-/// and whether a key frame is wanted, for which it sends a picture loss indication (section 6.3.1), at least 500 milliseconds apart.
+/// The session of a publisher of one track. In each turn it brings the RTP packet that came, if one did, to the track, and then ticks the track.
+/// At the first turn, and then at least 20 milliseconds apart, it asks the room which packets are missing and whether a key frame is wanted. All
+/// missing packets are named by one NACK (RFC 4585, section 6.2.1). For a wanted key frame it sends a picture loss indication (section 6.3.1), at
+/// least 500 milliseconds after the last one.
 ///
-/// It keeps its calls from turn to turn, since a [`Call`] has a buffer for a packet, which is cleared where one is made.
+/// The session keeps its calls from turn to turn: a [`Call`] has a buffer for a packet, and to make a new call would clear it.
 #[derive(Debug, Drop)]
 pub struct PublisherSession {
     track: u32,
@@ -62,7 +63,7 @@ pub struct PublisherSession {
     ghost key_wanted_is: { key_wanted ≡ call.KeyWanted track },
 }
 
-/// Whether the moment is at least `apart` behind the last one, or there was none.
+/// Whether `moment` is at least `apart` milliseconds after `last`, or `last` is none.
 fn is_due(apart: u64, moment: u64, last: Option<u64>) -> bool
     ensures { result ≡ is_due apart moment last }
 {
@@ -79,7 +80,7 @@ fn is_packet(came: bool, datagram: &PacketBuf) -> bool
     came && !is_rtcp(datagram.bytes())
 }
 
-/// Writes a packet and its moment into the call that brings it.
+/// Writes a packet and its moment into the kept call that brings packets.
 fn set_packet(kept: &mut Call, now: u64, packet: &PacketBuf)
     ensures { (track before : ℕ) (old : List ℕ) → kept.old ≡ call.Packet track before old → kept.new ≡ call.Packet track now packet.now }
 {
@@ -89,7 +90,7 @@ fn set_packet(kept: &mut Call, now: u64, packet: &PacketBuf)
     }
 }
 
-/// Writes a moment into the call of a tick.
+/// Writes a moment into the kept call of a tick.
 fn set_moment(kept: &mut Call, now: u64)
     ensures { (track before : ℕ) → kept.old ≡ call.Tick track before → kept.new ≡ call.Tick track now }
 {
@@ -98,7 +99,7 @@ fn set_moment(kept: &mut Call, now: u64)
     }
 }
 
-/// Writes one NACK of the missing packets that were replied, if there are any.
+/// Writes one NACK that names the missing packets of the reply, if there are any.
 fn nack(ssrc: u32, reply: Reply, scratch: &mut Scratch) -> Output
     requires rise { reply ≡ Reply.Names → 0 < length scratch.old.names → Rise 1023 scratch.old.names }
     ensures { (rest : Doing) → GoesOn (nacks ssrc (answer_of reply scratch.old.packet scratch.old.names) rest) rest scratch.new.packet result }
@@ -113,7 +114,7 @@ fn nack(ssrc: u32, reply: Reply, scratch: &mut Scratch) -> Output
     Output::Packet
 }
 
-/// Writes a picture loss indication, if a key frame is wanted and an indication is due.
+/// Writes a picture loss indication and notes its moment, if a key frame is wanted and an indication is due.
 fn plead(
     ssrc: u32,
     moment: u64,

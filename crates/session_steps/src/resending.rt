@@ -1,4 +1,4 @@
-// Retransmissions: packets as they were sent, or on a stream of their own (RFC 4588, section 4).
+// Retransmissions: packets as they were first sent, or on a stream of their own (RFC 4588, section 4).
 ghost use Rattle.std.specs.Prelude.{◌≡◌, ◌<◌, ℕ, IfSome};
 ghost use Rattle.sfu_base.specs.Answer.{answer_of};
 ghost use Rattle.rtx_stream.specs.Retransmission.{IsRetransmission};
@@ -22,7 +22,7 @@ fn wrap_over(rtx: Rtx, number: u16, packet: &mut PacketBuf)
     *packet = wrapped;
 }
 
-/// Makes a packet's retransmission: wrapped with this number where there is an RTX stream, and else the packet as it was sent.
+/// Replaces a packet by its retransmission: wrapped with this number if there is an RTX stream, else the packet as it was first sent.
 pub(crate) fn make_retransmission(rtx: Option<Rtx>, number: u16, packet: &mut PacketBuf)
     requires payload_type { IfSome rtx (λ stream. stream.payload_type < 128) }
     requires sendable { CanBeWrapped packet.old }
@@ -33,7 +33,8 @@ pub(crate) fn make_retransmission(rtx: Option<Rtx>, number: u16, packet: &mut Pa
     }
 }
 
-/// Sends the packet that a resend replied, if it replied one. `number` is the number of the next retransmission, modulo 65,536.
+/// Outputs the retransmission of the packet that a resend gave, if it gave one. `number` is the number of the next retransmission. Each output
+/// raises it by 1, modulo 65,536.
 pub(crate) fn resend(
     rtx: Option<Rtx>,
     number: &mut u16,

@@ -21,28 +21,29 @@ const MOST_TAKES: u32 = 32;
 /// What comes next in a subscriber's session.
 #[derive(Clone, Copy, Debug)]
 enum Next {
-    /// A datagram is waited for.
+    /// The next datagram.
     Datagram,
     /// The call of an item of feedback.
     Feedback,
-    /// A take, with at most `behind` more in this turn.
+    /// A take, with at most `behind` more after it in this turn.
     Take { behind: u32 },
 }
 
-/// The session of a subscriber. In each turn it works off the RTCP feedback that came, item by item: a NACK whose media source is its SSRC
-/// (RFC 4585, section 6.2.1) is a resend, whose packet is sent; a picture loss indication (section 6.3.1) is a plea for a key frame; items on
-/// other SSRCs are passed over. Then it takes packets and sends them, until a take gives none or 32 were taken.
+/// The session of a subscriber. In each turn it serves the RTCP feedback that came, item by item. For each packet that a NACK names (RFC 4585,
+/// section 6.2.1) it asks for a resend and sends the retransmission. For a picture loss indication (section 6.3.1) it pleads for a key frame.
+/// Items whose media source isn't the subscriber's SSRC are skipped. Then the session takes packets and sends them, until a take gives none or
+/// 32 were taken.
 ///
-/// It keeps its calls from turn to turn, since a [`Call`] has a buffer for a packet, which is cleared where one is made.
+/// The session keeps its calls from turn to turn: a [`Call`] has a buffer for a packet, and to make a new call would clear it.
 #[derive(Debug, Drop)]
 pub struct SubscriberSession {
     subscriber: u32,
     ssrc: u32,
-    /// The stream of the retransmissions. None: they go out as the packets were sent.
+    /// The stream of the retransmissions. `None`: they are sent as the packets were first sent.
     rtx: Option<Rtx>,
-    /// The number of the next retransmission on that stream.
+    /// The sequence number of the next retransmission on that stream.
     number: u16,
-    /// The feedback of this turn that is left.
+    /// The items of this turn's feedback that are left.
     feedback: FeedbackQueue,
     next: Next,
     asked: Call,
@@ -71,7 +72,7 @@ fn media(item: Feedback) -> u32
     }
 }
 
-/// Fills the queue with the feedback that a receive brought: none where nothing came, or no RTCP, or RTCP with a fault.
+/// Fills the queue with the feedback that a receive brought: none if nothing came, the datagram isn't RTCP, or the RTCP has a fault.
 fn read_feedback(feedback: &mut FeedbackQueue, came: bool, datagram: &PacketBuf)
     ensures { feedback.new ≡ (if came then feedback_in datagram.now else []) }
 {
@@ -85,7 +86,7 @@ fn read_feedback(feedback: &mut FeedbackQueue, came: bool, datagram: &PacketBuf)
     let _fault = feedback.fill(bytes);
 }
 
-/// The next item of feedback on this SSRC, if there is one. Drops items on other SSRCs.
+/// Removes and returns the next item of feedback on this SSRC, if there is one. Drops the items on other SSRCs before it.
 fn next_item(feedback: &mut FeedbackQueue, ssrc: u32) -> Option<Feedback>
     ensures serves { (subscriber number : ℕ) (rtx : Option RtxData) (next : ℕ → Doing) → MatchOption result
         (serves subscriber ssrc rtx feedback.old number next ≡ next number)
@@ -105,8 +106,9 @@ impl SubscriberSession {
     ghost use Rattle.session_steps.specs.declared.subscriber.SubscriberSession.{SubscriberSession as SubscriberData};
     ghost use Rattle.session_steps.specs.Subscribing.{calls_at, subscribing, subscribing_at, subscribing_calls, then_takes};
 
-    /// The session of a subscriber before its first datagram. `ssrc` is the SSRC of the media that go out to it; `rtx` the stream on which its
-    /// retransmissions go out (RFC 4588), numbered 0, 1 and so on modulo 65,536. Without one they go out as the packets were sent.
+    /// The session of a subscriber before its first datagram. `ssrc` is the SSRC of the media that are sent to the subscriber. Retransmissions are
+    /// sent on the stream `rtx` (RFC 4588), whose payload type is below 128, numbered 0, 1 and so on modulo 65,536. Without `rtx` they are sent as
+    /// the packets were first sent.
     pub fn new(subscriber: u32, ssrc: u32, rtx: Option<Rtx>) -> SubscriberSession
         requires payload_type { IfSome rtx (λ stream. stream.payload_type < 128) }
         ensures left { (turns : ℕ) → subscribing result turns ≡ outgoing_deed subscriber ssrc rtx turns 0 }
@@ -136,7 +138,7 @@ impl SubscriberSession {
         }
     }
 
-    /// Goes on to the next item of feedback on its SSRC, or to the takes where none is left.
+    /// Goes on to the next item of feedback on the subscriber's SSRC or, if none is left, to the takes.
     fn advance(&mut self)
         ensures left { (turns : ℕ) → subscribing self.new turns ≡ serves self.old.subscriber self.old.ssrc self.old.rtx self.old.feedback self.old.number (then_takes self.old turns) }
         ensures fewer { subscribing_calls self.new ≤ length self.old.feedback + 32 }

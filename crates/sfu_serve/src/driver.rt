@@ -24,7 +24,7 @@ pub struct Stage<'a, R: Recorder, C, W> {
     /// The lock with the room.
     pub turns: &'a Turns<SharedRoom<R>>,
     pub clock: &'a C,
-    /// How many turns each session makes.
+    /// How many turns each session makes, unless it ends early.
     pub limit: u64,
 }
 
@@ -78,8 +78,8 @@ fn send_output<L: Link>(link: &mut L, output: Output, packet: &PacketBuf) -> Res
     }
 }
 
-/// Runs a session from its first datagram on: `stage.limit` turns, each a receive, a look at the clock, and the calls and datagrams that follow.
-/// Ends early where a call on the link failed or the lock is worn (own rule).
+/// Runs a session that waits for a datagram, for `stage.limit` turns: each is a receive, a look at the clock, and the calls and datagrams that
+/// follow. Ends early where a call on the link failed or the lock is worn (own rule).
 pub fn run_session<R: Recorder, S: Session, L: Link, C: Clock, W: Wait + Sync>(
     stage: &Stage<'_, R, C, W>,
     seat: &mut Seat<SharedRoom<R>>,

@@ -27,7 +27,7 @@ pub struct Seated<R: Recorder, L> {
     pub job: Job<L>,
 }
 
-/// The seat and the link of a job whose session has ended, and how it ended.
+/// The seat and the link of a job whose session has ended, and how that session ended.
 #[derive(Drop)]
 pub struct Played<R: Recorder, L> {
     pub seat: Seat<SharedRoom<R>>,
@@ -35,7 +35,7 @@ pub struct Played<R: Recorder, L> {
     pub link: L,
 }
 
-/// Puts an item behind the others.
+/// Appends an item to a list.
 fn put_last<T: Drop>(list: &mut Vec<T>, item: T) -> Result<(), NoMemory>
     ensures { OnOk result (list.new.items ≡ list.old.items ++ item ∷ []) }
 {
@@ -45,7 +45,7 @@ fn put_last<T: Drop>(list: &mut Vec<T>, item: T) -> Result<(), NoMemory>
     }
 }
 
-/// Gives each job a seat, in order.
+/// Splits off a seat for each job, in order: seat 1 for the first.
 pub fn cast<R: Recorder, L: Link + Drop>(
     alloc: Global,
     turns: &Turns<SharedRoom<R>>,
@@ -160,7 +160,7 @@ pub fn play<R: Recorder + Send, L: Link + Send + Drop, C: Clock + Sync, W: Threa
     Ok(played)
 }
 
-/// Joins the seats into the first one, in order, and gives back the links with the sessions' ends.
+/// Joins the jobs' seats into the first one, in order. Returns the links with the sessions' ends, in the same order.
 pub fn gather<R: Recorder, L: Link + Drop>(
     alloc: Global,
     turns: &Turns<SharedRoom<R>>,

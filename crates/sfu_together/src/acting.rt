@@ -11,7 +11,8 @@ use std::alloc::Global;
 use std::sync::Wait;
 use turn_lock::{Seat, Turns};
 
-/// Makes a seat's calls in their order, and keeps each turn's place with what it told. The gate hears of each.
+/// Makes a seat's calls, at most 100,000, in order. Returns each turn's place with the journal's entry of the turn's call. The gate is
+/// called before and after each turn. Once the lock is worn, no further call is made.
 pub fn act<W: Wait + Sync, G: Gate>(
     rt: &W,
     alloc: Global,

@@ -27,14 +27,14 @@ pub struct Job {
     pub actor: u8,
 }
 
-/// The seat of an actor that has ended, and what it kept of its turns.
+/// The seat of an actor that has ended, and what the actor kept of its turns.
 #[derive(Drop)]
 pub struct Done {
     pub seat: Seat<PlayedRoom>,
     pub kept: Vec<Placed>,
 }
 
-/// Gives each actor a seat, in order.
+/// Splits off a seat for each actor, in order.
 pub fn cast(
     alloc: Global,
     turns: &Turns<PlayedRoom>,
@@ -78,7 +78,7 @@ fn perform<W: Wait + Sync, G: Gate>(
     Ok(Done { seat, kept })
 }
 
-/// What came back of all actors, if memory was wanting in none.
+/// What came back of all actors, in order. `NoMemory`: an actor ran out of memory, or the list did.
 fn all_done(alloc: Global, ended: Vec<Result<Done, NoMemory>>) -> Result<Vec<Done>, NoMemory>
     ensures { IfOk result (λ dones. map Ok dones.items ≡ ended.items) }
 {
@@ -125,7 +125,7 @@ pub fn play<W: Threads + Wait + Sync, G: Gate>(
     all_done(alloc, ended)
 }
 
-/// Joins the seats into the first one, in order, and puts what their actors kept behind what it kept.
+/// Joins the actors' seats into the first one, in order, and appends to `kept` what the actors kept.
 pub fn gather(
     turns: &Turns<PlayedRoom>,
     seat: &mut Seat<PlayedRoom>,

@@ -1,4 +1,4 @@
-// What the command does.
+// The command `together`.
 ghost use Rattle.sfu_together.specs.Together.{Plays};
 ghost use Rattle.sfu_driver.specs.Statuses.{number_of};
 ghost use Rattle.sfu_driver.specs.Exchange.{exchange_of};
@@ -12,8 +12,8 @@ use std::alloc::Global;
 use std::sync::Wait;
 use std::thread::Threads;
 
-/// Reads a script of actors to its end, makes its calls, the actors at the same time, writes the journal, and answers the status. Nothing
-/// of the journal is written before its last call was made.
+/// Reads a script of actors to its end, makes its calls (those of the actors at the same time), writes the journal, and returns the status.
+/// Nothing of the journal is written before the last call was made.
 pub fn play_script<W: Threads + Wait + Sync, S: Source, K: Sink>(
     rt: &W,
     alloc: Global,

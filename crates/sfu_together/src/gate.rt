@@ -1,11 +1,11 @@
-// What hears of the calls of actors.
+// Hooks around the actors' calls.
 
-/// Hears of each actor's call, before and after it, outside the lock: so a gate may hold an actor up.
+/// Is called before and after each actor's call, outside the lock. So a gate may hold an actor up.
 pub trait Gate: Sync {
-    /// Comes before the actor, 1 to 8, makes its call in this place, counted from 0.
+    /// Is called before the actor, 1 to 8, makes its call with the index `line`, counted from 0.
     fn before(&self, actor: u8, line: u32);
 
-    /// Comes after it.
+    /// Is called after that call.
     fn after(&self, actor: u8, line: u32);
 }
 

@@ -24,7 +24,7 @@ pub enum TogetherFault {
     NoMemory,
 }
 
-// Makes a script's calls on a room that keeps nothing: the opening part's by seat 0, then those of the actors, each by a seat of its own,
+// Makes a script's calls on a room that records nothing: the opening part's by seat 0, then those of the actors, each by a seat of its own,
 // then the closing part's by seat 0.
 fn make<W: Threads + Wait + Sync, G: Gate>(
     rt: &W,
@@ -65,8 +65,8 @@ fn make<W: Threads + Wait + Sync, G: Gate>(
     in_order(alloc, kept)
 }
 
-/// Makes a script's calls, of which there are at most 100,000, its actors at the same time, each on a thread of its own, and answers the
-/// journal. The gate hears of each actor's call. At `NoMemory` nothing is left.
+/// Makes a script's calls, at most 100,000, and returns the journal. The actors run at the same time, each on a thread of its own, and the
+/// gate is called before and after each call of an actor. On `NoMemory` all that was made is dropped.
 pub fn run_together<W: Threads + Wait + Sync, G: Gate>(
     rt: &W,
     alloc: Global,

@@ -13,17 +13,17 @@ const SCRIPT: &[u8] =
     b"take 9\n@1 take 1\n@1 take 1\n@2 take 2\n@2 take 2\n@3 take 3\n@3 take 3\n@4 take 4\n@4 take 4\n\
     @5 take 5\n@5 take 5\n@6 take 6\n@6 take 6\n@7 take 7\n@7 take 7\n@8 take 8\n@8 take 8\ntake 9\n";
 
-// How often an actor looks for another one, with a millisecond between.
+// How often an actor looks for another one at most, with a millisecond between two looks.
 const MOST_LOOKS: u32 = 10_000;
 
-// What an actor's gate hears, two digits each in base 16: 1 before a call and 2 after it, and then the call's place.
+// What the gate hears of one actor, two hexadecimal digits for each time: 1 before a call or 2 after it, then the call's index.
 const BEFORE: u8 = 0x10;
 
 const AFTER: u8 = 0x20;
 
 const HEARD: u64 = 0x10_20_11_21;
 
-// What one actor does.
+// What the gate heard of one actor.
 #[derive(Drop)]
 struct Actor {
     before: AtomicBool,
@@ -40,7 +40,7 @@ impl Actor {
         }
     }
 
-    // Notes what came, behind what came before.
+    // Appends to what the gate heard of this actor.
     fn hear(&self, kind: u8, line: u32) {
         let place = u64::from(line.min(15));
         let heard = self.heard.load(Ordering::SeqCst) % (1 << 48);
@@ -48,7 +48,7 @@ impl Actor {
             .store(heard * 256 + u64::from(kind) + place, Ordering::SeqCst);
     }
 
-    // Whether the flag that is raised before the first call, or the one behind it, is up.
+    // Whether the flag of this kind is up, which is raised before or after the first call.
     fn is_up(&self, kind: u8) -> bool {
         if kind == BEFORE {
             self.before.load(Ordering::SeqCst)
@@ -66,12 +66,13 @@ impl Actor {
     }
 }
 
-// The eight actors, and what must not be.
+// The eight actors, and flags for what must not happen.
 #[derive(Drop)]
 struct Actors {
     each: [Actor; 8],
-    // An actor waited for another one in vain, or the gate heard of an actor that is none.
+    // An actor waited for another one in vain.
     missed: AtomicBool,
+    // The gate heard of an actor outside 1 to 8.
     strayed: AtomicBool,
 }
 
@@ -86,7 +87,7 @@ impl Actors {
         self.missed.store(true, Ordering::SeqCst);
     }
 
-    // Notes the call. At its first one an actor waits until all others are there too.
+    // Records the call. At its first call an actor waits until all others are there too.
     fn hear<R: Clock>(&self, clock: &R, kind: u8, actor: u8, line: u32) {
         if actor < 1 || actor > 8 {
             self.strayed.store(true, Ordering::SeqCst);
@@ -103,7 +104,7 @@ impl Actors {
     }
 }
 
-// Holds each actor up, before its first call and after it, and notes what it hears.
+// Holds each actor up before and after its first call, and records what it hears.
 #[derive(Drop)]
 struct Meeting<'a, R> {
     clock: &'a R,
@@ -162,7 +163,7 @@ fn eight_actors_are_inside_at_the_same_time(rt: HostRuntime) -> Result<(), Fail>
         );
         assert_eq!(rt; actor.heard.load(Ordering::SeqCst), HEARD);
     }
-    // Nobody makes its second call before all made their first.
+    // No actor makes its second call before all made their first.
     let mut order = Vec::new(alloc);
     for entry in journal.entries() {
         assert_eq!(rt; entry.reply.bytes(), b"refused nosubscriber".as_slice());

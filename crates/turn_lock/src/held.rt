@@ -5,25 +5,25 @@ ghost use Rattle.turn_lock.specs.History.{entry};
 
 use std::marker::Brand;
 
-/// A value that serves calls and stands for the list of the calls that it served.
+/// A value that serves calls and, in contracts, represents the list of the calls that it has served.
 pub trait Held: Drop {
     type Call;
 
     type Reply;
 
-    /// Room of the caller's, in which a reply leaves what is too large for it.
+    /// The caller's buffers, for the parts of a reply that are too large for `Reply`.
     type Scratch;
 
-    /// The value stands for this list of entries.
+    /// Whether the value represents this list of entries.
     ghost stands: { Self → List (Entry Self.Call) → Type 0 };
 
-    /// After these entries this call of the seat with this number gets this reply, and finds this in the scratch.
+    /// Whether, after these entries, this call of the seat with this number may get this reply, with this in the scratch.
     ghost gives: { List (Entry Self.Call) → ℕ → Self.Call → Self.Reply → Self.Scratch → Type 0 };
 
-    /// The reply is want of memory.
+    /// Whether the reply is out of memory.
     ghost starves: { Self.Reply → Bool };
 
-    /// Serves a call of the seat with this number.
+    /// Serves a call of the seat with this number. The value then represents one entry more, that of this call.
     fn serve(&mut self, seat: u32, call: &Self::Call, scratch: &mut Self::Scratch) -> Self::Reply
         ensures { (h : List (Entry Self.Call)) → stands self.old h → stands self.new (h ++ entry seat call.now (starves result) ∷ [])
             × gives h seat call.now result scratch.new };

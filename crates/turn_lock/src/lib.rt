@@ -1,7 +1,7 @@
 //! A lock whose turns form one history.
 //!
-//! Threads share a `Turns` and have a `Seat` each. A turn serves one call on the value behind the lock, and tells its place in the one
-//! history of all turns. Contracts see of a seat what it has seen of that history, and which entries of it are its own.
+//! Threads share a `Turns` and have a `Seat` each. A turn serves one call on the value behind the lock and returns the call's
+//! place in the one history of all turns. In contracts a seat shows the prefix of that history that it has seen, and the entries that it made.
 #![tactic(auto)]
 
 mod held;

@@ -27,37 +27,37 @@ const NEXT_TICKET: usize = 0;
 /// The word with the ticket that is served.
 const SERVED_TICKET: usize = 1;
 
-/// How many gates there are. Who waits for a ticket sleeps at the gate `ticket % GATES`, so where no more than so many wait, a turn that
-/// is over wakes the one whose turn it is then.
+/// The number of gates. A thread that waits for a ticket sleeps at gate `ticket % GATES`, and a turn's end wakes all sleepers at the next
+/// ticket's gate. While at most `GATES` threads wait, each has a gate of its own.
 const GATES: usize = 64;
 
-/// Who waits for a ticket at most so far behind the one that is served may spin; who stands further back sleeps at once.
+/// A thread whose ticket is at most this far behind the served one may spin; a thread further back sleeps at once.
 const NEAR: u64 = 1;
 
-/// Tickets lie below this number.
+/// Every ticket is below this number.
 const TICKET_LIMIT: u64 = 1 << 63;
 
-/// The gate at which a ticket is waited for.
+/// The gate at which the holder of a ticket waits.
 fn gate_of(ticket: u64) -> usize
     ensures { result ≡ ticket % GATES }
 {
     (ticket % GATES as u64) as usize
 }
 
-/// What a turn gives.
+/// The result of a turn.
 #[derive(Debug, Drop)]
 pub struct Turn<T> {
-    /// The call's place in the history: the lock's first place, and one more for each turn before this one.
+    /// The call's place in the history: the lock's first place plus the number of turns before this one.
     pub place: u64,
     pub reply: T,
 }
 
-/// All tickets of the lock are drawn, so it makes no more turns. The value is untouched.
+/// All tickets of the lock are drawn, so no further turn is made. The value is unchanged.
 #[derive(Clone, Copy, Debug, PartialEq, Eq, Error)]
 #[error("all tickets of the lock are drawn")]
 pub struct Worn;
 
-/// A value behind a lock. Contracts see which lock it is.
+/// A lock with the value behind it. Contracts see which lock it is.
 #[derive(Drop)]
 pub struct Turns<H: Held> {
     table: Table<Option<H>, View<H::Call>, u64, Ticketed<H>, Global>,
@@ -77,8 +77,9 @@ impl<H: Held> Model for Turns<H> {
     ghost invariant = { λ t. (t.table.shared.table_id.words ≡ 2) × (t.table.shared.table_id.slots ≡ 1) };
 }
 
-/// What one thread makes turns with, one at a time. Contracts see its lock, its number, the beginning of the history that it has seen,
-/// its own entries, the greatest number that it found at a draw, and of the first seat how many seats were made and which were joined.
+/// A thread's handle on a lock: with it the thread makes turns, one at a time. Contracts see the seat's lock, the place of the first entry, the seat's
+/// number, the prefix of the history that it has seen, and its own entries. They see the greatest number found at a draw by this seat or,
+/// for the first seat, also by the seats joined into it. Of the first seat they also see how many seats were made and which were joined.
 #[derive(Drop)]
 pub struct Seat<H: Held> {
     inner: atomic_table::Seat<Option<H>, View<H::Call>>,
@@ -100,7 +101,7 @@ impl<H: Held> Model for Seat<H> {
 }
 
 impl<H: Held> Seat<H> {
-    /// A lemma, which does nothing: what is true of each seat between two calls on its lock.
+    /// A lemma: `Fits` is true of each seat between two calls on its lock. Does nothing at run time.
     pub fn lemma_fits(&self)
         ensures { Fits self.now }
     {
@@ -109,8 +110,8 @@ impl<H: Held> Seat<H> {
 }
 
 impl<H: Held> Turns<H> {
-    /// Puts a value that has served nothing behind a new lock, and gives the lock with its first seat, which has number 0. The first
-    /// turn has the place `first`, at most 2^63. At `NoMemory` the value is dropped.
+    /// Puts a value that has served nothing behind a new lock, and returns the lock with its first seat, which has number 0. The first
+    /// turn will have the place `first`, which must be at most 2^63. On `NoMemory` the value is dropped.
     pub fn new(alloc: Global, value: H, first: u64) -> Result<(Turns<H>, Seat<H>), NoMemory>
         requires first { first ≤ 2 ^ 63 }
         requires empty { H.stands value [] }
@@ -133,8 +134,8 @@ impl<H: Held> Turns<H> {
         Ok((Turns { table, gates }, seat))
     }
 
-    /// Makes a seat for one more thread, by the first seat, which may count 1,024 seats with itself. The new seat has the next number
-    /// and has seen what the first one has.
+    /// Makes a seat for one more thread. `seat` must be the first one, which may have counted at most 1,023 seats, itself
+    /// included. The new seat has the next number and has seen what the first one has.
     pub fn split(&self, seat: &mut Seat<H>) -> Seat<H>
         requires lock { seat.old.lock ≡ self.now }
         requires first { seat.old.number ≡ 0 }
@@ -153,7 +154,8 @@ impl<H: Held> Turns<H> {
         }
     }
 
-    /// Joins a seat that is done into the first one, which keeps its entries and has seen from then on what both had seen.
+    /// Joins another seat of this lock into the first one, which keeps the other's number and entries. Of the lists that the two had
+    /// seen, one begins the other; from then on the first seat has seen the longer.
     pub fn join(&self, into: &mut Seat<H>, from: Seat<H>)
         requires lock { (into.old.lock ≡ self.now) × (from.lock ≡ self.now) }
         requires first { into.old.number ≡ 0 }
@@ -173,8 +175,8 @@ impl<H: Held> Turns<H> {
             .load::<Tell>(&mut into.inner, SERVED_TICKET);
     }
 
-    /// Serves a call on the value, once each turn whose ticket was drawn before is over; it waits until then. `Worn` comes only where
-    /// all tickets are drawn, and the value is untouched then.
+    /// Waits until each turn with an earlier ticket is over, and then serves a call on the value. `Worn` is returned only where all
+    /// tickets are drawn; the value and the scratch are then unchanged.
     pub fn turn<W: Wait + Sync>(
         &self,
         rt: &W,
@@ -197,8 +199,8 @@ impl<H: Held> Turns<H> {
         Ok(Turn { place, reply })
     }
 
-    /// Ends the lock and gives its value, once each other seat was joined into the first one. The value stands for all that this seat
-    /// has seen.
+    /// Ends the lock and returns its value. `seat` must be the first one, into which each other seat was joined. The value represents
+    /// all that this seat has seen.
     pub fn close(self, seat: Seat<H>) -> H
         requires lock { seat.lock ≡ self }
         requires first { seat.number ≡ 0 }
@@ -220,7 +222,7 @@ impl<H: Held> Turns<H> {
         value
     }
 
-    /// Draws the next ticket, or `None` where all are drawn.
+    /// Draws the next ticket. `None`: all are drawn.
     fn draw<W: Wait>(
         &self,
         rt: &W,
@@ -248,8 +250,8 @@ impl<H: Held> Turns<H> {
         unreachable!()
     }
 
-    /// Waits until the ticket is served, and takes the value: the next in the row spins and yields for a short time, then sleeps at its
-    /// gate; who stands further back sleeps at once.
+    /// Waits until the ticket is served, and takes the value. A thread whose ticket is next spins and yields for a short time and then
+    /// sleeps at its gate; a thread further back sleeps at once.
     fn wait<W: Wait>(
         &self,
         rt: &W,
@@ -266,7 +268,7 @@ impl<H: Held> Turns<H> {
         let backoff = Backoff::new();
         let mut far = false;
         for _ in rt.forever() {
-            // Announced first, then looked: who serves the ticket after this look finds it announced, and wakes.
+            // The wait is announced before the look. So a turn that ends after the look finds the announcement and wakes this thread.
             let key = if far || backoff.is_completed() {
                 Some(self.gates[gate_of(ticket)].prepare_wait())
             } else {
@@ -286,7 +288,7 @@ impl<H: Held> Turns<H> {
         unreachable!()
     }
 
-    /// Gives the value back and serves the next ticket: the step that adds the entry to the history. Answers its place.
+    /// Puts the value back and makes the next ticket the served one, which adds the entry to the history. Returns the entry's place.
     fn give_back<J: Naming<H::Call>>(
         &self,
         inner: &mut atomic_table::Seat<Option<H>, View<H::Call>>,
@@ -306,7 +308,8 @@ impl<H: Held> Turns<H> {
             .fetch_add::<Serve<J>>(inner, SERVED_TICKET, 1)
     }
 
-    /// Serves the call on the value that the seat has, gives the value back, and wakes who sleeps at the gate of the next ticket.
+    /// Serves the call on the value that the seat has, puts the value back, and wakes the threads that sleep at the next ticket's gate.
+    /// Returns the call's place and its reply.
     fn serve(
         &self,
         inner: &mut atomic_table::Seat<Option<H>, View<H::Call>>,

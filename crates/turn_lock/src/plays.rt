@@ -1,10 +1,10 @@
-//! The rule of the lock, and what each kind of step tells the seat that makes it.
+//! The rule of the lock, and how each kind of step changes the view of the seat that makes it.
 use crate::held::{Held, Naming};
 use crate::view::View;
 use atomic_table::{Join, Play, Split, TableRule};
 use std::marker::PhantomData;
 
-/// The rule of the table. Its key is the place of the first entry.
+/// The rule of the lock's table. The rule's key is the place of the first entry.
 pub(crate) struct Ticketed<H> {
     held: PhantomData<H>,
 }
@@ -18,7 +18,7 @@ impl<H: Held> TableRule<Option<H>, View<H::Call>, u64> for Ticketed<H> {
     ghost first = { λ first. first_seat first };
 }
 
-/// Draws a ticket, where the next one is the one expected.
+/// Draws the next ticket if it is the expected one.
 pub(crate) struct Draw;
 
 impl<H, C> Play<Option<H>, View<C>> for Draw {
@@ -27,7 +27,7 @@ impl<H, C> Play<Option<H>, View<C>> for Draw {
     ghost then = { drew };
 }
 
-/// Looks which ticket is served. Where it is the seat's own, the seat takes the value.
+/// Reads which ticket is served. If the seat waits for that ticket, the seat takes the value.
 pub(crate) struct Look<H> {
     held: PhantomData<H>,
 }
@@ -38,7 +38,7 @@ impl<H: Held> Play<Option<H>, View<H::Call>> for Look<H> {
     ghost then = { looked H.stands };
 }
 
-/// Gives the value back, serves the next ticket and adds to the history.
+/// Puts the value back, makes the next ticket the served one, and adds to the history.
 pub(crate) struct Serve<J> {
     naming: PhantomData<J>,
 }
@@ -49,7 +49,7 @@ impl<H, C, J: Naming<C>> Play<Option<H>, View<C>> for Serve<J> {
     ghost then = { served J.adds };
 }
 
-/// Tells the first seat, after a join, that what both had seen begins one history.
+/// Changes nothing. Shows, after a join, that both lists that the two seats had seen are prefixes of one history.
 pub(crate) struct Tell;
 
 impl<H, C> Play<Option<H>, View<C>> for Tell {

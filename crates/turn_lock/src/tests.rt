@@ -67,7 +67,7 @@ const THREADS: u32 = 8;
 
 const TURNS_EACH: u64 = 10_000;
 
-/// Seats for so many threads.
+/// Splits off one seat for each thread.
 fn seats_for<H: Held>(
     alloc: Global,
     turns: &Turns<H>,
@@ -87,7 +87,7 @@ fn seats_for<H: Held>(
     Ok(seats)
 }
 
-/// Adds 1 again and again, and answers the places of these turns. Each reply is checked.
+/// Adds 1 in each of `TURNS_EACH` turns, and returns the places. `None`: a turn failed, or a reply was that of another place.
 fn count<W: Wait + Sync>(
     rt: &W,
     alloc: Global,
@@ -142,10 +142,10 @@ fn eight_threads_make_each_place_once(rt: HostRuntime) -> Result<(), Fail> {
     Ok(())
 }
 
-/// More than there are gates.
+/// The number of threads: more than there are gates.
 const SLEEPERS: u32 = 80;
 
-/// Counts its calls. Each takes a tenth of a millisecond, so that who waits for its turn falls asleep.
+/// Counts its calls. Each takes a tenth of a millisecond, so that threads that wait for their turns fall asleep.
 #[derive(Drop)]
 struct Slow<R: Clock + Drop> {
     made: u64,
@@ -174,7 +174,7 @@ impl<R: Clock + Drop> Held for Slow<R> {
     }
 }
 
-/// Makes four turns, and answers whether each had the reply of its place.
+/// Makes four turns, and returns whether each reply was that of its place.
 fn wait_for_four<R: Clock + Drop, W: Wait + Sync>(
     rt: &W,
     turns: &Turns<Slow<R>>,

@@ -1,16 +1,16 @@
-//! What a seat knows. Values of these types are made in proofs alone.
+//! What a seat knows. Values of these types exist in proofs alone.
 use crate::history::{Entry, Joined};
 use std::collections::LinkedList;
 
-/// Where a seat stands in a turn.
+/// How far a seat is in a turn.
 pub enum Stage {
-    /// It makes no turn.
+    /// The seat makes no turn.
     Idle,
-    /// It has this ticket, and waits for it to be served.
+    /// The seat has this ticket and waits until it is served.
     Waiting(u64),
-    /// Its ticket is served, and it has the value.
+    /// The seat has this ticket, which is served now, and has the value.
     Holding(u64),
-    /// It was joined into another seat.
+    /// The seat was joined into the first one.
     Spent,
 }
 
@@ -19,16 +19,16 @@ pub struct View<C> {
     /// The place of the first entry.
     pub base: u64,
     pub number: u32,
-    /// The beginning of the history that the seat has seen.
+    /// The prefix of the history that the seat has seen.
     pub seen: LinkedList<Entry<C>>,
     pub own: LinkedList<Entry<C>>,
-    /// The greatest number that a draw has found.
+    /// The greatest number found at a draw by this seat or, for the first seat, also by the seats joined into it. 0 before any draw.
     pub found: u64,
     /// Of the first seat: how many seats were made, itself included.
     pub count: u32,
     /// Of the first seat: the seats that were joined into it.
     pub joined: LinkedList<Joined<C>>,
-    /// The shorter of the two beginnings that came together at the last join.
+    /// Of the first seat: the shorter of the two seen prefixes at the last join, empty before any join.
     pub beside: LinkedList<Entry<C>>,
     pub stage: Stage,
 }

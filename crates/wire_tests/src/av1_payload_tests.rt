@@ -4,7 +4,7 @@ use av1_payload::{PayloadFault, read};
 use std::process::Abort;
 use std::test::Fail;
 
-// Z, Y and N of a payload, and its elements.
+// A payload, its Z, Y and N, and its elements.
 type Row<'a> = (&'a [u8], [bool; 3], &'a [&'a [u8]]);
 
 const NO_FLAGS: [bool; 3] = [false, false, false];
@@ -21,7 +21,7 @@ const PAYLOADS: [Row; 20] = [
         NO_FLAGS,
         &[&[5], &[], &[6], &[7, 8], &[]],
     ),
-    // W = 1 to 3: the last has none
+    // W = 1 to 3: the last element has no length
     (&[0x10, 2, 0x30, 0xAA], NO_FLAGS, &[&[2, 0x30, 0xAA]]),
     (&[0x20, 2, 1, 2, 3, 4], NO_FLAGS, &[&[1, 2], &[3, 4]]),
     (
@@ -67,7 +67,7 @@ const FAULTS: [(&[u8], PayloadFault); 20] = [
     // the bytes end where a length is due
     (&[0x20], PayloadFault::Leb),
     (&[0x30, 1, 0xAA], PayloadFault::Leb),
-    // or within one
+    // the bytes end within a length
     (&[0x00, 0x80], PayloadFault::Leb),
     (&[0x00, 1, 0xAA, 0xFF, 0x80], PayloadFault::Leb),
     // a length of nine bytes
@@ -95,7 +95,7 @@ const FAULTS: [(&[u8], PayloadFault); 20] = [
     (&[0x30, 0, 0x80], PayloadFault::Leb),
 ];
 
-// The payload has these flags, these elements and no others, in this order.
+// Checks that the payload has these flags and exactly these elements, in this order.
 fn check_payload(rt: &impl Abort, row: Row) {
     let (bytes, flags, wanted) = row;
     let payload = read(bytes).expect(rt, "a payload");
@@ -123,7 +123,7 @@ fn each_fault_is_named(rt: HostRuntime) {
     }
 }
 
-// 300 is spelled AC 02.
+// The length 300 is coded as AC 02 (leb128).
 #[test]
 fn an_element_of_300_bytes_is_read(rt: HostRuntime) {
     let mut bytes = [7; 304];

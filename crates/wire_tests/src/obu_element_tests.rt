@@ -42,7 +42,7 @@ fn each_header_says_its_fields(rt: HostRuntime) {
     }
 }
 
-// What is returned for the last of these packets, each with its Z and Y, and whether no element is open then.
+// Feeds packets, each given by its Z and Y. Returns what the last one gave, and whether no element is open after it.
 fn fed(packets: &[(bool, bool)]) -> (Result<(), JoinFault>, bool) {
     let mut joiner = Joiner::new();
     let mut last = Ok(());

@@ -4,7 +4,7 @@ use rtp_extension::{Element, elements, find, reblock, write_one, write_two};
 use sfu_base::{NoFit, PacketBuf};
 use std::process::Abort;
 
-// The block has these elements and no others, in this order.
+// Checks that the block has exactly these elements, in this order.
 fn check_elements(rt: &impl Abort, profile: u16, block: &[u8], wanted: &[(u8, &[u8])]) {
     let mut left = elements(profile, block);
     for (id, value) in wanted {
@@ -30,7 +30,7 @@ fn each_block_has_its_elements(rt: HostRuntime) {
             &[1, 2, 0xAA, 0xBB, 0, 4, 0, 0],
             &[(1, &[0xAA, 0xBB]), (4, &[])],
         ),
-        // a value that would pass the end
+        // a value that would reach past the end
         (0xBEDE, &[0x44, 0xAA, 0, 0], &[]),
         // no bytes, and padding alone
         (0xBEDE, &[], &[]),
@@ -123,7 +123,7 @@ fn what_does_not_fit_is_not_written(rt: HostRuntime) {
     assert_eq!(rt; block.bytes().len(), 2048);
 }
 
-// The new block is written where the id is there, and the value has 1 to 255 bytes.
+// Writes the block with a new value for this id. `None`: the block has no element with the id, or the value isn't 1 to 255 bytes long.
 fn reblocked(
     profile: u16,
     block: &[u8],
@@ -159,7 +159,7 @@ fn one_value_is_replaced(rt: HostRuntime) {
             b"\x07\x08",
             b"\xbe\xde\x00\x02\x10\xaa\x21\x07\x08\x00\x00\x00",
         ),
-        // 17 bytes take the two-byte form
+        // 17 bytes need the two-byte form
         (
             0xBEDE,
             b"\x10\xaa\x20\xbb",
@@ -167,7 +167,7 @@ fn one_value_is_replaced(rt: HostRuntime) {
             &[7; 17],
             b"\x10\x00\x00\x06\x01\x01\xaa\x02\x11\x07\x07\x07\x07\x07\x07\x07\x07\x07\x07\x07\x07\x07\x07\x07\x07\x07\x00\x00",
         ),
-        // 16 don't
+        // 16 bytes don't
         (
             0xBEDE,
             b"\x20\xbb\x10\xaa",
@@ -175,7 +175,7 @@ fn one_value_is_replaced(rt: HostRuntime) {
             &[7; 16],
             b"\xbe\xde\x00\x05\x2f\x07\x07\x07\x07\x07\x07\x07\x07\x07\x07\x07\x07\x07\x07\x07\x07\x10\xaa\x00",
         ),
-        // the two-byte form keeps its profile, and of two elements with the id the first has the new value
+        // the two-byte form keeps its profile; of two elements with the id, the first gets the new value
         (
             0x100F,
             b"\x01\x00\x02\x01\x09\x02\x01\x08",

@@ -13,7 +13,7 @@ static FULL: [u8; 34] = [
     0, 1, 0x10, 0xAA, 0, 0, 7, 8, 9, 0, 0, 3,
 ];
 
-// The fault of a packet's first bytes.
+// The fault that is found in these bytes, if there is one.
 fn fault(bytes: &[u8]) -> Option<RtpFault> {
     match read(bytes) {
         Ok(_) => None,
@@ -21,7 +21,7 @@ fn fault(bytes: &[u8]) -> Option<RtpFault> {
     }
 }
 
-// A fixed header with this first byte, and what follows it.
+// A packet: a fixed header with this first byte, then `tail`.
 fn with_tail(first: u8, tail: &[u8]) -> PacketBuf
     requires { length tail.now ≤ 100 }
 {
@@ -72,17 +72,17 @@ fn each_fault_comes_first_at_its_edge(rt: HostRuntime) {
     let rows: [(u8, &[u8], Option<RtpFault>); 14] = [
         // a fixed header alone
         (0x80, &[], None),
-        // other versions, before all that follows
+        // other versions, whatever faults follow
         (0x00, &[], version),
         (0x7F, &[], version),
         (0xC0, &[], version),
         // one CSRC word, short by a byte and whole
         (0x81, &[0, 0, 0], csrc),
         (0x81, &[0, 0, 0, 5], None),
-        // no word of extension, and two words short by one
+        // an extension of no words, and one of two words that lacks one
         (0x90, &[0xBE, 0xDE, 0, 0], None),
         (0x90, &[0xBE, 0xDE, 0, 2, 0, 0, 0, 0], extension),
-        // padding: no byte, a count of 0, all that follows, one more than that
+        // padding: no byte; a count of 0; a count of all bytes after the header; one more
         (0xA0, &[], padding),
         (0xA0, &[9, 9, 0], padding),
         (0xA0, &[9, 9, 3], None),

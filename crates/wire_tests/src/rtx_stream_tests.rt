@@ -11,7 +11,7 @@ const STREAM: Rtx = Rtx {
     payload_type: 97,
 };
 
-// A packet, its retransmission packet with sequence number 0, and what that carries.
+// Checks that `packet`, wrapped with sequence number 0, is `wrapped`, and that `wrapped` carries `carried`.
 fn check_row(rt: &impl Abort, packet: &[u8], wrapped: &[u8], carried: &[u8]) -> Result<(), Fail> {
     let mut out = PacketBuf::new();
     if packet.len() > 2046 || wrapped.len() > 2048 {

@@ -10,7 +10,7 @@ use crate::parts::References;
 use crate::reading::fields::number;
 use dd_bits::BitReader;
 
-/// The next distance, if there is one.
+/// Reads the next distance, if there is one.
 #[tactic(auto, unfolding(crate::specs::Reading::next_distance_at))]
 fn next_distance(bits: &mut BitReader<'_>) -> Result<Option<u16>, DdFault>
     ensures { Gives (λ v. v) result bits.new (next_distance_at (bits_left bits.old)) }
@@ -23,7 +23,7 @@ fn next_distance(bits: &mut BitReader<'_>) -> Result<Option<u16>, DdFault>
     Ok(Some(less as u16 + 1))
 }
 
-/// The distances, up to their end.
+/// Reads the distances, up to their end.
 pub fn distances(bits: &mut BitReader<'_>) -> Result<References, DdFault>
     ensures { Gives distances_in result bits.new (distances_at (bits_left bits.old)) }
 {

@@ -9,7 +9,7 @@ use crate::fault::StructureFault;
 use crate::reading::fields::number;
 use dd_bits::BitReader;
 
-/// A template's next distance, if there is one.
+/// Reads a template's next distance, if there is one.
 #[tactic(auto, unfolding(crate::specs::Reading::next_distance_at))]
 fn next_distance(bits: &mut BitReader<'_>) -> Result<Option<u8>, StructureFault>
     ensures { Gives (λ v. v) result bits.new (next_distance_at (bits_left bits.old)) }
@@ -37,7 +37,7 @@ fn distances(bits: &mut BitReader<'_>) -> Result<Distances, StructureFault>
     }
 }
 
-/// The distances of each template, in place of what was there.
+/// Reads the distances of each template, in place of what was there.
 pub fn fill_distance_table(
     bits: &mut BitReader<'_>,
     templates: u8,

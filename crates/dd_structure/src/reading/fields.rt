@@ -6,7 +6,7 @@ ghost use Rattle.dd_structure.specs.Reading.{number_at, below_at};
 use crate::fault::StructureFault;
 use dd_bits::BitReader;
 
-/// f(n)
+/// Reads f(n): a number of `n` bits.
 pub fn number(bits: &mut BitReader<'_>, n: u8) -> Result<u32, StructureFault>
     requires { n ≤ 32 }
     ensures read { Gives (λ v. v) result bits.new (number_at n (bits_left bits.old)) }
@@ -15,7 +15,7 @@ pub fn number(bits: &mut BitReader<'_>, n: u8) -> Result<u32, StructureFault>
     bits.bits_or(n, StructureFault::Short)
 }
 
-/// ns(n)
+/// Reads ns(n): a number below `n`.
 pub fn below(bits: &mut BitReader<'_>, n: u32) -> Result<u32, StructureFault>
     requires { 1 ≤ n }
     ensures read { Gives (λ v. v) result bits.new (below_at n (bits_left bits.old)) }

@@ -14,7 +14,7 @@ pub const FIRST: Layer = Layer {
     temporal: 0,
 };
 
-/// The layer of the template that follows one of this layer, if there is one.
+/// Reads the layer of the template that follows one of layer `layer`; `None` where no template follows.
 #[tactic(auto, unfolding(crate::specs::Reading::next_layer_at))]
 fn next_layer(bits: &mut BitReader<'_>, layer: Layer) -> Result<Option<Layer>, StructureFault>
     ensures { Gives (λ v. v) result bits.new (next_layer_at layer (bits_left bits.old)) }
@@ -34,7 +34,7 @@ fn next_layer(bits: &mut BitReader<'_>, layer: Layer) -> Result<Option<Layer>, S
     }
 }
 
-/// How many templates there are, and the layer of each, in place of what was there.
+/// Reads the layer of each template, in place of what was there. Returns how many templates there are.
 pub fn fill_layers(bits: &mut BitReader<'_>, out: &mut [Layer; 64]) -> Result<u8, StructureFault>
     ensures read { Gives (λ n. take n out.new) result bits.new (layers_at (bits_left bits.old)) }
     ensures some { IfOk result (λ n. 1 ≤ n) }

@@ -10,7 +10,7 @@ use crate::layer::Layer;
 use crate::reading::fields::number;
 use dd_bits::BitReader;
 
-/// A width and a height.
+/// Reads a width and a height, each 1 to 65,536 pixels.
 #[tactic(auto, unfolding(crate::specs::Reading::resolution_at))]
 fn resolution(bits: &mut BitReader<'_>) -> Result<(u32, u32), StructureFault>
     ensures { Gives (λ v. v) result bits.new (resolution_at (bits_left bits.old)) }
@@ -52,7 +52,7 @@ fn told_resolutions(flag: u32, layers: &[Layer]) -> u8
     if flag == 0 { 0 } else { spatial_count(layers) }
 }
 
-/// The resolution of each spatial id, where the structure has them.
+/// Reads the resolution of each spatial id, where the structure has resolutions.
 #[tactic(auto, unfolding(crate::specs::Reading::resolutions_at))]
 pub fn resolutions(
     bits: &mut BitReader<'_>,

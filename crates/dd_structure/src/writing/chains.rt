@@ -7,7 +7,7 @@ ghost use Rattle.dd_bits.specs.Writer.{Puts};
 use crate::reading::chains::LINK_WIDTH;
 use dd_bits::{BitWriter, NoRoom};
 
-/// The chain that protects each decode target.
+/// Appends the chain that protects each decode target.
 pub fn put_guards(out: &mut BitWriter, chains: u8, guards: &[u8]) -> Result<(), NoRoom>
     requires { All (λ g. g < chains) guards.now }
     ensures { Puts result out.old out.new (flat_map (non_symmetric_bits chains) guards.now) }
@@ -18,7 +18,8 @@ pub fn put_guards(out: &mut BitWriter, chains: u8, guards: &[u8]) -> Result<(), 
     Ok(())
 }
 
-/// A link of `width` bits for each chain. Where they don't fit, a part of them may have been appended.
+/// Appends a link of `width` bits for each chain. Returns `NoRoom` where they don't fit; a part of them may have been
+/// appended by then.
 pub fn put_links(out: &mut BitWriter, width: u8, row: &[u8]) -> Result<(), NoRoom>
     requires width { width ≤ 32 }
     requires small { All (λ l. l < 2 ^ width) row.now }
@@ -30,7 +31,7 @@ pub fn put_links(out: &mut BitWriter, width: u8, row: &[u8]) -> Result<(), NoRoo
     Ok(())
 }
 
-/// The links of each template.
+/// Appends the links of each template.
 pub fn put_link_table(out: &mut BitWriter, chains: usize, rows: &[[u8; 32]]) -> Result<(), NoRoom>
     requires chains { chains ≤ 32 }
     requires small { All (λ row. All (λ l. l < 2 ^ 4) (take chains row)) rows.now }

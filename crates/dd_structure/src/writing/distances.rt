@@ -25,7 +25,7 @@ fn put_distances(out: &mut BitWriter, distances: &[u8]) -> Result<(), NoRoom>
     out.put(1, 0)
 }
 
-/// The distances of each template.
+/// Appends the distances of each template.
 pub fn put_distance_table(out: &mut BitWriter, rows: &[Distances]) -> Result<(), NoRoom>
     requires { All (λ row. All IsDistance (distances_in row)) rows.now }
     ensures { Puts result out.old out.new (flat_map (λ row. distances_bits (distances_in row)) rows.now) }

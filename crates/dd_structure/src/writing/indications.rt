@@ -6,7 +6,7 @@ ghost use Rattle.dd_structure.specs.Spelling.{indication_bits};
 use dd_bits::{BitWriter, NoRoom};
 use sfu_base::Dti;
 
-/// An indication for each decode target.
+/// Appends an indication for each decode target. Returns `NoRoom` where they don't fit; a part of them may have been appended by then.
 pub fn put_indications(out: &mut BitWriter, row: &[Dti]) -> Result<(), NoRoom>
     ensures { Puts result out.old out.new (flat_map indication_bits row.now) }
 {
@@ -16,7 +16,7 @@ pub fn put_indications(out: &mut BitWriter, row: &[Dti]) -> Result<(), NoRoom>
     Ok(())
 }
 
-/// The indications of each template.
+/// Appends the indications of each template.
 pub fn put_indication_table(
     out: &mut BitWriter,
     targets: usize,

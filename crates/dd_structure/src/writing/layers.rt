@@ -7,7 +7,7 @@ ghost use Rattle.dd_structure.specs.Spelling.{layer_code, layer_bits, layers_bit
 use crate::layer::Layer;
 use dd_bits::{BitWriter, NoRoom};
 
-/// The code that says that a template of one layer follows one of another.
+/// The code by which a template of layer `layer` follows one of layer `before`.
 fn code_of(before: Layer, layer: Layer) -> u32
     ensures value { result ≡ layer_code before layer }
     ensures small { result < 3 }
@@ -32,7 +32,7 @@ fn put_layers_after(out: &mut BitWriter, first: Layer, layers: &[Layer]) -> Resu
     out.put(2, 3)
 }
 
-/// The layers of the templates.
+/// Appends the layers of the templates.
 pub fn put_layers(out: &mut BitWriter, layers: &[Layer]) -> Result<(), NoRoom>
     requires { 1 ≤ length layers.now }
     ensures { Puts result out.old out.new (layers_bits layers.now) }

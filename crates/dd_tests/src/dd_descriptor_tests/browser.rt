@@ -5,6 +5,7 @@ ghost use Rattle.std.specs.Prelude.{◌<◌};
 use super::real::REAL;
 use super::*;
 
+/// Cuts off and returns the text before the next byte `at`. Drops that byte.
 fn cut<'a>(text: &mut &'a [u8], at: u8) -> &'a [u8] {
     let all = *text;
     for (i, byte) in all.iter().enumerate() {
@@ -53,7 +54,7 @@ fn hex(text: &mut &[u8]) -> PacketBuf {
     out
 }
 
-/// The mask whose targets are written 0 first.
+/// The mask that the next word spells, target 0 first. `-` is the mask of all targets where a structure is carried, and else none.
 fn mask(text: &mut &[u8], carries: bool, targets: usize) -> Option<u32> {
     let word = cut(text, b' ');
     if word == [b'-'].as_slice() {
@@ -72,7 +73,7 @@ fn mask(text: &mut &[u8], carries: bool, targets: usize) -> Option<u32> {
     Some(mask)
 }
 
-/// The numbers of a list, at most 16, and how many there are.
+/// The numbers of the list in the next word, at most 16, and how many there are.
 fn numbers(text: &mut &[u8]) -> ([u16; 16], usize) {
     let mut out = [0; 16];
     let mut count = 0;
@@ -103,7 +104,7 @@ fn descriptors_of_a_browsers_encoder_are_read_written_and_masked(
     Ok(())
 }
 
-/// The bytes of numbers that are below 256.
+/// The numbers as bytes, modulo 256.
 fn low_bytes(numbers: &[u16; 16]) -> [u8; 16] {
     let mut out = [0; 16];
     for i in 0..16 {
@@ -112,7 +113,7 @@ fn low_bytes(numbers: &[u16; 16]) -> [u8; 16] {
     out
 }
 
-/// The numbers that digits spell.
+/// The values of the first 32 digits.
 fn digit_values(digits: &[u8]) -> [u8; 32] {
     let mut out = [0; 32];
     for (i, digit) in digits.iter().enumerate() {
@@ -123,7 +124,7 @@ fn digit_values(digits: &[u8]) -> [u8; 32] {
     out
 }
 
-/// Reads a line's descriptor to what the line says, and writes it back.
+/// Checks that a line's descriptor reads as the line says and is written back, and then the same with each other mask.
 fn expect_line(rt: &impl Abort, line: &[u8]) -> Result<(), Fail> {
     let mut text = line;
     let structure = hex(&mut text);
@@ -156,7 +157,7 @@ fn expect_line(rt: &impl Abort, line: &[u8]) -> Result<(), Fail> {
     expect_real(rt, structure.bytes(), bytes.bytes(), carries, &said)
 }
 
-/// The same with each mask of as many bits as there are targets.
+/// Checks, for each mask with one bit for each target, that the descriptor with this mask reads as `said` with this mask.
 fn expect_masks(
     rt: &impl Abort,
     bytes: &[u8],
