@@ -5,7 +5,7 @@ usage: examples/cluster/test.py [--players N] [--sfu PROGRAM] [--out FOLDER]
        examples/cluster/test.py --browsers [--out FOLDER]
 Publishers play the capture of examples/capture and the VP8 of examples/vp8.script in a loop; N players (40) come at random nodes, each to a track and with
 a wish of its own. Then a node is killed and comes back with 5 % loss, NATS restarts, two nodes ask each other, and a node doesn't answer. Figures go
-to FOLDER/measured.md, a chart to FOLDER/nodes.svg (examples/cluster/out). With --browsers four headless Chromium meet at three nodes. It wants root, for
+to FOLDER/measured.md, a chart to FOLDER/nodes.svg (examples/cluster/out/test). With --browsers four headless Chromium meet at three nodes. It wants root, for
 the namespaces zc1 to zc4, and takes three minutes.
 
 example: examples/cluster/test.py --players 40
