@@ -95,7 +95,22 @@ fn a_layered_track_reaches_each_wish() {
     room.unpublish(1).unwrap();
 }
 
-/// Packet 20 is lost on the way to the room, and packet 10 to the subscriber: both are asked for, and sent again.
+/// What a subscriber of all layers is sent of these packets.
+fn relayed(packets: &[(u64, Vec<u8>)]) -> Vec<Vec<u8>> {
+    let mut room = Room::open().unwrap();
+    let (mut out, mut sent) = ([0; PACKET_ROOM], Vec::new());
+    room.publish_layered(1, 4, MEDIA, 300).unwrap();
+    room.join(1, 1, SENT, 0, (2, 2)).unwrap();
+    for (moment, packet) in packets {
+        room.packet(1, *moment, packet).unwrap();
+        while let Some(packet) = room.take(1, &mut out).unwrap() {
+            sent.push(packet.to_vec());
+        }
+    }
+    sent
+}
+
+/// Packet 36 is lost on the way to the room, and packet 10 to the subscriber: both are asked for, and sent again.
 #[test]
 fn sessions_ask_and_answer() {
     let (mut out, mut back) = ([0; PACKET_ROOM], [0; PACKET_ROOM]);
@@ -106,27 +121,28 @@ fn sessions_ask_and_answer() {
     let mut publisher = Publisher::open(1, MEDIA).unwrap();
     let mut subscriber = Subscriber::open_rtx(1, SENT, RTX, 97).unwrap();
     let mut sent: Vec<Vec<u8>> = Vec::new();
-    let mut coming: VecDeque<&(u64, Vec<u8>)> = packets[..60].iter().collect();
-    let lost = coming.remove(20).unwrap();
-    let mut asked = false;
+    let mut coming: VecDeque<&(u64, Vec<u8>)> = packets[..300].iter().collect();
+    let lost = coming.remove(36).unwrap();
+    let (mut now, mut asked) = (0, false);
     while let Some((moment, packet)) = coming.pop_front() {
-        publisher.received(*moment, packet).unwrap();
-        assert_eq!(publisher.received(*moment, packet), Err(Error::Busy));
+        now = now.max(*moment);
+        publisher.received(now, packet).unwrap();
+        assert_eq!(publisher.received(now, packet), Err(Error::Busy));
         while let Some(datagram) = publisher.work(&mut room, &mut out) {
             if datagram == nack(MEDIA, number_of(&lost.1)) && !asked {
                 coming.push_front(lost);
                 asked = true;
             }
         }
-        subscriber.waited(*moment).unwrap();
+        subscriber.waited(now).unwrap();
         while let Some(packet) = subscriber.work(&mut room, &mut out) {
-            assert_eq!(usize::from(number_of(packet)), sent.len());
             sent.push(packet.to_vec());
         }
     }
-    assert!(asked && sent.len() > 40, "{}", sent.len());
+    assert!(asked);
+    assert_eq!(sent, relayed(&packets[..300]));
 
-    subscriber.received(packets[60].0, &nack(SENT, 10)).unwrap();
+    subscriber.received(now, &nack(SENT, 10)).unwrap();
     let again = subscriber.work(&mut room, &mut out).unwrap();
     assert_eq!((again[1] & 127, number_of(again), &again[8..12]), (97, 0, &RTX.to_be_bytes()[..]));
     assert_eq!(unwrap(again, SENT, 45, &mut back).unwrap(), sent[10]);
