@@ -62,6 +62,14 @@ fn a_plain_track_forwards_each_packet_as_it_is() {
     assert_eq!(room.target_of(1), Ok(None));
 }
 
+/// The template of a packet with a Dependency Descriptor, which is the first extension element, in the one-byte or the two-byte form. Without one it is
+/// the browser's padding.
+fn template(packet: &[u8]) -> Option<u8> {
+    let at = if packet[12] == 0xbe { 17 } else { 18 };
+    (packet[0] & 0x10 != 0).then(|| packet[at] & 63)
+}
+
+/// The first subscriber is sent each packet of a frame, the second those of templates 0 and 1: the lowest spatial and temporal layer.
 #[test]
 fn a_layered_track_reaches_each_wish() {
     let mut room = Room::open().unwrap();
@@ -70,9 +78,11 @@ fn a_layered_track_reaches_each_wish() {
     room.join(1, 1, SENT, 0, (2, 2)).unwrap();
     room.join(2, 1, SENT, 0, (0, 0)).unwrap();
     assert_eq!(room.key_wanted(1), Ok(true));
-    let mut sent = [0, 0];
+    let (mut sent, mut due) = ([0, 0], [0, 0]);
     for (moment, packet) in captured().iter().take(300) {
         room.packet(1, *moment, packet).unwrap();
+        due[0] += u16::from(template(packet).is_some());
+        due[1] += u16::from(template(packet).map_or(false, |template| template < 2));
         for subscriber in [1, 2] {
             while let Some(packet) = room.take(subscriber, &mut out).unwrap() {
                 assert_eq!(number_of(packet), sent[subscriber as usize - 1]);
@@ -80,7 +90,7 @@ fn a_layered_track_reaches_each_wish() {
             }
         }
     }
-    assert!(sent[1] > 10 && sent[0] > 5 * sent[1], "{sent:?}");
+    assert_eq!((sent, due), ([110, 7], [110, 7]));
     assert_eq!((room.reaches_wish(1), room.reaches_wish(2)), (Ok(true), Ok(true)));
     let (high, low) = (room.target_of(1).unwrap().unwrap(), room.target_of(2).unwrap().unwrap());
     assert_eq!((high.known, high.spatial, high.temporal), (true, 2, 2));
