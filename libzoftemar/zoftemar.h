@@ -35,7 +35,7 @@
  *   - `bytes` may be read for `count` bytes, `out` may be written for `count` places, and they overlap nothing else that is passed.
  *   - No call from a signal handler, nor in the child of a fork of a process with threads.
  *   - malloc, realloc and free are one allocator's, and align blocks as the C standard asks. heap.c is linked beside the library: it has the
- *     three functions by which the library takes memory.
+ *     three functions of zoftemar_heap.h, by which the library takes memory.
  */
 #ifndef ZOFTEMAR_H
 #define ZOFTEMAR_H
@@ -55,7 +55,8 @@
 extern "C" {
 #endif
 
-/* Where the compiler has them: a warning at an answer that isn't used, and at a NULL that may not be passed. */
+/* Where the compiler has them: a warning where the answer of an open, a question or a call that fills `out` isn't used, and one at a NULL that may not be
+ * passed. No handle is const: each call writes to the handle, a question too, which in the end leaves it as it was. */
 #ifndef ZOFTEMAR_USE
 #if defined(__GNUC__)
 #define ZOFTEMAR_USE __attribute__((warn_unused_result))
@@ -184,11 +185,11 @@ ZOFTEMAR_NONNULL(1) zoftemar_reply zoftemar_tick(zoftemar_room *room, uint32_t s
 
 /* Hands out the sequence numbers that a track waits for (ZOFTEMAR_NAMES), for NACKs to the publisher (RFC 4585, section 6.2.1). `count` is at
  * least ZOFTEMAR_NAMES_ROOM. */
-ZOFTEMAR_NONNULL(1) zoftemar_reply zoftemar_missing(zoftemar_room *room, uint32_t seat, uint32_t track, uint16_t *out, size_t count);
+ZOFTEMAR_USE ZOFTEMAR_NONNULL(1) zoftemar_reply zoftemar_missing(zoftemar_room *room, uint32_t seat, uint32_t track, uint16_t *out, size_t count);
 
 /* Whether the track's publisher is to be asked for a key frame (ZOFTEMAR_KEY), by a PLI (RFC 4585, section 6.3.1): a plea is pending, or a
  * subscriber of it has no decode target. Never of a plain track. */
-ZOFTEMAR_NONNULL(1) zoftemar_reply zoftemar_key_wanted(zoftemar_room *room, uint32_t seat, uint32_t track);
+ZOFTEMAR_USE ZOFTEMAR_NONNULL(1) zoftemar_reply zoftemar_key_wanted(zoftemar_room *room, uint32_t seat, uint32_t track);
 
 /* Begins a subscriber of a track: what is sent to it has this SSRC and sequence numbers from `first` on. It wishes for at most these
  * layers, spatial 0 to 3 and temporal 0 to 7 (more is as much as there is); zoftemar_aim changes that from the next frame on. A plain track
@@ -200,15 +201,15 @@ ZOFTEMAR_NONNULL(1) zoftemar_reply zoftemar_leave(zoftemar_room *room, uint32_t 
 
 /* Hands out the oldest packet that waits for a subscriber (ZOFTEMAR_PACKET, or ZOFTEMAR_EMPTY), or one again that it took under this
  * sequence number, for a NACK of the subscriber's (RFC 4585, section 6.2.1). `count` is at least ZOFTEMAR_PACKET_ROOM. */
-ZOFTEMAR_NONNULL(1) zoftemar_reply zoftemar_take(zoftemar_room *room, uint32_t seat, uint32_t subscriber, uint8_t *out, size_t count);
-ZOFTEMAR_NONNULL(1) zoftemar_reply zoftemar_resend(zoftemar_room *room, uint32_t seat, uint32_t subscriber, uint16_t number, uint8_t *out, size_t count);
+ZOFTEMAR_USE ZOFTEMAR_NONNULL(1) zoftemar_reply zoftemar_take(zoftemar_room *room, uint32_t seat, uint32_t subscriber, uint8_t *out, size_t count);
+ZOFTEMAR_USE ZOFTEMAR_NONNULL(1) zoftemar_reply zoftemar_resend(zoftemar_room *room, uint32_t seat, uint32_t subscriber, uint16_t number, uint8_t *out, size_t count);
 
 /* A subscriber asks for a key frame (RFC 4585, section 6.3.1). The plea is pending until the next one came whole. ZOFTEMAR_PLAIN of a plain
  * track. */
 ZOFTEMAR_NONNULL(1) zoftemar_reply zoftemar_plead(zoftemar_room *room, uint32_t seat, uint32_t subscriber);
 
 /* Why the frame with this number was or wasn't passed on to the subscriber. */
-ZOFTEMAR_NONNULL(1) zoftemar_reply zoftemar_why(zoftemar_room *room, uint32_t seat, uint32_t subscriber, uint64_t number);
+ZOFTEMAR_USE ZOFTEMAR_NONNULL(1) zoftemar_reply zoftemar_why(zoftemar_room *room, uint32_t seat, uint32_t subscriber, uint64_t number);
 
 /* The decode target that a subscriber is sent: its index, and its greatest layers at the newest frame, where `known` is true. */
 typedef struct zoftemar_target {
@@ -218,11 +219,11 @@ typedef struct zoftemar_target {
     uint8_t temporal;
 } zoftemar_target;
 
-/* Two questions, which change nothing. The target that the subscriber is sent, if it has one (ZOFTEMAR_TARGET); and whether that is the best
+/* Two questions, which change nothing of the room; the handle they write to, as each call does. The target that the subscriber is sent, if it has one (ZOFTEMAR_TARGET); and whether that is the best
  * that its wish allows (ZOFTEMAR_REACHED), as of the newest frame. Who finds that a wish isn't reached pleads: most encoders let a subscriber
  * up at a key frame alone, and make none unasked. A subscriber of a plain track has no target. */
-ZOFTEMAR_NONNULL(1, 3) zoftemar_reply zoftemar_target_of(zoftemar_room *room, uint32_t subscriber, zoftemar_target *out);
-ZOFTEMAR_NONNULL(1) zoftemar_reply zoftemar_reaches_wish(zoftemar_room *room, uint32_t subscriber);
+ZOFTEMAR_USE ZOFTEMAR_NONNULL(1, 3) zoftemar_reply zoftemar_target_of(zoftemar_room *room, uint32_t subscriber, zoftemar_target *out);
+ZOFTEMAR_USE ZOFTEMAR_NONNULL(1) zoftemar_reply zoftemar_reaches_wish(zoftemar_room *room, uint32_t subscriber);
 
 /* ---- Sessions: NACKs, PLIs and retransmissions by the library
  *
@@ -271,8 +272,8 @@ ZOFTEMAR_NONNULL(1) zoftemar_reply zoftemar_session_waited(zoftemar_session *ses
 /* Makes the session's calls on the room, up to the next datagram that is to be sent to its peer: ZOFTEMAR_PACKET, and it is in `out`. ZOFTEMAR_DONE: nothing
  * is left to do until the next datagram or moment. `count` is at least ZOFTEMAR_PACKET_ROOM. ZOFTEMAR_NO_SESSION, ZOFTEMAR_NO_ROOM, ZOFTEMAR_NO_SPACE:
  * nothing changes. What the calls on the room answered isn't told: a datagram that the room refuses is passed over. */
-ZOFTEMAR_NONNULL(1, 2, 4) ZOFTEMAR_USE zoftemar_reply zoftemar_session_work(zoftemar_session *session, zoftemar_room *room, uint32_t seat,
-                                                                             uint8_t *out, size_t count);
+ZOFTEMAR_USE ZOFTEMAR_NONNULL(1, 2) zoftemar_reply zoftemar_session_work(zoftemar_session *session, zoftemar_room *room, uint32_t seat,
+                                                                         uint8_t *out, size_t count);
 
 /* ---- Without a room
  *
@@ -291,18 +292,19 @@ ZOFTEMAR_USE uint32_t zoftemar_version(void);
 }
 #endif
 
-/* The sizes that the library was built for. */
+/* The sizes and places that the library was built for. */
 #if defined(__cplusplus) && __cplusplus >= 201103L
-#define ZOFTEMAR_IS_OF(type, size) static_assert(sizeof(type) == size, #type)
+#define ZOFTEMAR_HOLDS(name, fact) static_assert(fact, #name)
 #elif defined(__STDC_VERSION__) && __STDC_VERSION__ >= 201112L
-#define ZOFTEMAR_IS_OF(type, size) _Static_assert(sizeof(type) == size, #type)
+#define ZOFTEMAR_HOLDS(name, fact) _Static_assert(fact, #name)
 #else
-#define ZOFTEMAR_IS_OF(type, size) typedef char zoftemar_size_of_##type[sizeof(type) == size ? 1 : -1]
+#define ZOFTEMAR_HOLDS(name, fact) typedef char zoftemar_holds_##name[(fact) ? 1 : -1]
 #endif
-ZOFTEMAR_IS_OF(zoftemar_room, 16);
-ZOFTEMAR_IS_OF(zoftemar_session, 16);
-ZOFTEMAR_IS_OF(zoftemar_reply, 24);
-ZOFTEMAR_IS_OF(zoftemar_target, 4);
-#undef ZOFTEMAR_IS_OF
+ZOFTEMAR_HOLDS(room, sizeof(zoftemar_room) == 16 && offsetof(zoftemar_room, held) == 8);
+ZOFTEMAR_HOLDS(session, sizeof(zoftemar_session) == 16 && offsetof(zoftemar_session, held) == 8);
+ZOFTEMAR_HOLDS(reply, sizeof(zoftemar_reply) == 24 && offsetof(zoftemar_reply, has) == 4);
+ZOFTEMAR_HOLDS(numbers, offsetof(zoftemar_reply, first) == 8 && offsetof(zoftemar_reply, second) == 16);
+ZOFTEMAR_HOLDS(target, sizeof(zoftemar_target) == 4 && offsetof(zoftemar_target, known) == 1 && offsetof(zoftemar_target, temporal) == 3);
+#undef ZOFTEMAR_HOLDS
 
 #endif

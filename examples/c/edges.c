@@ -5,11 +5,11 @@
 #include <stdlib.h>
 #include <string.h>
 #include "zoftemar.h"
+#include "zoftemar_heap.h"
 
 #define IS(x) do { if (!(x)) { fprintf(stderr, "edges.c:%d: %s\n", __LINE__, #x); exit(1); } } while (0)
 
 /* The heap of heap.c, which counts blocks and bytes, and fails once `left` allocations were made. */
-typedef struct { bool ok; void *at; } tried;
 static long left = -1, blocks;
 static size_t bytes_taken;
 static char no_bytes;
@@ -21,15 +21,15 @@ static bool may_take(size_t count) {
     return true;
 }
 
-tried rattle_alloc(size_t count, size_t align) {
+zoftemar_block rattle_alloc(size_t count, size_t align) {
     void *at = may_take(count) ? malloc(count ? count : align) : NULL;
     blocks += at != NULL;
-    return (tried){ at != NULL, at ? at : &no_bytes };
+    return (zoftemar_block){ at != NULL, at ? at : &no_bytes };
 }
 
-tried rattle_realloc(void *old, size_t kept, size_t count, size_t align) {
+zoftemar_block rattle_realloc(void *old, size_t kept, size_t count, size_t align) {
     void *at = may_take(count - kept) ? realloc(old, count ? count : align) : NULL;
-    return (tried){ at != NULL, at ? at : &no_bytes };
+    return (zoftemar_block){ at != NULL, at ? at : &no_bytes };
 }
 
 void rattle_dealloc(void *at) {
@@ -84,6 +84,7 @@ static void sessions(void) {
     IS(zoftemar_open_rtx_subscriber(&subscriber, 1, 0x22222222, 0x33333333, 97) == ZOFTEMAR_DONE);
     IS(zoftemar_session_received(&publisher, 0, big, 2049).code == ZOFTEMAR_TOO_LONG);
     IS(zoftemar_session_work(&publisher, &room, 0, out, 2047).code == ZOFTEMAR_NO_SPACE);
+    IS(zoftemar_session_work(&publisher, &room, 0, NULL, 0).code == ZOFTEMAR_NO_SPACE && zoftemar_take(&room, 0, 1, NULL, 0).code == ZOFTEMAR_NO_SPACE);
     IS(zoftemar_session_received(&publisher, 0, rtp, sizeof rtp).code == ZOFTEMAR_DONE && zoftemar_session_waited(&publisher, 0).code == ZOFTEMAR_BUSY);
     IS(zoftemar_session_received(&publisher, 0, rtp, sizeof rtp).code == ZOFTEMAR_BUSY && work(&publisher, &room) == ZOFTEMAR_NO_ROOM);
     IS(zoftemar_open(&room) == ZOFTEMAR_DONE && zoftemar_publish_plain(&room, 0, 1, 0x11111111, 100).code == ZOFTEMAR_DONE);

@@ -1,0 +1,154 @@
+//! Why a call was refused.
+use crate::Reply;
+use std::fmt;
+
+/// Why a call was refused. It changed nothing. `Display` is the code's name in `zoftemar.h`, as `zoftemar_code_name` gives it.
+#[derive(Debug, Clone, Copy, PartialEq, Eq)]
+#[non_exhaustive]
+pub enum Error {
+    NoTrack,
+    NoSubscriber,
+    /// The number is 0, or at most the highest that was ever live.
+    NumberUsed { highest: u64 },
+    /// How many are live: 64 tracks or 256 subscribers.
+    TooMany { live: u64 },
+    /// An extension id of 0 or 15.
+    BadExtensionId,
+    /// How many bytes the packet has, more than 1,500.
+    TooBig { bytes: u64 },
+    /// Not RTP: 0 under 12 bytes, 1 the version, 2 CSRCs, 3 the header extension, 4 the padding, 5 no original number to unwrap.
+    Unreadable { part: u64 },
+    WrongSsrc { packet: u64, track: u64 },
+    /// The packet's number without its wrap is 2^46 or more.
+    Spent,
+    /// The number that the track waits for, without the wrap.
+    Late { next: u64 },
+    /// The packet came before, and still waits behind a gap.
+    Repeat,
+    /// The oldest number that is kept, and that of the next take, as on the wire.
+    NotKept { oldest: u64, next: u64 },
+    /// The newest frame, if there is one.
+    Ahead { newest: Option<u64> },
+    /// The lowest frame that may be asked for.
+    TooOld { lowest: u64 },
+    /// The subscriber's track is plain.
+    Plain,
+    /// Only opens, publishes and joins return it.
+    NoMemory,
+    /// A packet or datagram of more than 2,048 bytes, or one to wrap of more than 2,046.
+    TooLong,
+    /// The session has something left to do: [`work`](crate::Session::work) until it returns `None`.
+    Busy,
+    /// A retransmission stream's payload type of 128 or more, or the SSRC of the media.
+    BadStream,
+    /// A code that these types can't meet, unless the archive is of another version.
+    Other(u32),
+}
+
+impl Error {
+    pub(crate) fn of(reply: Reply) -> Error {
+        let Reply { code, has, first, second } = reply;
+        match code {
+            32 => Error::NoTrack,
+            33 => Error::NoSubscriber,
+            34 => Error::NumberUsed { highest: first },
+            35 => Error::TooMany { live: first },
+            36 => Error::BadExtensionId,
+            37 => Error::TooBig { bytes: first },
+            38 => Error::Unreadable { part: first },
+            39 => Error::WrongSsrc { packet: first, track: second },
+            40 => Error::Spent,
+            41 => Error::Late { next: first },
+            42 => Error::Repeat,
+            44 => Error::NotKept { oldest: first, next: second },
+            45 => Error::Ahead { newest: has.then_some(first) },
+            46 => Error::TooOld { lowest: first },
+            47 => Error::Plain,
+            48 => Error::NoMemory,
+            67 => Error::TooLong,
+            70 => Error::Busy,
+            71 => Error::BadStream,
+            code => Error::Other(code),
+        }
+    }
+
+    /// The code in `zoftemar.h`.
+    pub fn code(&self) -> u32 {
+        match *self {
+            Error::NoTrack => 32,
+            Error::NoSubscriber => 33,
+            Error::NumberUsed { .. } => 34,
+            Error::TooMany { .. } => 35,
+            Error::BadExtensionId => 36,
+            Error::TooBig { .. } => 37,
+            Error::Unreadable { .. } => 38,
+            Error::WrongSsrc { .. } => 39,
+            Error::Spent => 40,
+            Error::Late { .. } => 41,
+            Error::Repeat => 42,
+            Error::NotKept { .. } => 44,
+            Error::Ahead { .. } => 45,
+            Error::TooOld { .. } => 46,
+            Error::Plain => 47,
+            Error::NoMemory => 48,
+            Error::TooLong => 67,
+            Error::Busy => 70,
+            Error::BadStream => 71,
+            Error::Other(code) => code,
+        }
+    }
+}
+
+impl fmt::Display for Error {
+    fn fmt(&self, f: &mut fmt::Formatter<'_>) -> fmt::Result {
+        f.write_str(code_name(self.code()))
+    }
+}
+
+impl std::error::Error for Error {}
+
+/// The name of a code in `zoftemar.h`, or "ZOFTEMAR_?".
+pub fn code_name(code: u32) -> &'static str {
+    match code {
+        0 => "ZOFTEMAR_DONE",
+        1 => "ZOFTEMAR_PACKET",
+        2 => "ZOFTEMAR_NAMES",
+        3 => "ZOFTEMAR_KEY",
+        4 => "ZOFTEMAR_REACHED",
+        5 => "ZOFTEMAR_TARGET",
+        16 => "ZOFTEMAR_PASSED",
+        17 => "ZOFTEMAR_NOT_OF_TARGET",
+        18 => "ZOFTEMAR_BEHIND",
+        19 => "ZOFTEMAR_REFERENCE",
+        20 => "ZOFTEMAR_FULL",
+        21 => "ZOFTEMAR_LINK",
+        22 => "ZOFTEMAR_UNOPENED",
+        23 => "ZOFTEMAR_HOLE",
+        32 => "ZOFTEMAR_NO_TRACK",
+        33 => "ZOFTEMAR_NO_SUBSCRIBER",
+        34 => "ZOFTEMAR_NUMBER_USED",
+        35 => "ZOFTEMAR_TOO_MANY",
+        36 => "ZOFTEMAR_BAD_EXTENSION_ID",
+        37 => "ZOFTEMAR_TOO_BIG",
+        38 => "ZOFTEMAR_UNREADABLE",
+        39 => "ZOFTEMAR_WRONG_SSRC",
+        40 => "ZOFTEMAR_SPENT",
+        41 => "ZOFTEMAR_LATE",
+        42 => "ZOFTEMAR_REPEAT",
+        43 => "ZOFTEMAR_EMPTY",
+        44 => "ZOFTEMAR_NOT_KEPT",
+        45 => "ZOFTEMAR_AHEAD",
+        46 => "ZOFTEMAR_TOO_OLD",
+        47 => "ZOFTEMAR_PLAIN",
+        48 => "ZOFTEMAR_NO_MEMORY",
+        64 => "ZOFTEMAR_NO_ROOM",
+        65 => "ZOFTEMAR_HAS_ROOM",
+        66 => "ZOFTEMAR_NO_SPACE",
+        67 => "ZOFTEMAR_TOO_LONG",
+        68 => "ZOFTEMAR_NO_SESSION",
+        69 => "ZOFTEMAR_HAS_SESSION",
+        70 => "ZOFTEMAR_BUSY",
+        71 => "ZOFTEMAR_BAD_STREAM",
+        _ => "ZOFTEMAR_?",
+    }
+}

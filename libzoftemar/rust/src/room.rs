@@ -1,0 +1,136 @@
+//! The room.
+use crate::ffi::*;
+use crate::{Error, Verdict, NAMES_ROOM, PACKET_ROOM};
+
+/// A room, which is closed when it is dropped. Numbers of tracks and of subscribers begin at 1 and only grow.
+///
+/// It may go to another thread, and one thread at a time uses it:
+/// ```
+/// fn sent<T: Send>() {}
+/// sent::<zoftemar::Room>();
+/// ```
+/// ```compile_fail,E0277
+/// fn shared<T: Sync>() {}
+/// shared::<zoftemar::Room>();
+/// ```
+#[derive(Debug)]
+pub struct Room {
+    handle: Handle,
+}
+
+// zoftemar.h: a room may go from one thread to another.
+unsafe impl Send for Room {}
+
+/// The decode target that a subscriber is sent, and where `known` is true its highest layers at the newest frame.
+#[repr(C)]
+#[derive(Debug, Clone, Copy, PartialEq, Eq, Default)]
+pub struct Target {
+    pub index: u8,
+    pub known: bool,
+    pub spatial: u8,
+    pub temporal: u8,
+}
+
+impl Room {
+    /// An empty room, or [`Error::NoMemory`].
+    pub fn open() -> Result<Room, Error> {
+        Ok(Room { handle: Handle::opened(|handle| unsafe { zoftemar_open(handle) })? })
+    }
+
+    pub(crate) fn handle(&mut self) -> &mut Handle {
+        &mut self.handle
+    }
+
+    /// Begins a track of RTP packets of any codec with this SSRC. A gap in their numbers is waited for `hold` milliseconds.
+    pub fn publish_plain(&mut self, track: u32, ssrc: u32, hold: u32) -> Result<(), Error> {
+        unsafe { zoftemar_publish_plain(&mut self.handle, 0, track, ssrc, hold) }.done()
+    }
+
+    /// Begins a track of AV1 packets with a Dependency Descriptor in the header extension element `id`, 1 to 14 or 16 to 255.
+    pub fn publish_layered(&mut self, track: u32, id: u8, ssrc: u32, hold: u32) -> Result<(), Error> {
+        unsafe { zoftemar_publish_layered(&mut self.handle, 0, track, id, ssrc, hold) }.done()
+    }
+
+    /// Ends a track. Its subscribers stay, and may take what waits for them.
+    pub fn unpublish(&mut self, track: u32) -> Result<(), Error> {
+        unsafe { zoftemar_unpublish(&mut self.handle, 0, track) }.done()
+    }
+
+    /// Brings an RTP packet to its track.
+    pub fn packet(&mut self, track: u32, moment: u64, bytes: &[u8]) -> Result<(), Error> {
+        unsafe { zoftemar_packet(&mut self.handle, 0, track, moment, bytes.as_ptr(), bytes.len()) }.done()
+    }
+
+    /// Gives up the gaps of a track that were waited for long enough. Call it every 20 ms or so.
+    pub fn tick(&mut self, track: u32, moment: u64) -> Result<(), Error> {
+        unsafe { zoftemar_tick(&mut self.handle, 0, track, moment) }.done()
+    }
+
+    /// The sequence numbers that a track waits for, in the buffer.
+    pub fn missing<'a>(&mut self, track: u32, out: &'a mut [u16; NAMES_ROOM]) -> Result<&'a [u16], Error> {
+        let reply = unsafe { zoftemar_missing(&mut self.handle, 0, track, out.as_mut_ptr(), out.len()) }.expect(NAMES)?;
+        Ok(&out[..reply.first as usize])
+    }
+
+    /// Whether the track's publisher is to be asked for a key frame.
+    pub fn key_wanted(&mut self, track: u32) -> Result<bool, Error> {
+        Ok(unsafe { zoftemar_key_wanted(&mut self.handle, 0, track) }.expect(KEY)?.has)
+    }
+
+    /// Begins a subscriber of a track, who is sent this SSRC and sequence numbers from `first` on, of at most these spatial and temporal layers.
+    pub fn join(&mut self, subscriber: u32, track: u32, ssrc: u32, first: u16, (spatial, temporal): (u8, u8)) -> Result<(), Error> {
+        unsafe { zoftemar_join(&mut self.handle, 0, subscriber, track, ssrc, first, spatial, temporal) }.done()
+    }
+
+    /// Changes a subscriber's wish from the next frame on.
+    pub fn aim(&mut self, subscriber: u32, (spatial, temporal): (u8, u8)) -> Result<(), Error> {
+        unsafe { zoftemar_aim(&mut self.handle, 0, subscriber, spatial, temporal) }.done()
+    }
+
+    /// Ends a subscriber.
+    pub fn leave(&mut self, subscriber: u32) -> Result<(), Error> {
+        unsafe { zoftemar_leave(&mut self.handle, 0, subscriber) }.done()
+    }
+
+    /// The oldest packet that waits for a subscriber, in the buffer, or `None` where nothing waits.
+    pub fn take<'a>(&mut self, subscriber: u32, out: &'a mut [u8; PACKET_ROOM]) -> Result<Option<&'a [u8]>, Error> {
+        let reply = unsafe { zoftemar_take(&mut self.handle, 0, subscriber, out.as_mut_ptr(), out.len()) };
+        match reply.code {
+            EMPTY => Ok(None),
+            _ => written(reply, out).map(Some),
+        }
+    }
+
+    /// The packet that a subscriber took under this sequence number, once more.
+    pub fn resend<'a>(&mut self, subscriber: u32, number: u16, out: &'a mut [u8; PACKET_ROOM]) -> Result<&'a [u8], Error> {
+        written(unsafe { zoftemar_resend(&mut self.handle, 0, subscriber, number, out.as_mut_ptr(), out.len()) }, out)
+    }
+
+    /// A subscriber asks for a key frame.
+    pub fn plead(&mut self, subscriber: u32) -> Result<(), Error> {
+        unsafe { zoftemar_plead(&mut self.handle, 0, subscriber) }.done()
+    }
+
+    /// Why the frame with this number was or wasn't forwarded to a subscriber.
+    pub fn why(&mut self, subscriber: u32, number: u64) -> Result<Verdict, Error> {
+        Verdict::of(unsafe { zoftemar_why(&mut self.handle, 0, subscriber, number) })
+    }
+
+    /// The decode target that a subscriber is sent, if it has one.
+    pub fn target_of(&mut self, subscriber: u32) -> Result<Option<Target>, Error> {
+        let mut target = Target::default();
+        let reply = unsafe { zoftemar_target_of(&mut self.handle, subscriber, &mut target) }.expect(TARGET)?;
+        Ok(reply.has.then_some(target))
+    }
+
+    /// Whether a subscriber's target is the best that its wish allows.
+    pub fn reaches_wish(&mut self, subscriber: u32) -> Result<bool, Error> {
+        Ok(unsafe { zoftemar_reaches_wish(&mut self.handle, subscriber) }.expect(REACHED)?.has)
+    }
+}
+
+impl Drop for Room {
+    fn drop(&mut self) {
+        unsafe { zoftemar_close(&mut self.handle) }
+    }
+}

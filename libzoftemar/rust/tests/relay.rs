@@ -1,0 +1,174 @@
+//! A browser's stream, captured (examples/capture/l3t3.pcap), is relayed.
+use std::collections::VecDeque;
+use std::thread;
+use zoftemar::{unwrap, wrap, Error, Publisher, Room, Session, Subscriber, Verdict, NAMES_ROOM, PACKET_ROOM};
+
+const MEDIA: u32 = 0x1000_0001; // the stream's SSRC
+const SENT: u32 = 0x2222_2222;
+const RTX: u32 = 0x3333_3333;
+
+/// The RTP packets of the capture, each with its moment.
+fn captured() -> Vec<(u64, Vec<u8>)> {
+    let file = std::fs::read(concat!(env!("CARGO_MANIFEST_DIR"), "/../../examples/capture/l3t3.pcap")).unwrap();
+    let mut rest = &file[24..];
+    let mut packets = Vec::new();
+    while let Some(header) = rest.get(..16) {
+        let number = |at: usize| u32::from_le_bytes(header[at..at + 4].try_into().unwrap());
+        let moment = 1000 * u64::from(number(0)) + u64::from(number(4)) / 1000;
+        let length = number(8) as usize;
+        packets.push((moment, rest[16 + 42..16 + length].to_vec())); // behind the headers of Ethernet, IPv4 and UDP
+        rest = &rest[16 + length..];
+    }
+    assert!(packets.len() > 500);
+    packets
+}
+
+fn number_of(packet: &[u8]) -> u16 {
+    u16::from_be_bytes([packet[2], packet[3]])
+}
+
+/// The same packet under another number and SSRC.
+fn renamed(packet: &[u8], number: u16, ssrc: u32) -> Vec<u8> {
+    let mut packet = packet.to_vec();
+    packet[2..4].copy_from_slice(&number.to_be_bytes());
+    packet[8..12].copy_from_slice(&ssrc.to_be_bytes());
+    packet
+}
+
+/// A NACK of one number (RFC 4585, section 6.2.1).
+fn nack(ssrc: u32, number: u16) -> Vec<u8> {
+    let mut datagram = vec![0x81, 205, 0, 3, 0, 0, 0, 1];
+    datagram.extend(ssrc.to_be_bytes());
+    datagram.extend(number.to_be_bytes());
+    datagram.extend([0, 0]);
+    datagram
+}
+
+#[test]
+fn a_plain_track_forwards_each_packet_as_it_is() {
+    let mut room = Room::open().unwrap();
+    let (mut out, mut names) = ([0; PACKET_ROOM], [0; NAMES_ROOM]);
+    room.publish_plain(1, MEDIA, 300).unwrap();
+    room.join(1, 1, SENT, 65534, (0, 0)).unwrap();
+    for (place, (moment, packet)) in captured().iter().take(100).enumerate() {
+        room.packet(1, *moment, packet).unwrap();
+        let number = 65534u16.wrapping_add(place as u16);
+        assert_eq!(room.take(1, &mut out).unwrap(), Some(&renamed(packet, number, SENT)[..]));
+        assert_eq!(room.resend(1, number, &mut out).unwrap(), renamed(packet, number, SENT));
+        assert_eq!(room.take(1, &mut out), Ok(None));
+    }
+    assert_eq!(room.missing(1, &mut names), Ok(&[][..]));
+    assert_eq!(room.key_wanted(1), Ok(false));
+    assert_eq!(room.target_of(1), Ok(None));
+}
+
+#[test]
+fn a_layered_track_reaches_each_wish() {
+    let mut room = Room::open().unwrap();
+    let mut out = [0; PACKET_ROOM];
+    room.publish_layered(1, 4, MEDIA, 300).unwrap();
+    room.join(1, 1, SENT, 0, (2, 2)).unwrap();
+    room.join(2, 1, SENT, 0, (0, 0)).unwrap();
+    assert_eq!(room.key_wanted(1), Ok(true));
+    let mut sent = [0, 0];
+    for (moment, packet) in captured().iter().take(300) {
+        room.packet(1, *moment, packet).unwrap();
+        for subscriber in [1, 2] {
+            while let Some(packet) = room.take(subscriber, &mut out).unwrap() {
+                assert_eq!(number_of(packet), sent[subscriber as usize - 1]);
+                sent[subscriber as usize - 1] += 1;
+            }
+        }
+    }
+    assert!(sent[1] > 10 && sent[0] > 5 * sent[1], "{sent:?}");
+    assert_eq!((room.reaches_wish(1), room.reaches_wish(2)), (Ok(true), Ok(true)));
+    let (high, low) = (room.target_of(1).unwrap().unwrap(), room.target_of(2).unwrap().unwrap());
+    assert_eq!((high.known, high.spatial, high.temporal), (true, 2, 2));
+    assert_eq!((low.known, low.spatial, low.temporal), (true, 0, 0));
+    let Err(Error::Ahead { newest: Some(newest) }) = room.why(1, u64::MAX) else { panic!() };
+    assert_eq!(room.why(1, newest), Ok(Verdict::Passed));
+    room.plead(2).unwrap();
+    assert_eq!(room.key_wanted(1), Ok(true));
+    room.aim(2, (2, 2)).unwrap();
+    assert_eq!(room.reaches_wish(2), Ok(false));
+    room.leave(2).unwrap();
+    room.unpublish(1).unwrap();
+}
+
+/// Packet 20 is lost on the way to the room, and packet 10 to the subscriber: both are asked for, and sent again.
+#[test]
+fn sessions_ask_and_answer() {
+    let (mut out, mut back) = ([0; PACKET_ROOM], [0; PACKET_ROOM]);
+    let packets = captured();
+    let mut room = Room::open().unwrap();
+    room.publish_layered(1, 4, MEDIA, 300).unwrap();
+    room.join(1, 1, SENT, 0, (2, 2)).unwrap();
+    let mut publisher = Publisher::open(1, MEDIA).unwrap();
+    let mut subscriber = Subscriber::open_rtx(1, SENT, RTX, 97).unwrap();
+    let mut sent: Vec<Vec<u8>> = Vec::new();
+    let mut coming: VecDeque<&(u64, Vec<u8>)> = packets[..60].iter().collect();
+    let lost = coming.remove(20).unwrap();
+    let mut asked = false;
+    while let Some((moment, packet)) = coming.pop_front() {
+        publisher.received(*moment, packet).unwrap();
+        assert_eq!(publisher.received(*moment, packet), Err(Error::Busy));
+        while let Some(datagram) = publisher.work(&mut room, &mut out) {
+            if datagram == nack(MEDIA, number_of(&lost.1)) && !asked {
+                coming.push_front(lost);
+                asked = true;
+            }
+        }
+        subscriber.waited(*moment).unwrap();
+        while let Some(packet) = subscriber.work(&mut room, &mut out) {
+            assert_eq!(usize::from(number_of(packet)), sent.len());
+            sent.push(packet.to_vec());
+        }
+    }
+    assert!(asked && sent.len() > 40, "{}", sent.len());
+
+    subscriber.received(packets[60].0, &nack(SENT, 10)).unwrap();
+    let again = subscriber.work(&mut room, &mut out).unwrap();
+    assert_eq!((again[1] & 127, number_of(again), &again[8..12]), (97, 0, &RTX.to_be_bytes()[..]));
+    assert_eq!(unwrap(again, SENT, 45, &mut back).unwrap(), sent[10]);
+    assert_eq!(wrap(&sent[10], 0, RTX, 97, &mut back).unwrap(), again);
+    assert_eq!(subscriber.work(&mut room, &mut out), None);
+}
+
+#[test]
+fn refusals_have_their_numbers_and_names() {
+    let (packets, mut out) = (captured(), [0; PACKET_ROOM]);
+    let mut room = Room::open().unwrap();
+    assert_eq!(room.tick(1, 0), Err(Error::NoTrack));
+    assert_eq!(room.publish_layered(1, 15, MEDIA, 300), Err(Error::BadExtensionId));
+    room.publish_plain(2, MEDIA, 300).unwrap();
+    assert_eq!(room.publish_plain(1, MEDIA, 300), Err(Error::NumberUsed { highest: 2 }));
+    assert_eq!(room.packet(2, 0, &[]), Err(Error::Unreadable { part: 0 }));
+    assert_eq!(room.packet(2, 0, &[0; 2048]), Err(Error::TooBig { bytes: 2048 }));
+    assert_eq!(room.packet(2, 0, &[0; 2049]), Err(Error::TooLong));
+    assert_eq!(room.packet(2, 0, &renamed(&packets[0].1, 0, 5)), Err(Error::WrongSsrc { packet: 5, track: MEDIA.into() }));
+    room.packet(2, 0, &renamed(&packets[0].1, 7, MEDIA)).unwrap();
+    assert_eq!(room.packet(2, 0, &renamed(&packets[0].1, 7, MEDIA)), Err(Error::Late { next: 8 }));
+    assert_eq!(room.take(1, &mut out), Err(Error::NoSubscriber));
+    room.join(1, 2, SENT, 0, (0, 0)).unwrap();
+    assert_eq!(room.plead(1), Err(Error::Plain));
+    assert!(matches!(room.resend(1, 0, &mut out), Err(Error::NotKept { .. })));
+    assert!(matches!(Subscriber::open_rtx(1, SENT, SENT, 97), Err(Error::BadStream)));
+    assert_eq!(Error::Late { next: 8 }.to_string(), "ZOFTEMAR_LATE");
+    assert_eq!(Error::Other(9).to_string(), "ZOFTEMAR_?");
+}
+
+#[test]
+fn a_room_and_its_sessions_go_to_another_thread() {
+    let mut room = Room::open().unwrap();
+    room.publish_plain(1, MEDIA, 300).unwrap();
+    let mut publisher = Publisher::open(1, MEDIA).unwrap();
+    let subscriber = Subscriber::open(1, SENT).unwrap();
+    thread::spawn(move || {
+        publisher.waited(5).unwrap();
+        assert_eq!(publisher.work(&mut room, &mut [0; PACKET_ROOM]), None);
+        drop(room);
+        drop(subscriber);
+    })
+    .join()
+    .unwrap();
+}

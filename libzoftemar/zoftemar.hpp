@@ -1,0 +1,114 @@
+// zoftemar.hpp: zoftemar.h as move-only classes, for C++17. An object has at most one room or session, which its end closes; an object that was moved
+// from, or not opened, has none, and says so by ZOFTEMAR_NO_ROOM or ZOFTEMAR_NO_SESSION. Each call is the one of its name in zoftemar.h, with its codes,
+// units and what the caller owes; nothing throws, allocates or copies beside it. One thread at a time uses an object, which may go to another.
+#ifndef ZOFTEMAR_HPP
+#define ZOFTEMAR_HPP
+
+#include <cstddef>
+#include <cstdint>
+#include <utility>
+
+#include "zoftemar.h"
+
+namespace zoftemar {
+
+using Reply = zoftemar_reply;
+using Target = zoftemar_target;
+
+// A handle that has one owner.
+template <class Handle, void (*Close)(Handle *)>
+class Owner {
+public:
+    Owner() noexcept = default;
+    Owner(Owner &&other) noexcept : owned(std::exchange(other.owned, Handle{})) {}
+    Owner &operator=(Owner &&other) noexcept {
+        if (this != &other) {
+            close();
+            owned = std::exchange(other.owned, Handle{});
+        }
+        return *this;
+    }
+    ~Owner() { close(); }
+
+    void close() noexcept { Close(&owned); }
+    // For calls of zoftemar.h. It stays the object's.
+    [[nodiscard]] Handle *handle() noexcept { return &owned; }
+
+private:
+    Handle owned{};
+};
+
+class Room : public Owner<zoftemar_room, zoftemar_close> {
+public:
+    [[nodiscard]] std::uint32_t open() noexcept { return zoftemar_open(handle()); }
+
+    [[nodiscard]] Reply publish_plain(std::uint32_t track, std::uint32_t ssrc, std::uint32_t hold) noexcept {
+        return zoftemar_publish_plain(handle(), 0, track, ssrc, hold);
+    }
+    [[nodiscard]] Reply publish_layered(std::uint32_t track, std::uint8_t id, std::uint32_t ssrc, std::uint32_t hold) noexcept {
+        return zoftemar_publish_layered(handle(), 0, track, id, ssrc, hold);
+    }
+    Reply unpublish(std::uint32_t track) noexcept { return zoftemar_unpublish(handle(), 0, track); }
+    Reply packet(std::uint32_t track, std::uint64_t moment, const std::uint8_t *bytes, std::size_t count) noexcept {
+        return zoftemar_packet(handle(), 0, track, moment, bytes, count);
+    }
+    Reply tick(std::uint32_t track, std::uint64_t moment) noexcept { return zoftemar_tick(handle(), 0, track, moment); }
+    [[nodiscard]] Reply missing(std::uint32_t track, std::uint16_t *out, std::size_t count) noexcept {
+        return zoftemar_missing(handle(), 0, track, out, count);
+    }
+    [[nodiscard]] Reply key_wanted(std::uint32_t track) noexcept { return zoftemar_key_wanted(handle(), 0, track); }
+
+    [[nodiscard]] Reply join(std::uint32_t subscriber, std::uint32_t track, std::uint32_t ssrc, std::uint16_t first, std::uint8_t spatial,
+                             std::uint8_t temporal) noexcept {
+        return zoftemar_join(handle(), 0, subscriber, track, ssrc, first, spatial, temporal);
+    }
+    Reply aim(std::uint32_t subscriber, std::uint8_t spatial, std::uint8_t temporal) noexcept {
+        return zoftemar_aim(handle(), 0, subscriber, spatial, temporal);
+    }
+    Reply leave(std::uint32_t subscriber) noexcept { return zoftemar_leave(handle(), 0, subscriber); }
+    [[nodiscard]] Reply take(std::uint32_t subscriber, std::uint8_t *out, std::size_t count) noexcept {
+        return zoftemar_take(handle(), 0, subscriber, out, count);
+    }
+    [[nodiscard]] Reply resend(std::uint32_t subscriber, std::uint16_t number, std::uint8_t *out, std::size_t count) noexcept {
+        return zoftemar_resend(handle(), 0, subscriber, number, out, count);
+    }
+    Reply plead(std::uint32_t subscriber) noexcept { return zoftemar_plead(handle(), 0, subscriber); }
+
+    [[nodiscard]] Reply why(std::uint32_t subscriber, std::uint64_t number) noexcept { return zoftemar_why(handle(), 0, subscriber, number); }
+    [[nodiscard]] Reply target_of(std::uint32_t subscriber, Target &out) noexcept { return zoftemar_target_of(handle(), subscriber, &out); }
+    [[nodiscard]] Reply reaches_wish(std::uint32_t subscriber) noexcept { return zoftemar_reaches_wish(handle(), subscriber); }
+};
+
+// What the sessions of publishers and subscribers have in common.
+class Session : public Owner<zoftemar_session, zoftemar_close_session> {
+public:
+    [[nodiscard]] Reply received(std::uint64_t moment, const std::uint8_t *bytes, std::size_t count) noexcept {
+        return zoftemar_session_received(handle(), moment, bytes, count);
+    }
+    [[nodiscard]] Reply waited(std::uint64_t moment) noexcept { return zoftemar_session_waited(handle(), moment); }
+    [[nodiscard]] Reply work(Room &room, std::uint8_t *out, std::size_t count) noexcept {
+        return zoftemar_session_work(handle(), room.handle(), 0, out, count);
+    }
+
+protected:
+    Session() noexcept = default;
+};
+
+class Publisher : public Session {
+public:
+    [[nodiscard]] std::uint32_t open(std::uint32_t track, std::uint32_t ssrc) noexcept { return zoftemar_open_publisher(handle(), track, ssrc); }
+};
+
+class Subscriber : public Session {
+public:
+    [[nodiscard]] std::uint32_t open(std::uint32_t subscriber, std::uint32_t ssrc) noexcept {
+        return zoftemar_open_subscriber(handle(), subscriber, ssrc);
+    }
+    [[nodiscard]] std::uint32_t open_rtx(std::uint32_t subscriber, std::uint32_t ssrc, std::uint32_t rtx_ssrc, std::uint8_t rtx_payload_type) noexcept {
+        return zoftemar_open_rtx_subscriber(handle(), subscriber, ssrc, rtx_ssrc, rtx_payload_type);
+    }
+};
+
+} // namespace zoftemar
+
+#endif
