@@ -78,7 +78,7 @@ class Viewer(Peer):
     def join(self):
         """Begins a stream: packets by their numbers without the wrap, and the timestamps of each run."""
         self.ssrc += 1
-        self.got, self.units, self.here, self.held_back = {}, {}, True, None
+        self.got, self.units, self.asked, self.here, self.held_back = {}, {}, set(), True, None
         self.streams.append(self.got)
 
     def turn(self):
@@ -90,8 +90,9 @@ class Viewer(Peer):
             self.send(b"leave")
         elif not self.got:
             self.send(b"join %x %d %d" % (self.ssrc, *self.wish))
-        elif missing := self.missing()[:50]:
-            self.send(nack(9, self.ssrc, *(number % 65536 for number in missing)))
+        elif missing := [number % 65536 for number in self.missing()[:50]]:
+            self.asked.update(missing)
+            self.send(nack(9, self.ssrc, *missing))
 
     def take(self, datagram):
         first, second, number, timestamp, ssrc = RTP.unpack(datagram[:12])
@@ -100,9 +101,11 @@ class Viewer(Peer):
             self.resent.add((ssrc, number))
             at = 16 + 4 * int.from_bytes(datagram[14:16], "big")
             number, = struct.unpack_from("!H", datagram, at)
+            if number not in self.asked:
+                return  # of the stream before
             datagram = RTP.pack(first, second & 128 | MEDIA, number, timestamp, self.ssrc) + datagram[12:at] + datagram[at + 2:]
         elif ssrc != self.ssrc:
-            return  # of the stream before
+            return
         newest = max(self.got, default=65536 + number)
         number = newest + (number - newest + 32768) % 65536 - 32768
         assert self.got.get(number, datagram) == datagram, f"another packet {number} again"
@@ -126,10 +129,10 @@ class Viewer(Peer):
         return self.held_back == (number, max(self.units, default=0))
 
     def check(self, got):
-        first, last = min(got), max(got)
-        lost = [number for number in range(first, last) if number not in got]
-        assert not lost, f"{len(lost)} packets never came, the first is {lost[0]} of {first} to {last}"
-        packets, frame = [got[number] for number in range(first, last + 1)], None
+        """All of a stream, or where the viewer left before its NACKs were answered what is before the first gap."""
+        first, frame, packets = min(got), None, []
+        while first + len(packets) in got:
+            packets.append(got[first + len(packets)])
         assert begins_key_frame(packets[0]), "the first packet begins no key frame"
         for packet in packets:  # whole frames: from a first packet to a last one, all with one number
             flags, number = descriptor(packet)[0], descriptor(packet)[1:3]
@@ -159,11 +162,13 @@ def test(command):
         viewers = [Viewer(address, place) for place in range(10)]
         publisher = None
 
-        def go_on(peers, done):
+        def go_on(peers, done, what):
             """Until that is so: a unit of the publisher's, and a turn of each viewer."""
             due = time.monotonic()
             while not done():
-                assert time.monotonic() < begun + MOST, f"not done in {MOST} seconds"
+                if time.monotonic() > begun + MOST:
+                    state = [(one.here, {run: len(units) for run, units in one.units.items()}, len(one.missing()) if one.got else None) for one in viewers]
+                    sys.exit(f"not in {MOST} seconds: {what}; viewers: {state}")
                 time.sleep(max(0, due - time.monotonic()))
                 due += EACH
                 for one in peers:
@@ -177,24 +182,24 @@ def test(command):
         for run, ssrc, number in ((1, 0x11111111, 65400), (2, 0x1234567, 30000), (3, 0x1234567, 10000)):
             publisher = Publisher(address, run, ssrc, number)
             peers = [publisher, *viewers]
-            go_on(peers, lambda: publisher.units >= 50 and seen(run, 40))
+            go_on(peers, lambda: publisher.units >= 50 and seen(run, 40), f"packets of run {run}")
             if run == 1:
                 leaves.here = False
-                go_on(peers, lambda: time.monotonic() > leaves.last + 0.3)
+                go_on(peers, lambda: time.monotonic() > leaves.last + 0.3, "nothing more after leave")
             elif run == 2:
                 leaves.join()    # with another SSRC, from the same port
                 restarts.join()  # and without a word before
-                go_on(peers, lambda: seen(run, 40))
+                go_on(peers, lambda: seen(run, 40), "packets after join")
             else:
                 before = publisher.asked
                 for _ in range(3):
                     viewers[0].send(pli(9, viewers[0].ssrc))
-                go_on(peers, lambda: publisher.asked > before)
+                go_on(peers, lambda: publisher.asked > before, "a PLI")
             if run < 3:
                 for one in viewers:
                     if one.here:
                         one.lose_one()
-        go_on(viewers, lambda: not any(one.missing() for one in viewers))
+        go_on(viewers, lambda: not any(one.missing() for one in viewers), "every retransmission")
     for one in viewers:
         for got in one.streams:
             one.check(got)
