@@ -10,7 +10,7 @@ static uint8_t bytes[MOST][1500], out[ZOFTEMAR_PACKET_ROOM];
 static size_t length[MOST];
 static uint32_t count, arrivals;
 static struct { uint32_t packet, next; } arrival[64 * MOST]; /* from 1 on */
-static uint32_t first[LAST];                                 /* what arrives in each millisecond, the last sent first */
+static uint32_t first[LAST], last[LAST];                     /* what arrives in each millisecond */
 static uint64_t chance;
 
 static bool is_lost(void) {
@@ -21,8 +21,9 @@ static bool is_lost(void) {
 static void send(uint32_t packet, uint64_t at) {
     if (is_lost() || at >= LAST || ++arrivals == 64 * MOST) return;
     arrival[arrivals].packet = packet;
-    arrival[arrivals].next = first[at];
-    first[at] = arrivals;
+    arrival[arrivals].next = 0;
+    *(first[at] == 0 ? &first[at] : &arrival[last[at]].next) = arrivals;
+    last[at] = arrivals;
 }
 
 /* What the session sends: NACKs are answered, PLIs aren't. */
@@ -43,7 +44,8 @@ static uint32_t forwarded(uint32_t hold, uint32_t round_trip) {
     zoftemar_room room = ZOFTEMAR_ROOM_NONE;
     zoftemar_session publisher = ZOFTEMAR_SESSION_NONE;
     uint32_t frames = 0, end = count * UNIT / 2 + 2048;
-    chance = arrivals = 0;
+    chance = 1;
+    arrivals = 0;
     for (uint32_t at = 0; at < LAST; at++) first[at] = 0;
     if (zoftemar_open(&room) != ZOFTEMAR_DONE || zoftemar_open_publisher(&publisher, 1, 0x11111111) != ZOFTEMAR_DONE) exit(1);
     zoftemar_publish_layered(&room, 0, 1, 4, 0x11111111, hold);
