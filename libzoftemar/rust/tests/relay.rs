@@ -62,6 +62,14 @@ fn a_plain_track_forwards_each_packet_as_it_is() {
     assert_eq!(room.target_of(1), Ok(None));
 }
 
+/// The template of a packet with a Dependency Descriptor, which is the first extension element, in the one-byte or the two-byte form. Without one it is
+/// the browser's padding.
+fn template(packet: &[u8]) -> Option<u8> {
+    let at = if packet[12] == 0xbe { 17 } else { 18 };
+    (packet[0] & 0x10 != 0).then(|| packet[at] & 63)
+}
+
+/// The first subscriber is sent each packet of a frame, the second those of templates 0 and 1: the lowest spatial and temporal layer.
 #[test]
 fn a_layered_track_reaches_each_wish() {
     let mut room = Room::open().unwrap();
@@ -70,9 +78,11 @@ fn a_layered_track_reaches_each_wish() {
     room.join(1, 1, SENT, 0, (2, 2)).unwrap();
     room.join(2, 1, SENT, 0, (0, 0)).unwrap();
     assert_eq!(room.key_wanted(1), Ok(true));
-    let mut sent = [0, 0];
+    let (mut sent, mut due) = ([0, 0], [0, 0]);
     for (moment, packet) in captured().iter().take(300) {
         room.packet(1, *moment, packet).unwrap();
+        due[0] += u16::from(template(packet).is_some());
+        due[1] += u16::from(template(packet).map_or(false, |template| template < 2));
         for subscriber in [1, 2] {
             while let Some(packet) = room.take(subscriber, &mut out).unwrap() {
                 assert_eq!(number_of(packet), sent[subscriber as usize - 1]);
@@ -80,7 +90,7 @@ fn a_layered_track_reaches_each_wish() {
             }
         }
     }
-    assert!(sent[1] > 10 && sent[0] > 5 * sent[1], "{sent:?}");
+    assert_eq!((sent, due), ([110, 7], [110, 7]));
     assert_eq!((room.reaches_wish(1), room.reaches_wish(2)), (Ok(true), Ok(true)));
     let (high, low) = (room.target_of(1).unwrap().unwrap(), room.target_of(2).unwrap().unwrap());
     assert_eq!((high.known, high.spatial, high.temporal), (true, 2, 2));
@@ -95,7 +105,22 @@ fn a_layered_track_reaches_each_wish() {
     room.unpublish(1).unwrap();
 }
 
-/// Packet 20 is lost on the way to the room, and packet 10 to the subscriber: both are asked for, and sent again.
+/// What a subscriber of all layers is sent of these packets.
+fn relayed(packets: &[(u64, Vec<u8>)]) -> Vec<Vec<u8>> {
+    let mut room = Room::open().unwrap();
+    let (mut out, mut sent) = ([0; PACKET_ROOM], Vec::new());
+    room.publish_layered(1, 4, MEDIA, 300).unwrap();
+    room.join(1, 1, SENT, 0, (2, 2)).unwrap();
+    for (moment, packet) in packets {
+        room.packet(1, *moment, packet).unwrap();
+        while let Some(packet) = room.take(1, &mut out).unwrap() {
+            sent.push(packet.to_vec());
+        }
+    }
+    sent
+}
+
+/// Packet 36 is lost on the way to the room, and packet 10 to the subscriber: both are asked for, and sent again.
 #[test]
 fn sessions_ask_and_answer() {
     let (mut out, mut back) = ([0; PACKET_ROOM], [0; PACKET_ROOM]);
@@ -106,27 +131,28 @@ fn sessions_ask_and_answer() {
     let mut publisher = Publisher::open(1, MEDIA).unwrap();
     let mut subscriber = Subscriber::open_rtx(1, SENT, RTX, 97).unwrap();
     let mut sent: Vec<Vec<u8>> = Vec::new();
-    let mut coming: VecDeque<&(u64, Vec<u8>)> = packets[..60].iter().collect();
-    let lost = coming.remove(20).unwrap();
-    let mut asked = false;
+    let mut coming: VecDeque<&(u64, Vec<u8>)> = packets[..300].iter().collect();
+    let lost = coming.remove(36).unwrap();
+    let (mut now, mut asked) = (0, false);
     while let Some((moment, packet)) = coming.pop_front() {
-        publisher.received(*moment, packet).unwrap();
-        assert_eq!(publisher.received(*moment, packet), Err(Error::Busy));
+        now = now.max(*moment);
+        publisher.received(now, packet).unwrap();
+        assert_eq!(publisher.received(now, packet), Err(Error::Busy));
         while let Some(datagram) = publisher.work(&mut room, &mut out) {
             if datagram == nack(MEDIA, number_of(&lost.1)) && !asked {
                 coming.push_front(lost);
                 asked = true;
             }
         }
-        subscriber.waited(*moment).unwrap();
+        subscriber.waited(now).unwrap();
         while let Some(packet) = subscriber.work(&mut room, &mut out) {
-            assert_eq!(usize::from(number_of(packet)), sent.len());
             sent.push(packet.to_vec());
         }
     }
-    assert!(asked && sent.len() > 40, "{}", sent.len());
+    assert!(asked);
+    assert_eq!(sent, relayed(&packets[..300]));
 
-    subscriber.received(packets[60].0, &nack(SENT, 10)).unwrap();
+    subscriber.received(now, &nack(SENT, 10)).unwrap();
     let again = subscriber.work(&mut room, &mut out).unwrap();
     assert_eq!((again[1] & 127, number_of(again), &again[8..12]), (97, 0, &RTX.to_be_bytes()[..]));
     assert_eq!(unwrap(again, SENT, 45, &mut back).unwrap(), sent[10]);
