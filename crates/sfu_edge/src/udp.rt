@@ -24,10 +24,10 @@ const QUIET_SLEEP: u64 = 4500;
 const QUIET_AFTER: u32 = 500;
 
 /// How long a receive of a busy link sleeps, in microseconds, so that what comes meanwhile is forwarded together. Nothing ends it earlier.
-const BUSY_SLEEP: u64 = 650;
+const BUSY_SLEEP: u64 = 700;
 
 /// A link is busy where its socket was empty twice within so many microseconds, with a datagram between.
-const BUSY_WITHIN: u64 = 900;
+const BUSY_WITHIN: u64 = 950;
 
 /// The longest pause of a link that follows a busy one, in microseconds: a longer one is a mistake of the clock.
 const LONGEST_PAUSE: u64 = 1500;
