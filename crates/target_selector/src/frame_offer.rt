@@ -1,12 +1,13 @@
 // What a frame says to all subscribers of its track, found once.
-ghost use Rattle.std.specs.Prelude.{◌≡◌, ◌≤◌, ◌<◌, ◌&&◌, ◌||◌, ℕ, Bool, true, false};
+ghost use Rattle.std.specs.Prelude.{◌≡◌, ◌≤◌, ◌<◌, ◌||◌, ◌&&◌, ℕ, List, None, Some, true, false, slice_index};
 ghost use Rattle.sfu_base.specs.Frame.{IsValid};
 ghost use Rattle.forwarding_model.specs.forwarding.Outgoing.{is_top_layer};
-ghost use Rattle.forwarding_model.specs.forwarding.Selection.{can_open, is_present_in, is_upgrade};
-ghost use Rattle.forwarding_model.specs.forwarding.Targets.{aim, best, indication, is_present, is_switch, says_present};
+ghost use Rattle.forwarding_model.specs.forwarding.Selection.{can_open, is_present_in, is_upgrade, missing_reference};
+ghost use Rattle.forwarding_model.specs.forwarding.Targets.{aim, best, is_present};
+ghost use Rattle.ref_window.specs.Numbers.{AreBelow, has_below};
 ghost use Rattle.target_selector.specs.Masks.{mask_for, targets_where};
-ghost use Rattle.target_selector.specs.Offers.{begins, begins_within, everything};
-ghost use Rattle.target_selector.specs.Targets.{IsBelow, IsIndexBelow, allows, best_in, is_bit};
+ghost use Rattle.target_selector.specs.Offers.{IsBegun, IsNeeded, begins, begins_within, everything, says_begin};
+ghost use Rattle.target_selector.specs.Targets.{IsBelow, IsIndexBelow};
 
 use crate::frame_targets::{
     best_of, is_allowed, is_better, is_within, layers, mask_within, with_target,
@@ -24,16 +25,22 @@ const EVERYTHING: Wish = Wish {
     temporal: u8::MAX,
 };
 
-/// A frame of so many packets, and what it says to all subscribers of its track: at which of its targets a decoder can begin, and which of these is
-/// best. It is made once a frame. Clauses see the frame and the count.
+/// The active targets that a decoder can begin at a frame, and the best of them.
+#[derive(Clone, Copy, Debug)]
+pub struct Begun {
+    pub targets: u32,
+    pub top: Option<u8>,
+}
+
+/// A frame of so many packets, and what it says to all subscribers of its track: which frames it refers to, at which of its targets a decoder can begin,
+/// and which of these is best. It is made once a frame. Clauses see the frame and the count.
 #[derive(Debug, Drop)]
 pub struct FrameOffer<'a> {
     frame: &'a FrameMeaning,
     packets: u16,
-    // the active targets that a decoder can begin here
-    begun: u32,
-    // the best of them
-    top: Option<u8>,
+    // the distances of its references, each as a bit; bit 0 where one has none of 64
+    needed: u64,
+    begun: Begun,
 }
 
 impl<'a> Model for FrameOffer<'a> {
@@ -43,7 +50,7 @@ impl<'a> Model for FrameOffer<'a> {
 
     ghost view = { λ o. record { frame = o.frame.now; packets = o.packets } };
 
-    ghost invariant = { λ o. IsOfferOf o.frame.now o.begun o.top };
+    ghost invariant = { λ o. IsOfferOf o.frame.now o.needed o.begun };
 }
 
 impl<'a> FrameOffer<'a> {
@@ -52,13 +59,11 @@ impl<'a> FrameOffer<'a> {
         requires { IsValid frame.now }
         ensures { result ≡ record { frame = frame.now; packets = packets } }
     {
-        let begun = begun_targets(frame);
-        let top = best_begun(frame, begun);
         FrameOffer {
             frame,
             packets,
-            begun,
-            top,
+            needed: distances(frame),
+            begun: begun_at(frame),
         }
     }
 
@@ -84,44 +89,65 @@ impl<'a> FrameOffer<'a> {
         self.packets
     }
 
-    /// The best target that the frame opens for this wish in place of the current one. `ready` is whether all its references were passed, and it is a
-    /// key frame or its epoch's was passed.
-    pub fn opening(&self, wish: Wish, ready: bool, current: CurrentTarget) -> Option<u8>
+    /// Whether all references are in this mask of passed frames, of which bit d is the frame d below. Where it says no they may have been passed.
+    pub fn refers_within(&self, passed: u64) -> bool
+        ensures valid { IsValid self.now.frame }
+        ensures passed { (numbers : List ℕ) → AreBelow numbers self.now.frame.number passed → result ≡ true
+            → missing_reference (has_below numbers self.now.frame.number) self.now.frame ≡ None }
+    {
+        self.needed & passed == self.needed
+    }
+
+    /// The best target that the frame opens for this wish in place of the current one. `complete` is whether all its references were passed, and
+    /// `key_passed` whether a key frame of its epoch was.
+    pub fn opening(
+        &self,
+        wish: Wish,
+        complete: bool,
+        key_passed: bool,
+        current: CurrentTarget,
+    ) -> Option<u8>
         requires { IsIndexBelow 32 current }
-        ensures value { (complete keyed : Bool) → ready ≡ (complete && keyed) → result ≡ best self.now.frame (can_open wish complete keyed self.now.frame current) }
+        ensures value { result ≡ best self.now.frame (can_open wish complete (self.now.frame.key || key_passed) self.now.frame current) }
         ensures below { IsBelow 32 result }
     {
-        if !ready {
+        // Most frames begin nothing.
+        let Some(top) = self.begun.top else {
+            return None;
+        };
+        if !self.is_ready(complete, key_passed) {
             return None;
         }
-        match self.best_within(wish) {
-            Some(best) => {
-                if self.is_upgrade(wish, current, best) {
-                    Some(best)
-                } else {
-                    None
-                }
-            }
-            None => None,
+        let Some(best) = self.best_within(wish, top) else {
+            return None;
+        };
+        if self.is_upgrade(wish, current, best) {
+            Some(best)
+        } else {
+            None
         }
     }
 
+    fn is_ready(&self, complete: bool, key_passed: bool) -> bool
+        ensures { result ≡ (complete && (self.now.frame.key || key_passed)) }
+    {
+        complete && (self.frame.key || key_passed)
+    }
+
     // The best of the targets within the wish that a decoder can begin here. Mostly that is the best of all.
-    fn best_within(&self, wish: Wish) -> Option<u8>
+    fn best_within(&self, wish: Wish, top: u8) -> Option<u8>
+        requires top { Some top ≡ best self.now.frame (begins_within everything self.now.frame) }
+        requires small { top < 32 }
         ensures value { result ≡ best self.now.frame (begins_within wish self.now.frame) }
         ensures below { IsBelow 32 result }
     {
         // The check knows the range of what is read.
         let Wish { .. } = wish;
-        match self.top {
-            Some(top) => {
-                if is_within(wish, layers(&self.frame.pairs, top)) {
-                    Some(top)
-                } else {
-                    best_of(wish, self.begun, self.frame.target_count, &self.frame.pairs)
-                }
-            }
-            None => None,
+        let pairs = &self.frame.pairs;
+        if is_within(wish, layers(pairs, top)) {
+            Some(top)
+        } else {
+            best_of(wish, self.begun.targets, self.frame.target_count, pairs)
         }
     }
 
@@ -209,104 +235,86 @@ impl<'a> FrameOffer<'a> {
     }
 }
 
-// The targets that are active, and that a decoder can begin at the frame: at a switch, or at a key frame that belongs to it.
-fn begun_targets(frame: &FrameMeaning) -> u32
+// The distances of the frame's references, each as a bit; bit 0 where one has none of 64.
+fn distances(frame: &FrameMeaning) -> u64
     requires { IsValid frame.now }
-    ensures { (t : ℕ) → t < frame.now.target_count → is_bit result t ≡ begins frame.now t }
+    ensures { (i : ℕ) → i < frame.now.ref_count → IsNeeded result (slice_index frame.now.refs i) }
+{
+    let mut needed = 0;
+    for place in 0..frame.ref_count {
+        needed |= distance_bit(frame.refs[usize::from(place)]);
+    }
+    needed
+}
+
+fn distance_bit(distance: u16) -> u64
+    ensures { IsNeeded result distance }
+{
+    if distance < 64 { 1 << distance } else { 1 }
+}
+
+fn begun_at(frame: &FrameMeaning) -> Begun
+    requires { IsValid frame.now }
+    ensures { IsBegun frame.now result }
 {
     if begins_some(frame) {
-        begun_ones(frame)
+        begun_some(frame)
     } else {
-        0
+        Begun {
+            targets: 0,
+            top: None,
+        }
     }
 }
 
 // Out of line: most frames begin nothing.
 #[inline(never)]
-fn begun_ones(frame: &FrameMeaning) -> u32
+fn begun_some(frame: &FrameMeaning) -> Begun
     requires { IsValid frame.now }
-    ensures { (t : ℕ) → t < frame.now.target_count → is_bit result t ≡ begins frame.now t }
+    ensures { IsBegun frame.now result }
 {
-    if frame.key {
-        frame.mask & present_ones(frame)
-    } else {
-        frame.mask & switch_ones(frame)
+    let targets = frame.mask & beginnings(frame);
+    Begun {
+        targets,
+        top: best_of(EVERYTHING, targets, frame.target_count, &frame.pairs),
     }
 }
 
-// Whether the frame is a key frame, or a switch for a target. In this and in the two below all places are looked at, so that the compiler compares many
-// at once.
+// Whether the frame is a key frame, or a switch for a target. Here and below all places are looked at, so that the compiler compares many at once.
 #[inline(always)]
 fn begins_some(frame: &FrameMeaning) -> bool
     ensures { (target : ℕ) → target < 32 → result ≡ false → begins frame.now target ≡ false }
 {
     let mut begins = frame.key;
     for target in 0..TARGETS {
-        begins |= is_switch(frame, target);
+        begins |= frame.dtis[usize::from(target)] == Dti::Switch;
     }
     begins
 }
 
-fn switch_ones(frame: &FrameMeaning) -> u32
-    ensures { result ≡ targets_where (is_switch frame.now) 32 }
+// The targets, active or not, that a decoder can begin at the frame.
+fn beginnings(frame: &FrameMeaning) -> u32
+    ensures { result ≡ targets_where (says_begin frame.now) 32 }
 {
     let mut ones = 0;
     for target in 0..TARGETS {
-        ones = with_target(ones, target, is_switch(frame, target));
+        ones = with_target(ones, target, says_begin(frame, target));
     }
     ones
 }
 
-// Those that say that the frame belongs to the target.
-fn present_ones(frame: &FrameMeaning) -> u32
-    ensures { result ≡ targets_where (λ t. says_present (indication frame.now t)) 32 }
+// Whether it is a switch for the target, or a key frame that belongs to it.
+fn says_begin(frame: &FrameMeaning, target: u8) -> bool
+    requires { target < 32 }
+    ensures { result ≡ says_begin frame.now target }
 {
-    let mut ones = 0;
-    for target in 0..TARGETS {
-        ones = with_target(ones, target, says_present(frame, target));
-    }
-    ones
-}
-
-// The best of them.
-fn best_begun(frame: &FrameMeaning, begun: u32) -> Option<u8>
-    requires { frame.now.target_count ≤ 32 }
-    ensures value { result ≡ best_in frame.now.pairs (allows everything begun frame.now.pairs) frame.now.target_count }
-    ensures below { IsBelow 32 result }
-{
-    if begun == 0 {
-        None
-    } else {
-        best_of_all(frame, begun)
-    }
-}
-
-#[inline(never)]
-fn best_of_all(frame: &FrameMeaning, begun: u32) -> Option<u8>
-    requires { frame.now.target_count ≤ 32 }
-    ensures value { result ≡ best_in frame.now.pairs (allows everything begun frame.now.pairs) frame.now.target_count }
-    ensures below { IsBelow 32 result }
-{
-    best_of(EVERYTHING, begun, frame.target_count, &frame.pairs)
+    let dti = frame.dtis[usize::from(target)];
+    dti == Dti::Switch || (frame.key && dti != Dti::NotPresent)
 }
 
 fn is_present(frame: &FrameMeaning, target: u8) -> bool
     requires { frame.now.target_count ≤ 32 }
     ensures { result ≡ is_present frame.now target }
 {
-    target < frame.target_count && says_present(frame, target)
-}
-
-fn says_present(frame: &FrameMeaning, target: u8) -> bool
-    requires { target < 32 }
-    ensures { result ≡ says_present (indication frame.now target) }
-{
-    frame.dtis[usize::from(target)] != Dti::NotPresent
-}
-
-fn is_switch(frame: &FrameMeaning, target: u8) -> bool
-    requires { target < 32 }
-    ensures { result ≡ is_switch frame.now target }
-{
-    frame.dtis[usize::from(target)] == Dti::Switch
+    target < frame.target_count && frame.dtis[usize::from(target)] != Dti::NotPresent
 }

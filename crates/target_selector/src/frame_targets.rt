@@ -3,7 +3,7 @@
 ghost use Rattle.std.specs.Prelude.{◌≡◌, ◌+◌, ◌≤◌, ◌<◌, ◌^◌, ◌==◌, ◌||◌, ◌&&◌, nat_lt, if◌then◌else◌};
 ghost use Rattle.forwarding_model.specs.forwarding.Targets.{is_better_of, is_better_pair, is_within};
 ghost use Rattle.target_selector.specs.Masks.{targets_where};
-ghost use Rattle.target_selector.specs.Reaching.{targets_of};
+ghost use Rattle.target_selector.specs.Reaching.{no_targets, targets_of};
 ghost use Rattle.target_selector.specs.Targets.{IsBelow, IsRanked, allows, best_in, better_in, height, is_bit, layers_in};
 
 use sfu_base::{FrameMeaning, Wish};
@@ -20,14 +20,14 @@ pub struct FrameTargets {
 }
 
 impl FrameTargets {
-    /// The frame's targets.
-    pub fn of(frame: &FrameMeaning) -> FrameTargets
-        ensures { result ≡ targets_of frame.now }
+    /// None.
+    pub fn none() -> FrameTargets
+        ensures { result ≡ no_targets }
     {
         FrameTargets {
-            count: frame.target_count,
-            mask: frame.mask,
-            pairs: frame.pairs,
+            count: 0,
+            mask: 0,
+            pairs: [None; 32],
         }
     }
 

@@ -11,7 +11,7 @@ ghost use Rattle.forwarding_model.specs.forwarding.Standing.{Standing, after_fra
 ghost use Rattle.ref_window.specs.Numbers.{IsAboveAll as IsAboveAllNumbers, held_of};
 ghost use Rattle.target_selector.specs.Reaching.{is_aimed, reaches, target_layers, targets_of};
 ghost use Rattle.target_selector.specs.Seen.{begun};
-ghost use Rattle.target_selector.specs.Stands.{IsAboveAll, IsJudged, KeepsAt, StandsAt, StandsFor, is_opening_at, is_something, passes_by, verdict_by};
+ghost use Rattle.target_selector.specs.Stands.{IsAboveAll, IsAdmitted, IsJudged, KeepsAt, StandsAt, StandsFor, is_opening_at, is_something, passes_by, verdict_by};
 ghost use Rattle.target_selector.specs.Targets.{IsBelow, IsIndexBelow, closed_or};
 
 use crate::frame_offer::FrameOffer;
@@ -41,14 +41,14 @@ pub struct Selector {
     // whether a key frame of the epoch was passed: the window forgets it
     key_passed: bool,
     passed: RefWindow,
-    // the targets of the last frame, by which later questions are answered
-    newest: Option<FrameTargets>,
+    // the targets of the last frame, by which later questions are answered; of no meaning where there was none
+    newest: FrameTargets,
     top: bool,
     opened: bool,
 }
 
 impl Model for Selector {
-    ghost use Rattle.target_selector.specs.Seen.{IsKept, Seen};
+    ghost use Rattle.target_selector.specs.Seen.{IsKept, Seen, newest_of};
 
     ghost Value = { Seen };
 
@@ -58,7 +58,7 @@ impl Model for Selector {
       target = s.target;
       key_passed = s.key_passed;
       numbers = s.passed;
-      newest = s.newest;
+      newest = newest_of s.epoch s.newest;
       top = s.top;
       opened = s.opened;
     } };
@@ -80,7 +80,7 @@ impl Selector {
             },
             key_passed: false,
             passed: RefWindow::new(),
-            newest: None,
+            newest: FrameTargets::none(),
             top: false,
             opened: false,
         }
@@ -110,9 +110,9 @@ impl Selector {
     pub fn layers(&self) -> Option<Wish>
         ensures layers { (newest : Option Meaning) → self.now.newest ≡ option_map targets_of newest → result ≡ target_layers newest self.now.target }
     {
-        match (self.target, &self.newest) {
-            (CurrentTarget::Open { index, opened: _ }, Some(targets)) => {
-                layers(&targets.pairs, index)
+        match (self.epoch, self.target) {
+            (Some(_), CurrentTarget::Open { index, opened: _ }) => {
+                layers(&self.newest.pairs, index)
             }
             _ => None,
         }
@@ -123,13 +123,8 @@ impl Selector {
     pub fn reaches_wish(&self) -> bool
         ensures reaches { (newest : Option Meaning) → self.now.newest ≡ option_map targets_of newest → result ≡ reaches newest self.now.wish self.now.target }
     {
-        match &self.newest {
-            Some(targets) => is_aimed(
-                best_of(self.wish, targets.mask, targets.count, &targets.pairs),
-                self.target,
-            ),
-            None => false,
-        }
+        let FrameTargets { count, mask, pairs } = &self.newest;
+        self.epoch.is_some() && is_aimed(best_of(self.wish, *mask, *count, pairs), self.target)
     }
 
     /// The verdict on a frame of so many packets, where so many are queued: whether it is passed on, or why it isn't.
@@ -153,18 +148,7 @@ impl Selector {
     /// The same of an offered frame, whose offer was made once for all subscribers.
     #[inline(always)]
     pub fn admit_offered(&mut self, offer: &FrameOffer<'_>, queued: u16) -> Verdict
-        ensures verdict { (s : Standing) → StandsFor self.old s → IsAboveAll offer.now.frame s → s.queued ≡ queued
-            → result ≡ verdict_at s offer.now.frame offer.now.packets }
-        ensures stands { (s : Standing) → StandsFor self.old s → IsAboveAll offer.now.frame s → s.queued ≡ queued
-            → StandsFor self.new (after_frame s offer.now.frame offer.now.packets) }
-        ensures room { result ≡ Passed → queued + offer.now.packets ≤ 512 }
-        ensures top { (s : Standing) → StandsFor self.old s → IsAboveAll offer.now.frame s → s.queued ≡ queued → result ≡ Passed
-            → self.new.top ≡ is_top_layer offer.now.frame (candidate_at s offer.now.frame) }
-        ensures opened { (s : Standing) → StandsFor self.old s → IsAboveAll offer.now.frame s → s.queued ≡ queued → result ≡ Passed
-            → self.new.opened ≡ is_opening_at s offer.now.frame }
-        ensures not_top { (result ≡ Passed → ⊥) → self.new.top ≡ false }
-        ensures not_opened { (result ≡ Passed → ⊥) → self.new.opened ≡ false }
-        ensures newest { self.new.newest ≡ Some (targets_of offer.now.frame) }
+        ensures { IsAdmitted self.old self.new offer.now queued result }
     {
         self.meet(offer);
         let found = self.judge(offer, queued);
@@ -200,7 +184,7 @@ impl Selector {
     {
         let frame = offer.frame();
         self.begin_epoch(frame);
-        keep_targets(&mut self.newest, frame);
+        self.newest.set(frame);
         let reason = closing(frame, self.target, &self.passed);
         close(&mut self.target, reason);
     }
@@ -208,7 +192,7 @@ impl Selector {
     // Where the frame is of another epoch, what was passed is forgotten, and no target is open.
     fn begin_epoch(&mut self, frame: &FrameMeaning)
         ensures stands { (s : Standing) → StandsFor self.old s → StandsAt self.new s frame.now }
-        ensures newest { self.new.newest ≡ self.old.newest }
+        ensures epoch { self.new.epoch ≡ Some frame.now.epoch }
     {
         if self.epoch == Some(frame.epoch) {
             return;
@@ -232,10 +216,8 @@ impl Selector {
         ensures below { IsBelow 32 result.opening }
         ensures index { IsIndexBelow 32 self.now.target }
     {
-        let frame = offer.frame();
-        let missing = missing_reference(frame, &self.passed);
-        let ready = is_ready(offer, missing, self.key_passed);
-        let opening = offer.opening(self.wish, ready, self.target);
+        let missing = missing_reference(offer, &self.passed);
+        let opening = offer.opening(self.wish, missing.is_none(), self.key_passed, self.target);
         Judgement {
             missing,
             opening,
@@ -284,18 +266,6 @@ impl Selector {
     }
 }
 
-// The targets of the last frame become this one's. They are written in place.
-#[inline(always)]
-fn keep_targets(newest: &mut Option<FrameTargets>, frame: &FrameMeaning)
-    ensures { newest.new ≡ Some (targets_of frame.now) }
-{
-    if let Some(targets) = newest {
-        targets.set(frame);
-    } else {
-        *newest = Some(FrameTargets::of(frame));
-    }
-}
-
 // The target is closed, where there is a reason.
 #[inline(always)]
 fn close(target: &mut CurrentTarget, reason: Option<Reason>)
@@ -333,13 +303,6 @@ fn opened_or(frame: &FrameMeaning, opening: Option<u8>, kept: CurrentTarget) -> 
         },
         None => kept,
     }
-}
-
-// Whether all references were passed, and it is a key frame or its epoch's was passed.
-fn is_ready(offer: &FrameOffer<'_>, missing: Option<u16>, key_passed: bool) -> bool
-    ensures { result ≡ (is_nothing missing && (offer.now.frame.key || key_passed)) }
-{
-    missing.is_none() && (offer.frame().key || key_passed)
 }
 
 // Whether the frame belongs to its target, all its references were passed, and there is room.
