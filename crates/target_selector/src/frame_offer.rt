@@ -2,7 +2,7 @@
 ghost use Rattle.std.specs.Prelude.{◌≡◌, ◌≤◌, ◌<◌, ◌||◌, ◌&&◌, ℕ, List, None, Some, true, false, slice_index};
 ghost use Rattle.sfu_base.specs.Frame.{IsValid};
 ghost use Rattle.forwarding_model.specs.forwarding.Outgoing.{is_top_layer};
-ghost use Rattle.forwarding_model.specs.forwarding.Selection.{can_open, is_present_in, is_upgrade, missing_reference};
+ghost use Rattle.forwarding_model.specs.forwarding.Selection.{can_open, has_room, is_present_in, is_upgrade, missing_reference, opened_or};
 ghost use Rattle.forwarding_model.specs.forwarding.Targets.{aim, best, is_present};
 ghost use Rattle.ref_window.specs.Numbers.{AreBelow, has_below};
 ghost use Rattle.target_selector.specs.Masks.{mask_for, targets_where};
@@ -12,6 +12,7 @@ ghost use Rattle.target_selector.specs.Targets.{IsBelow, IsIndexBelow};
 use crate::frame_targets::{
     best_of, is_allowed, is_better, is_within, layers, mask_within, with_target,
 };
+use crate::withheld::has_room;
 use forwarding_model::CurrentTarget;
 use sfu_base::{Dti, FrameMeaning, Wish};
 use std::marker::Model;
@@ -174,28 +175,37 @@ impl<'a> FrameOffer<'a> {
     pub fn aim(&self, wish: Wish) -> Option<u8>
         ensures { result ≡ aim wish self.now.frame }
     {
-        best_of(
-            wish,
-            self.frame.mask,
-            self.frame.target_count,
-            &self.frame.pairs,
-        )
+        let frame = self.frame;
+        best_of(wish, frame.mask, frame.target_count, &frame.pairs)
     }
 
     /// Whether the frame belongs to the target.
     pub fn is_present(&self, target: u8) -> bool
         ensures { result ≡ is_present self.now.frame target }
     {
-        is_present(self.frame, target)
+        target < self.frame.target_count && self.frame.dtis[usize::from(target)] != Dti::NotPresent
     }
 
-    /// Whether it belongs to the target that is open, if one is.
-    pub fn is_present_in(&self, current: CurrentTarget) -> bool
-        ensures { result ≡ is_present_in self.now.frame current }
+    /// Whether it belongs to the target that it opens, else to the one that is open, all its references were passed, and the queue has space.
+    pub fn passes(
+        &self,
+        opening: Option<u8>,
+        current: CurrentTarget,
+        complete: bool,
+        queued: u16,
+    ) -> bool
+        ensures { result ≡ (is_present_in self.now.frame (opened_or self.now.frame opening current) && (complete && has_room queued self.now.packets)) }
     {
-        match current {
-            CurrentTarget::Open { index, opened: _ } => self.is_present(index),
-            CurrentTarget::Closed { reason: _ } => false,
+        self.is_present_in(opening, current) && complete && has_room(self.packets, queued)
+    }
+
+    fn is_present_in(&self, opening: Option<u8>, current: CurrentTarget) -> bool
+        ensures { result ≡ is_present_in self.now.frame (opened_or self.now.frame opening current) }
+    {
+        match (opening, current) {
+            (Some(index), _) => self.is_present(index),
+            (None, CurrentTarget::Open { index, opened: _ }) => self.is_present(index),
+            (None, CurrentTarget::Closed { reason: _ }) => false,
         }
     }
 
@@ -220,16 +230,12 @@ impl<'a> FrameOffer<'a> {
         requires { IsBelow 32 target }
         ensures { result ≡ mask_for self.now.frame target }
     {
-        match target {
-            Some(target) => match layers(&self.frame.pairs, target) {
-                Some(most) => mask_within(
-                    most,
-                    self.frame.mask,
-                    self.frame.target_count,
-                    &self.frame.pairs,
-                ),
-                None => 0,
-            },
+        let Some(target) = target else {
+            return 0;
+        };
+        let frame = self.frame;
+        match layers(&frame.pairs, target) {
+            Some(most) => mask_within(most, frame.mask, frame.target_count, &frame.pairs),
             None => 0,
         }
     }
@@ -310,11 +316,4 @@ fn says_begin(frame: &FrameMeaning, target: u8) -> bool
 {
     let dti = frame.dtis[usize::from(target)];
     dti == Dti::Switch || (frame.key && dti != Dti::NotPresent)
-}
-
-fn is_present(frame: &FrameMeaning, target: u8) -> bool
-    requires { frame.now.target_count ≤ 32 }
-    ensures { result ≡ is_present frame.now target }
-{
-    target < frame.target_count && frame.dtis[usize::from(target)] != Dti::NotPresent
 }

@@ -15,9 +15,9 @@ ghost use Rattle.target_selector.specs.Stands.{IsAboveAll, IsAdmitted, IsJudged,
 ghost use Rattle.target_selector.specs.Targets.{IsBelow, IsIndexBelow, closed_or};
 
 use crate::frame_offer::FrameOffer;
-use crate::frame_targets::{FrameTargets, best_of, layers};
+use crate::frame_targets::{FrameTargets, NO_TARGETS, best_of, layers};
 use crate::passed_frames::{closing, missing_reference};
-use crate::withheld::{has_room, withheld};
+use crate::withheld::withheld;
 use forwarding_model::{CurrentTarget, Reason};
 use ref_window::RefWindow;
 use sfu_base::{FrameMeaning, Verdict, Wish};
@@ -80,7 +80,7 @@ impl Selector {
             },
             key_passed: false,
             passed: RefWindow::new(),
-            newest: FrameTargets::none(),
+            newest: NO_TARGETS,
             top: false,
             opened: false,
         }
@@ -154,10 +154,12 @@ impl Selector {
         let found = self.judge(offer, queued);
         if found.passes {
             self.pass(offer, found.opening);
-            Verdict::Passed
-        } else {
-            self.withhold(offer, found.missing, found.opening, queued)
+            return Verdict::Passed;
         }
+        self.top = false;
+        self.opened = false;
+        let candidate = opened_or(offer.frame(), found.opening, self.target);
+        withheld(offer, self.wish, found.missing, candidate, queued)
     }
 
     /// Whether the frame that was just passed has the spatial id of its target's layers, so that its last packet ends the temporal unit.
@@ -217,11 +219,12 @@ impl Selector {
         ensures index { IsIndexBelow 32 self.now.target }
     {
         let missing = missing_reference(offer, &self.passed);
-        let opening = offer.opening(self.wish, missing.is_none(), self.key_passed, self.target);
+        let complete = missing.is_none();
+        let opening = offer.opening(self.wish, complete, self.key_passed, self.target);
         Judgement {
             missing,
             opening,
-            passes: passes(offer, missing, opening, self.target, queued),
+            passes: offer.passes(opening, self.target, complete, queued),
         }
     }
 
@@ -243,26 +246,6 @@ impl Selector {
         self.passed.insert(offer.number());
         self.top = offer.is_top_layer(self.target);
         self.opened = opening.is_some();
-    }
-
-    // Why the frame doesn't pass. Out of line: most frames pass.
-    #[inline(never)]
-    fn withhold(
-        &mut self,
-        offer: &FrameOffer<'_>,
-        missing: Option<u16>,
-        opening: Option<u8>,
-        queued: u16,
-    ) -> Verdict
-        requires { passes_by offer.now.frame offer.now.packets queued self.old.target missing opening ≡ false }
-        ensures same { self.new ≡ record self.old { top = false; opened = false } }
-        ensures value { result ≡ verdict_by offer.now.frame offer.now.packets queued self.old.wish self.old.target missing opening }
-        ensures fails { result ≡ Passed → ⊥ }
-    {
-        self.top = false;
-        self.opened = false;
-        let candidate = opened_or(offer.frame(), opening, self.target);
-        withheld(offer, self.wish, missing, candidate, queued)
     }
 }
 
@@ -302,31 +285,6 @@ fn opened_or(frame: &FrameMeaning, opening: Option<u8>, kept: CurrentTarget) -> 
             opened: frame.number,
         },
         None => kept,
-    }
-}
-
-// Whether the frame belongs to its target, all its references were passed, and there is room.
-#[inline(always)]
-fn passes(
-    offer: &FrameOffer<'_>,
-    missing: Option<u16>,
-    opening: Option<u8>,
-    kept: CurrentTarget,
-    queued: u16,
-) -> bool
-    ensures { result ≡ (is_present_in offer.now.frame (opened_or offer.now.frame opening kept) && (is_nothing missing && has_room queued offer.now.packets)) }
-{
-    is_present(offer, opening, kept) && missing.is_none() && has_room(offer.packets(), queued)
-}
-
-// Whether it belongs to the target that it opens, else to the one that is left, if one is.
-#[inline(always)]
-fn is_present(offer: &FrameOffer<'_>, opening: Option<u8>, kept: CurrentTarget) -> bool
-    ensures { result ≡ is_present_in offer.now.frame (opened_or offer.now.frame opening kept) }
-{
-    match opening {
-        Some(index) => offer.is_present(index),
-        None => offer.is_present_in(kept),
     }
 }
 
