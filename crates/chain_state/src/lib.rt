@@ -1,7 +1,8 @@
 //! The chain that protects a decode target: whether a frame's previous frame in it was forwarded (AV1 RTP payload format, Appendix A).
 #![tactic(auto)]
 
-ghost use Rattle.std.specs.Prelude.{◌≡◌, ◌<◌, List};
+ghost use Rattle.std.specs.Prelude.{◌≡◌, ◌<◌, List, true};
+ghost use Rattle.std.specs.Int.{bit_at};
 ghost use Rattle.sfu_base.specs.Frame.{IsValid};
 ghost use Rattle.sfu_base.specs.declared.frame.FrameMeaning.{FrameMeaning as Frame};
 ghost use Rattle.forwarding_model.specs.forwarding.Selection.{chain_link};
@@ -24,6 +25,7 @@ pub enum LinkState {
 /// The state, at `frame`, of the chain that protects the open target. `passed` has the numbers of the forwarded frames of the epoch.
 /// `opened` is the number of the frame at which the target was opened: frames of the chain before it aren't needed. The chain is intact if
 /// there are no chains, or if the frame's distance in the chain is 0.
+#[inline(always)]
 pub fn link_state(frame: &FrameMeaning, target: u8, opened: u64, passed: &RefWindow) -> LinkState
     requires valid { IsValid frame.now }
     requires target { target < frame.now.target_count }
@@ -34,7 +36,12 @@ pub fn link_state(frame: &FrameMeaning, target: u8, opened: u64, passed: &RefWin
     if frame.chain_count == 0 {
         return LinkState::Intact;
     }
-    let distance = u64::from(distance_in_chain(frame, target));
+    let distance = distance_in_chain(frame, target);
+    // Mostly it is short, and the frame was forwarded.
+    if has_bit(passed.right_below(frame.number), distance) {
+        return LinkState::Intact;
+    }
+    let distance = u64::from(distance);
     if distance == 0 || frame.number < distance || frame.number - distance < opened {
         return LinkState::Intact;
     }
@@ -54,4 +61,10 @@ fn distance_in_chain(frame: &FrameMeaning, target: u8) -> u8
 {
     let chain = frame.guards[usize::from(target)];
     frame.links[usize::from(chain)]
+}
+
+fn has_bit(mask: u64, place: u8) -> bool
+    ensures { result ≡ true → bit_at mask place ≡ 1 }
+{
+    place < 64 && (mask >> place) % 2 == 1
 }

@@ -1,3 +1,4 @@
 pub mod Rings
 pub mod Held
 pub mod Forgetting
+pub mod Recent

@@ -1,6 +1,7 @@
 -- What a window of numbers contains. Own rule; it is as wide as a frame can refer back (AV1 RTP payload format, Appendix A: frame_fdiff is at
 -- most 4,096). Lists of numbers have the newest first. The code has the greatest number and a ring of bits.
-use Rattle.std.specs.Prelude.{◌+◌, ◌<◌, ◌==◌, ℕ, List, [], ◌∷◌, Bool, filter, nat_le}
+use Rattle.std.specs.Prelude.{◌≡◌, ◌+◌, ◌<◌, ◌==◌, ℕ, List, [], ◌∷◌, Bool, true, filter, nat_le}
+use Rattle.std.specs.Int.{bit_at}
 use Rattle.std.specs.List.{AllByRecursion, list_any}
 
 -- the number lies at most 4,096 below the greatest
@@ -23,3 +24,7 @@ has_below numbers n d = list_any (λ m. (m + d) == n) numbers
 -- the number is greater than each of these
 abbrev pub IsAboveAll : ℕ → List ℕ → Type 0
 IsAboveAll number numbers = AllByRecursion (λ n. n < number) numbers
+
+-- Where bit d of the mask is set, one of these numbers lies d below n; none is n itself.
+abbrev pub AreBelow : List ℕ → ℕ → ℕ → Type 0
+AreBelow numbers n mask = (d : ℕ) → bit_at mask d ≡ 1 → (0 < d) × (d < 64) × (has_below numbers n d ≡ true)

@@ -1,9 +1,9 @@
 -- What the fields of a window mean: a number's bit is in a ring of 64 words of 64 bits, at the number modulo 4,096.
-use Rattle.std.specs.Prelude.{◌≡◌, ◌≢◌, ◌+◌, ◌<◌, ◌≤◌, ◌/◌, ◌%◌, ◌==◌, ℕ, zero, suc, List, [], ◌∷◌, Bool, false, if◌then◌else◌, ◌&&◌, slice_index}
+use Rattle.std.specs.Prelude.{◌≡◌, ◌≢◌, ◌+◌, ◌<◌, ◌≤◌, ◌/◌, ◌%◌, ◌==◌, ℕ, zero, suc, List, [], ◌∷◌, Bool, true, false, if◌then◌else◌, ◌&&◌, slice_index}
 use Rattle.std.specs.declared.option.Option.{Option}
 use Rattle.std.specs.declared.option.Option.TheVariants.{None, Some}
 use Rattle.std.specs.Int.{bit_at}
-use Rattle.ref_window.specs.Numbers.{is_near}
+use Rattle.ref_window.specs.Numbers.{has_below, is_near}
 
 -- the number's bit is 1
 abbrev pub has_bit : List ℕ → ℕ → Bool
@@ -18,6 +18,11 @@ passing_below test (suc n) = if test n then n ∷ passing_below test n else pass
 unfoldable pub held_in : Option ℕ → List ℕ → List ℕ
 held_in None words = []
 held_in (Some greatest) words = greatest ∷ passing_below (λ n. is_near greatest n && has_bit words n) greatest
+
+-- where bit d is set, the number d below the greatest is held
+abbrev pub AreRecent : Option ℕ → List ℕ → ℕ → Type 0
+AreRecent None words recent = Unit {0}
+AreRecent (Some greatest) words recent = (d : ℕ) → bit_at recent d ≡ 1 → has_below (held_in (Some greatest) words) greatest d ≡ true
 
 -- one number's bit, which it shares with those a multiple of 4,096 away, has this value now
 pub record ChangesBit (old new : List ℕ) (number : ℕ) (value : Bool) : Type 0 where

@@ -1,8 +1,8 @@
 // The window over the frame numbers.
 ghost use Rattle.std.specs.Prelude.{◌≡◌, ◌∷◌, ℕ, List, [], IsTrue, ◌↔◌};
-ghost use Rattle.ref_window.specs.Numbers.{IsAboveAll, held_of, is_among};
+ghost use Rattle.ref_window.specs.Numbers.{AreBelow, IsAboveAll, held_of, is_among};
 
-use crate::words::{SPAN, WORDS, Words, bit, move_on};
+use crate::words::{SPAN, WORD_BITS, WORDS, Words, bit, move_on};
 use std::marker::Model;
 
 /// The numbers that were inserted since the last reset and are at most 4,096 below the greatest of them. A contract sees their list, the
@@ -12,15 +12,19 @@ pub struct RefWindow {
     greatest: Option<u64>,
     // bits for the numbers below the greatest; without meaning where there is none
     words: Words,
+    // the greatest and those right below it once more: bit d, the lowest being 0, is set only where the number d below it is in the window
+    recent: u64,
 }
 
 impl Model for RefWindow {
     ghost use Rattle.std.specs.Prelude.{List, ℕ};
-    ghost use Rattle.ref_window.specs.Words.{held_in};
+    ghost use Rattle.ref_window.specs.Words.{AreRecent, held_in};
 
     ghost Value = { List ℕ };
 
     ghost view = { λ w. held_in w.greatest w.words };
+
+    ghost invariant = { λ w. AreRecent w.greatest w.words w.recent };
 }
 
 impl RefWindow {
@@ -31,6 +35,7 @@ impl RefWindow {
         RefWindow {
             greatest: None,
             words: [0; WORDS],
+            recent: 0,
         }
     }
 
@@ -47,6 +52,21 @@ impl RefWindow {
         greatest - number <= SPAN && bit(&self.words, number)
     }
 
+    /// The window's numbers right below this one, as a mask: where bit d is set, the lowest being bit 0, the window contains the number d below it. Bit 0
+    /// is never set, and a bit that isn't says nothing.
+    #[inline(always)]
+    pub fn right_below(&self, number: u64) -> u64
+        ensures { AreBelow self.now number result }
+    {
+        let Some(greatest) = self.greatest else {
+            return 0;
+        };
+        if number <= greatest || number - greatest >= WORD_BITS {
+            return 0;
+        }
+        self.recent << (number - greatest)
+    }
+
     /// Inserts a number that is above all that were inserted since the last reset, and forgets those more than 4,096 below it. Any other
     /// number changes nothing.
     pub fn insert(&mut self, number: u64)
@@ -57,6 +77,7 @@ impl RefWindow {
         if !self.is_below(number) {
             return;
         }
+        self.recent = self.right_below(number) | 1;
         move_on(&mut self.words, self.greatest, number);
         self.greatest = Some(number);
     }

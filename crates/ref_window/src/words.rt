@@ -9,7 +9,8 @@ pub const SPAN: u64 = 4096;
 /// Words in the ring, of `WORD_BITS` bits each.
 pub const WORDS: usize = 64;
 
-const WORD_BITS: u64 = 64;
+/// Bits of a word.
+pub const WORD_BITS: u64 = 64;
 
 /// `SPAN` bits.
 pub type Words = [u64; WORDS];

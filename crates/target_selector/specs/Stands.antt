@@ -1,17 +1,21 @@
 -- Which standings a selector stands for. Own rules.
 -- The standing of a timeline goes event by event, so a fact about every standing that a selector stands for is one about every timeline.
-use Rattle.std.specs.Prelude.{◌≡◌, ◌<◌, ◌&&◌, ℕ, Bool, true, false, Option}
+use Rattle.std.specs.Prelude.{◌≡◌, ◌+◌, ◌<◌, ◌≤◌, ◌&&◌, ℕ, Bool, true, false, Option}
 use Rattle.std.specs.List.{AllByRecursion, list_any}
 use Rattle.std.specs.declared.option.Option.TheVariants.{None, Some}
 use Rattle.sfu_base.specs.declared.frame.FrameMeaning.{FrameMeaning}
+use Rattle.forwarding_model.specs.forwarding.Outgoing.{is_top_layer}
 use Rattle.forwarding_model.specs.forwarding.Selection.{candidate_verdict, has_room, is_present_in, opened_or, opening, reference_verdict, target_of, target_verdict}
-use Rattle.forwarding_model.specs.forwarding.Standing.{Standing, candidate_at, has_passed, is_key, kept_target_at, key_passed, passed_at, passes_at, target_at, verdict_at}
+use Rattle.forwarding_model.specs.forwarding.Standing.{Standing, after_frame, candidate_at, has_passed, is_key, kept_target_at, key_passed, passed_at, passes_at, target_at, verdict_at}
 use Rattle.ref_window.specs.Numbers.{held_of}
 use Rattle.chain_state.specs.Links.{numbers_of}
 use Rattle.sfu_base.specs.declared.frame.Wish.{Wish}
 use Rattle.sfu_base.specs.declared.frame.Verdict.{Verdict}
+use Rattle.sfu_base.specs.declared.frame.Verdict.TheVariants.{Passed}
 use Rattle.forwarding_model.specs.declared.target.CurrentTarget.{CurrentTarget}
 use Rattle.forwarding_model.specs.Lists.{is_nothing}
+use Rattle.target_selector.specs.Offers.{Offered}
+use Rattle.target_selector.specs.Reaching.{targets_of}
 use Rattle.target_selector.specs.Seen.{Seen}
 use Rattle.target_selector.specs.declared.selector.Judgement.{Judgement}
 
@@ -66,3 +70,16 @@ pub record IsJudged (s : Standing) (f : FrameMeaning) (packets queued : ℕ) (ke
   pub opens : is_something found.opening ≡ is_opening_at s f
   pub passes : found.passes ≡ passes_at s f packets
   pub verdict : verdict_by f packets queued s.wish kept found.missing found.opening ≡ verdict_at s f packets
+
+-- An offered frame got this verdict, where so many packets were queued: that of each standing that the selector stood for, if its passed frames are below the
+-- frame. The selector stands for what follows, and tells of the frame.
+pub record IsAdmitted (old new : Seen) (offer : Offered) (queued : ℕ) (result : Verdict) : Type 0 where
+  pub verdict : (s : Standing) → StandsFor old s → IsAboveAll offer.frame s → s.queued ≡ queued → result ≡ verdict_at s offer.frame offer.packets
+  pub stands : (s : Standing) → StandsFor old s → IsAboveAll offer.frame s → s.queued ≡ queued → StandsFor new (after_frame s offer.frame offer.packets)
+  pub room : result ≡ Passed → queued + offer.packets ≤ 512
+  pub top : (s : Standing) → StandsFor old s → IsAboveAll offer.frame s → s.queued ≡ queued → result ≡ Passed
+      → new.top ≡ is_top_layer offer.frame (candidate_at s offer.frame)
+  pub opened : (s : Standing) → StandsFor old s → IsAboveAll offer.frame s → s.queued ≡ queued → result ≡ Passed → new.opened ≡ is_opening_at s offer.frame
+  pub not_top : (result ≡ Passed → ⊥) → new.top ≡ false
+  pub not_opened : (result ≡ Passed → ⊥) → new.opened ≡ false
+  pub newest : new.newest ≡ Some (targets_of offer.frame)

@@ -1,16 +1,18 @@
-// What is the same for all subscribers of a frame's track, found once.
-ghost use Rattle.std.specs.Prelude.{◌≡◌, ◌≤◌, ◌<◌, ◌&&◌, ◌||◌, ℕ, Bool, true, false};
+// What a frame says to all subscribers of its track, found once.
+ghost use Rattle.std.specs.Prelude.{◌≡◌, ◌≤◌, ◌<◌, ◌||◌, ◌&&◌, ℕ, List, None, Some, true, false, slice_index};
 ghost use Rattle.sfu_base.specs.Frame.{IsValid};
 ghost use Rattle.forwarding_model.specs.forwarding.Outgoing.{is_top_layer};
-ghost use Rattle.forwarding_model.specs.forwarding.Selection.{can_open, is_present_in, is_upgrade};
-ghost use Rattle.forwarding_model.specs.forwarding.Targets.{aim, best, indication, is_present, is_switch, says_present};
+ghost use Rattle.forwarding_model.specs.forwarding.Selection.{can_open, has_room, is_present_in, is_upgrade, missing_reference, opened_or};
+ghost use Rattle.forwarding_model.specs.forwarding.Targets.{aim, best, is_present};
+ghost use Rattle.ref_window.specs.Numbers.{AreBelow, has_below};
 ghost use Rattle.target_selector.specs.Masks.{mask_for, targets_where};
-ghost use Rattle.target_selector.specs.Offers.{begins, begins_within, everything};
-ghost use Rattle.target_selector.specs.Targets.{IsBelow, IsIndexBelow, allows, best_in, is_bit};
+ghost use Rattle.target_selector.specs.Offers.{IsBegun, IsNeeded, begins, begins_within, everything, says_begin};
+ghost use Rattle.target_selector.specs.Targets.{IsBelow, IsIndexBelow};
 
 use crate::frame_targets::{
     best_of, is_allowed, is_better, is_within, layers, mask_within, with_target,
 };
+use crate::withheld::has_room;
 use forwarding_model::CurrentTarget;
 use sfu_base::{Dti, FrameMeaning, Wish};
 use std::marker::Model;
@@ -24,16 +26,22 @@ const EVERYTHING: Wish = Wish {
     temporal: u8::MAX,
 };
 
-/// A frame, how many packets it has, and what is the same for all subscribers of its track: at which of the frame's targets a decoder can begin, and
-/// which of these is best. An offer is made once a frame. Clauses see the frame and the count of packets.
+/// The active targets that a decoder can begin at a frame, and the best of them.
+#[derive(Clone, Copy, Debug)]
+pub struct Begun {
+    pub targets: u32,
+    pub top: Option<u8>,
+}
+
+/// A frame, how many packets it has, and what is the same for all subscribers of its track: which frames it refers to, at which of its targets a decoder
+/// can begin, and which of these is best. An offer is made once a frame. Clauses see the frame and the count of packets.
 #[derive(Debug, Drop)]
 pub struct FrameOffer<'a> {
     frame: &'a FrameMeaning,
     packets: u16,
-    // the active targets that a decoder can begin here
-    begun: u32,
-    // the best of them
-    top: Option<u8>,
+    // the distances of its references, each as a bit; bit 0 where one has none of 64
+    needed: u64,
+    begun: Begun,
 }
 
 impl<'a> Model for FrameOffer<'a> {
@@ -43,7 +51,7 @@ impl<'a> Model for FrameOffer<'a> {
 
     ghost view = { λ o. record { frame = o.frame.now; packets = o.packets } };
 
-    ghost invariant = { λ o. IsOfferOf o.frame.now o.begun o.top };
+    ghost invariant = { λ o. IsOfferOf o.frame.now o.needed o.begun };
 }
 
 impl<'a> FrameOffer<'a> {
@@ -52,13 +60,11 @@ impl<'a> FrameOffer<'a> {
         requires { IsValid frame.now }
         ensures { result ≡ record { frame = frame.now; packets = packets } }
     {
-        let begun = begun_targets(frame);
-        let top = best_begun(frame, begun);
         FrameOffer {
             frame,
             packets,
-            begun,
-            top,
+            needed: distances(frame),
+            begun: begun_at(frame),
         }
     }
 
@@ -84,44 +90,66 @@ impl<'a> FrameOffer<'a> {
         self.packets
     }
 
-    /// The best target that the frame opens for this wish in place of the current one, if it opens one. `ready` is whether all references of the
-    /// frame were passed, and it is a key frame or its epoch's key frame was passed.
-    pub fn opening(&self, wish: Wish, ready: bool, current: CurrentTarget) -> Option<u8>
+    /// Whether all references of the frame are in a mask of passed frames: bit d of the mask is the frame whose number is d below this one's. False says
+    /// nothing, since the mask has only the frames right below.
+    pub fn refers_within(&self, passed: u64) -> bool
+        ensures valid { IsValid self.now.frame }
+        ensures passed { (numbers : List ℕ) → AreBelow numbers self.now.frame.number passed → result ≡ true
+            → missing_reference (has_below numbers self.now.frame.number) self.now.frame ≡ None }
+    {
+        self.needed & passed == self.needed
+    }
+
+    /// The best target that the frame opens for this wish in place of the current one, if it opens one. `complete` is whether all references of the
+    /// frame were passed, `key_passed` whether the key frame of its epoch was.
+    pub fn opening(
+        &self,
+        wish: Wish,
+        complete: bool,
+        key_passed: bool,
+        current: CurrentTarget,
+    ) -> Option<u8>
         requires { IsIndexBelow 32 current }
-        ensures value { (complete keyed : Bool) → ready ≡ (complete && keyed) → result ≡ best self.now.frame (can_open wish complete keyed self.now.frame current) }
+        ensures value { result ≡ best self.now.frame (can_open wish complete (self.now.frame.key || key_passed) self.now.frame current) }
         ensures below { IsBelow 32 result }
     {
-        if !ready {
+        // Most frames begin nothing.
+        let Some(top) = self.begun.top else {
+            return None;
+        };
+        if !self.is_ready(complete, key_passed) {
             return None;
         }
-        match self.best_within(wish) {
-            Some(best) => {
-                if self.is_upgrade(wish, current, best) {
-                    Some(best)
-                } else {
-                    None
-                }
-            }
-            None => None,
+        let Some(best) = self.best_within(wish, top) else {
+            return None;
+        };
+        if self.is_upgrade(wish, current, best) {
+            Some(best)
+        } else {
+            None
         }
     }
 
+    fn is_ready(&self, complete: bool, key_passed: bool) -> bool
+        ensures { result ≡ (complete && (self.now.frame.key || key_passed)) }
+    {
+        complete && (self.frame.key || key_passed)
+    }
+
     // The best of the targets within the wish that a decoder can begin here. Mostly that is the best of all.
-    fn best_within(&self, wish: Wish) -> Option<u8>
+    fn best_within(&self, wish: Wish, top: u8) -> Option<u8>
+        requires top { Some top ≡ best self.now.frame (begins_within everything self.now.frame) }
+        requires small { top < 32 }
         ensures value { result ≡ best self.now.frame (begins_within wish self.now.frame) }
         ensures below { IsBelow 32 result }
     {
         // The checker knows the range of fields that are read.
         let Wish { .. } = wish;
-        match self.top {
-            Some(top) => {
-                if is_within(wish, layers(&self.frame.pairs, top)) {
-                    Some(top)
-                } else {
-                    best_of(wish, self.begun, self.frame.target_count, &self.frame.pairs)
-                }
-            }
-            None => None,
+        let pairs = &self.frame.pairs;
+        if is_within(wish, layers(pairs, top)) {
+            Some(top)
+        } else {
+            best_of(wish, self.begun.targets, self.frame.target_count, pairs)
         }
     }
 
@@ -148,28 +176,38 @@ impl<'a> FrameOffer<'a> {
     pub fn aim(&self, wish: Wish) -> Option<u8>
         ensures { result ≡ aim wish self.now.frame }
     {
-        best_of(
-            wish,
-            self.frame.mask,
-            self.frame.target_count,
-            &self.frame.pairs,
-        )
+        let frame = self.frame;
+        best_of(wish, frame.mask, frame.target_count, &frame.pairs)
     }
 
     /// Whether the frame belongs to the target.
     pub fn is_present(&self, target: u8) -> bool
         ensures { result ≡ is_present self.now.frame target }
     {
-        is_present(self.frame, target)
+        target < self.frame.target_count && self.frame.dtis[usize::from(target)] != Dti::NotPresent
     }
 
-    /// Whether a target is open and the frame belongs to it.
-    pub fn is_present_in(&self, current: CurrentTarget) -> bool
-        ensures { result ≡ is_present_in self.now.frame current }
+    /// Whether the frame passes: it belongs to the target that it opens, or if it opens none, to the open one; all its references were passed; and its
+    /// packets fit in the queue.
+    pub fn passes(
+        &self,
+        opening: Option<u8>,
+        current: CurrentTarget,
+        complete: bool,
+        queued: u16,
+    ) -> bool
+        ensures { result ≡ (is_present_in self.now.frame (opened_or self.now.frame opening current) && (complete && has_room queued self.now.packets)) }
     {
-        match current {
-            CurrentTarget::Open { index, opened: _ } => self.is_present(index),
-            CurrentTarget::Closed { reason: _ } => false,
+        self.is_present_in(opening, current) && complete && has_room(self.packets, queued)
+    }
+
+    fn is_present_in(&self, opening: Option<u8>, current: CurrentTarget) -> bool
+        ensures { result ≡ is_present_in self.now.frame (opened_or self.now.frame opening current) }
+    {
+        match (opening, current) {
+            (Some(index), _) => self.is_present(index),
+            (None, CurrentTarget::Open { index, opened: _ }) => self.is_present(index),
+            (None, CurrentTarget::Closed { reason: _ }) => false,
         }
     }
 
@@ -194,119 +232,90 @@ impl<'a> FrameOffer<'a> {
         requires { IsBelow 32 target }
         ensures { result ≡ mask_for self.now.frame target }
     {
-        match target {
-            Some(target) => match layers(&self.frame.pairs, target) {
-                Some(most) => mask_within(
-                    most,
-                    self.frame.mask,
-                    self.frame.target_count,
-                    &self.frame.pairs,
-                ),
-                None => 0,
-            },
+        let Some(target) = target else {
+            return 0;
+        };
+        let frame = self.frame;
+        match layers(&frame.pairs, target) {
+            Some(most) => mask_within(most, frame.mask, frame.target_count, &frame.pairs),
             None => 0,
         }
     }
 }
 
-// The active targets at which a decoder can begin: the frame is a switch for the target, or a key frame that belongs to the target.
-fn begun_targets(frame: &FrameMeaning) -> u32
+// The distances of the frame's references, as a mask. Bit 0 stands in for a distance of 64 or more.
+fn distances(frame: &FrameMeaning) -> u64
     requires { IsValid frame.now }
-    ensures { (t : ℕ) → t < frame.now.target_count → is_bit result t ≡ begins frame.now t }
+    ensures { (i : ℕ) → i < frame.now.ref_count → IsNeeded result (slice_index frame.now.refs i) }
+{
+    let mut needed = 0;
+    for place in 0..frame.ref_count {
+        needed |= distance_bit(frame.refs[usize::from(place)]);
+    }
+    needed
+}
+
+fn distance_bit(distance: u16) -> u64
+    ensures { IsNeeded result distance }
+{
+    if distance < 64 { 1 << distance } else { 1 }
+}
+
+fn begun_at(frame: &FrameMeaning) -> Begun
+    requires { IsValid frame.now }
+    ensures { IsBegun frame.now result }
 {
     if begins_some(frame) {
-        begun_ones(frame)
+        begun_some(frame)
     } else {
-        0
+        Begun {
+            targets: 0,
+            top: None,
+        }
     }
 }
 
 // Out of line: most frames begin nothing.
 #[inline(never)]
-fn begun_ones(frame: &FrameMeaning) -> u32
+fn begun_some(frame: &FrameMeaning) -> Begun
     requires { IsValid frame.now }
-    ensures { (t : ℕ) → t < frame.now.target_count → is_bit result t ≡ begins frame.now t }
+    ensures { IsBegun frame.now result }
 {
-    if frame.key {
-        frame.mask & present_ones(frame)
-    } else {
-        frame.mask & switch_ones(frame)
+    let targets = frame.mask & beginnings(frame);
+    Begun {
+        targets,
+        top: best_of(EVERYTHING, targets, frame.target_count, &frame.pairs),
     }
 }
 
-// Whether the frame is a key frame, or a switch for a target. This function and the two below look at all places, so that the compiler compares many
-// at once.
+// Whether the frame is a key frame, or a switch for a target. Here and below all places are looked at, so that the compiler compares many at once.
 #[inline(always)]
 fn begins_some(frame: &FrameMeaning) -> bool
     ensures { (target : ℕ) → target < 32 → result ≡ false → begins frame.now target ≡ false }
 {
     let mut begins = frame.key;
     for target in 0..TARGETS {
-        begins |= is_switch(frame, target);
+        begins |= frame.dtis[usize::from(target)] == Dti::Switch;
     }
     begins
 }
 
-fn switch_ones(frame: &FrameMeaning) -> u32
-    ensures { result ≡ targets_where (is_switch frame.now) 32 }
+// The targets, active or not, that a decoder can begin at the frame.
+fn beginnings(frame: &FrameMeaning) -> u32
+    ensures { result ≡ targets_where (says_begin frame.now) 32 }
 {
     let mut ones = 0;
     for target in 0..TARGETS {
-        ones = with_target(ones, target, is_switch(frame, target));
+        ones = with_target(ones, target, says_begin(frame, target));
     }
     ones
 }
 
-// The targets to which the frame belongs, as a mask.
-fn present_ones(frame: &FrameMeaning) -> u32
-    ensures { result ≡ targets_where (λ t. says_present (indication frame.now t)) 32 }
-{
-    let mut ones = 0;
-    for target in 0..TARGETS {
-        ones = with_target(ones, target, says_present(frame, target));
-    }
-    ones
-}
-
-// The best of the targets in the mask `begun`.
-fn best_begun(frame: &FrameMeaning, begun: u32) -> Option<u8>
-    requires { frame.now.target_count ≤ 32 }
-    ensures value { result ≡ best_in frame.now.pairs (allows everything begun frame.now.pairs) frame.now.target_count }
-    ensures below { IsBelow 32 result }
-{
-    if begun == 0 {
-        None
-    } else {
-        best_of_all(frame, begun)
-    }
-}
-
-#[inline(never)]
-fn best_of_all(frame: &FrameMeaning, begun: u32) -> Option<u8>
-    requires { frame.now.target_count ≤ 32 }
-    ensures value { result ≡ best_in frame.now.pairs (allows everything begun frame.now.pairs) frame.now.target_count }
-    ensures below { IsBelow 32 result }
-{
-    best_of(EVERYTHING, begun, frame.target_count, &frame.pairs)
-}
-
-fn is_present(frame: &FrameMeaning, target: u8) -> bool
-    requires { frame.now.target_count ≤ 32 }
-    ensures { result ≡ is_present frame.now target }
-{
-    target < frame.target_count && says_present(frame, target)
-}
-
-fn says_present(frame: &FrameMeaning, target: u8) -> bool
+// Whether it is a switch for the target, or a key frame that belongs to it.
+fn says_begin(frame: &FrameMeaning, target: u8) -> bool
     requires { target < 32 }
-    ensures { result ≡ says_present (indication frame.now target) }
+    ensures { result ≡ says_begin frame.now target }
 {
-    frame.dtis[usize::from(target)] != Dti::NotPresent
-}
-
-fn is_switch(frame: &FrameMeaning, target: u8) -> bool
-    requires { target < 32 }
-    ensures { result ≡ is_switch frame.now target }
-{
-    frame.dtis[usize::from(target)] == Dti::Switch
+    let dti = frame.dtis[usize::from(target)];
+    dti == Dti::Switch || (frame.key && dti != Dti::NotPresent)
 }

@@ -1,7 +1,7 @@
 // A frame's decode targets (AV1 RTP payload format, Appendix A: templates' layers, active_decode_targets_bitmask), which of them a wish allows,
 // and which is best (own rules).
 ghost use Rattle.std.specs.Prelude.{◌≡◌, ◌+◌, ◌≤◌, ◌<◌, ◌^◌, ◌==◌, ◌||◌, ◌&&◌, nat_lt, if◌then◌else◌};
-ghost use Rattle.forwarding_model.specs.forwarding.Targets.{is_better_of, is_better_pair, is_within};
+ghost use Rattle.forwarding_model.specs.forwarding.Targets.{is_better_of, is_within};
 ghost use Rattle.target_selector.specs.Masks.{targets_where};
 ghost use Rattle.target_selector.specs.Reaching.{targets_of};
 ghost use Rattle.target_selector.specs.Targets.{IsBelow, IsRanked, allows, best_in, better_in, height, is_bit, layers_in};
@@ -19,18 +19,14 @@ pub struct FrameTargets {
     pub pairs: Pairs,
 }
 
-impl FrameTargets {
-    /// The frame's targets.
-    pub fn of(frame: &FrameMeaning) -> FrameTargets
-        ensures { result ≡ targets_of frame.now }
-    {
-        FrameTargets {
-            count: frame.target_count,
-            mask: frame.mask,
-            pairs: frame.pairs,
-        }
-    }
+/// No targets.
+pub const NO_TARGETS: FrameTargets = FrameTargets {
+    count: 0,
+    mask: 0,
+    pairs: [None; 32],
+};
 
+impl FrameTargets {
     /// Replaces the targets by the frame's.
     pub fn set(&mut self, frame: &FrameMeaning)
         ensures { self.new ≡ targets_of frame.now }
@@ -112,7 +108,7 @@ pub fn is_allowed(wish: Wish, among: u32, pairs: &Pairs, target: u8) -> bool
     has_bit(among, target) && is_within(wish, layers(pairs, target))
 }
 
-/// Whether `target` is better than `other`.
+/// Whether the target is better than another: the greater spatial id first, then the greater temporal id, then the lower index.
 pub fn is_better(pairs: &Pairs, target: u8, other: u8) -> bool
     requires target { target < 32 }
     requires other { other < 32 }
@@ -121,18 +117,13 @@ pub fn is_better(pairs: &Pairs, target: u8, other: u8) -> bool
     match (layers(pairs, target), layers(pairs, other)) {
         (None, _) => false,
         (Some(_), None) => true,
-        (Some(pair), Some(other_pair)) => is_better_pair(pair, other_pair, target, other),
+        (Some(pair), Some(other_pair)) => {
+            other_pair.spatial < pair.spatial
+                || (pair.spatial == other_pair.spatial
+                    && (other_pair.temporal < pair.temporal
+                        || (pair.temporal == other_pair.temporal && target < other)))
+        }
     }
-}
-
-// The greater spatial id is better, then the greater temporal id, then the lower index.
-fn is_better_pair(pair: Wish, other_pair: Wish, target: u8, other: u8) -> bool
-    ensures { result ≡ is_better_pair pair other_pair target other }
-{
-    other_pair.spatial < pair.spatial
-        || (pair.spatial == other_pair.spatial
-            && (other_pair.temporal < pair.temporal
-                || (pair.temporal == other_pair.temporal && target < other)))
 }
 
 /// The mask of the targets below `count` that are in the mask `among` and whose layers are at most `most`.

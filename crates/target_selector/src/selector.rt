@@ -11,13 +11,13 @@ ghost use Rattle.forwarding_model.specs.forwarding.Standing.{Standing, after_fra
 ghost use Rattle.ref_window.specs.Numbers.{IsAboveAll as IsAboveAllNumbers, held_of};
 ghost use Rattle.target_selector.specs.Reaching.{is_aimed, reaches, target_layers, targets_of};
 ghost use Rattle.target_selector.specs.Seen.{begun};
-ghost use Rattle.target_selector.specs.Stands.{IsAboveAll, IsJudged, KeepsAt, StandsAt, StandsFor, is_opening_at, is_something, passes_by, verdict_by};
+ghost use Rattle.target_selector.specs.Stands.{IsAboveAll, IsAdmitted, IsJudged, KeepsAt, StandsAt, StandsFor, is_opening_at, is_something, passes_by, verdict_by};
 ghost use Rattle.target_selector.specs.Targets.{IsBelow, IsIndexBelow, closed_or};
 
 use crate::frame_offer::FrameOffer;
-use crate::frame_targets::{FrameTargets, best_of, layers};
+use crate::frame_targets::{FrameTargets, NO_TARGETS, best_of, layers};
 use crate::passed_frames::{closing, missing_reference};
-use crate::withheld::{has_room, withheld};
+use crate::withheld::withheld;
 use forwarding_model::{CurrentTarget, Reason};
 use ref_window::RefWindow;
 use sfu_base::{FrameMeaning, Verdict, Wish};
@@ -43,14 +43,14 @@ pub struct Selector {
     // whether a key frame of the epoch was passed, which the window forgets
     key_passed: bool,
     passed: RefWindow,
-    // the targets of the last frame, by which later questions are answered
-    newest: Option<FrameTargets>,
+    // the targets of the last frame, by which later questions are answered; of no meaning where there was none
+    newest: FrameTargets,
     top: bool,
     opened: bool,
 }
 
 impl Model for Selector {
-    ghost use Rattle.target_selector.specs.Seen.{IsKept, Seen};
+    ghost use Rattle.target_selector.specs.Seen.{IsKept, Seen, newest_of};
 
     ghost Value = { Seen };
 
@@ -60,7 +60,7 @@ impl Model for Selector {
       target = s.target;
       key_passed = s.key_passed;
       numbers = s.passed;
-      newest = s.newest;
+      newest = newest_of s.epoch s.newest;
       top = s.top;
       opened = s.opened;
     } };
@@ -82,7 +82,7 @@ impl Selector {
             },
             key_passed: false,
             passed: RefWindow::new(),
-            newest: None,
+            newest: NO_TARGETS,
             top: false,
             opened: false,
         }
@@ -113,9 +113,9 @@ impl Selector {
     pub fn layers(&self) -> Option<Wish>
         ensures layers { (newest : Option Meaning) → self.now.newest ≡ option_map targets_of newest → result ≡ target_layers newest self.now.target }
     {
-        match (self.target, &self.newest) {
-            (CurrentTarget::Open { index, opened: _ }, Some(targets)) => {
-                layers(&targets.pairs, index)
+        match (self.epoch, self.target) {
+            (Some(_), CurrentTarget::Open { index, opened: _ }) => {
+                layers(&self.newest.pairs, index)
             }
             _ => None,
         }
@@ -126,13 +126,8 @@ impl Selector {
     pub fn reaches_wish(&self) -> bool
         ensures reaches { (newest : Option Meaning) → self.now.newest ≡ option_map targets_of newest → result ≡ reaches newest self.now.wish self.now.target }
     {
-        match &self.newest {
-            Some(targets) => is_aimed(
-                best_of(self.wish, targets.mask, targets.count, &targets.pairs),
-                self.target,
-            ),
-            None => false,
-        }
+        let FrameTargets { count, mask, pairs } = &self.newest;
+        self.epoch.is_some() && is_aimed(best_of(self.wish, *mask, *count, pairs), self.target)
     }
 
     /// Returns the verdict on a frame of `packets` packets while `queued` packets are queued: `Passed`, or why the frame is withheld.
@@ -156,27 +151,18 @@ impl Selector {
     /// The same as [`Selector::admit`], with an offer that was made once for all subscribers.
     #[inline(always)]
     pub fn admit_offered(&mut self, offer: &FrameOffer<'_>, queued: u16) -> Verdict
-        ensures verdict { (s : Standing) → StandsFor self.old s → IsAboveAll offer.now.frame s → s.queued ≡ queued
-            → result ≡ verdict_at s offer.now.frame offer.now.packets }
-        ensures stands { (s : Standing) → StandsFor self.old s → IsAboveAll offer.now.frame s → s.queued ≡ queued
-            → StandsFor self.new (after_frame s offer.now.frame offer.now.packets) }
-        ensures room { result ≡ Passed → queued + offer.now.packets ≤ 512 }
-        ensures top { (s : Standing) → StandsFor self.old s → IsAboveAll offer.now.frame s → s.queued ≡ queued → result ≡ Passed
-            → self.new.top ≡ is_top_layer offer.now.frame (candidate_at s offer.now.frame) }
-        ensures opened { (s : Standing) → StandsFor self.old s → IsAboveAll offer.now.frame s → s.queued ≡ queued → result ≡ Passed
-            → self.new.opened ≡ is_opening_at s offer.now.frame }
-        ensures not_top { (result ≡ Passed → ⊥) → self.new.top ≡ false }
-        ensures not_opened { (result ≡ Passed → ⊥) → self.new.opened ≡ false }
-        ensures newest { self.new.newest ≡ Some (targets_of offer.now.frame) }
+        ensures { IsAdmitted self.old self.new offer.now queued result }
     {
         self.meet(offer);
         let found = self.judge(offer, queued);
         if found.passes {
             self.pass(offer, found.opening);
-            Verdict::Passed
-        } else {
-            self.withhold(offer, found.missing, found.opening, queued)
+            return Verdict::Passed;
         }
+        self.top = false;
+        self.opened = false;
+        let candidate = opened_or(offer.frame(), found.opening, self.target);
+        withheld(offer, self.wish, found.missing, candidate, queued)
     }
 
     /// Whether the last frame was passed and has the spatial id of its target's layers, so that the frame's last packet ends the temporal
@@ -204,7 +190,7 @@ impl Selector {
     {
         let frame = offer.frame();
         self.begin_epoch(frame);
-        keep_targets(&mut self.newest, frame);
+        self.newest.set(frame);
         let reason = closing(frame, self.target, &self.passed);
         close(&mut self.target, reason);
     }
@@ -212,7 +198,7 @@ impl Selector {
     // If the frame is of another epoch, forgets what was passed and closes the target.
     fn begin_epoch(&mut self, frame: &FrameMeaning)
         ensures stands { (s : Standing) → StandsFor self.old s → StandsAt self.new s frame.now }
-        ensures newest { self.new.newest ≡ self.old.newest }
+        ensures epoch { self.new.epoch ≡ Some frame.now.epoch }
     {
         if self.epoch == Some(frame.epoch) {
             return;
@@ -236,14 +222,13 @@ impl Selector {
         ensures below { IsBelow 32 result.opening }
         ensures index { IsIndexBelow 32 self.now.target }
     {
-        let frame = offer.frame();
-        let missing = missing_reference(frame, &self.passed);
-        let ready = is_ready(offer, missing, self.key_passed);
-        let opening = offer.opening(self.wish, ready, self.target);
+        let missing = missing_reference(offer, &self.passed);
+        let complete = missing.is_none();
+        let opening = offer.opening(self.wish, complete, self.key_passed, self.target);
         Judgement {
             missing,
             opening,
-            passes: passes(offer, missing, opening, self.target, queued),
+            passes: offer.passes(opening, self.target, complete, queued),
         }
     }
 
@@ -265,38 +250,6 @@ impl Selector {
         self.passed.insert(offer.number());
         self.top = offer.is_top_layer(self.target);
         self.opened = opening.is_some();
-    }
-
-    // Why the frame doesn't pass. Out of line: most frames pass.
-    #[inline(never)]
-    fn withhold(
-        &mut self,
-        offer: &FrameOffer<'_>,
-        missing: Option<u16>,
-        opening: Option<u8>,
-        queued: u16,
-    ) -> Verdict
-        requires { passes_by offer.now.frame offer.now.packets queued self.old.target missing opening ≡ false }
-        ensures same { self.new ≡ record self.old { top = false; opened = false } }
-        ensures value { result ≡ verdict_by offer.now.frame offer.now.packets queued self.old.wish self.old.target missing opening }
-        ensures fails { result ≡ Passed → ⊥ }
-    {
-        self.top = false;
-        self.opened = false;
-        let candidate = opened_or(offer.frame(), opening, self.target);
-        withheld(offer, self.wish, missing, candidate, queued)
-    }
-}
-
-// Replaces the last frame's targets by this frame's, in place.
-#[inline(always)]
-fn keep_targets(newest: &mut Option<FrameTargets>, frame: &FrameMeaning)
-    ensures { newest.new ≡ Some (targets_of frame.now) }
-{
-    if let Some(targets) = newest {
-        targets.set(frame);
-    } else {
-        *newest = Some(FrameTargets::of(frame));
     }
 }
 
@@ -336,38 +289,6 @@ fn opened_or(frame: &FrameMeaning, opening: Option<u8>, kept: CurrentTarget) -> 
             opened: frame.number,
         },
         None => kept,
-    }
-}
-
-// Whether all references of the frame were passed, and it is a key frame or its epoch's key frame was passed.
-fn is_ready(offer: &FrameOffer<'_>, missing: Option<u16>, key_passed: bool) -> bool
-    ensures { result ≡ (is_nothing missing && (offer.now.frame.key || key_passed)) }
-{
-    missing.is_none() && (offer.frame().key || key_passed)
-}
-
-// Whether the frame belongs to its target, all its references were passed, and its packets fit in the queue.
-#[inline(always)]
-fn passes(
-    offer: &FrameOffer<'_>,
-    missing: Option<u16>,
-    opening: Option<u8>,
-    kept: CurrentTarget,
-    queued: u16,
-) -> bool
-    ensures { result ≡ (is_present_in offer.now.frame (opened_or offer.now.frame opening kept) && (is_nothing missing && has_room queued offer.now.packets)) }
-{
-    is_present(offer, opening, kept) && missing.is_none() && has_room(offer.packets(), queued)
-}
-
-// Whether the frame belongs to the target that it opens, or if it opens none, to the open target `kept`.
-#[inline(always)]
-fn is_present(offer: &FrameOffer<'_>, opening: Option<u8>, kept: CurrentTarget) -> bool
-    ensures { result ≡ is_present_in offer.now.frame (opened_or offer.now.frame opening kept) }
-{
-    match opening {
-        Some(index) => offer.is_present(index),
-        None => offer.is_present_in(kept),
     }
 }
 
