@@ -107,8 +107,16 @@ impl WakeTable {
     /// The moment of the clock at which this link should continue: when the busy link that it follows expects to have received more, and some microseconds
     /// later. None where it follows no link that is busy.
     pub fn next_turn(&self, number: u64) -> Option<Duration> {
-        let followed = self.entries.get(number as usize)?.follows.load(Ordering::SeqCst);
-        let expected = self.entries.get(followed as usize)?.expected.load(Ordering::SeqCst);
+        let followed = self
+            .entries
+            .get(number as usize)?
+            .follows
+            .load(Ordering::SeqCst);
+        let expected = self
+            .entries
+            .get(followed as usize)?
+            .expected
+            .load(Ordering::SeqCst);
         if expected == 0 {
             return None;
         }

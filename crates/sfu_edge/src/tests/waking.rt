@@ -106,7 +106,10 @@ fn followers_of_a_busy_link_continue_in_steps_behind_the_moment_that_it_expects(
     assert_eq!(rt; table.next_turn(1), None);
     table.expect(0, Duration::from_millis(5));
     for (number, micros) in [(1, 5040), (2, 5080), (3, 5120), (4, 5000), (5, 5040)] {
-        assert_eq!(rt; table.next_turn(number), Some(Duration::from_micros(micros)));
+        assert_eq!(rt;
+            table.next_turn(number),
+            Some(Duration::from_micros(micros))
+        );
     }
     // One that follows nobody, one that follows a link that isn't busy, and one beyond the table.
     assert_eq!(rt; table.next_turn(6), None);
