@@ -68,15 +68,6 @@ func (r *rates) takes(highest int) (sum float64) {
 	return
 }
 
-// What is chosen for one picture.
-type chosen struct {
-	wish, place int       // the highest spatial layer, and the picture's place: the one in place 0 comes first
-	best        int       // the highest layers that fit
-	now         int       // those that the room was told
-	fits        time.Time // since when more fits, if more does
-	bytes       int       // that were sent since the page was told
-}
-
 // Chooses for all pictures of a person: each has its lowest layer, then the big one all that fits, and then the others.
 func (p *person) choose() {
 	left, seats := 0.85*p.path.bears, []*seat{}

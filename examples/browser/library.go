@@ -13,8 +13,6 @@ import "C"
 
 import "time"
 
-const turn = 32 // the most packets that a subscriber's session sends at a time
-
 var (
 	room    C.zoftemar_room // all below needs the lock: one call at a time
 	out     [C.ZOFTEMAR_PACKET_ROOM]byte
@@ -43,9 +41,12 @@ type source struct {
 type seat struct {
 	*session
 	*player
-	chosen
-	of   *source
-	ssrc uint32
+	of          *source
+	ssrc        uint32
+	wish, place int       // the highest spatial layer, and the picture's place: the one in place 0 comes first
+	best, now   int       // the highest layers that fit, and those that the room was told
+	fits        time.Time // since when more fits, if more does
+	bytes       int       // that were sent since the page was told
 }
 
 func openRoom() {
@@ -54,15 +55,15 @@ func openRoom() {
 	}
 }
 
-// Hears a datagram that came, or without one that time has passed, and sends what there is to be sent: tells how many datagrams.
-func (s *session) hear(bytes []byte) (sent int) {
+// Hears a datagram that came, or without one that time has passed, and sends what there is to be sent; to a subscriber at most 32 packets of the track.
+func (s *session) hear(bytes []byte) {
 	moment := C.uint64_t(time.Since(began).Milliseconds())
 	if len(bytes) > 0 {
 		C.zoftemar_session_received(&s.at, moment, (*C.uint8_t)(&bytes[0]), C.size_t(len(bytes)))
 	} else {
 		C.zoftemar_session_waited(&s.at, moment)
 	}
-	for ; ; sent++ {
+	for {
 		reply := C.zoftemar_session_work(&s.at, &room, 0, (*C.uint8_t)(&out[0]), C.size_t(len(out)))
 		if reply.code != C.ZOFTEMAR_PACKET {
 			return
@@ -93,11 +94,17 @@ func (t *source) end() {
 func (t *source) packet(bytes []byte) {
 	t.hear(bytes)
 	for s := range t.seats {
-		for s.hear(nil) == turn {
-		}
+		s.hear(nil)
 		if _, _, reached := s.sent(); !reached && !t.plain {
 			s.plead()
 		}
+	}
+}
+
+// Says a PLI again where the key frame has still not come whole.
+func (t *source) askAgain(pli []byte) {
+	if C.zoftemar_key_wanted(&room, 0, t.number).has {
+		t.send(pli)
 	}
 }
 

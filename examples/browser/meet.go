@@ -92,7 +92,7 @@ func (p *person) arrange() {
 
 // Begins to send a person a track. None of it comes where the browser has gone.
 func (p *person) get(t *source) {
-	s := &seat{session: &session{}, of: t, chosen: chosen{place: 1}}
+	s := &seat{session: &session{}, of: t, place: 1}
 	if s.player = p.player(av1, "video", t.whose.id); t.plain {
 		s.player = p.player(opus, "audio", t.whose.id)
 	}
@@ -111,13 +111,18 @@ func (p *person) get(t *source) {
 	p.gets[t] = s
 }
 
-// Brings the room what a person publishes of one kind. Sender reports go around the room, with the SSRC that a player knows: timestamps go through it as
-// they are, so lips and voice agree.
+// Brings the room what a person publishes of one kind. A PLI is said again while no key frame came whole: a browser makes one each 300 ms. Sender reports go around the room, with the SSRC that a player knows: timestamps
+// go through it as they are, so lips and voice agree.
 func (p *person) bring(media *webrtc.TrackRemote, receiver *webrtc.RTPReceiver) {
 	t := &source{session: &session{}, whose: p, plain: media.Kind() == webrtc.RTPCodecTypeAudio, seats: map[*seat]bool{}}
 	t.send = func(bytes []byte) {
-		if !t.plain {
-			p.pc.WriteRTCP([]rtcp.Packet{(*rtcp.RawPacket)(&bytes)})
+		asks := rtcp.RawPacket(append([]byte(nil), bytes...))
+		if t.plain {
+			return
+		}
+		p.pc.WriteRTCP([]rtcp.Packet{&asks})
+		if asks.Header().Type == rtcp.TypePayloadSpecificFeedback {
+			time.AfterFunc(310*time.Millisecond, func() { locked(func() { t.askAgain(asks) }) })
 		}
 	}
 	locked(func() { t.begin(uint32(media.SSRC())) })

@@ -8,10 +8,8 @@ import (
 	"github.com/pion/webrtc"
 )
 
-const (
-	descriptorURI = "https://aomediacodec.github.io/av1-rtp-spec/#dependency-descriptor-rtp-header-extension"
-	descriptorID  = 4 // of descriptors in the room
-)
+const descriptorURI = "https://aomediacodec.github.io/av1-rtp-spec/#dependency-descriptor-rtp-header-extension"
+const descriptorID = 4 // of descriptors in the room
 
 var (
 	av1  = webrtc.RTPCodecCapability{MimeType: webrtc.MimeTypeAV1, ClockRate: 90000}
