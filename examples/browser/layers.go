@@ -84,7 +84,7 @@ func (p *person) choose() {
 			}
 			left, s.best = left-more, layers
 		}
-		s.follow(p.path.lost > 0.1)
+		s.follow(p.path.lost > much)
 	}
 }
 

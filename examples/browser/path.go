@@ -14,13 +14,14 @@ import (
 )
 
 const patience = 2 * time.Second
+const much = 0.15 // lost: more than single losses come to
 
 // A person's path: pion's estimate by transport-wide feedback, and what is tried above it. Rates are in bits a second.
 type path struct {
 	*gcc.SendSideBWE
 	numbers twcc.HeaderExtensionInterceptor // of packets on the path
 	bears   float64
-	lost    float64       // the share of packets, lately
+	lost    float64       // the share of packets, over about a second
 	sent    float64       // bits since the latest look
 	rate    float64       // that is sent
 	spare   float64       // bits that may be sent again
@@ -58,13 +59,14 @@ func (p *path) AddStream(info *interceptor.StreamInfo, plain interceptor.RTPWrit
 }
 
 // Ten times a second. pion's estimate falls with what is sent and rises by 8 % a second alone, so where wishes take more than fits and for two seconds nothing
-// was late and less than a tenth was lost, twice as much is tried; after a try that failed it waits twice as long. Where a tenth is lost, the path bears no
-// more than what comes through.
+// was late and little lost, twice as much is tried; after a try that failed it waits twice as long. Where much is lost, the path bears no more than what
+// comes through.
 func (p *path) watch() {
 	estimate, stats := float64(p.GetTargetBitrate()), p.GetStats()
-	p.lost, _ = stats["averageLoss"].(float64)
+	lost, _ := stats["averageLoss"].(float64)
+	p.lost += (lost - p.lost) / 10
 	p.rate, p.sent = p.rate+(10*p.sent-p.rate)/4, 0
-	if stats["usage"] == "overuse" || p.lost > 0.1 {
+	if stats["usage"] == "overuse" || p.lost > much {
 		if p.tried > 0 && p.wait < 30*time.Second {
 			p.wait *= 2
 		}
@@ -77,7 +79,7 @@ func (p *path) watch() {
 			p.tried = 2 * math.Max(p.tried, estimate)
 		}
 	}
-	if p.bears = math.Max(p.tried, estimate); p.lost > 0.1 {
+	if p.bears = math.Max(p.tried, estimate); p.lost > much {
 		p.bears = math.Min(p.bears, p.rate*(1-p.lost))
 	}
 	p.spare = math.Min(p.spare+p.bears/70, p.bears/7)
