@@ -21,21 +21,20 @@ type path struct {
 	*gcc.SendSideBWE
 	numbers twcc.HeaderExtensionInterceptor // of packets on the path
 	bears   float64
-	lost    float64   // the share of packets, over about a second
-	sent    float64   // bits since the latest look
-	rate    float64   // that is sent
-	spare   float64   // bits that may be sent again
-	short   bool      // whether wishes take more than fits
-	tried   float64   // or 0
-	last    time.Time // that more was tried
-	wait    float64   // seconds from one try to the next
-	calm    time.Time // since when nothing was late nor much lost
+	lost    float64       // the share of packets, over about a second
+	sent    float64       // bits since the latest look
+	rate    float64       // that is sent
+	spare   float64       // bits that may be sent again
+	short   bool          // whether wishes take more than fits
+	tried   float64       // or 0
+	wait    time.Duration // for which the path has to be calm before more is tried
+	calm    time.Time     // since when it is
 }
 
 func newPath() (*path, interceptor.Factory) {
 	estimator, err := gcc.NewSendSideBWE(gcc.SendSideBWEInitialBitrate(1000000), gcc.SendSideBWEPacer(gcc.NewNoOpPacer()))
 	must(err)
-	p := &path{SendSideBWE: estimator, wait: 2, calm: time.Now()}
+	p := &path{SendSideBWE: estimator, wait: patience, calm: time.Now()}
 	factory, err := cc.NewInterceptor(func() (cc.BandwidthEstimator, error) { return p, nil })
 	must(err)
 	return p, factory
@@ -59,23 +58,26 @@ func (p *path) AddStream(info *interceptor.StreamInfo, plain interceptor.RTPWrit
 	})
 }
 
-// Ten times a second. pion's estimate falls with what is sent and rises by 8 % a second alone, so where wishes take more than fits, and for two seconds nothing
-// was late nor much lost, twice as much is tried. Where much is lost, the path bears no more than what comes through; soon after a try, the next one waits
-// twice as long, up to half a minute.
+// Ten times a second. pion's estimate falls with what is sent and rises by 8 % a second alone, so where wishes take more than fits and for two seconds nothing
+// was late and little lost, twice as much is tried; after a try that failed it waits twice as long. Where much is lost, the path bears no more than what
+// comes through.
 func (p *path) watch() {
-	now, estimate, stats := time.Now(), float64(p.GetTargetBitrate()), p.GetStats()
+	estimate, stats := float64(p.GetTargetBitrate()), p.GetStats()
 	lost, _ := stats["averageLoss"].(float64)
 	p.lost += (lost - p.lost) / 10
 	p.rate, p.sent = p.rate+(10*p.sent-p.rate)/4, 0
 	if stats["usage"] == "overuse" || p.lost > much {
-		p.tried, p.calm = 0, now
-	} else if p.tried > 0 && now.Sub(p.last) > 2*patience {
-		p.wait = 2
-	}
-	if p.lost > much && now.Sub(p.last) < 2*patience {
-		p.wait, p.last = math.Min(2*p.wait, 30), now.Add(-2*patience)
-	} else if p.short && now.Sub(p.calm) > patience && now.Sub(p.last).Seconds() > p.wait {
-		p.tried, p.last, p.calm = 2*math.Max(p.tried, estimate), now, now
+		if p.tried > 0 && p.wait < 30*time.Second {
+			p.wait *= 2
+		}
+		p.tried, p.calm = 0, time.Now()
+	} else if time.Since(p.calm) > p.wait {
+		if p.calm = time.Now(); p.tried > 0 {
+			p.wait = patience
+		}
+		if p.short {
+			p.tried = 2 * math.Max(p.tried, estimate)
+		}
 	}
 	if p.bears = math.Max(p.tried, estimate); p.lost > much {
 		p.bears = math.Min(p.bears, p.rate*(1-p.lost))
