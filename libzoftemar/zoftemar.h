@@ -17,10 +17,10 @@
  *
  * Units. Moments and holds are milliseconds, by one clock for packets and ticks, from any start. SSRCs, sequence numbers and the numbers of tracks and subscribers are numbers
  * of the machine's byte order; packets are the bytes on the wire. Numbers of tracks and of subscribers begin at 1 and only grow, in each
- * room: none is used twice, nor one below another that was. A seat is a number of the caller's own for who makes the call; it changes no answer, and 0 will do.
+ * room: none is used twice, nor one below another that was. A seat is a number of the caller's own for who makes the call; it changes no reply, and 0 will do.
  *
- * Codes. Nothing aborts and nothing is thrown: a call answers a zoftemar_reply, an open its code alone, a close nothing. A refused call changes
- * nothing. What a code doesn't name is 0. Only opening, publishing and joining may answer ZOFTEMAR_NO_MEMORY.
+ * Codes. Nothing aborts and nothing is thrown: a call returns a zoftemar_reply, an open its code alone, a close nothing. A refused call changes
+ * nothing. What a code doesn't name is 0. Only opening, publishing and joining may return ZOFTEMAR_NO_MEMORY.
  *
  * Ownership. A zoftemar_room is the caller's, all bytes 0 at first (ZOFTEMAR_ROOM_NONE). zoftemar_open puts a room behind it,
  * zoftemar_close gives that back; both may be repeated. No pointer to a packet, a buffer or a zoftemar_room is kept after a call.
