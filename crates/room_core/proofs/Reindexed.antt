@@ -68,6 +68,13 @@ track_got m m' k known now on highest found writes same h =
     indexed_by (get nat_eq m) (get nat_eq m') on on highest
     (written_keeps k (get nat_eq m) (get nat_eq m') known now found (written_by_key k m m' known now found writes).found same) refl h
 
+-- the same where the table of subscribers got capacity meanwhile
+pub track_got_reserved : {S : Type 0} (m m' : IndexMap ℕ LiveTrack S) (k : ℕ) (known now : LiveTrack) (es es' : List (ℕ × LiveSubscriber)) (highest : ℕ)
+    → Some known ≡ get nat_eq m k → WritesThrough nat_eq (nat_eq k) m now m' → now.places ≡ known.places → es' ≡ es
+    → IsIndexed (get nat_eq m) (tracks_of es) highest → IsIndexed (get nat_eq m') (tracks_of es') highest
+track_got_reserved m m' k known now es es' highest found writes same entries h =
+    subst (λ (on : List ℕ). IsIndexed (get nat_eq m') on highest) (sym (ap tracks_of entries)) (track_got m m' k known now (tracks_of es) highest found writes same h)
+
 tracks_set : (es : List (ℕ × LiveSubscriber)) (place : ℕ) (v w : LiveSubscriber) → slice_get (values_of es) place ≡ Some v → w.track ≡ v.track
     → tracks_of (set_value_at es place w) ≡ tracks_of es
 tracks_set [] place v w at same = refl
