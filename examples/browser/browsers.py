@@ -124,10 +124,23 @@ def build(library):
     subprocess.run(['go', 'build', *(['-tags', 'library'] if library else []), '-o', 'out/gateway', '.'], cwd=HERE, env=GO, check=True)
 
 
-def gate(out, log, *words, dump=True):
-    """A gateway that writes what comes from the room to a file."""
-    flags = ['-http', str(WEB), '-port', str(ROOM), '-publishers', '2', '-players', '4', f'-dump={str(dump).lower()}', *words]
-    return subprocess.Popen(['out/gateway', *flags], cwd=HERE, stdout=out, stderr=log)
+class gate:
+    """A gateway, which writes what comes from the room to a file, and the room of `serve` beside it; or one with the library, which has the room."""
+
+    def __init__(self, out, log, sfu=None):
+        self.processes = []
+        if sfu:
+            lines = re.sub(r':(\d+)', lambda port: f':{int(port[1]) - 7000 + ROOM}', open(f'{HERE}/serve.lines').read())
+            self.processes.append(subprocess.Popen([sfu, 'serve', '1000000000000'], stdin=subprocess.PIPE, stdout=log, stderr=log, text=True))
+            self.processes[0].stdin.write(lines)
+            self.processes[0].stdin.close()
+        flags = ['-http', str(WEB), '-port', str(ROOM), *(['-dump'] if sfu else [])]
+        self.processes.append(subprocess.Popen(['out/gateway', *flags], cwd=HERE, stdout=out, stderr=log))
+
+    def end(self):
+        for process in self.processes:
+            process.terminate()
+            process.wait()
 
 
 # ---- relays, which lose packets

@@ -188,15 +188,14 @@ def rows(asked, pictures):
     print(f'| {" | ".join(HEAD)} |\n|' + '---|' * len(HEAD), flush=True)
     for name in asked or ROWS:
         with open(f'{HERE}/out/meet.log', 'w') as log:
-            gateway, browser = gate(subprocess.DEVNULL, log, '-library', dump=False), Browser()
+            gateway, browser = gate(subprocess.DEVNULL, log), Browser()
             try:
                 ROWS[name](browser, pictures)
             except Exception as fault:
                 complain(f'{name}: {fault}')
             finally:
                 browser.end()
-                gateway.terminate()
-                gateway.wait()
+                gateway.end()
     with open(f'{HERE}/out/meet.tsv' if asked else f'{HERE}/meet.tsv', 'w') as out:
         print(f'# test.py --meet {" ".join(asked)}: Chromium {version[1] if len(version) > 1 else "?"}, headless, on 127.0.0.1; {processor()}; '
               f'{time.strftime("%Y-%m-%d")}. Milliseconds unless named.', file=out)

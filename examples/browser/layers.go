@@ -8,158 +8,108 @@ import (
 	"time"
 )
 
-// What the layers of a track take, in bits a second, counted as they come.
+// What the layers of a track take, in bits a second, counted as they come. A layer's place is 8 times the spatial and the temporal one.
 type rates struct {
-	layers map[byte][2]int // spatial and temporal, by template
-	bytes  [4][8]float64   // since the latest half second began
-	bits   [4][8]float64   // the mean of some seconds
+	layers [64]byte    // by template
+	bytes  [32]float64 // since the latest half second began
+	bits   [32]float64 // the mean of some seconds
 	since  time.Time
 }
 
-func newRates() rates { return rates{layers: map[byte][2]int{}, since: time.Now()} }
-
-// Sound counts as the lowest layer. A key frame brings all templates: each has the layers of the one before it, or the next temporal layer, or the
-// next spatial one (RTP Payload Format For AV1 v1.0, Appendix A.8).
+// Sound counts as the lowest layer. A key frame brings all templates: each has the layers of the one before it, or the next temporal layer, or the next
+// spatial one (RTP Payload Format For AV1 v1.0, Appendix A.8).
 func (r *rates) count(d []byte, size int) {
 	if len(d) > 5 && d[3]&0x80 != 0 {
-		for id, at, bit, step := d[3]<<3|d[4]>>5, [2]int{}, 40, byte(0); bit < len(d)*8 && step != 3; id, bit = id+1, bit+2 {
-			r.layers[id&63] = at
+		for id, layer, bit, step := d[3]<<3|d[4]>>5, byte(0), 40, byte(0); bit < len(d)*8 && step != 3; id, bit = id+1, bit+2 {
+			r.layers[id&63] = layer
 			if step = d[bit/8] >> (6 - bit%8) & 3; step == 1 {
-				at[1]++
+				layer++
 			} else if step == 2 {
-				at = [2]int{at[0] + 1, 0}
+				layer = layer&^7 + 8
 			}
 		}
 	}
-	at := [2]int{}
+	layer := byte(0)
 	if len(d) > 0 {
-		at = r.layers[d[0]&63]
+		layer = r.layers[d[0]&63] & 31
 	}
-	r.bytes[at[0]&3][at[1]&7] += float64(size)
+	r.bytes[layer] += float64(size)
 	if took := time.Since(r.since).Seconds(); took > 0.5 {
-		for s := range r.bits {
-			for t := range r.bits[s] {
-				r.bits[s][t] += (r.bytes[s][t]*8/took - r.bits[s][t]) / 4
-			}
+		for n := range r.bits {
+			r.bits[n] += (r.bytes[n]*8/took - r.bits[n]) / 4
 		}
-		r.bytes, r.since = [4][8]float64{}, time.Now()
+		r.bytes, r.since = [32]float64{}, time.Now()
 	}
 }
 
-// Highest layers that may be sent, and what all up to them take.
-type step struct {
-	spatial, temporal int
-	bits              float64
-}
-
-// From the lowest layer up: first all temporal layers of the smallest picture, then larger pictures.
-func (r *rates) steps() (steps []step) {
-	sum, all, rate := 0.0, [4]float64{}, 0
-	for s := range r.bits {
-		for t, bits := range r.bits[s] {
-			if all[s] += bits; bits > 500 && t > rate {
-				rate = t
-			}
+// The highest layers that may be sent, from the lowest up: first all temporal layers of the smallest picture, then larger pictures with all of theirs.
+func (r *rates) highest() (layers []int) {
+	rate := 0
+	for n, bits := range r.bits {
+		if bits > 500 && n%8 > rate {
+			rate = n % 8
 		}
 	}
-	for t := 0; t <= rate; t++ {
-		sum += r.bits[0][t]
-		steps = append(steps, step{0, t, sum})
-	}
-	for s := 1; s < 4 && all[s] > 500; s++ {
-		sum += all[s]
-		steps = append(steps, step{s, rate, sum})
+	for n, bits := range r.bits {
+		if n <= rate || n%8 == rate && bits > 500 {
+			layers = append(layers, n)
+		}
 	}
 	return
 }
 
-// What is chosen for one picture.
-type chosen struct {
-	wish, place int       // the highest spatial layer, and the picture's place: the one in place 0 comes first
-	steps       []step    // of its track
-	best        int       // of them, that fits now
-	now         step      // that the room was told
-	fits        time.Time // since when more fits
-	bytes       int       // that were sent since the page was told
-}
-
-// Who wishes for more waits no longer where it fits.
-func (c *chosen) wished(spatial, place int) {
-	c.wish, c.place, c.fits = spatial, place, time.Now().Add(-patience)
-}
-
-// Chooses for all pictures of a person: each has its lowest layer, the big one the most that fits, and what is left goes to the others by turns.
-func (p *person) choose() {
-	left, seats := 0.85*p.path.bears(), []*seat{}
-	for t, s := range p.gets {
-		if t.plain {
-			left -= t.bits[0][0]
-		} else if s.number > 0 && t.bits[0][0] > 0 {
-			s.steps, s.best = t.steps(), 0
-			left, seats = left-s.steps[0].bits, append(seats, s)
+// What all layers up to these take.
+func (r *rates) takes(highest int) (sum float64) {
+	for n, bits := range r.bits {
+		if n/8 <= highest/8 && n%8 <= highest%8 {
+			sum += bits
 		}
+	}
+	return
+}
+
+// Chooses for all pictures of a person: each has its lowest layer, then the big one all that fits, and then the others.
+func (p *person) choose() {
+	left, seats := 0.85*p.path.bears, []*seat{}
+	for t, s := range p.gets {
+		left, seats, s.best = left-t.takes(0), append(seats, s), 0
 	}
 	sort.Slice(seats, func(a, b int) bool { return seats[a].place < seats[b].place })
-	for raised := true; raised; {
-		raised, p.path.short = false, false
-		for _, s := range seats {
-			for more := true; more && s.best+1 < len(s.steps) && s.steps[s.best+1].spatial <= s.wish; more = more && s.place == 0 {
-				if takes := s.steps[s.best+1].bits - s.steps[s.best].bits; takes <= left {
-					left, raised = left-takes, true
-					s.best++
-				} else {
-					more, p.path.short = false, true
-				}
-			}
-		}
-	}
+	p.path.short = false
 	for _, s := range seats {
-		s.follow()
+		for _, layers := range s.of.highest() {
+			more := s.of.takes(layers) - s.of.takes(s.best)
+			if p.path.short = p.path.short || more > left; more > left || layers/8 > s.wish {
+				break
+			}
+			left, s.best = left-more, layers
+		}
+		s.follow(p.path.lost > much)
 	}
 }
 
-func (s *seat) follow() {
-	at, best := 0, s.steps[s.best]
-	for n, step := range s.steps {
-		if step.spatial <= s.now.spatial && step.temporal <= s.now.temporal {
-			at = n
-		}
-	}
-	if s.best <= at {
-		s.fits = time.Time{}
-	} else if s.fits.IsZero() {
+func (s *seat) follow(jammed bool) {
+	if s.best <= s.now {
 		s.fits = time.Now()
 	}
-	if s.best < at || s.best > at && time.Since(s.fits) >= patience {
-		s.now, s.fits = best, time.Time{}
-		s.aim(best.spatial, best.temporal)
+	if s.best < s.now || time.Since(s.fits) >= patience {
+		if s.best < s.now && jammed {
+			s.plead()
+		}
+		s.now, s.fits = s.best, time.Now()
+		s.aim(s.now/8, s.now%8)
 	}
 }
 
 // Tells the page what it is sent of each picture: layers, the highest that there are, kbit/s of it and of the path, and whether the wish is reached.
 func (p *person) tell() {
 	for t, s := range p.gets {
-		if !t.plain && len(s.steps) > 0 {
-			spatial, temporal, reached := s.sent()
-			top := s.steps[len(s.steps)-1]
-			reached = reached && (s.now.spatial >= s.wish || s.now.spatial == top.spatial) && s.now.temporal == top.temporal
-			p.say("tile %s %d %d %d %d %d %.0f %t", t.whose.id, spatial, temporal, top.spatial, top.temporal, s.bytes*16/1000,
-				p.path.bears()/1000, reached)
+		if spatial, temporal, reached := s.sent(); !t.plain {
+			layers := t.highest()
+			top := layers[len(layers)-1]
+			reached = reached && (s.now == top || s.now/8 >= s.wish && s.now%8 == top%8)
+			p.say("tile %s %d %d %d %d %d %.0f %t", t.whose.id, spatial, temporal, top/8, top%8, s.bytes*16/1000, p.path.bears/1000, reached)
 			s.bytes = 0
 		}
-	}
-}
-
-// Chooses ten times a second, and tells twice.
-func chooseAll() {
-	for n := 0; ; n++ {
-		time.Sleep(100 * time.Millisecond)
-		locked(func() {
-			for p := range people {
-				if p.choose(); n%5 == 0 {
-					p.tell()
-				}
-			}
-		})
 	}
 }

@@ -5,15 +5,11 @@ import (
 
 	"github.com/pion/interceptor"
 	"github.com/pion/interceptor/pkg/report"
-	"github.com/pion/interceptor/pkg/twcc"
-	"github.com/pion/sdp"
 	"github.com/pion/webrtc"
 )
 
-const (
-	descriptorURI = "https://aomediacodec.github.io/av1-rtp-spec/#dependency-descriptor-rtp-header-extension"
-	payloadType   = 45 // of AV1, in the room too
-)
+const descriptorURI = "https://aomediacodec.github.io/av1-rtp-spec/#dependency-descriptor-rtp-header-extension"
+const descriptorID = 4 // of descriptors in the room
 
 var (
 	av1  = webrtc.RTPCodecCapability{MimeType: webrtc.MimeTypeAV1, ClockRate: 90000}
@@ -24,53 +20,40 @@ var (
 type page struct {
 	pc      *webrtc.PeerConnection
 	channel *webrtc.DataChannel
-	gone    chan bool // closed when the connection is
 }
 
-// A connection for AV1 with descriptors, NACKs and PLIs, and for Opus, without a stream for retransmissions, since the room has none. The room makes no
-// reports: a publisher gets here those by which it finds its bitrate; what a player gets besides packets of the room, `plays` sends.
-func newPage(publishes bool, plays interceptor.Factory) *page {
-	media, registry, picture, sound := &webrtc.MediaEngine{}, &interceptor.Registry{}, av1, opus
-	add := func(f interceptor.Factory, err error) { must(err); registry.Add(f) }
-	extension := func(uri string, kind webrtc.RTPCodecType) {
-		must(media.RegisterHeaderExtension(webrtc.RTPHeaderExtensionCapability{URI: uri}, kind))
+// A connection for AV1 with descriptors, NACKs and PLIs, and for Opus, without a stream for retransmissions: pion can't read a publisher's. The room makes
+// no reports: a publisher gets here those by which it finds its bitrate; what a player gets besides packets of the room, `plays` sends.
+func newPage(plays ...interceptor.Factory) *page {
+	media, registry := &webrtc.MediaEngine{}, &interceptor.Registry{}
+	must(media.RegisterCodec(webrtc.RTPCodecParameters{RTPCodecCapability: av1, PayloadType: 45}, webrtc.RTPCodecTypeVideo))
+	must(media.RegisterCodec(webrtc.RTPCodecParameters{RTPCodecCapability: opus, PayloadType: 111}, webrtc.RTPCodecTypeAudio))
+	must(media.RegisterHeaderExtension(webrtc.RTPHeaderExtensionCapability{URI: descriptorURI}, webrtc.RTPCodecTypeVideo))
+	media.RegisterFeedback(webrtc.RTCPFeedback{Type: "nack"}, webrtc.RTPCodecTypeVideo)
+	media.RegisterFeedback(webrtc.RTCPFeedback{Type: "nack", Parameter: "pli"}, webrtc.RTPCodecTypeVideo)
+	must(webrtc.ConfigureTWCCSender(media, registry))
+	reports, err := report.NewReceiverInterceptor()
+	must(err)
+	for _, factory := range append(plays, reports) {
+		registry.Add(factory)
 	}
-	picture.RTCPFeedback = []webrtc.RTCPFeedback{{Type: "nack"}, {Type: "nack", Parameter: "pli"}}
-	extension(descriptorURI, webrtc.RTPCodecTypeVideo)
-	if publishes {
-		picture.RTCPFeedback = append(picture.RTCPFeedback, webrtc.RTCPFeedback{Type: "transport-cc"})
-		sound.RTCPFeedback = []webrtc.RTCPFeedback{{Type: "transport-cc"}}
-		extension(sdp.TransportCCURI, webrtc.RTPCodecTypeVideo)
-		extension(sdp.TransportCCURI, webrtc.RTPCodecTypeAudio)
-		add(twcc.NewSenderInterceptor())
-		add(report.NewReceiverInterceptor())
-	}
-	if plays != nil {
-		registry.Add(plays)
-	}
-	must(media.RegisterCodec(webrtc.RTPCodecParameters{RTPCodecCapability: picture, PayloadType: payloadType}, webrtc.RTPCodecTypeVideo))
-	must(media.RegisterCodec(webrtc.RTPCodecParameters{RTPCodecCapability: sound, PayloadType: 111}, webrtc.RTPCodecTypeAudio))
 	api := webrtc.NewAPI(webrtc.WithMediaEngine(media), webrtc.WithInterceptorRegistry(registry), webrtc.WithSettingEngine(setting))
-	pc, err := api.NewPeerConnection(webrtc.Configuration{})
+	p := &page{}
+	p.pc, err = api.NewPeerConnection(webrtc.Configuration{})
 	must(err)
 	agreed, id := true, uint16(0)
-	channel, err := pc.CreateDataChannel("room", &webrtc.DataChannelInit{Negotiated: &agreed, ID: &id})
+	p.channel, err = p.pc.CreateDataChannel("room", &webrtc.DataChannelInit{Negotiated: &agreed, ID: &id})
 	must(err)
-	return &page{pc, channel, make(chan bool)}
+	return p
 }
 
-// Answers an offer that has all its candidates, and calls once the browser is connected. pion answers with extmap-allow-mixed, as browsers
-// offer: without it they leave out the descriptors of key frames, and the room could begin with nothing.
-func (p *page) answer(offer string, connected func()) (string, error) {
+// Answers an offer that has all its candidates. pion answers with extmap-allow-mixed, as browsers offer: without it they leave out the descriptors of key
+// frames, and the room could begin with nothing.
+func (p *page) answer(offer string) (string, error) {
 	p.channel.OnClose(func() { go p.pc.Close() })
 	p.pc.OnConnectionStateChange(func(state webrtc.PeerConnectionState) {
-		switch state {
-		case webrtc.PeerConnectionStateConnected:
-			connected()
-		case webrtc.PeerConnectionStateFailed, webrtc.PeerConnectionStateDisconnected:
+		if state == webrtc.PeerConnectionStateFailed || state == webrtc.PeerConnectionStateDisconnected {
 			go p.pc.Close()
-		case webrtc.PeerConnectionStateClosed:
-			close(p.gone)
 		}
 	})
 	gathered, sdp := webrtc.GatheringCompletePromise(p.pc), webrtc.SessionDescription{Type: webrtc.SDPTypeOffer, SDP: offer}

@@ -1,7 +1,6 @@
 package main
 
 import (
-	"log"
 	"time"
 
 	"github.com/pion/rtcp"
@@ -9,107 +8,78 @@ import (
 	"github.com/pion/webrtc"
 )
 
-// A track on its way to a browser, and what the browser asks for.
+// A track on its way to a browser, as pion knows it, and what the browser asks for.
 type player struct {
+	*webrtc.TrackLocalStaticRTP
 	*page
-	media  *webrtc.TrackLocalStaticRTP
 	sender *webrtc.RTPSender
-	plead  func()     // for a key frame
-	plea   time.Time  // the latest
-	last   rtp.Header // of what came from the room, but for what came again
-	id     uint8      // of descriptors
+	stay   func(ssrc uint32) // from when the browser can be sent the track, until it has gone
+	id     uint8             // of descriptors
+	newest *rtp.Packet       // of the room
+	kept   *rtp.Packet       // the newest, while it waits for what is behind it
+	marked map[uint16]bool   // numbers of packets that got their marker here
 }
 
-// None where the browser has gone.
 func (p *page) player(codec webrtc.RTPCodecCapability, kind, stream string) *player {
-	media, err := webrtc.NewTrackLocalStaticRTP(codec, kind, stream)
+	track, err := webrtc.NewTrackLocalStaticRTP(codec, kind, stream)
 	must(err)
-	sender, err := p.pc.AddTrack(media)
-	if err != nil {
-		return nil
-	}
-	return &player{page: p, media: media, sender: sender}
+	return &player{TrackLocalStaticRTP: track, page: p, marked: map[uint16]bool{}}
 }
 
-// Hands a packet of the room on; pion puts in the SSRC and the payload type that were negotiated. Tells its descriptor, and whether it begins a temporal
-// unit. Behind a unit without its marker an upper frame was lost for good before the room: a browser waits for it, and nobody asks for a key frame.
+// pion calls it once the browser is connected and has the track.
+func (p *player) Bind(context webrtc.TrackLocalContext) (webrtc.RTPCodecParameters, error) {
+	p.id = negotiatedID(context.HeaderExtensions())
+	go p.stay(uint32(context.SSRC()))
+	return p.TrackLocalStaticRTP.Bind(context)
+}
+
+// Hands a packet of the room on, under the lock; pion puts in the SSRC and the payload type that were negotiated. Tells its descriptor, and whether it
+// begins a temporal unit. Where an upper frame was lost for good before the room, its unit ends without a marker, and a browser would wait for the rest and
+// decode nothing until a key frame: so what ends a frame without one waits for the next packet, but not longer than the room waits for those lost, twice.
 func (p *player) hand(bytes []byte) (descriptor []byte, begins bool) {
-	packet, last := &rtp.Packet{}, p.last
-	if packet.Unmarshal(bytes) != nil {
+	packet := &rtp.Packet{}
+	if packet.Unmarshal(append([]byte(nil), bytes...)) != nil {
 		return
 	}
-	if last.Version == 0 || int16(packet.SequenceNumber-last.SequenceNumber) > 0 {
-		p.last, begins = packet.Header, packet.Timestamp != last.Timestamp
-		if begins && last.Version > 0 && !last.Marker && p.plead != nil {
-			go p.pleads()
-		}
-	}
-	if p.id == 0 {
-		p.id = negotiatedID(p.sender.GetParameters().HeaderExtensions)
-	}
 	descriptor = exchangeID(packet, descriptorID, p.id)
-	p.media.WriteRTP(packet)
+	if p.newest != nil && int16(packet.SequenceNumber-p.newest.SequenceNumber) <= 0 { // resent
+		packet.Marker = packet.Marker || p.marked[packet.SequenceNumber]
+		p.WriteRTP(packet)
+		return
+	}
+	begins = p.newest == nil || packet.Timestamp != p.newest.Timestamp
+	p.release(p.kept, begins)
+	p.newest = packet
+	delete(p.marked, packet.SequenceNumber)
+	if len(descriptor) == 0 || descriptor[0]&0x40 == 0 || packet.Marker {
+		p.WriteRTP(packet)
+		return
+	}
+	p.kept = packet
+	time.AfterFunc(time.Duration(2**hold)*time.Millisecond, func() { locked(func() { p.release(packet, true) }) })
 	return
 }
 
-// Pleads at most twice a second.
-func (p *player) pleads() {
-	lock.Lock()
-	late := time.Since(p.plea) > 500*time.Millisecond
-	if late {
-		p.plea = time.Now()
-	}
-	lock.Unlock()
-	if late {
-		p.plead()
+// Sends a packet that still waits.
+func (p *player) release(packet *rtp.Packet, marker bool) {
+	if packet != nil && p.kept == packet {
+		p.kept, packet.Marker, p.marked[packet.SequenceNumber] = nil, marker, marker
+		p.WriteRTP(packet)
 	}
 }
 
-// Asks the room for what the browser asks for, until that has gone. Each NACK is said three times: Chromium asks once for a packet of an upper layer, and
-// not again once the next unit's base frame has come, so where the resent packet is lost too, it would decode nothing until a key frame, for three seconds.
-func (p *player) listen(ssrc uint32, ask func(nacks, plis []rtcp.Packet)) {
+// Tells the room, under the SSRC that it knows, what the browser asks for, until that has gone. Each NACK is said three times: Chromium asks once for a
+// packet of an upper layer, and not again once the next unit's base frame has come, so where the resent packet is lost too, it would decode nothing until a
+// key frame, for three seconds.
+func (p *player) listen(ssrc uint32, tell func([]byte)) {
 	for packets, _, err := p.sender.ReadRTCP(); err == nil; packets, _, err = p.sender.ReadRTCP() {
-		nacks, plis := feedbackFor(ssrc, packets)
-		ask(nacks, plis)
-		for wait := time.Duration(30); len(nacks) > 0 && wait <= 60; wait += 30 {
-			time.AfterFunc(wait*time.Millisecond, func() { ask(nacks, nil) })
+		for _, asks := range feedbackFor(ssrc, packets) {
+			bytes, _ := asks.Marshal()
+			tell(bytes)
+			if _, is := asks.(*rtcp.TransportLayerNack); is {
+				time.AfterFunc(30*time.Millisecond, func() { tell(bytes) })
+				time.AfterFunc(60*time.Millisecond, func() { tell(bytes) })
+			}
 		}
 	}
-}
-
-// The NACKs and the PLIs among these, for the SSRC that the media has on the other side.
-func feedbackFor(ssrc uint32, packets []rtcp.Packet) (nacks, plis []rtcp.Packet) {
-	for _, packet := range packets {
-		switch p := packet.(type) {
-		case *rtcp.TransportLayerNack:
-			p.MediaSSRC, nacks = ssrc, append(nacks, p)
-		case *rtcp.PictureLossIndication:
-			p.MediaSSRC, plis = ssrc, append(plis, p)
-		}
-	}
-	return
-}
-
-// Leaves a packet no header extension but the descriptor, and puts that under another id: what else a browser adds (MID, the path's own
-// numbers) is for its own connection alone. A descriptor of more than 16 bytes, as a key frame has, asks for the two-byte form.
-func exchangeID(packet *rtp.Packet, from, to uint8) []byte {
-	descriptor := append([]byte(nil), packet.GetExtension(from)...)
-	packet.Extension, packet.ExtensionProfile, packet.Extensions = false, 0, nil
-	if len(descriptor) > 16 || to > 14 {
-		packet.Extension, packet.ExtensionProfile = true, 0x1000
-	}
-	if len(descriptor) > 0 && packet.SetExtension(to, descriptor) != nil {
-		log.Print("a descriptor has too many bytes: ", len(descriptor))
-	}
-	return descriptor
-}
-
-// The id that was negotiated for descriptors, or 0.
-func negotiatedID(extensions []webrtc.RTPHeaderExtensionParameter) (id uint8) {
-	for _, e := range extensions {
-		if e.URI == descriptorURI {
-			id = uint8(e.ID)
-		}
-	}
-	return
 }

@@ -249,15 +249,14 @@ def pages(asked):
     print('| Mode | Way | RTP lost | Picture | Drawn | Decoded | kbit/s | Longest gap, ms | Age p50, p95, ms | NACKs of the player | Load |\n|' + '---|' * 11)
     for mode in asked.what or MODES:
         with tempfile.TemporaryDirectory() as folder, open(f'{folder}/dump', 'w') as dump, open(f'{folder}/log', 'w') as log:
-            gateway, browser = gate(dump, log, '-sfu', sfu), Browser()
+            gateway, browser = gate(dump, log, sfu), Browser()
             try:
                 Run(browser, mode, asked.seconds, asked.pictures, direct(browser, mode, asked.seconds)).all()
             except Exception as fault:
                 complain(f'{mode}: {fault}')
             finally:
                 browser.end()
-                gateway.terminate()
-                gateway.wait()
+                gateway.end()
             check(sfu, dump.name)
             if complaints:
                 print(open(log.name).read()[-3000:])

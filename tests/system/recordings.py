@@ -60,7 +60,7 @@ def timed(packets):
 def of_browser(mode, seconds, sfu, folder):
     """What two pages were sent, of which one wishes for all layers. A page pleads again and again, so that key frames come."""
     with open(f'{folder}/{mode}.dump', 'w') as dump, open(f'{folder}/{mode}.log', 'w') as log:
-        gateway, chromium = browser.gate(dump, log, '-sfu', sfu), browser.Browser()
+        gateway, chromium = browser.gate(dump, log, sfu), browser.Browser()
         try:
             publisher = chromium.open(browser.address(mode, browser.WEB) + '&start=1')
             publisher.wait("pc.connectionState === 'connected'", 30, 'the publisher')
@@ -73,8 +73,7 @@ def of_browser(mode, seconds, sfu, folder):
                 page.run("say('plead')")
         finally:
             chromium.end()
-            gateway.terminate()
-            gateway.wait()
+            gateway.end()
     return dict(zip(reversed(WISHES), browser.sent(f'{folder}/{mode}.dump').values()))
 
 
