@@ -13,19 +13,19 @@ pub enum Kind {
     Layered { id: u8 },
 }
 
-/// A call on a room. Own rule. The caller names tracks and subscribers by numbers: a new one's is above 0 and above all earlier ones of its
-/// kind.
+/// A call on a room (own rule). The caller numbers the tracks: a new track's number is above 0 and above the numbers of all earlier tracks.
+/// Subscribers are numbered in the same way, independently of the tracks.
 #[derive(Debug, Drop)]
 pub enum Call {
-    /// A track begins. Its packets have this SSRC. `hold` is how long a packet is held behind a gap in the sequence numbers, in
-    /// milliseconds.
+    /// A track begins. Its packets have this SSRC. `hold` is the reorder timeout in milliseconds: how long a packet is buffered behind a
+    /// gap in the sequence numbers.
     Publish {
         track: u32,
         kind: Kind,
         ssrc: u32,
         hold: u32,
     },
-    /// A track ends. Its subscribers stay: packets that are queued for them can still be taken.
+    /// A track ends. Its subscribers stay, and the packets that are queued for them can still be taken.
     Unpublish {
         track: u32,
     },
@@ -35,13 +35,13 @@ pub enum Call {
         moment: u64,
         bytes: PacketBuf,
     },
-    /// Time has come to this moment, in milliseconds: gaps before packets that have been held for the full hold time are given up.
+    /// Time has reached `moment`, in milliseconds. The lowest gaps are given up, while the packet after each was held for the full `hold`.
     Tick {
         track: u32,
         moment: u64,
     },
-    /// A subscriber of the track begins. The packets for it have this SSRC and sequence numbers from `first` on. On a layered track `wish`
-    /// bounds the layers.
+    /// A subscriber joins the track. Packets sent to it have this SSRC, and sequence numbers that begin at `first`. On a layered track
+    /// `wish` limits the layers that it is sent.
     Join {
         subscriber: u32,
         track: u32,
@@ -49,44 +49,44 @@ pub enum Call {
         first: u16,
         wish: Wish,
     },
-    /// The subscriber ends.
+    /// The subscriber leaves its track.
     Leave {
         subscriber: u32,
     },
-    /// The subscriber wishes for other layers from the next frame on.
+    /// Changes the subscriber's wish, the highest layers that it wants, from the next frame on.
     Aim {
         subscriber: u32,
         wish: Wish,
     },
-    /// Takes the subscriber's oldest queued packet.
+    /// Takes the subscriber's oldest queued packet out of the queue.
     Take {
         subscriber: u32,
     },
-    /// Asks again for the packet that the subscriber took under this sequence number (RFC 4585, section 6.2.1).
+    /// Requests a retransmission of the packet that the subscriber took with this sequence number (RFC 4585, section 6.2.1).
     Resend {
         subscriber: u32,
         seq: u16,
     },
-    /// Asks for the sequence numbers that the track waits for.
+    /// Lists the sequence numbers of the packets for which the track waits.
     Missing {
         track: u32,
     },
-    /// Asks whether the track's publisher is to be asked for a key frame.
+    /// Reports whether a key frame should be requested from the track's publisher.
     KeyWanted {
         track: u32,
     },
-    /// The subscriber wants a key frame (RFC 4585, section 6.3.1).
+    /// The subscriber requests a key frame (RFC 4585, section 6.3.1).
     Plead {
         subscriber: u32,
     },
-    /// Asks why the frame with this unwrapped number was or wasn't forwarded to the subscriber.
+    /// Reports why the frame with this unwrapped frame number was or wasn't forwarded to the subscriber.
     Why {
         subscriber: u32,
         number: u64,
     },
 }
 
-/// Why bytes aren't an RTP packet (RFC 3550, section 5.1): the first fault in this order.
+/// Why bytes aren't an RTP packet (RFC 3550, section 5.1). If several faults apply, the first in this order is reported.
 #[derive(Clone, Copy, Debug, PartialEq, Eq, Error)]
 pub enum RtpFault {
     /// Fewer than 12 bytes.
@@ -95,10 +95,10 @@ pub enum RtpFault {
     /// The version isn't 2.
     #[error("the version isn't 2")]
     Version,
-    /// The CSRC words aren't all there.
+    /// The bytes end before the CSRC list does.
     #[error("the CSRC words aren't all there")]
     Csrc,
-    /// The header extension isn't all there.
+    /// The bytes end before the header extension does.
     #[error("the header extension isn't all there")]
     Extension,
     /// The padding count is 0, or more than the number of bytes after the header.
@@ -115,7 +115,7 @@ pub enum Refusal {
     NoSubscriber,
     /// The number is at most `highest`, the highest number of its kind that was ever live, or 0 before the first.
     NumberUsed { highest: u32 },
-    /// `live` tracks, or subscribers, are live already, and that is the limit.
+    /// The limit is reached: `live` tracks, or subscribers, are live already.
     TooMany { live: u32 },
     /// The header extension id is 0, which is padding, or 15, which ends processing (RFC 8285, section 4.2).
     BadExtensionId,
@@ -127,22 +127,22 @@ pub enum Refusal {
     WrongSsrc { got: u32, wanted: u32 },
     /// The packet's unwrapped sequence number is 2^46 or more.
     Spent,
-    /// The packet's unwrapped sequence number is below `next`, which the track waits for.
+    /// The packet's unwrapped sequence number is below `next`, the lowest for which the track waits.
     Late { next: u64 },
-    /// A packet with this number is buffered already.
+    /// A packet with this sequence number is buffered already.
     Repeat,
-    /// Nothing is queued.
+    /// The subscriber's queue is empty.
     Empty,
-    /// The packet isn't kept. `oldest` is the sequence number of the oldest kept packet, or `next` if none is kept; `next` is the sequence
-    /// number of the next take.
+    /// The packet isn't stored for retransmission. `oldest` is the sequence number of the oldest stored packet, or `next` if there is none.
+    /// `next` is the sequence number of the packet that is taken next.
     NotKept { oldest: u16, next: u16 },
-    /// The number is above `newest`, the newest frame's number; with `None` no frame has come.
+    /// The frame number is above `newest`, the newest frame's number. `None` means that no frame has arrived.
     Ahead { newest: Option<u64> },
-    /// The number is 4,096 or more below the newest frame's: `oldest` is the lowest that may be asked for.
+    /// The frame number is 4,096 or more below the newest frame's. `oldest` is the lowest number that may be given.
     TooOld { oldest: u64 },
     /// The subscriber's track is plain.
     Plain,
-    /// Out of memory: the one refusal that the earlier calls don't determine.
+    /// Out of memory. This is the only refusal that the earlier calls don't determine.
     NoMemory,
 }
 
@@ -151,11 +151,11 @@ pub enum Refusal {
 pub enum Reply {
     /// The call was done.
     Done,
-    /// A packet, whose bytes are in `packet` of the scratch.
+    /// A packet. Its bytes are in `Scratch::packet`.
     Packet,
-    /// Sequence numbers, which are in `names` of the scratch.
+    /// Sequence numbers. They are in `Scratch::names`.
     Names,
-    /// Whether the publisher is to be asked for a key frame.
+    /// Whether a key frame should be requested from the publisher.
     Key { wanted: bool },
     /// Why a frame was or wasn't forwarded.
     Cause(Verdict),
@@ -163,7 +163,7 @@ pub enum Reply {
     Refused(Refusal),
 }
 
-/// Where a call leaves the bytes and the numbers of its reply. Made once and used for many calls.
+/// The output buffers of a call: it writes the bytes and the numbers of its reply here. One scratch serves many calls.
 #[derive(Debug, Drop)]
 pub struct Scratch {
     /// The bytes of a packet.

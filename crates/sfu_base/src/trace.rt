@@ -1,11 +1,11 @@
-// What happened to a value, for proofs alone.
+// A record of what happened to a value, for proofs only.
 ghost use Rattle.std.specs.Prelude.{◌≡◌, List, [], ◌∷◌, ◌++◌};
 ghost use Rattle.std.specs.Borrow.{ftrue};
 
 use std::marker::{Model, PhantomData};
 
-/// Pairs in the order in which they were added; clauses read them as `items`. A trace takes no memory, and its methods do nothing at run
-/// time.
+/// A list of pairs in the order in which they were added. Only contracts see the pairs, as `items`. A trace takes no memory, and its
+/// methods do nothing at run time.
 #[derive(Drop)]
 pub struct Trace<A, B> {
     of: PhantomData<(A, B)>,
@@ -20,14 +20,14 @@ impl<A, B> Model for Trace<A, B> {
 unsafe impl<A: Send, B: Send> Send for Trace<A, B> {}
 
 impl<A, B> Trace<A, B> {
-    /// No pairs.
+    /// A trace without pairs.
     pub fn new() -> Trace<A, B>
         ensures { result.items ≡ [] }
     {
         Trace { of: PhantomData }
     }
 
-    /// The trace with one more pair at its end.
+    /// This trace with one more pair at its end.
     pub fn and(&self, first: &A, second: &B) -> Trace<A, B>
         ensures { result.items ≡ self.now.items ++ (first.now, second.now) ∷ [] }
     {

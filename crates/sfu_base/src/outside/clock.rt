@@ -1,13 +1,13 @@
-// The current moment. Own rule. To every contract it is just a value.
+// The current moment (own rule). Contracts promise nothing about its value.
 use std::sync::atomic::{AtomicU64, Ordering};
 
-/// Tells the time in milliseconds. It can't fail, and no contract says which moments come.
+/// A clock in milliseconds. It can't fail, and no contract says which moments it returns.
 pub trait Clock {
     /// The current moment, in milliseconds.
     fn now(&self) -> u64;
 }
 
-/// A clock that returns a start at its first call, and at each later call a step more than before, modulo 2^64, whichever threads call it.
+/// A clock whose first call returns a start moment. Each later call, from any thread, returns one step more than the one before, mod 2^64.
 #[derive(Drop)]
 pub struct StepClock {
     moment: AtomicU64,
@@ -15,7 +15,7 @@ pub struct StepClock {
 }
 
 impl StepClock {
-    /// A clock that returns `start` at its first call.
+    /// A clock that returns `start` at its first call, and `step` milliseconds more at each later one.
     pub fn new(start: u64, step: u64) -> Self {
         StepClock {
             moment: AtomicU64::new(start),

@@ -1,4 +1,4 @@
-// Where datagrams come from and go to. Own rule.
+// Sends and receives datagrams (own rule).
 ghost use Rattle.std.specs.Prelude.{◌≡◌, ℕ, Option};
 ghost use Rattle.sfu_base.specs.Faults.{HasCause};
 ghost use Rattle.sfu_base.specs.Links.{FillsOnlyWhere, Traffic, after_receive, after_send};
@@ -10,7 +10,7 @@ pub trait Link {
     /// The link's receives and sent datagrams, in order, or `None` if it doesn't record them.
     ghost told: { Self → Option Traffic };
 
-    /// The link's name: how many links its ports had bound before. No call changes it, so that links can't change places unseen.
+    /// The link's name: the number of links that its ports had bound before it. No call changes it, so proofs can tell links apart.
     ghost name: { Self → ℕ };
 
     /// How many calls have failed, at most 2^64 - 1.

@@ -8,9 +8,9 @@ use crate::{Failed, Link, PacketBuf};
 use std::alloc::Global;
 use std::marker::Model;
 
-/// Gives its prepared datagrams in order, and keeps what is sent. Fails at the receives and at the sends whose numbers, counted from 0, are
-/// in two lists, and at a send that is out of memory. A contract sees the prepared datagrams that are left, the traffic, the two lists, how
-/// many calls of each kind were made, the name, and the count of faults.
+/// A link in memory that receives its prepared datagrams in order and keeps what is sent. It fails at the receives and at the sends whose
+/// numbers, counted from 0, are in two lists, and at a send that is out of memory. Contracts see the remaining prepared datagrams, the
+/// traffic, the two lists, the numbers of receives and of sends, the name, and the count of faults.
 #[derive(Drop)]
 pub struct MemLink {
     prepared: Vec<PacketBuf>,
@@ -46,7 +46,7 @@ impl Model for MemLink {
 }
 
 impl MemLink {
-    /// A link that gives these datagrams. It fails at the receives and at the sends whose numbers, counted from 0, are in the two lists.
+    /// A link that receives these datagrams. It fails at the receives and at the sends whose numbers, counted from 0, are in the two lists.
     pub fn new(
         alloc: Global,
         prepared: Vec<PacketBuf>,
@@ -69,7 +69,7 @@ impl MemLink {
         }
     }
 
-    /// The same link with this name: how many links its ports had bound before.
+    /// The same link with this name: the number of links that its ports had bound before it.
     pub fn named(self, name: u64) -> Self
         ensures { result ≡ record self { name = name } }
     {
@@ -91,7 +91,7 @@ impl MemLink {
     }
 }
 
-// Fills the buffer with the datagram at `place` and moves `place` on. Returns whether one was left.
+// Fills the buffer with the datagram at `place`, moves `place` to the next one and returns true. Returns false if none is left.
 fn give_next(prepared: &[PacketBuf], place: &mut usize, buf: &mut PacketBuf) -> bool
     requires { place.old ≤ length prepared.now }
     ensures within { place.new ≤ length prepared.now }
@@ -116,8 +116,8 @@ impl Link for MemLink {
 
     ghost faults = { λ s. s.faults };
 
-    /// Fails exactly when the call's number is in the list for receives. Otherwise gives the next datagram, or `Ok(false)` exactly when
-    /// none is left.
+    /// Fails exactly when the call's number is in the list for receives. Otherwise receives the next datagram, or returns `Ok(false)`
+    /// exactly when none is left.
     fn receive(&mut self, buf: &mut PacketBuf) -> Result<bool, Failed>
         ensures buffer { FillsOnlyWhere result buf.old buf.new }
         ensures told { Some self.new.traffic ≡ after_receive result buf.new (Some self.old.traffic) }

@@ -1,14 +1,14 @@
-// Where links are bound, and where they come back to. Own rule.
+// Binds links, and takes them back after use (own rule).
 ghost use Rattle.std.specs.Prelude.{◌≡◌, ◌+◌, ◌<◌, ◌≤◌, ℕ, List, Option, IfOk, IsOk, OnErr};
 ghost use Rattle.sfu_base.specs.Faults.{HasCause};
 ghost use Rattle.sfu_base.specs.Ports.{CountsBack, after_back, after_bind, tells_nothing_yet};
 
 use crate::{Address, Failed, Link};
 
-/// How many ports may be bound, at most.
+/// The largest number of ports that may be bound.
 pub const PORT_LIMIT: usize = 64;
 
-/// Binds links, and takes them back when they are done with.
+/// Binds links to local addresses, and takes them back after use.
 pub trait Ports {
     /// A link that is bound to a local address and has one peer.
     type Port: Link + Send + Drop;
@@ -25,8 +25,8 @@ pub trait Ports {
     /// How often a port couldn't be bound, or came back with faults of its own, at most 2^64 - 1.
     ghost faults: { Self → ℕ };
 
-    /// Binds a port to the local address. It sends to the peer, and receives from the peer alone. It has no faults and no recorded traffic
-    /// yet, and its name is how many ports were bound before. After `Failed` none was bound.
+    /// Binds a port to the local address. The port sends to the peer, and receives only from the peer. It has no faults and no recorded
+    /// traffic yet, and its name is the number of ports bound before it. After `Failed` no port was bound.
     fn bind(&mut self, local: Address, peer: Address) -> Result<Self::Port, Failed>
         requires { bound self.old < 64 }
         ensures bound { bound self.new ≡ after_bind result (bound self.old) }
@@ -45,7 +45,7 @@ pub trait Ports {
         ensures returned { returned self.new ≡ after_back port (returned self.old) }
         ensures cause { CountsBack (Self.Port.faults port) (faults self.old) (faults self.new) };
 
-    /// A lemma, which does nothing: no more ports came back than were bound.
+    /// A lemma, which does nothing at run time: no more ports came back than were bound.
     fn lemma_were_bound(&self)
         ensures { back_count self.now ≤ bound self.now };
 }
