@@ -1,5 +1,5 @@
-//! Sequence numbers and frame numbers are sent in 16 bits and wrap at 65,536 (RFC 3550, section 5.1). [`place`] and [`above`] unwrap them:
-//! given the newest unwrapped number, they return the one that 16 bits represent. Neither takes memory.
+//! Sequence numbers and frame numbers are sent in 16 bits and wrap at 65,536 (RFC 3550, section 5.1). [`place`] and [`above`] unwrap
+//! a 16-bit number, given the newest unwrapped number. Neither takes memory.
 #![tactic(auto)]
 
 ghost use Rattle.std.specs.Prelude.{◌≡◌, ◌≤ℤ◌, ◌<◌, ◌^◌, neg_ℤ, pos};
@@ -9,7 +9,7 @@ ghost use Rattle.wrap_number.specs.Number.{NearestIsNearest, LeastIsLeast, Above
 // How many numbers of 16 bits there are.
 const TURN: u32 = 65_536;
 
-/// The number that is `n` modulo 65,536 and nearest to `newest` (own rule). A distance of 32,768 is read as behind.
+/// Returns the number nearest to `newest` that is `n` modulo 65,536 (own rule). If two are equally near, returns the lower one.
 pub fn place(newest: i64, n: u16) -> i64
     requires low { neg_ℤ (pos (2 ^ 62)) ≤ℤ newest }
     requires high { newest ≤ℤ pos (2 ^ 62) }
@@ -24,7 +24,7 @@ pub fn place(newest: i64, n: u16) -> i64
     }
 }
 
-// How far the next number that is `n` modulo 65,536 lies ahead of `newest`, from 0 to 65,535.
+// How far the least number that is at or above `newest` and is `n` modulo 65,536 lies above `newest`: 0 to 65,535.
 fn ahead(newest: i64, n: u16) -> u32
     ensures value { result ≡ ahead_of newest n }
     ensures below { result < 65536 }
@@ -32,7 +32,7 @@ fn ahead(newest: i64, n: u16) -> u32
     (u32::from(n) + TURN - newest.rem_euclid(i64::from(TURN)) as u32) % TURN
 }
 
-/// The least number above `newest` that is `n` modulo 65,536 (own rule).
+/// Returns the least number above `newest` that is `n` modulo 65,536 (own rule).
 pub fn above(newest: u64, n: u16) -> u64
     requires { newest < 2 ^ 63 }
     ensures least { IsLeastAbove newest n result }
@@ -47,8 +47,8 @@ pub fn one_number_is_meant()
     ensures { IsOne }
 {}
 
-/// A law, for all numbers: the value of `nearest_to` is the nearest number, and that of `least_above` the least above. `is_above` is true
-/// exactly when the nearest number lies above `newest`, and that number is then `number_above`.
+/// A law, for all numbers: `nearest_to` is the nearest number, and `least_above` is the least number above. `is_above` is true exactly when
+/// the nearest number lies above `newest`. In that case `number_above` is the nearest number.
 pub fn values_are_nearest_and_least()
     ensures nearest { NearestIsNearest }
     ensures least { LeastIsLeast }
