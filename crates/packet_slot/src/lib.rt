@@ -1,4 +1,4 @@
-//! A slot for one packet that a track buffers. It has a fixed size and takes no memory.
+//! A slot for one packet that a track buffers. It has a fixed size, and no call takes memory.
 #![tactic(auto)]
 
 ghost use Rattle.std.specs.Prelude.{◌≡◌, ◌≤◌, [], length};
@@ -8,11 +8,11 @@ use std::marker::Model;
 /// The longest packet that a track accepts, in bytes (own rule).
 pub const PACKET_BYTES: usize = 1500;
 
-/// Up to 1,500 bytes; a contract sees the list of them. No call takes memory.
+/// A buffer of up to 1,500 bytes. Contracts see it as the list of its bytes. No call takes memory.
 #[derive(Debug, Drop)]
 pub struct PacketSlot {
     room: [u8; PACKET_BYTES],
-    // where the bytes begin; they end where the array ends
+    // the index of the first byte; the bytes end at the end of the array
     start: usize,
 }
 
@@ -37,7 +37,7 @@ impl PacketSlot {
         }
     }
 
-    /// Replaces the contents by these bytes.
+    /// Replaces the contents by these bytes, at most 1,500.
     pub fn fill(&mut self, bytes: &[u8])
         requires fits { length bytes.now ≤ 1500 }
         ensures { self.new ≡ bytes.now }
