@@ -23,16 +23,16 @@ pub const NUMBER_END: u64 = 1 << 46;
 // How many sequence numbers there are.
 const SEQUENCE_NUMBERS: u64 = 65_536;
 
-/// The reorder window of one track. A contract sees its hold, its order, and the pieces that are still to be fetched.
+/// The reorder window of one track. Contracts see its hold time, its order, and the items that are still to be fetched.
 #[derive(Debug, Drop)]
 pub struct Window {
     ring: Ring,
     hold: u32,
     moment: u64,
-    // one above the newest accepted number, and 0 before the first
+    // one above the newest accepted number, or 0 before the first packet
     end: u64,
     next: u64,
-    // the first number that wasn't fetched
+    // the first number that wasn't fetched yet
     given: u64,
     // the buffer from which `next_item` copies a packet
     copied: Box<PacketSlot>,
@@ -51,7 +51,7 @@ impl Model for Window {
 }
 
 impl Window {
-    /// A window before its first packet. It holds a packet behind a gap for `hold` milliseconds. Only this call takes memory.
+    /// A window before its first packet. It buffers a packet behind a gap for `hold` milliseconds. Only this call takes memory.
     pub fn new(alloc: Global, hold: u32) -> Result<Window, NoMemory>
         ensures { IfOk result (λ window. window ≡ record { hold = hold; order = before_all; waiting = [] }) }
     {
@@ -68,8 +68,8 @@ impl Window {
         })
     }
 
-    /// Takes in a packet of at most 1,500 bytes that arrives at this moment, in milliseconds. Its bytes are copied once. A refusal changes
-    /// nothing.
+    /// Accepts or refuses a packet of at most 1,500 bytes that arrives at `moment`, in milliseconds. All
+    /// waiting items must be fetched before this call. The bytes are copied once. A refusal changes nothing.
     pub fn arrive(&mut self, seq: u16, moment: u64, bytes: &[u8]) -> Result<(), Arrival>
         requires length { length bytes.now ≤ 1500 }
         requires fetched { self.old.waiting ≡ [] }
@@ -95,7 +95,7 @@ impl Window {
         Ok(())
     }
 
-    /// Time has come to this moment, in milliseconds: gaps before packets that have been held for the full hold time are given up.
+    /// Time has reached `moment`, in milliseconds. The lowest gaps are given up, while the packet after each was held for the hold time.
     pub fn tick(&mut self, moment: u64)
         requires { self.old.waiting ≡ [] }
         ensures order { self.new.order ≡ after self.old.hold self.old.order (Ticks moment) }
@@ -111,8 +111,8 @@ impl Window {
             .due_end(self.next, self.end, self.moment, self.hold);
     }
 
-    /// Returns the next item that waits to be fetched, or `None`. A packet's slot is exchanged for `slot`, so that no byte is copied;
-    /// otherwise `slot` stays as it was.
+    /// Returns the next item that waits to be fetched, or `None`. If the item is a packet, its
+    /// buffer is swapped with `slot`, so that no byte is copied; otherwise `slot` stays as it was.
     pub fn next_slot(&mut self, slot: &mut Box<PacketSlot>) -> Option<Item>
         ensures none { IsNone result ↔ (self.old.waiting ≡ []) }
         ensures item { result ≡ option_map item_of (slice_get self.old.waiting 0) }
@@ -122,8 +122,8 @@ impl Window {
         fetch(&mut self.ring, &mut self.given, self.next, slot)
     }
 
-    /// Returns the next item that waits to be fetched, as [`Window::next_slot`] does. A packet's bytes replace the contents of `buf`;
-    /// otherwise `buf` stays as it was.
+    /// Returns the next item that waits to be fetched, as [`Window::next_slot`] does. If the item
+    /// is a packet, its bytes replace the contents of `buf`; otherwise `buf` stays as it was.
     pub fn next_item(&mut self, buf: &mut PacketBuf) -> Option<Item>
         ensures none { IsNone result ↔ (self.old.waiting ≡ []) }
         ensures length { length buf.new ≤ max (length buf.old) 1500 }
@@ -138,8 +138,8 @@ impl Window {
         Some(item)
     }
 
-    /// Fills `out` with the missing sequence numbers: those from the next up to the greatest held one that aren't held, ascending by their
-    /// unwrapped numbers.
+    /// Replaces the contents of `out` by the missing sequence numbers: those from `next` up to the
+    /// greatest held number whose packets aren't held, ascending by their unwrapped numbers.
     pub fn missing(&self, out: &mut SeqList)
         ensures { out.new ≡ missing_sequences self.now.order }
     {
@@ -152,8 +152,8 @@ impl Window {
     }
 }
 
-// Returns the first item among the numbers from `given` to below `next`, and moves `given` past it. A packet's slot is exchanged for
-// `slot`.
+// Returns the first item among the numbers from `given` to below `next`, and moves `given` past it. If the item is a packet, its buffer is
+// swapped with `slot`.
 #[inline(always)]
 fn fetch(ring: &mut Ring, given: &mut u64, next: u64, slot: &mut Box<PacketSlot>) -> Option<Item>
     requires within { given.old ≤ next }
@@ -182,8 +182,8 @@ fn fetch(ring: &mut Ring, given: &mut u64, next: u64, slot: &mut Box<PacketSlot>
     Some(Item::Gone { from, to: end - 1 })
 }
 
-/// The unwrapped number of an arrival. It is refused with `Spent` from 2^46 on, and with `Late` below `next`. `end` is one above the newest
-/// accepted number, or 0 before the first.
+/// Unwraps the sequence number of an arriving packet. Returns `Spent` if the result is 2^46 or more, and
+/// `Late` if it is below `next`. `end` is one above the newest accepted number, or 0 before the first packet.
 pub fn number_in_range(end: u64, next: u64, seq: u16) -> Result<u64, Arrival>
     requires bounded { end ≤ NUMBER_END }
     requires within { next ≤ end }
