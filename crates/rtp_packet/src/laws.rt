@@ -12,23 +12,23 @@ pub fn plain_packets_read()
     ensures { (bytes : List ℕ) → 12 ≤ length bytes → slice_index bytes 0 ≡ 128 → first_fault bytes ≡ None }
 {}
 
-/// Bytes with no fault are a packet: the one that `packet_of` gives for them.
+/// Bytes with no fault are a packet: the one that `packet_of` returns for them.
 pub fn bytes_without_fault_are_a_packet()
     ensures { (bytes : List ℕ) → AreBytes bytes → first_fault bytes ≡ None → IsPacket bytes (packet_of bytes) }
 {}
 
-/// The bytes of a packet have no fault, and `packet_of` gives that packet for them.
+/// The bytes of a packet have no fault, and `packet_of` returns that packet for them.
 pub fn a_packet_is_read()
     ensures no_fault { (bytes : List ℕ) (p : Packet) → IsPacket bytes p → first_fault bytes ≡ None }
     ensures fields { (bytes : List ℕ) (p : Packet) → IsPacket bytes p → packet_of bytes ≡ p }
 {}
 
-/// The same bytes are at most one packet.
+/// Bytes encode at most one packet.
 pub fn bytes_are_one_packet()
     ensures { (bytes : List ℕ) (p q : Packet) → IsPacket bytes p → IsPacket bytes q → p ≡ q }
 {}
 
-/// Rewritten bytes have the same length and the same faults. They say the same except for sequence number, SSRC and marker.
+/// Rewriting 12 or more bytes keeps their length and their faults. Of the packet's fields, only sequence number, SSRC and marker change.
 pub fn three_fields_are_rewritten()
     ensures len { (sequence ssrc : ℕ) (marker : Bool) (bytes : List ℕ) → 12 ≤ length bytes
         → length (rewritten sequence ssrc marker bytes) ≡ length bytes }
@@ -38,7 +38,7 @@ pub fn three_fields_are_rewritten()
         → packet_of (rewritten sequence ssrc marker bytes) ≡ readdressed sequence ssrc marker (packet_of bytes) }
 {}
 
-/// Restamped bytes have the same length and the same faults. They say the same except for the timestamp.
+/// Restamping 12 or more bytes keeps their length and their faults. Of the packet's fields, only the timestamp changes.
 pub fn the_timestamp_is_rewritten()
     ensures len { (timestamp : ℕ) (bytes : List ℕ) → 12 ≤ length bytes → length (restamped timestamp bytes) ≡ length bytes }
     ensures faults { (timestamp : ℕ) (bytes : List ℕ) → 12 ≤ length bytes → first_fault (restamped timestamp bytes) ≡ first_fault bytes }

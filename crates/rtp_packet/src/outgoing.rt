@@ -41,7 +41,7 @@ pub fn restamp(packet: &mut PacketBuf, timestamp: u32)
     packet.overwrite(4, &field);
 }
 
-/// The second byte of a header: the marker's bit above the seven bits of the payload type.
+/// The second byte of a header: the marker bit, then the seven bits of the payload type.
 fn marked(marker: bool, payload_type: u8) -> u8
     requires { payload_type < 128 }
     ensures { result ≡ second_byte marker payload_type }

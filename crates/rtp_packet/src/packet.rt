@@ -9,8 +9,8 @@ ghost use Rattle.rtp_packet.specs.Seen.{parts};
 use byteorder::{BigEndian, ByteOrder};
 use sfu_base::RtpFault;
 
-/// The parts of an RTP packet (RFC 3550, section 5.1), as slices of its bytes. A packet without a header extension has no `profile` and an
-/// empty `block`. CSRC words and padding are part of none of them.
+/// The parts of an RTP packet (RFC 3550, section 5.1). `block` and `payload` are slices of its bytes. A packet without a header extension
+/// has no `profile` and an empty `block`. CSRC identifiers and padding aren't included.
 #[derive(Clone, Copy, Debug)]
 pub struct Rtp<'a> {
     /// The marker bit.
@@ -21,22 +21,22 @@ pub struct Rtp<'a> {
     pub seq: u16,
     /// The timestamp, in ticks of the media's clock.
     pub timestamp: u32,
-    /// The synchronization source.
+    /// The synchronization source (SSRC).
     pub ssrc: u32,
-    /// The profile word of the header extension.
+    /// The 16-bit profile field of the header extension.
     pub profile: Option<u16>,
-    /// The block of the header extension, a whole number of 32-bit words, without its profile and count.
+    /// The data of the header extension, a whole number of 32-bit words, without the profile and length fields before it.
     pub block: &'a [u8],
     /// The bytes between the header and the padding.
     pub payload: &'a [u8],
 }
 
-/// The bytes of the fixed header.
+/// The length of the fixed header, in bytes.
 const FIXED_HEADER: usize = 12;
 
-/// Reads a packet (RFC 3550, section 5.1). It is refused by the first fault that applies: `Short` below 12 bytes, `Version` where the
-/// version isn't 2, `Csrc` where the CSRC words aren't all there, `Extension` where the header extension isn't all there, `Padding` where
-/// the padding's count is 0 or more than the bytes that follow the header.
+/// Reads a packet (RFC 3550, section 5.1). Returns the first fault that applies: `Short` for fewer than 12 bytes, `Version` if the version
+/// isn't 2, `Csrc` if the bytes end before the CSRC list does, `Extension` if they end before the header extension does, `Padding` if the
+/// padding count is 0 or more than the number of bytes after the header.
 pub fn read<'a>(bytes: &'a [u8]) -> Result<Rtp<'a>, RtpFault>
     ensures found { IfOk result (λ r. IsPacket bytes.now (parts r)) }
     ensures none { IfErr result (λ _. (p : Packet) → IsPacket bytes.now p → ⊥) }
@@ -47,7 +47,7 @@ pub fn read<'a>(bytes: &'a [u8]) -> Result<Rtp<'a>, RtpFault>
     located(bytes)
 }
 
-/// Each part at its place, as the header's fields give it, or the first fault.
+/// Finds each part at the place that the header's fields determine, or returns the first fault.
 #[tactic(auto, unfolding(crate::specs::Faults::first_fault))]
 fn located<'a>(bytes: &'a [u8]) -> Result<Rtp<'a>, RtpFault>
     ensures parts { IfOk result (λ r. parts r ≡ packet_of bytes.now) }
@@ -80,8 +80,8 @@ fn located<'a>(bytes: &'a [u8]) -> Result<Rtp<'a>, RtpFault>
     })
 }
 
-/// Splits the bytes after the CSRC words: the extension's profile and block, if there is one, and the bytes after it. `Extension` if it
-/// isn't all there.
+/// Splits the bytes after the CSRC list into the header extension's profile and block, if there is an extension, and the bytes after it.
+/// Returns `Extension` if the bytes end before the extension does.
 fn extension<'a>(
     extended: bool,
     rest: &'a [u8],
@@ -105,7 +105,7 @@ fn extension<'a>(
     Ok((Some(BigEndian::read_u16(rest)), &rest[4..end], &rest[end..]))
 }
 
-/// The bytes after the header, without their padding. `Padding` if the padding's count is 0 or too great.
+/// Returns the bytes after the header without the padding, or `Padding` if the padding count is 0 or more than those bytes.
 fn unpadded<'a>(padded: bool, rest: &'a [u8]) -> Result<&'a [u8], RtpFault>
     ensures payload { IfOk result (λ x. x.now ≡ payload_in padded rest.now) }
     ensures ok { IfOk result (λ _. has_bad_padding padded rest.now ≡ false) }
