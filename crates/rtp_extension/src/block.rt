@@ -8,9 +8,9 @@ ghost use Rattle.rtp_extension.specs.Reading.{elements_of, value_of};
 use crate::element::Elements;
 use crate::form::{Form, named_form};
 
-/// The elements of a block under its profile (RFC 8285, sections 4.2 and 4.3), in order. Profile BEDE is the one-byte form, 1000 to 100F
-/// the two-byte form. Any other profile has no elements (own rule). Id 15 ends the one-byte form, and so does id 0 with a nonzero length
-/// (own rule). An element that would pass the block's end ends both forms (own rule).
+/// Returns the elements of a header extension's block, in order (RFC 8285, sections 4.2 and 4.3). Profile 0xBEDE is the one-byte form,
+/// 0x1000 to 0x100F the two-byte form. Any other profile has no elements (own rule). Reading a one-byte block ends at id 15, and at id
+/// 0 with a nonzero length (own rule). Reading a block of either form ends at an element that would pass the block's end (own rule).
 pub fn elements<'a>(profile: u16, block: &'a [u8]) -> Elements<'a>
     ensures value { result ≡ elements_of profile block.now }
     ensures grammar { HasElements (form_of profile) block.now result }
@@ -24,7 +24,7 @@ pub fn elements<'a>(profile: u16, block: &'a [u8]) -> Elements<'a>
     }
 }
 
-/// The value of the first element with the id (own rule), or `None` where there is none.
+/// Returns the value of the first element with this id (own rule), or `None` if there is none.
 pub fn find<'a>(profile: u16, block: &'a [u8], id: u8) -> Option<&'a [u8]>
     ensures { option_copied result ≡ value_of id (elements_of profile block.now) }
 {

@@ -16,7 +16,7 @@ pub struct Element<'a> {
     pub value: &'a [u8],
 }
 
-/// An iterator over the elements of a block. A contract sees the list of those that are left.
+/// An iterator over the elements of a block. Contracts see it as the list of the remaining elements.
 #[derive(Debug, Drop)]
 pub struct Elements<'a> {
     pub(crate) form: Form,
@@ -60,7 +60,7 @@ impl<'a> Iterator for Elements<'a> {
 /// The id that ends processing in the one-byte form.
 const RESERVED_ID: u8 = 15;
 
-/// The first element and the bytes after it, or `None` if processing ends before one.
+/// Returns the first element and the bytes after it, or `None` if processing ends before an element.
 pub(crate) fn first<'a>(form: Form, block: &'a [u8]) -> Option<(Element<'a>, &'a [u8])>
     ensures { MatchOption result (elements_in form block.now ≡ []) (λ x. elements_in form block.now ≡ plain x.0 ∷ elements_in form x.1.now) }
 {
@@ -77,7 +77,7 @@ pub(crate) fn first<'a>(form: Form, block: &'a [u8]) -> Option<(Element<'a>, &'a
     None
 }
 
-/// The element of the one-byte form that begins with this byte, and the bytes after it; or `None` if processing ends here.
+/// Returns the one-byte form's element that begins with the byte `head`, and the bytes after it, or `None` if processing ends here.
 fn one_byte<'a>(head: u8, behind: &'a [u8]) -> Option<(Element<'a>, &'a [u8])>
     requires { 0 < head }
     ensures { MatchOption result (elements_in Form.OneByte (head ∷ behind.now) ≡ [])
@@ -92,7 +92,7 @@ fn one_byte<'a>(head: u8, behind: &'a [u8]) -> Option<(Element<'a>, &'a [u8])>
     Some((Element { id, value }, rest))
 }
 
-/// The element of the two-byte form with this id, and the bytes after it; or `None` if it isn't all there.
+/// Returns the two-byte form's element with this id, and the bytes after it, or `None` if the bytes end within the element.
 fn two_byte<'a>(id: u8, behind: &'a [u8]) -> Option<(Element<'a>, &'a [u8])>
     requires { 0 < id }
     ensures { MatchOption result (elements_in Form.TwoByte (id ∷ behind.now) ≡ [])

@@ -4,7 +4,7 @@ ghost use Rattle.std.specs.Prelude.{◌≡◌, ◌+◌, Some, length};
 ghost use Rattle.rtp_extension.specs.Forms.{PlainElement, element_bytes, form_of};
 ghost use Rattle.rtp_extension.specs.Reblocked.{profile_for};
 
-/// How elements are written (RFC 8285, sections 4.2 and 4.3).
+/// The encoding of elements: the one-byte form (RFC 8285, section 4.2) or the two-byte form (section 4.3).
 #[derive(Clone, Copy, Debug)]
 pub(crate) enum Form {
     OneByte,
@@ -17,13 +17,13 @@ const ONE_BYTE_PROFILE: u16 = 0xBEDE;
 /// The first of the sixteen profiles of the two-byte form.
 const TWO_BYTE_PROFILE: u16 = 0x1000;
 
-/// The most bytes of a value in the one-byte form.
+/// The largest length of a value in the one-byte form, in bytes.
 pub(crate) const LONGEST_ONE_BYTE: usize = 16;
 
-/// The most bytes of a value in the two-byte form.
+/// The largest length of a value in the two-byte form, in bytes.
 pub(crate) const LONGEST_TWO_BYTE: usize = 255;
 
-/// The form that a profile names, if it names one.
+/// Returns the form that a profile selects, or `None` if it selects none.
 pub(crate) fn named_form(profile: u16) -> Option<Form>
     ensures { result ≡ form_of profile }
 {
@@ -36,7 +36,7 @@ pub(crate) fn named_form(profile: u16) -> Option<Form>
     }
 }
 
-/// The profile and the form that a block needs once one of its elements has this value. `profile` and `form` are those before.
+/// Returns the profile and the form that a block needs after one of its elements gets this value. `profile` and `form` are the old ones.
 pub(crate) fn wide_enough(profile: u16, form: Form, value: &[u8]) -> (u16, Form)
     requires { form_of profile ≡ Some form }
     ensures profile { result.0 ≡ profile_for profile value.now }

@@ -11,16 +11,16 @@ use crate::replaced::{Replaced, first_left};
 use crate::writers::{ROOM, append_element};
 use sfu_base::{NoFit, PacketBuf};
 
-/// The bytes of the profile and the count of words (RFC 3550, section 5.3.1).
+/// The length of the profile and length fields, in bytes (RFC 3550, section 5.3.1).
 const EXTENSION_HEADER: usize = 4;
 
-/// The bytes of a word.
+/// The length of a word, in bytes.
 const WORD: usize = 4;
 
-/// Appends a header extension, profile and count of words included, with the elements of a block in their order. The first element with
-/// this id must exist, and gets this value of 1 to 255 bytes (own rule). What isn't an element is left out, and zero bytes fill the last
-/// 32-bit word. The profile stays, except that a value of more than 16 bytes turns the one-byte form into the two-byte form, with profile
-/// 1000. Returns `NoFit` if the buffer would pass 2,048 bytes; it is then as it was.
+/// Appends a header extension, with its profile and length fields, that has the elements of a block in their order. The first element
+/// with this id gets this value of 1 to 255 bytes (own rule); such an element must exist. Bytes that aren't part of an element are
+/// left out, and zero bytes fill the last 32-bit word. The profile stays, but a value of more than 16 bytes turns the one-byte form
+/// into the two-byte form, with profile 0x1000. Returns `NoFit` if the buffer would pass 2,048 bytes; it is then as it was.
 pub fn reblock(
     profile: u16,
     block: &[u8],
@@ -58,7 +58,7 @@ pub fn reblock(
     Ok(())
 }
 
-/// The length of the elements in this form, in bytes, or `None` where they exceed a buffer's capacity.
+/// Returns the length of the elements in this form, in bytes, or `None` if they exceed a buffer's capacity of 2,048 bytes.
 fn written_len(form: Form, elements: Replaced<'_>) -> Option<usize>
     ensures { MatchOption result (2048 < length (elements_laid form (elements_left elements.entry)))
         (λ n. (n ≡ length (elements_laid form (elements_left elements.entry))) × (n ≤ 2048)) }

@@ -6,7 +6,7 @@ ghost use Rattle.rtp_extension.specs.Seen.{elements_left, plain};
 use crate::element::{Element, first};
 use crate::form::Form;
 
-/// The remaining elements of a block. The first of them with the id gets the value; `value` is `None` once that is done.
+/// The remaining elements of a block. The first of them with this id gets the value. After that, `value` is `None`.
 #[derive(Clone, Copy, Debug)]
 pub(crate) struct Replaced<'a> {
     pub(crate) form: Form,
@@ -15,7 +15,7 @@ pub(crate) struct Replaced<'a> {
     pub(crate) value: Option<&'a [u8]>,
 }
 
-/// The first remaining element, and what remains after it.
+/// Returns the first remaining element and what remains after it, or `None` if no element remains.
 pub(crate) fn first_left<'a>(left: Replaced<'a>) -> Option<(Element<'a>, Replaced<'a>)>
     ensures { MatchOption result (elements_left left.entry ≡ []) (λ x. elements_left left.entry ≡ plain x.0 ∷ elements_left x.1) }
 {
