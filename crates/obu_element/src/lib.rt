@@ -1,5 +1,5 @@
-//! Open bitstream units (OBUs) of AV1 as RTP payloads carry them: whether the elements of packets join, and the header of an OBU. No
-//! call takes memory.
+//! Open bitstream units (OBUs) of AV1 in RTP payloads: checks that the elements of consecutive
+//! packets join, and reads the header of an OBU. No call takes memory.
 #![tactic(auto)]
 
 mod joiner;

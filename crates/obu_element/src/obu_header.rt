@@ -18,14 +18,14 @@ pub struct ObuHeader {
     pub spatial: u8,
     /// Whether the size of the OBU follows the header.
     pub has_size: bool,
-    /// The length of the header in bytes: 2 with an extension byte, and else 1.
+    /// The length of the header in bytes: 2 with an extension byte, otherwise 1.
     pub len: u8,
 }
 
-/// Why bytes begin with no OBU header.
+/// Why bytes don't begin with an OBU header.
 #[derive(Clone, Copy, Debug, PartialEq, Eq, Error)]
 pub enum ObuFault {
-    /// There is no byte.
+    /// There are no bytes.
     #[error("there is no byte")]
     Empty,
     /// obu_forbidden_bit, the first bit, is 1.
