@@ -1,4 +1,4 @@
-// Replaces the mask in a packet's dependency descriptor.
+// Replaces the mask (active_decode_targets_bitmask) in a packet's dependency descriptor.
 
 ghost use Rattle.std.specs.Prelude.{◌≡◌, ◌≤◌, ◌+◌, ◌*◌, None, OnErr, OnOk, Some, drop, length};
 ghost use Rattle.std.specs.Option.{option_copied};
@@ -18,13 +18,13 @@ const FIXED_HEADER: usize = 12;
 /// The length of a CSRC identifier, in bytes.
 const CSRC: usize = 4;
 
-/// The length of the header extension's profile and count of words, in bytes (RFC 3550, section 5.3.1).
+/// The length of the header extension's profile and length fields, in bytes (RFC 3550, section 5.3.1).
 const EXTENSION_HEADER: usize = 4;
 
-/// The most bytes that a remasked packet has.
+/// The largest length of a remasked packet, in bytes.
 const MOST: usize = 1536;
 
-/// Gives packets another mask. A remasker keeps its working memory, some 12 KB, which then isn't cleared for each packet.
+/// Replaces the mask in packets. A remasker keeps its working memory of some 12 KB, so the memory isn't cleared for each packet.
 #[derive(Drop)]
 pub struct Remasker {
     room: RemaskRoom,
@@ -47,12 +47,12 @@ impl Remasker {
         }
     }
 
-    /// Replaces the contents of `out` with the packet, whose dependency descriptor gets another mask (AV1 RTP payload format, Appendix A).
-    /// Bit i of the mask, the lowest being bit 0, says whether decode target i is active; bits past the last decode target are left out. The
-    /// descriptor is the value of the first header extension element with the id (RFC 8285). The elements keep their order, and a descriptor
-    /// of more than 16 bytes turns the one-byte form into the two-byte form. Fixed header, CSRC identifiers, payload and padding (RFC 3550,
-    /// section 5.1) are copied bit by bit. Returns `NoFit` where the packet has no descriptor, or one that doesn't read with the structure
-    /// in force, or where the new descriptor would have more than 255 bytes or the new packet more than 1,536; `out` is then as it was.
+    /// Copies the packet into `out`, in place of its contents, with another mask in the dependency descriptor (AV1 RTP payload format,
+    /// Appendix A). Bit i of the mask says whether decode target i is active; bit 0 is the lowest, and bits past the last decode target are
+    /// left out. The descriptor is the value of the first header extension element with this id (RFC 8285). The elements keep their order;
+    /// a new descriptor of more than 16 bytes turns the one-byte form into the two-byte form. Fixed header, CSRC identifiers, payload and
+    /// padding (RFC 3550, section 5.1) are copied bit by bit. Returns `NoFit` if there is no descriptor, if it can't be parsed with the
+    /// structure `force`, if the new descriptor would pass 255 bytes, or if the new packet would pass 1,536 bytes; `out` is then as it was.
     ///
     /// The packet must be an RTP packet.
     pub fn remask(
@@ -92,7 +92,7 @@ impl Default for Remasker {
     }
 }
 
-/// Replaces the contents of `out` with the descriptor under this mask.
+/// Replaces the contents of `out` with the descriptor that has this mask in place of its own.
 fn fill_value(
     descriptor: &[u8],
     force: Option<&Structure>,
@@ -108,14 +108,14 @@ fn fill_value(
     result
 }
 
-/// A lemma, which does nothing: each item of a byte slice is below 256.
+/// A lemma, which does nothing at run time: each item of a byte slice is below 256.
 fn lemma_are_bytes(bytes: &[u8])
     ensures { AreBytes bytes.now }
 {
     let _ = bytes;
 }
 
-/// Replaces the contents of `out` with the packet, with `extension` in place of its header extension, which has `old` bytes.
+/// Copies the packet into `out`, in place of its contents, with `extension` in place of the packet's header extension of `old` bytes.
 fn fill_packet(
     packet: &[u8],
     old: usize,

@@ -1,4 +1,4 @@
-// What a packet shows by the structure in force.
+// Reads a packet with the structure in force.
 
 ghost use Rattle.std.specs.Prelude.{◌≡◌, ◌≤◌, ℕ, List, Option, Some, take, true};
 ghost use Rattle.std.specs.Option.{option_copied};
@@ -16,19 +16,19 @@ use dd_descriptor::{DdFault, Descriptor, NewestDescriptor};
 use dd_structure::Structure;
 use rtp_packet::Rtp;
 
-/// What a packet shows by the structure in force.
+/// What can be read from a packet with the structure in force.
 #[derive(Clone, Copy, Debug, PartialEq, Eq)]
 pub enum Shown {
-    /// Its descriptor needs a structure, and none is carried or in force.
+    /// Its descriptor needs a structure, but carries none, and none is in force.
     LacksStructure,
-    /// It has no descriptor, or one that doesn't read, or one that carries a structure other than that in force and begins no key frame.
+    /// Its descriptor is missing, or can't be parsed, or carries a structure that isn't the one in force and begins no key frame.
     Unread,
-    /// Its descriptor reads, and its payload has these flags.
+    /// Its descriptor can be parsed, and its payload has these flags.
     Shows(PayloadFlags),
 }
 
-/// What a packet shows by the structure in force. Where the packet has a descriptor that reads, `newest` has that descriptor afterwards;
-/// otherwise `newest` may say anything.
+/// Reads a packet with the structure in force. If the packet has a descriptor that can be parsed,
+/// `newest` has that descriptor afterwards; otherwise the contents of `newest` are unspecified.
 pub fn show(
     packet: &Rtp<'_>,
     id: u8,
@@ -54,7 +54,7 @@ pub fn show(
     }
 }
 
-/// What a packet shows whose descriptor has this fault.
+/// What can be read from a packet if its descriptor has this fault.
 fn of_fault(fault: DdFault) -> Shown
     ensures { result ≡ fault_shown fault }
 {
@@ -64,7 +64,7 @@ fn of_fault(fault: DdFault) -> Shown
     }
 }
 
-/// Whether the descriptor obeys the rule that a structure other than that in force comes only with a key frame's first packet.
+/// Whether the descriptor obeys this rule: only a key frame's first packet may carry a structure that isn't the one in force.
 fn obeys(descriptor: &Descriptor, force: Option<&Structure>) -> bool
     requires { descriptor.now.ref_count ≤ 16 }
     ensures { result ≡ obeys_structure structures_alone (option_copied force.entry) (said (content_of (option_copied force.entry) descriptor.now)) }
@@ -85,7 +85,7 @@ fn is_in_force(structure: &Structure, force: Option<&Structure>) -> bool
     }
 }
 
-/// Whether a descriptor begins a key frame: it carries a structure, has the start bit and refers to nothing.
+/// Whether a descriptor begins a key frame: it carries a structure, has the start bit, and has no references.
 pub fn begins_epoch(descriptor: &Descriptor) -> bool
     requires { descriptor.now.ref_count ≤ 16 }
     ensures { (force : Option TemplateStructure) → result ≡ is_key_start (said (content_of force descriptor.now)) }
