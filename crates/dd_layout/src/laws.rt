@@ -6,7 +6,7 @@ ghost use Rattle.dd_structure.specs.Spelling.{IsWellFormed};
 ghost use Rattle.dd_structure.specs.TemplateStructure.{TemplateStructure};
 ghost use Rattle.dd_layout.specs.Layouts.{is_same_structure, layout_of};
 
-/// A law: a well-formed structure has at most 32 decode targets and 32 chains. Where it has chains, each target is protected by one of them.
+/// A law: a well-formed structure has at most 32 decode targets and 32 chains. If it has chains, each target is protected by one of them.
 pub fn carried_structures_have_layouts()
     ensures { (s : TemplateStructure) → IsWellFormed s → IsLayout (layout_of s) }
 {}

@@ -1,5 +1,5 @@
-//! What a template structure and a descriptor say to the forwarder: the layout of decode targets and chains, and a frame's own fields, in
-//! arrays of fixed length (RTP Payload Format For AV1 v1.0, Appendix A). Definitions and their laws alone; there is no code here to run.
+//! What the forwarder needs of a template structure and a descriptor: the layout of decode targets and chains, and a frame's own fields, in
+//! arrays of fixed length (RTP Payload Format For AV1 v1.0, Appendix A). There are only definitions and their laws here, no code to run.
 #![tactic(auto)]
 
 mod laws;
