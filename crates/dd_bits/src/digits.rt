@@ -1,9 +1,9 @@
-//! Binary digits of numbers: how many there are, and those at one place.
+//! Binary digits of numbers: counts them, reads some of them, and appends more.
 
 ghost use Rattle.std.specs.Prelude.{◌≡◌, ◌≤◌, ◌<◌, ◌+◌, ◌-◌, ◌*◌, ◌/◌, ◌%◌, ◌^◌};
 ghost use Rattle.dd_bits.specs.Numbers.{digits, short_forms};
 
-/// How many binary digits a number has.
+/// Returns how many binary digits a number has, without leading zeros.
 pub fn digit_count(n: u32) -> u8
     requires { 1 ≤ n }
     ensures value { result ≡ digits n }
@@ -13,7 +13,7 @@ pub fn digit_count(n: u32) -> u8
     (32 - n.leading_zeros()) as u8
 }
 
-/// How many of the numbers below n are spelled with one digit less than n has.
+/// ns(n) encodes some of the numbers below n in one bit fewer than n has binary digits. Returns how many numbers these are.
 pub fn short_form_count(n: u32) -> u32
     requires { 1 ≤ n }
     ensures value { result ≡ short_forms n }
@@ -25,7 +25,7 @@ pub fn short_form_count(n: u32) -> u32
     (all - n as u64) as u32
 }
 
-/// The `count` digits of a number that precede its lowest `behind` ones.
+/// Returns `count` digits of a number: those directly above its lowest `behind` digits.
 pub fn digits_at(number: u32, behind: u8, count: u8) -> u32
     requires { count ≤ 8 }
     ensures value { result ≡ number / 2 ^ behind % 2 ^ count }
@@ -38,7 +38,7 @@ pub fn digits_at(number: u32, behind: u8, count: u8) -> u32
     }
 }
 
-/// The number with the `count` digits of `more` appended to its own.
+/// Returns the number with the `count` digits of `more` appended to its digits.
 pub fn with_digits(number: u32, count: u8, more: u32) -> u32
     requires count { count ≤ 8 }
     requires more { more < 2 ^ count }
@@ -48,7 +48,7 @@ pub fn with_digits(number: u32, count: u8, more: u32) -> u32
     (number << count) + more
 }
 
-/// The byte that begins with the `count` digits of `digits`, followed by zeros.
+/// Returns the byte whose highest bits are the `count` digits of `digits`. Its other bits are 0.
 pub fn byte_with(digits: u32, count: u8) -> u8
     requires count { count ≤ 8 }
     requires small { digits < 2 ^ count }

@@ -8,12 +8,12 @@ use thiserror::Error;
 #[error("fewer bits are left than the value needs")]
 pub struct Short;
 
-/// The bits of a slice that are left to be read, the highest of each byte first.
+/// The remaining bits of a slice. They are read with the highest bit of each byte first.
 #[derive(Clone, Copy, Debug)]
 pub struct BitReader<'a> {
-    /// The bytes from the one with the next bit on.
+    /// The remaining bytes, beginning with the byte that has the next bit.
     rest: &'a [u8],
-    /// How many bits of the first of these bytes were read.
+    /// How many bits of the first remaining byte were read already.
     used: u8,
     ghost in_byte: { used < 8 },
 }
@@ -34,7 +34,7 @@ impl<'a> BitReader<'a> {
         }
     }
 
-    /// How many bits are left, or `usize::MAX` where there are more.
+    /// Returns how many bits are left, or `usize::MAX` if there are more.
     pub fn left(&self) -> usize
         ensures { result ≡ min (length (bits_left self.now)) usize.MAX }
     {
@@ -47,14 +47,14 @@ impl<'a> BitReader<'a> {
         }
     }
 
-    /// How many bits are left; unlike [`BitReader::left`], without an upper limit.
+    /// Returns how many bits are left; unlike [`BitReader::left`], without an upper limit.
     pub(crate) fn count(&self) -> u128
         ensures { result ≡ length (bits_left self.now) }
     {
         (self.rest.len() as u128 * 8).saturating_sub(self.used as u128)
     }
 
-    /// Reads a number of n bits, f(n). Returns `Short` if fewer bits are left; the reader is then as before.
+    /// Reads a number of n bits, f(n). Returns `Short` if fewer than n bits are left; the reader is then as before.
     pub fn bits(&mut self, n: u8) -> Result<u32, Short>
         requires { n ≤ 32 }
         ensures read { IfOk result (λ v. fixed n (bits_left self.old) ≡ Some (v, bits_left self.new)) }
@@ -91,7 +91,7 @@ impl<'a> BitReader<'a> {
         }
     }
 
-    /// The same as [`BitReader::bits`], with the caller's fault `short` in place of `Short`.
+    /// The same as [`BitReader::bits`], but returns the caller's error `short` in place of `Short`.
     pub fn bits_or<E: Copy>(&mut self, n: u8, short: E) -> Result<u32, E>
         requires { n ≤ 32 }
         ensures read { Gives (λ v. v) result self.new (fixed_or short n (bits_left self.old)) }
@@ -101,7 +101,7 @@ impl<'a> BitReader<'a> {
         self.bits(n).map_err(|_| short)
     }
 
-    /// The same as [`BitReader::ns`], with the caller's fault `short` in place of `Short`.
+    /// The same as [`BitReader::ns`], but returns the caller's error `short` in place of `Short`.
     pub fn ns_or<E: Copy>(&mut self, n: u32, short: E) -> Result<u32, E>
         requires { 1 ≤ n }
         ensures read { Gives (λ v. v) result self.new (non_symmetric_or short n (bits_left self.old)) }
@@ -111,7 +111,7 @@ impl<'a> BitReader<'a> {
         self.ns(n).map_err(|_| short)
     }
 
-    /// Reads n bits, byte by byte: from each byte as many as are needed and left in it.
+    /// Reads n bits, byte by byte: from each byte as many bits as are still needed, or as many as are left in that byte.
     pub(crate) fn take_bits(&mut self, n: u8) -> u32
         requires width { n ≤ 32 }
         requires enough { n ≤ length (bits_left self.old) }
@@ -128,7 +128,7 @@ impl<'a> BitReader<'a> {
         number
     }
 
-    /// Reads bits that all lie in the next byte.
+    /// Reads `count` bits, all of which are in the first remaining byte.
     fn take_in_byte(&mut self, count: u8) -> u32
         requires some { 1 ≤ length (bits_left self.old) }
         requires in_byte { self.old.used + count ≤ 8 }

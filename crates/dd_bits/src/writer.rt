@@ -4,7 +4,7 @@ use crate::digits::{byte_with, digit_count, digits_at, short_form_count, with_di
 use crate::reader::BitReader;
 use thiserror::Error;
 
-/// The bits would pass 2,040 bytes.
+/// The written bits would need more than 2,040 bytes.
 #[derive(Clone, Copy, Debug, PartialEq, Eq, Error)]
 #[error("the bits would pass 2,040 bytes")]
 pub struct NoRoom;
@@ -12,13 +12,13 @@ pub struct NoRoom;
 /// The capacity of a writer, in bytes.
 const MOST: usize = 2040;
 
-/// Bits that are appended to at most 2,040 bytes, the highest of each byte first.
+/// A buffer of at most 2,040 bytes to which bits are appended, the highest bit of each byte first.
 #[derive(Clone, Copy, Debug)]
 pub struct BitWriter {
     bytes: [u8; MOST],
     /// How many bytes are full.
     len: usize,
-    /// How many bits are in the byte after the full ones, fewer than 8. `pending` is the number that they spell.
+    /// How many bits are in the byte after the full ones, fewer than 8. `pending` is the number that these bits encode.
     used: u8,
     pending: u32,
     ghost whole: { length bytes ≡ 2040 },
@@ -69,7 +69,7 @@ impl BitWriter {
         Ok(())
     }
 
-    /// Appends a number below n as ns(n) spells it. Returns `NoRoom` if the bits would pass 2,040 bytes; the writer is then as before.
+    /// Appends a number below n in its encoding ns(n). Returns `NoRoom` if the bits would pass 2,040 bytes; the writer is then as before.
     pub fn put_ns(&mut self, n: u32, value: u32) -> Result<(), NoRoom>
         requires { value < n }
         ensures put { Puts result self.old self.new (non_symmetric_bits n value) }
@@ -85,8 +85,8 @@ impl BitWriter {
         }
     }
 
-    /// Appends the bits that were read between two states of a reader: `from` is a copy of the earlier state, `to` one of the later.
-    /// Returns `NoRoom` if the bits would pass 2,040 bytes; the writer is then as before.
+    /// Appends the bits that a reader read between two moments: `from` is a copy of the reader at the earlier moment, `to`
+    /// a copy at the later moment. Returns `NoRoom` if the bits would pass 2,040 bytes; the writer is then as before.
     pub fn put_read(&mut self, from: BitReader<'_>, to: BitReader<'_>) -> Result<(), NoRoom>
         ensures put { Puts result self.old self.new (bits_between from.entry to.entry) }
         ensures unchanged { OnErr result (self.new ≡ self.old) }
@@ -101,7 +101,7 @@ impl BitWriter {
         Ok(())
     }
 
-    /// The bytes that hold the bits; the last is filled up with zeros.
+    /// Returns the bytes that contain the bits. Zero bits fill the last byte.
     pub fn bytes(&self) -> &[u8]
         ensures { IsPadded (written self.now) result.now }
     {
@@ -112,7 +112,7 @@ impl BitWriter {
         }
     }
 
-    /// Appends the first `count` bits of a reader.
+    /// Appends the first `count` remaining bits of a reader.
     fn put_front(&mut self, from: BitReader<'_>, count: usize)
         requires enough { count ≤ length (bits_left from) }
         requires fit { length (written self.old) + count ≤ room }
@@ -128,7 +128,7 @@ impl BitWriter {
         }
     }
 
-    /// Appends n bits, byte by byte: to each byte as many as are left and fit.
+    /// Appends the lowest n bits of `value`, byte by byte: to each byte as many of them as fit.
     fn put_bits(&mut self, n: u8, value: u32)
         requires { length (written self.old) + n ≤ room }
         ensures { written self.new ≡ written self.old ++ bits_of n value }
@@ -141,7 +141,7 @@ impl BitWriter {
         }
     }
 
-    /// Appends bits that fit in the byte after the full ones.
+    /// Appends the lowest `count` bits of `value`, all of which fit in the byte after the full ones.
     fn put_in_byte(&mut self, count: u8, value: u32)
         requires some { 1 ≤ count }
         requires in_byte { self.old.used + count ≤ 8 }
