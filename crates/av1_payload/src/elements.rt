@@ -1,10 +1,10 @@
-// The elements of a payload, one after another.
+// An iterator over the elements of a payload.
 
 use crate::left::{Left, first_element};
 use std::marker::Model;
 
-/// An iterator over the elements of a payload, each borrowed from the payload's bytes. Clauses see it as the list of the
-/// elements that are left.
+/// An iterator over the elements of a payload, each borrowed from the payload's bytes. Contracts
+/// see it as the list of the remaining elements.
 #[derive(Debug, Drop)]
 pub struct PayloadElements<'a> {
     pub(crate) left: Left<'a>,

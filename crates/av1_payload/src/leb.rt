@@ -1,9 +1,9 @@
-// The length of an element, in leb128.
+// Reads the length of an element, encoded in leb128.
 
 ghost use Rattle.std.specs.Prelude.{◌≡◌, None, Some, MatchOption};
 ghost use Rattle.av1_payload.specs.Reading.{length_at};
 
-/// The most bytes that a length has.
+/// The largest number of bytes of an encoded length.
 const MOST_BYTES: usize = 8;
 
 /// Every length is below this.
@@ -12,8 +12,8 @@ const BOUND: u64 = 0x1_0000_0000;
 /// The highest bit of a byte, which says that more bytes follow.
 const MORE: u8 = 0x80;
 
-/// Reads the leb128 length that the bytes begin with (AV1 Bitstream Specification, section 4.10.5). Returns the length and the bytes after
-/// it, or `None` where the bytes end before or within it, or it has more than 8 bytes or is 2^32 or more.
+/// Reads a leb128 length from the start of the bytes (AV1 Bitstream Specification, section 4.10.5). Returns the length and the bytes
+/// after it. Returns `None` if the bytes end before or within the length, or if the length has more than 8 bytes or is 2^32 or more.
 pub fn split_length<'a>(bytes: &'a [u8]) -> Option<(usize, &'a [u8])>
     ensures { MatchOption result (length_at bytes.now ≡ None) (λ x. length_at bytes.now ≡ Some (x.0, x.1.now)) }
 {

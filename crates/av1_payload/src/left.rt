@@ -1,4 +1,4 @@
-// The elements of a payload that are left, and the first of them.
+// The remaining elements of a payload, and the reader of the first of them.
 
 ghost use Rattle.std.specs.Prelude.{◌≡◌, Ok, Err, MatchOption, MatchResult};
 ghost use Rattle.av1_payload.specs.Reading.{count_in, no_elements, only_fault, sized_at, with_element};
@@ -7,23 +7,23 @@ ghost use Rattle.av1_payload.specs.Seen.{found_left, layout_with};
 use crate::fault::PayloadFault;
 use crate::leb::split_length;
 
-/// How elements are laid out.
+/// How the remaining elements are laid out.
 #[derive(Clone, Copy, Debug, PartialEq, Eq)]
 pub(crate) enum Layout {
-    /// Each has its length before it.
+    /// Each element has its length before it.
     EachSized,
-    /// This many elements have their length before them; then comes the last, without a length.
+    /// This many elements have their length before them. Then comes the last element, without a length.
     LastBare(u8),
 }
 
-/// The elements that are left.
+/// The remaining elements.
 #[derive(Clone, Copy, Debug, PartialEq, Eq)]
 pub(crate) struct Left<'a> {
     pub(crate) layout: Layout,
     pub(crate) bytes: &'a [u8],
 }
 
-/// How the elements after an aggregation header are laid out.
+/// Returns the layout of the elements after this aggregation header.
 pub(crate) fn layout_behind(header: u8) -> Layout
     ensures { result ≡ layout_with (count_in header) }
 {
@@ -33,7 +33,7 @@ pub(crate) fn layout_behind(header: u8) -> Layout
     }
 }
 
-/// The first element that is left, and what is left after it; `None` where none is left. The error is the fault of the element's length.
+/// Returns the first remaining element and the elements after it, or `None` if no element remains. The error is the fault of the length.
 pub(crate) fn first_element<'a>(
     left: Left<'a>,
 ) -> Result<Option<(&'a [u8], Left<'a>)>, PayloadFault>
@@ -66,7 +66,7 @@ pub(crate) fn first_element<'a>(
     }
 }
 
-/// The element that the bytes begin with, behind its length, and the bytes after it.
+/// Reads a length, and returns the element of that length after it and the bytes after the element. Errors: `Leb` and `Length`.
 fn split_sized<'a>(bytes: &'a [u8]) -> Result<(&'a [u8], &'a [u8]), PayloadFault>
     ensures { MatchResult result (λ x. sized_at bytes.now ≡ Ok (x.0.now, x.1.now)) (λ e. sized_at bytes.now ≡ Err e) }
 {

@@ -13,7 +13,7 @@ use crate::left::{Layout, Left, first_element, layout_behind};
 /// The payload of an AV1 RTP packet (RTP Payload Format For AV1, section 4.4).
 #[derive(Clone, Copy, Debug, PartialEq, Eq)]
 pub struct Payload<'a> {
-    /// Z: the first element continues the last one of the packet before.
+    /// Z: the first element continues the last element of the packet before.
     pub continues: bool,
     /// Y: the last element continues in the next packet.
     pub carries: bool,
@@ -22,10 +22,10 @@ pub struct Payload<'a> {
     left: Left<'a>,
 }
 
-/// Reads a payload (RTP Payload Format For AV1, section 4.4). Reserved bits are ignored, and an element may be empty (own rule). The error
-/// is the first fault from left to right: `Empty` where there is no byte; `NoElement` where W is 0 and nothing follows the aggregation
-/// header; `Leb` where an element's length is due, and the bytes end before or within the length, or the length has more than 8 bytes or is
-/// 2^32 or more; `Length` where a length is more than the number of bytes that follow it.
+/// Reads a payload (RTP Payload Format For AV1, section 4.4). Reserved bits are ignored, and an element may be empty
+/// (own rule). The error is the first fault from left to right: `Empty` if there are no bytes; `NoElement` if W is 0 and
+/// nothing follows the aggregation header; `Leb` if the bytes end before or within a length that should be there, or if
+/// a length has more than 8 bytes or is 2^32 or more; `Length` if a length is more than the number of bytes after it.
 #[inline(always)]
 pub fn read<'a>(bytes: &'a [u8]) -> Result<Payload<'a>, PayloadFault>
     ensures flags { IfOk result (λ p. flags_in p ≡ flags_of bytes.now) }
@@ -53,7 +53,7 @@ pub fn read<'a>(bytes: &'a [u8]) -> Result<Payload<'a>, PayloadFault>
     })
 }
 
-/// Checks all elements, up to the first fault.
+/// Checks all elements, and returns the first fault.
 fn check(elements: Left) -> Result<(), PayloadFault>
     ensures { MatchResult result
         (λ _. (found_in_all elements.entry.layout elements.entry.bytes.now).fault ≡ None)
