@@ -1,4 +1,4 @@
-//! The chain that protects a decode target: whether a frame's previous frame in it was forwarded (AV1 RTP payload format, Appendix A).
+//! Decides, for the chain that protects a decode target, whether the chain's previous frame was forwarded (AV1 RTP payload format, App. A).
 #![tactic(auto)]
 
 ghost use Rattle.std.specs.Prelude.{◌≡◌, ◌<◌, List, true};
@@ -16,15 +16,15 @@ use sfu_base::FrameMeaning;
 /// Whether a chain is broken at a frame.
 #[derive(Clone, Copy, Debug, PartialEq, Eq)]
 pub enum LinkState {
-    /// The frame before it in the chain was forwarded, or none is needed.
+    /// The chain's previous frame was forwarded, or isn't needed.
     Intact,
-    /// The frame before it in the chain has this number, and wasn't forwarded.
+    /// The chain's previous frame has this number, and wasn't forwarded.
     Broken { number: u64 },
 }
 
-/// The state, at `frame`, of the chain that protects the open target. `passed` has the numbers of the forwarded frames of the epoch.
-/// `opened` is the number of the frame at which the target was opened: frames of the chain before it aren't needed. The chain is intact if
-/// there are no chains, or if the frame's distance in the chain is 0.
+/// Returns the state, at `frame`, of the chain that protects the open target `target`. `passed` has the numbers of the epoch's
+/// forwarded frames. `opened` is the number of the frame at which the target was opened: earlier frames of the chain aren't
+/// needed. The chain is intact if there are no chains, or if the frame's distance in the chain (frame_chain_fdiff) is 0.
 #[inline(always)]
 pub fn link_state(frame: &FrameMeaning, target: u8, opened: u64, passed: &RefWindow) -> LinkState
     requires valid { IsValid frame.now }
@@ -37,7 +37,7 @@ pub fn link_state(frame: &FrameMeaning, target: u8, opened: u64, passed: &RefWin
         return LinkState::Intact;
     }
     let distance = distance_in_chain(frame, target);
-    // Mostly it is short, and the frame was forwarded.
+    // Usually the distance is short, and the previous frame was forwarded.
     if has_bit(passed.right_below(frame.number), distance) {
         return LinkState::Intact;
     }
