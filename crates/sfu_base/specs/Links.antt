@@ -1,42 +1,42 @@
--- What a link tells, and what contracts see of a link in memory. Own rule.
+-- What a link records, and what contracts see of a link in memory. Own rule.
 use Rattle.std.specs.Prelude.{◌≡◌, ℕ, ◌==◌, Bool, false, List, [], ◌∷◌, ◌++◌, drop, Option, Some, None, Result, Ok, Err, MatchResult, if◌then◌else◌}
 use Rattle.std.specs.List.{list_any}
 use Rattle.sfu_base.specs.Faults.{raised}
 
--- The receives and the sent datagrams of a link, in order. A receive brought a datagram or nothing.
+-- The receives and the sent datagrams of a link, in order. Each receive returned a datagram or none.
 pub record Traffic : Type 0 where
   pub received : List (Option (List ℕ))
   pub sent : List (List ℕ)
 
--- what a link tells before its first call
+-- the record of a link before its first call
 abbrev pub no_traffic : Traffic
 no_traffic = record { received = []; sent = [] }
 
--- more receives and more sent datagrams behind those that a link tells, where it tells them
+-- the record with these receives and these sent datagrams appended, if the link keeps a record
 abbrev pub with_more : List (Option (List ℕ)) → List (List ℕ) → Option Traffic → Option Traffic
 with_more received sent None = None
 with_more received sent (Some told) = Some (record { received = told.received ++ received; sent = told.sent ++ sent })
 
--- what a receive brought: the bytes of the buffer, or nothing
+-- what a receive returned: the bytes of the buffer, or none
 abbrev pub datagram : Bool → List ℕ → Option (List ℕ)
 datagram came bytes = if came then Some bytes else None
 
--- a receive puts what it brought last; a failed one changes nothing
+-- a receive is appended to the record; a failed one changes nothing
 abbrev pub after_receive : {E : Type 0} → Result Bool E → List ℕ → Option Traffic → Option Traffic
 after_receive (Ok came) bytes told = with_more (datagram came bytes ∷ []) [] told
 after_receive (Err why) bytes told = told
 
--- a send puts its datagram last; a failed one changes nothing
+-- a sent datagram is appended to the record; a failed send changes nothing
 abbrev pub after_send : {T E : Type 0} → Result T E → List ℕ → Option Traffic → Option Traffic
 after_send (Ok done) bytes told = with_more [] (bytes ∷ []) told
 after_send (Err why) bytes told = told
 
--- the buffer of a receive stays as it was but where a datagram came
+-- a receive leaves its buffer as it was, unless a datagram came
 abbrev pub FillsOnlyWhere : {E : Type 0} → Result Bool E → List ℕ → List ℕ → Type 0
 FillsOnlyWhere result before now = MatchResult result (λ came. came ≡ false → now ≡ before) (λ _. now ≡ before)
 
--- A link in memory: the prepared datagrams that are left; its traffic; the places of the receives and of the sends that are to fail,
--- counted from 0; how many of each were made, at most 2^64 - 1; its name; and the count of faults. The code keeps a position in its datagrams.
+-- A link in memory: the remaining prepared datagrams; its traffic; the numbers, counted from 0, of the receives and of the sends that are
+-- to fail; how many of each were made, at most 2^64 - 1; its name; and the count of faults. The code keeps a position in its datagrams.
 pub record LinkInMemory : Type 0 where
   pub prepared : List (List ℕ)
   pub traffic : Traffic
@@ -47,7 +47,7 @@ pub record LinkInMemory : Type 0 where
   pub name : ℕ
   pub faults : ℕ
 
--- a link in memory before its first call, and before ports name it
+-- a link in memory before its first call, and before ports give it a name
 abbrev pub fresh : List (List ℕ) → List ℕ → List ℕ → LinkInMemory
 fresh prepared failing_receives failing_sends =
     record {
@@ -70,7 +70,7 @@ abbrev pub next_of : List (List ℕ) → Option (List ℕ)
 next_of [] = None
 next_of (bytes ∷ rest) = Some bytes
 
--- a call at this place is one of those that are to fail
+-- the call with this number is one of those that are to fail
 abbrev pub is_listed : ℕ → List ℕ → Bool
 is_listed place failing = list_any (λ other. other == place) failing
 
@@ -78,7 +78,7 @@ is_listed place failing = list_any (λ other. other == place) failing
 abbrev pub failed_receive : LinkInMemory → LinkInMemory
 failed_receive link = record link { receives = raised link.receives; faults = raised link.faults }
 
--- after a receive that brought this: it stands last, and the prepared datagrams lose their first
+-- after a receive that returned this: it is appended to the traffic, and the first prepared datagram is removed
 abbrev pub received : LinkInMemory → Option (List ℕ) → LinkInMemory
 received link brought =
     record link {
@@ -91,7 +91,7 @@ received link brought =
 abbrev pub failed_send : LinkInMemory → LinkInMemory
 failed_send link = record link { sends = raised link.sends; faults = raised link.faults }
 
--- after a send: the datagram stands last
+-- after a send: the datagram is appended to the traffic
 abbrev pub sent : LinkInMemory → List ℕ → LinkInMemory
 sent link bytes =
     record link {
