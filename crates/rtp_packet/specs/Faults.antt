@@ -1,5 +1,5 @@
--- What makes bytes no RTP packet (RFC 3550, section 5.1), and which of it is found first, from the front to the
--- back. The code tests the same rest by rest.
+-- The faults for which bytes aren't an RTP packet (RFC 3550, section 5.1), and which of them is the
+-- first from front to back. The code makes the same tests, each on the bytes that are left.
 use Rattle.std.specs.Prelude.{ℕ, ◌+◌, ◌*◌, ◌==◌, ◌&&◌, ◌||◌, nat_lt, not, Bool, if◌then◌else◌, List, length, Option, Some, None}
 use Rattle.sfu_base.specs.declared.call.RtpFault.{RtpFault}
 use Rattle.sfu_base.specs.declared.call.RtpFault.TheVariants.{Short, Version, Csrc, Extension, Padding}
@@ -13,16 +13,16 @@ lacks_header bytes = nat_lt (length bytes) 12
 abbrev pub has_other_version : List ℕ → Bool
 has_other_version bytes = not (version_of bytes == 2)
 
--- the CSRC words aren't all there
+-- the bytes end before the CSRC list does
 abbrev pub lacks_csrcs : List ℕ → Bool
 lacks_csrcs bytes = nat_lt (length bytes) (12 + 4 * csrc_count bytes)
 
--- X is set, and the profile, the count and the words aren't all there. Where the count itself isn't, its missing
--- bytes count as 0, and the four bytes of profile and count are lacking already.
+-- X is set, and the bytes end before the header extension does. If they end before its length field does, the
+-- missing bytes of that field count as 0, and there are fewer bytes than the four of profile and length anyway.
 abbrev pub lacks_extension : Bool → List ℕ → Bool
 lacks_extension extended rest = extended && nat_lt (length rest) (4 + 4 * block_words rest)
 
--- P is set, and the last byte counts no bytes, or more than follow the header. Where none follows it counts as 0.
+-- P is set, and the last byte is 0 or more than the number of bytes after the header. If there are none, it counts as 0.
 abbrev pub has_bad_padding : Bool → List ℕ → Bool
 has_bad_padding padded rest = padded && (last_byte rest == 0 || nat_lt (length rest) (last_byte rest))
 

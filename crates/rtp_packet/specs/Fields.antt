@@ -1,6 +1,6 @@
--- Where each field of an RTP packet lies (RFC 3550, sections 5.1 and 5.3.1). A field of a few bits is a quotient
--- and a remainder of its byte, and a field of several bytes is the number in them, the highest first. Past the end
--- of the bytes each byte counts as 0. The code goes from the front to the back once, with the rest in its hand.
+-- The place of each field of an RTP packet (RFC 3550, sections 5.1 and 5.3.1). A field of a few bits is a quotient
+-- and a remainder of its byte. A field of several bytes is their number, the highest byte first. Past the end of
+-- the bytes each byte counts as 0. The code goes from front to back once, and keeps the bytes that are left.
 use Rattle.std.specs.Prelude.{ℕ, ◌+◌, ◌-◌, ◌*◌, ◌/◌, ◌%◌, ◌==◌, Bool, if◌then◌else◌, List, [], take, drop, length, slice_index, Option, Some, None}
 use Rattle.byteorder.specs.Endian.{big_number}
 
@@ -37,12 +37,12 @@ timestamp_of bytes = big_number 4 (drop 4 bytes)
 abbrev pub ssrc_of : List ℕ → ℕ
 ssrc_of bytes = big_number 4 (drop 8 bytes)
 
--- what follows the fixed header and the CSRC words
+-- the bytes after the fixed header and the CSRC list
 abbrev pub behind_csrcs : List ℕ → List ℕ
 behind_csrcs bytes = drop (12 + 4 * csrc_count bytes) bytes
 
--- The header extension, at the front of what follows the CSRC words: a profile and a count of 16 bits each, and so
--- many words of 32 bits, the block.
+-- The header extension, at the start of the bytes after the CSRC list: a profile and a length of 16
+-- bits each, and then the block, which has that length in 32-bit words.
 
 abbrev pub block_words : List ℕ → ℕ
 block_words rest = big_number 2 (drop 2 rest)
@@ -56,9 +56,9 @@ block_in extended rest = if extended then take (4 * block_words rest) (drop 4 re
 abbrev pub behind_extension : Bool → List ℕ → List ℕ
 behind_extension extended rest = if extended then drop (4 + 4 * block_words rest) rest else rest
 
--- The payload and the padding after it, which are what follows the whole header.
+-- The payload and the padding after it: the bytes after the whole header.
 
--- the last byte, which counts the padding, itself included
+-- the last byte: the number of padding bytes, itself included
 abbrev pub last_byte : List ℕ → ℕ
 last_byte rest = slice_index rest (length rest - 1)
 

@@ -1,8 +1,8 @@
--- The parts that the reader gives, seen as what they say.
+-- The parts that the reader returns, as the contents of a packet.
 use Rattle.rtp_packet.specs.declared.packet.Rtp.{Rtp}
 use Rattle.rtp_packet.specs.Packet.{Packet}
 
--- what a packet's parts say, without where they lie in memory
+-- the contents of a packet's parts, without their place in memory
 abbrev pub parts : Rtp → Packet
 parts r = record {
   marker = r.marker;
