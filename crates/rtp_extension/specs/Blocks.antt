@@ -1,5 +1,5 @@
--- The block of a header extension, laid end to end (RFC 8285, sections 4.2 and 4.3): elements and bytes of padding in
--- any order, and then what ends processing. The code goes over the bytes from the front.
+-- The block of a header extension as a concatenation (RFC 8285, sections 4.2 and 4.3): elements and padding
+-- bytes in any order, and then bytes at which processing ends. The code goes over the bytes from the front.
 use Rattle.std.specs.Prelude.{◌≡◌, ℕ, ◌+◌, ◌/◌, ◌%◌, ◌<◌, ◌⊎◌, List, [], ◌∷◌, ◌++◌, length, Option, Some, None}
 use Rattle.std.specs.List.{flat_map}
 use Rattle.rtp_extension.specs.declared.form.Form.{Form}
@@ -29,14 +29,14 @@ elements_among [] = []
 elements_among (PaddingByte ∷ ps) = elements_among ps
 elements_among (AnElement e ∷ ps) = e ∷ elements_among ps
 
--- the bytes are elements and padding to their end, and these are the elements
+-- the bytes are elements and padding up to their end, and these are the elements
 pub record IsWhole (form : Form) (bytes : List ℕ) (es : List PlainElement) : Type 0 where
   pub pieces : List Piece
   pub fit : PiecesFit form pieces
   pub laid : bytes ≡ flat_map (piece_bytes form) pieces
   pub said : es ≡ elements_among pieces
 
--- Where processing ends. In either form: where no byte is left, and where an element's length or value isn't all there
+-- Where processing ends. In either form: where no byte is left, and where the bytes end within an element
 -- (own rule). In the one-byte form also at id 15, and at id 0 with a length that isn't 0 (own rule).
 abbrev pub Ends : Form → List ℕ → Type 0
 Ends form [] = Unit {0}
@@ -44,7 +44,7 @@ Ends OneByte (head ∷ rest) = (0 < head) × ((head / 16 ≡ 0) ⊎ (head / 16 �
 Ends TwoByte (id ∷ []) = 0 < id
 Ends TwoByte (id ∷ count ∷ rest) = (0 < id) × (length rest < count)
 
--- the block has these elements: they stand in its front, and processing ends behind it
+-- the block has these elements: it begins with bytes that consist of them and of padding, and processing ends after these bytes
 pub record IsBlock (form : Form) (block : List ℕ) (es : List PlainElement) : Type 0 where
   pub front : List ℕ
   pub rest : List ℕ
@@ -52,7 +52,7 @@ pub record IsBlock (form : Form) (block : List ℕ) (es : List PlainElement) : T
   pub whole : IsWhole form front es
   pub ends : Ends form rest
 
--- the same for the form that a profile names: one that names none has no elements (own rule)
+-- the same for the form that a profile selects: a block whose profile selects none has no elements (own rule)
 abbrev pub HasElements : Option Form → List ℕ → List PlainElement → Type 0
 HasElements None block es = es ≡ []
 HasElements (Some form) block es = IsBlock form block es
