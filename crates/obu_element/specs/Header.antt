@@ -1,6 +1,6 @@
--- The header of an OBU, laid end to end (AV1 Bitstream Specification, sections 5.3.2 and 5.3.3): obu_forbidden_bit, which is 0,
--- obu_type, obu_extension_flag, obu_has_size_field, a reserved bit, and an extension byte where the flag is set. The relation says how
--- a header is put together, and the code takes one apart.
+-- The header of an OBU as a concatenation (AV1 Bitstream Specification, sections 5.3.2 and 5.3.3):
+-- obu_forbidden_bit, which is 0, obu_type, obu_extension_flag, obu_has_size_field, a reserved bit, and an extension
+-- byte if obu_extension_flag is set. The relation says how a header is composed, and the code parses one.
 use Rattle.std.specs.Prelude.{◌≡◌, ℕ, ◌+◌, ◌*◌, ◌<◌, Bool, List, [], ◌∷◌, ◌++◌, length, Option, Some, None, is_some, IfSome}
 use Rattle.sfu_base.specs.Bytes.{bit}
 use Rattle.obu_element.specs.declared.obu_header.ObuHeader.{ObuHeader}
@@ -56,7 +56,7 @@ said l = record {
   len = length (header_bytes l);
 }
 
--- the bytes begin with a header that says h
+-- the bytes begin with a header that has the contents h
 pub record BeginsWith (bytes : List ℕ) (h : ObuHeader) : Type 0 where
   pub layout : Layout
   pub rest : List ℕ

@@ -1,6 +1,6 @@
--- Where each field of an OBU header lies (AV1 Bitstream Specification, sections 5.3.2 and 5.3.3), and what makes bytes begin with none.
--- A field of a few bits is a quotient and a remainder of its byte. Past the end of the bytes each byte counts as 0. The code reads a
--- field only where it is known to be there.
+-- The place of each field of an OBU header (AV1 Bitstream Specification, sections 5.3.2 and 5.3.3), and the
+-- faults for which bytes don't begin with a header. A field of a few bits is a quotient and a remainder of its
+-- byte. Past the end of the bytes each byte counts as 0. The code reads a field only if it is known to be there.
 use Rattle.std.specs.Prelude.{ℕ, ◌/◌, ◌%◌, ◌==◌, nat_le, Bool, false, if◌then◌else◌, List, [], ◌∷◌, slice_index, Option, Some, None}
 use Rattle.obu_element.specs.declared.obu_header.ObuHeader.{ObuHeader}
 use Rattle.obu_element.specs.declared.obu_header.ObuFault.{ObuFault}
@@ -23,7 +23,7 @@ header_of bytes = record {
   len = if is_extended bytes then 2 else 1;
 }
 
--- the extension byte isn't there
+-- the extension byte is missing
 abbrev pub lacks_extension : List ℕ → Bool
 lacks_extension [] = false
 lacks_extension (first ∷ []) = is_extended (first ∷ [])
