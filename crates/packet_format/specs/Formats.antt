@@ -1,6 +1,6 @@
 -- How the packets of a track with this header extension id are read.
--- RFC 8285 (header extension elements), AV1 RTP payload format, section 4.4 (payload) and Appendix A (dependency descriptor). What the
--- bytes say is told by the crates of these grammars; here stands what forwarding takes of it.
+-- RFC 8285 (header extension elements), AV1 RTP payload format, section 4.4 (payload) and Appendix A (dependency descriptor).
+-- The crates of these grammars define what the bytes mean; this file defines which parts of that meaning forwarding uses.
 use Rattle.std.specs.Prelude.{ℕ, List, Option, None, Some, Result, Ok, Err}
 use Rattle.forwarding_model.specs.frames.Reading.{Descriptor, DescriptorReading, Format, Joins, Payload}
 use Rattle.forwarding_model.specs.frames.Reading.DescriptorReading.{NeedsStructure, Faulty, Reads}
@@ -28,7 +28,7 @@ element_of id rest = element_in id (profile_of rest) (block_of rest)
 
 -- ---- the descriptor
 
--- what a descriptor says to the forwarder
+-- what the forwarder needs of a descriptor
 abbrev pub said : Content → Descriptor TemplateStructure
 said c =
     descriptor_with c.start c.end c.number c.structure c.mask

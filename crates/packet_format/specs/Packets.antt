@@ -1,5 +1,5 @@
 -- The packets of forwarding, as bytes: sequence number, SSRC and marker, and the rest.
--- RFC 3550, section 5.1. The rest is the bytes with these three fields zeroed, so that it says no less than the bytes do without them.
+-- RFC 3550, section 5.1. The rest is the bytes with these three fields zeroed, so it has all other information of the bytes.
 use Rattle.std.specs.Prelude.{◌≡◌, ◌≤◌, ◌<◌, ◌^◌, ℕ, Bool, false, List, length, Option, None, Some}
 use Rattle.sfu_base.specs.Bytes.{AreBytes}
 use Rattle.sfu_base.specs.declared.call.RtpFault.{RtpFault}
@@ -24,7 +24,7 @@ bytes_of packet = rewritten packet.sequence_number packet.ssrc packet.marker pac
 abbrev pub readdressed : ℕ → ℕ → Bool → Packet → Packet
 readdressed sequence ssrc marker packet = record { sequence_number = sequence; ssrc = ssrc; marker = marker; rest = packet.rest }
 
--- the packet, if RTP reads the bytes
+-- the packet, if the bytes are an RTP packet
 abbrev pub without_fault : Option RtpFault → List ℕ → Option Packet
 without_fault None bytes = Some (packet_of bytes)
 without_fault (Some fault) bytes = None
@@ -32,8 +32,8 @@ without_fault (Some fault) bytes = None
 abbrev pub read_packet : List ℕ → Option Packet
 read_packet bytes = without_fault (first_fault bytes) bytes
 
--- A packet is sent as the bytes that it came as. Under another sequence number, SSRC and marker it is sent as the same bytes but for these
--- fields, and such bytes are again that packet.
+-- A packet is sent as the bytes as which it arrived. With another sequence number, SSRC and marker it
+-- is sent as the same bytes except for these fields, and such bytes are read as that packet again.
 pub record PacketsAreSent : Type 0 where
   pub same : (bytes : List ℕ) → AreBytes bytes → 12 ≤ length bytes → bytes_of (packet_of bytes) ≡ bytes
   pub elsewhere : (sequence ssrc : ℕ) (marker : Bool) (bytes : List ℕ) → 12 ≤ length bytes
@@ -41,7 +41,7 @@ pub record PacketsAreSent : Type 0 where
   pub again : (sequence ssrc : ℕ) (marker : Bool) (bytes : List ℕ) → 12 ≤ length bytes → sequence < 2 ^ 16 → ssrc < 2 ^ 32
       → packet_of (rewritten sequence ssrc marker bytes) ≡ readdressed sequence ssrc marker (packet_of bytes)
 
--- the rest has the header extension and the payload of the bytes, and no other fault
+-- the rest has the same header extension, payload and fault as the bytes
 pub record RestsSayTheSame : Type 0 where
   pub profile : (bytes : List ℕ) → 12 ≤ length bytes → profile_of (packet_of bytes).rest ≡ profile_of bytes
   pub block : (bytes : List ℕ) → 12 ≤ length bytes → block_of (packet_of bytes).rest ≡ block_of bytes

@@ -1,6 +1,6 @@
--- What a remasked packet shows: what it showed, but for its mask.
--- RFC 3550, section 5.1, RFC 8285, AV1 RTP payload format, section 4.4 and Appendix A. Own statement. The code doesn't compute it; it is
--- what laws say of the definition.
+-- What is read from a remasked packet: the same as before, except for the mask.
+-- RFC 3550, section 5.1, RFC 8285, AV1 RTP payload format, section 4.4 and Appendix A. Own
+-- statement. The code doesn't compute it; these are the laws of the definition.
 use Rattle.std.specs.Prelude.{◌≡◌, ◌≢◌, ◌⊎◌, ◌≤◌, ◌<◌, ◌^◌, ℕ, Bool, true, List, length, take, Option, None, Some}
 use Rattle.forwarding_model.specs.frames.Reading.{Descriptor, IsCarried, MayBeInForce, Payload, is_key_start, read_by, shown}
 use Rattle.forwarding_model.specs.frames.Reading.Showing.{Shows}
@@ -16,7 +16,7 @@ use Rattle.packet_format.specs.Remasked.{remasked, remasked_bytes, remasked_pack
 abbrev pub telling : ℕ → Descriptor TemplateStructure → Descriptor TemplateStructure
 telling mask d = record d { mask = Some mask }
 
--- The new bytes are those of the same packet, but for its header extension. Its other elements keep their values.
+-- The new bytes are those of the same packet except for its header extension. The other elements keep their values.
 pub record IsRemasked (id : ℕ) (bytes new : List ℕ) : Type 0 where
   pub few : length new ≤ 1536
   pub reads : first_fault bytes ≡ None → first_fault new ≡ None
@@ -34,36 +34,36 @@ pub record IsRemasked (id : ℕ) (bytes new : List ℕ) : Type 0 where
 abbrev pub PacketsAreRemasked : Type 0
 PacketsAreRemasked = (id mask : ℕ) (force : Option TemplateStructure) (bytes new : List ℕ) → remasked id force mask bytes ≡ Some new → IsRemasked id bytes new
 
--- Where the old packet shows a descriptor of this structure, carried or in force, the new one shows it too, with the new mask.
+-- If the old packet has a descriptor with this structure, carried or in force, the new packet has the same descriptor with the new mask.
 abbrev pub RemaskedPacketsShow : Type 0
 RemaskedPacketsShow = (id mask : ℕ) (s : TemplateStructure) (force : Option TemplateStructure) (rest new : List ℕ) (d : Descriptor TemplateStructure)
     (payload : Payload)
     → IsCarried (format_of id) s → mask < 2 ^ s.target_count → remasked id (Some s) mask rest ≡ Some new
     → read_by force d.structure ≡ Some s → shown (format_of id) force rest ≡ Shows d payload → shown (format_of id) force new ≡ Shows (telling mask d) payload
 
--- a frame's first packet shows this descriptor: by its structure, and where the frame is a key frame by any or none
+-- a frame's first packet has this descriptor when read with its structure, and for a key frame when read with any structure or none
 abbrev pub ShowsFirst : ℕ → TemplateStructure → Bool → List ℕ → Descriptor TemplateStructure → Payload → Type 0
 ShowsFirst id s key rest d payload =
     (force : Option TemplateStructure) → (key ≡ true) ⊎ (force ≡ Some s) → shown (format_of id) force rest ≡ Shows d payload
 
--- So does it where it is remasked. A key frame's first packet carries the structure.
+-- The same holds for the remasked packet. A key frame's first packet carries the structure.
 abbrev pub FirstPacketsShow : Type 0
 FirstPacketsShow = (id mask : ℕ) (s : TemplateStructure) (key : Bool) (rest : List ℕ) (d : Descriptor TemplateStructure) (payload : Payload)
     → IsCarried (format_of id) s → mask < 2 ^ s.target_count → is_key_start d ≡ key → (key ≡ true → d.structure ≡ Some s)
     → (new : List ℕ) → remasked id (Some s) mask rest ≡ Some new → ShowsFirst id s key rest d payload → ShowsFirst id s key new (telling mask d) payload
 
--- Where the descriptor carries a structure, it is remasked alike whatever is in force.
+-- If the descriptor carries a structure, the remasked packet is the same whichever structure is in force.
 abbrev pub CarriedStructuresDecide : Type 0
 CarriedStructuresDecide = (id mask : ℕ) (s : TemplateStructure) (force other : Option TemplateStructure) (rest : List ℕ)
     (d : Descriptor TemplateStructure) (payload : Payload)
     → MayBeInForce (format_of id) force → shown (format_of id) force rest ≡ Shows d payload → d.structure ≡ Some s
     → remasked id other mask rest ≡ remasked id force mask rest
 
--- The model's packet of the remasked bytes is the remasked packet: the definition looks at no sequence number, SSRC and marker.
+-- The model's packet of the remasked bytes is the remasked packet: the definition reads neither sequence number nor SSRC nor marker.
 abbrev pub RestsAreRemasked : Type 0
 RestsAreRemasked = (id mask : ℕ) (force : Option TemplateStructure) (bytes : List ℕ) → 12 ≤ length bytes
     → packet_of (remasked_bytes id force mask bytes) ≡ remasked_packet id force mask (packet_of bytes)
 
--- And where the descriptor stands in the rest of a packet, it tells the same.
+-- Whether the descriptor says which decode targets are active is the same for the packet and for its rest.
 abbrev pub RestsTell : Type 0
 RestsTell = (id : ℕ) (bytes : List ℕ) → 12 ≤ length bytes → tells id (packet_of bytes).rest ≡ tells id bytes

@@ -1,4 +1,4 @@
--- What the code's types say.
+-- The meaning of the code's types.
 use Rattle.std.specs.Prelude.{◌≡◌, ◌≤◌, ℕ, Bool, true, false, List, Option, None, take}
 use Rattle.std.specs.List.{AllByRecursion}
 use Rattle.sfu_base.specs.Frame.{IsDistance}
@@ -32,7 +32,7 @@ pub record IsOf (bytes : List ℕ) (packet : Rtp) : Type 0 where
   pub reads : first_fault bytes ≡ None
   pub parts : parts packet ≡ rtp_of bytes
 
--- what is shown, by the structure in force and the descriptor that was read
+-- what is read from a packet, by the structure in force and the descriptor that was read
 abbrev pub showing_said : Option TemplateStructure → Descriptor → Shown → Showing TemplateStructure
 showing_said force d code.LacksStructure = LacksStructure
 showing_said force d code.Unread = Unread

@@ -1,6 +1,6 @@
 -- Whether a packet's descriptor says which decode targets are active: it carries a template dependency structure or a mask.
 -- AV1 RTP payload format, Appendix A, extended_descriptor_fields: template_dependency_structure_present_flag and
--- active_decode_targets_present_flag are the two highest bits of the fourth byte, and are 0 where there are three bytes alone.
+-- active_decode_targets_present_flag are the two highest bits of the fourth byte, and are 0 if there are only three bytes.
 use Rattle.std.specs.Prelude.{ℕ, Bool, false, ◌&&◌, nat_le, nat_lt, List, length, Option, None, Some, slice_index}
 use Rattle.packet_format.specs.Formats.{element_of}
 

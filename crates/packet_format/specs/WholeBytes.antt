@@ -8,10 +8,10 @@ unfoldable pub bytes_from : ℕ → List Bool → List ℕ
 bytes_from zero bits = []
 bytes_from (suc n) bits = value (take 8 bits) ∷ bytes_from n (drop 8 bits)
 
--- how many bytes hold so many bits
+-- how many bytes are needed for this many bits
 abbrev pub bytes_for : ℕ → ℕ
 bytes_for n = (n + 7) / 8
 
--- the bits, and zero bits to a whole byte
+-- the bits, and zero bits up to a whole byte
 abbrev pub whole_bytes : List Bool → List ℕ
 whole_bytes bits = bytes_from (bytes_for (length bits)) (bits ++ replicate (8 * bytes_for (length bits) - length bits) false)
