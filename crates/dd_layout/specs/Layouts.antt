@@ -1,6 +1,6 @@
--- What a descriptor and its template structure are to the forwarder.
--- RTP Payload Format For AV1 v1.0, Appendix A. Lists that go by decode target or chain are filled up to 32 places, and the distances to 16,
--- as the arrays of a frame's meaning are: places past the counts say nothing. The code fills those arrays where a frame gets whole.
+-- What the forwarder needs of a descriptor and of its template structure.
+-- RTP Payload Format For AV1 v1.0, Appendix A. Lists by decode target or chain are filled up to 32 entries, and the distances up to 16,
+-- like the arrays of a frame's meaning: entries past the counts have no meaning. The code fills those arrays when a frame becomes whole.
 use Rattle.std.specs.Prelude.{ℕ, zero, suc, ◌+◌, ◌==◌, ◌&&◌, Bool, true, false, List, [], ◌∷◌, ◌++◌, length, drop, replicate, map, Option, Some, None}
 use Rattle.std.specs.Cmp.Lexicographic.{pointwise}
 use Rattle.sfu_base.specs.declared.frame.Dti.{Dti}
@@ -14,11 +14,11 @@ use Rattle.dd_structure.specs.Pair.{pair_of}
 use Rattle.sfu_base.specs.Frame.{dti_code}
 use Rattle.dd_structure.specs.TemplateStructure.{Template, TemplateStructure}
 
--- a list with so many places, the last of which have x
+-- a list filled up with x to this many entries
 abbrev pub filled_up : {A : Type 0} → ℕ → A → List A → List A
 filled_up n x xs = xs ++ drop (length xs) (replicate n x)
 
--- what a descriptor says to the forwarder, with its frame's definition written as a template is
+-- what the forwarder needs of a descriptor, with its frame's definition in the form of a template
 abbrev pub descriptor_with : (start end : Bool) (number : ℕ) (structure : Option TemplateStructure) (mask : Option ℕ) (frame : Template)
     → Descriptor TemplateStructure
 descriptor_with start end number structure mask frame = record {
@@ -65,7 +65,7 @@ is_same_template a b =
 abbrev pub is_same_resolution : ℕ × ℕ → ℕ × ℕ → Bool
 is_same_resolution a b = a.0 == b.0 && a.1 == b.1
 
--- in all that a structure says
+-- whether two structures are the same in every field
 abbrev pub is_same_structure : TemplateStructure → TemplateStructure → Bool
 is_same_structure a b =
     a.offset == b.offset
