@@ -1,13 +1,13 @@
 -- Bytes and numbers as lists of bits, the highest bit first.
 -- RTP Payload Format For AV1 v1.0, Appendix A: its fields are strings of bits that are read from the highest bit
--- of the first byte on. The code has a slice with the number of bits used of its first byte.
+-- of the first byte on. The code keeps a slice, and how many bits of the slice's first byte were read already.
 use Rattle.std.specs.Prelude.{ℕ, zero, suc, ◌+◌, ◌*◌, ◌/◌, ◌%◌, ◌^◌, ◌==◌, Bool, true, false, List, [], ◌∷◌, ◌++◌, length}
 
 abbrev pub bit : Bool → ℕ
 bit false = 0
 bit true = 1
 
--- the number that bits spell
+-- the number that bits encode
 abbrev pub value : List Bool → ℕ
 value [] = 0
 value (b ∷ bs) = bit b * 2 ^ length bs + value bs

@@ -1,6 +1,6 @@
--- Grammars that are read from left to right: one part after another, and the first fault ends it.
--- S is what is read, as a list of bits or of bytes; a part gives its value and what is left, or a fault E.
--- The code keeps a place in its input and an array or a list that it fills; here each part takes what the one before it left.
+-- Grammars that are read from left to right: one part after another, until the first fault. S is the input, a list
+-- of bits or of bytes. Reading a part returns its value and the remaining input, or a fault E. The code keeps a
+-- place in its input and an array or a list that it fills; here each part reads what the part before it left.
 use Rattle.std.specs.Prelude.{◌≡◌, ℕ, zero, suc, Bool, List, [], ◌∷◌, ◌++◌, Option, Some, None, Result, Ok, Err}
 use Rattle.dd_bits.specs.declared.reader.BitReader.{BitReader}
 use Rattle.dd_bits.specs.Numbers.{fixed, non_symmetric}
@@ -11,12 +11,12 @@ abbrev pub ◌>>=◌ : {A B E : Type 0} → Result A E → (A → Result B E) �
 (Ok x) >>= f = f x
 (Err e) >>= f = Err e
 
--- a value, or this fault where there is none
+-- a value, or this fault if there is none
 abbrev pub or_fault : {A E : Type 0} → E → Option A → Result A E
 or_fault e None = Err e
 or_fault e (Some x) = Ok x
 
--- f(n) and ns(n), or this fault where there are too few bits
+-- f(n) and ns(n), or this fault if there are too few bits
 abbrev pub fixed_or : {E : Type 0} → E → ℕ → List Bool → Result (ℕ × List Bool) E
 fixed_or short n bits = or_fault short (fixed n bits)
 
@@ -44,7 +44,7 @@ unfoldable pub until_at : {A E S : Type 0} → (A → S → Result (Option A × 
 until_at next full zero before input = next before input >>= going_on (λ x rest. Err full)
 until_at next full (suc room) before input = next before input >>= going_on (until_at next full room)
 
--- the spelling of such items, each after the one before it, and of the mark
+-- the encoding of such items, each after the one before it, and of the mark
 abbrev pub until_spelled : {A T : Type 0} → (A → A → List T) → List T → A → List A → List T
 until_spelled item mark before [] = mark
 until_spelled item mark before (x ∷ xs) = item before x ++ until_spelled item mark x xs
@@ -54,9 +54,9 @@ abbrev pub EachAfter : {A : Type 0} → (A → A → Type 0) → A → List A �
 EachAfter R before [] = Unit {0}
 EachAfter R before (x ∷ xs) = R before x × EachAfter R x xs
 
--- ---- what a function over a reader of bits did
+-- ---- the result of a function that reads bits
 
--- Its result, seen by view, and the bits that it left are what the grammar gives, or it found the grammar's fault.
+-- The function's result, seen by view, and the bits that it left are those of the grammar, or its error is the grammar's fault.
 abbrev pub Gives : {X Y E : Type 0} → (X → Y) → Result X E → BitReader → Result (Y × List Bool) E → Type 0
 Gives view (Ok x) new given = given ≡ Ok (view x, bits_left new)
 Gives view (Err e) new given = given ≡ Err e

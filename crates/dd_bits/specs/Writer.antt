@@ -1,25 +1,25 @@
--- What was written.
+-- The bits that were written.
 use Rattle.std.specs.Prelude.{◌≡◌, ℕ, ◌+◌, ◌<◌, ◌*◌, Bool, false, List, ◌++◌, length, take, replicate, Result, Ok, Err}
 use Rattle.dd_bits.specs.Bits.{bits_of, bits_of_bytes}
 use Rattle.dd_bits.specs.declared.writer.BitWriter.{BitWriter}
 use Rattle.dd_bits.specs.declared.writer.NoRoom.{NoRoom}
 
--- the most bits that a writer holds, those of 2,040 bytes (own rule)
+-- the capacity of a writer in bits, those of 2,040 bytes (own rule)
 abbrev pub room : ℕ
 room = 8 * 2040
 
--- the bits that were put so far
+-- the bits that were written so far
 unfoldable pub written : BitWriter → List Bool
 written w = bits_of_bytes (take w.len w.bytes) ++ bits_of w.used w.pending
 
--- bytes that hold these bits, and zeros up to the end of the last byte
+-- bytes that contain these bits, and then zero bits up to the end of the last byte
 pub record IsPadded (bits : List Bool) (bytes : List ℕ) : Type 0 where
   pub zeros : ℕ
   pub few : zeros < 8
   pub holds : bits_of_bytes bytes ≡ bits ++ replicate zeros false
 
--- What a write did: these bits are last, or they would pass the capacity.
--- Where several fields are written one after another, a part of them may then be written, unless a clause says otherwise.
+-- The result of a write: these bits are appended, or they would pass the capacity. If several fields are
+-- written one after another, some of them may be written in that case, unless a clause says otherwise.
 abbrev pub Puts : Result (Unit {0}) NoRoom → BitWriter → BitWriter → List Bool → Type 0
 Puts (Ok x) old new bits = written new ≡ written old ++ bits
 Puts (Err e) old new bits = room < length (written old) + length bits
