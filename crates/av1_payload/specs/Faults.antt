@@ -1,5 +1,5 @@
--- How bytes look that have a fault, as they are put together (RTP Payload Format For AV1, section 4.4). The code answers
--- the first fault that it comes to.
+-- For each fault the layout of bytes that have it, as a concatenation (RTP Payload Format For AV1,
+-- section 4.4). The code returns the first fault that it finds.
 use Rattle.std.specs.Prelude.{◌≡◌, ◌≢◌, ℕ, zero, suc, ◌<◌, List, [], ◌∷◌, ◌++◌, length}
 use Rattle.av1_payload.specs.declared.fault.PayloadFault.{PayloadFault}
 use Rattle.av1_payload.specs.declared.fault.PayloadFault.TheVariants.{Empty, Leb, Length, NoElement}
@@ -7,12 +7,12 @@ use Rattle.av1_payload.specs.Leb.{leb_bytes, IsLength}
 use Rattle.av1_payload.specs.Payloads.{SizedElement, all_bytes, AreSized}
 use Rattle.av1_payload.specs.Reading.{count_in}
 
--- Behind so many elements a length is due: where W = 0, if a byte is left; else while more than the last element is left.
+-- After this many elements a length must follow: if W is 0, when a byte is left; else when the next element isn't the last.
 abbrev pub IsDue : ℕ → ℕ → List ℕ → Type 0
 IsDue zero placed rest = 0 < length rest
 IsDue (suc sized) placed rest = placed < sized
 
--- a header and whole elements with their lengths, and then these bytes, where a length is due
+-- a header and whole elements with their lengths, and then these bytes, at whose start a length must be
 pub record IsDueAt (bytes rest : List ℕ) : Type 0 where
   pub header : ℕ
   pub sized : List SizedElement
@@ -20,11 +20,11 @@ pub record IsDueAt (bytes rest : List ℕ) : Type 0 where
   pub put : bytes ≡ header ∷ (all_bytes sized ++ rest)
   pub due : IsDue (count_in header) (length sized) rest
 
--- no length begins the bytes: they end within one, or it has more than 8 bytes, or it is 2^32 or more
+-- the bytes don't begin with a length: they end within it, or it has more than 8 bytes, or it is 2^32 or more
 abbrev pub IsNoLength : List ℕ → Type 0
 IsNoLength bytes = (groups behind : List ℕ) (n : ℕ) → IsLength groups n → bytes ≢ leb_bytes groups ++ behind
 
--- a length begins the bytes, and fewer bytes are behind it
+-- the bytes begin with a length, and fewer bytes than that length follow
 pub record IsTooLong (bytes : List ℕ) : Type 0 where
   pub groups : List ℕ
   pub behind : List ℕ
@@ -33,7 +33,7 @@ pub record IsTooLong (bytes : List ℕ) : Type 0 where
   pub put : bytes ≡ leb_bytes groups ++ behind
   pub past : length behind < n
 
--- what the bytes look like where this is the fault
+-- the layout of the bytes for each fault
 abbrev pub HasFault : PayloadFault → List ℕ → Type 0
 HasFault Empty bytes = bytes ≡ []
 HasFault Leb bytes = (rest : List ℕ) × IsDueAt bytes rest × IsNoLength rest

@@ -1,8 +1,8 @@
--- How the length of an element is spelled (AV1 Bitstream Specification, section 4.10.5, leb128): in groups of seven bits,
--- the lowest first, one in each byte, whose highest bit says that more follow. The code adds up the groups of bytes.
+-- The encoding of an element's length (AV1 Bitstream Specification, section 4.10.5, leb128): groups of seven bits, the
+-- lowest first, one in each byte. A byte's highest bit says that more follow. The code adds up the groups of bytes.
 use Rattle.std.specs.Prelude.{◌≡◌, ℕ, ◌+◌, ◌*◌, ◌^◌, ◌<◌, ◌≤◌, List, [], ◌∷◌, length}
 
--- the number that groups spell
+-- the number that groups encode
 abbrev pub number_of : List ℕ → ℕ
 number_of [] = 0
 number_of (group ∷ groups) = group + 128 * number_of groups
@@ -18,7 +18,7 @@ abbrev pub AreGroups : List ℕ → Type 0
 AreGroups [] = Unit {0}
 AreGroups (group ∷ groups) = (group < 128) × AreGroups groups
 
--- The groups spell a length: there are 1 to 8 of them, and it is below 2^32. More groups than are needed may be there.
+-- The groups encode a length: there are 1 to 8 groups, and the length is below 2^32. There may be more groups than needed.
 pub record IsLength (groups : List ℕ) (n : ℕ) : Type 0 where
   pub some : 0 < length groups
   pub few : length groups ≤ 8

@@ -1,17 +1,17 @@
--- An RTP payload of AV1, laid end to end (RTP Payload Format For AV1, section 4.4): the aggregation header and the
--- elements. The relation says how a payload is put together, and the code takes one apart.
+-- An RTP payload of AV1 as a concatenation (RTP Payload Format For AV1, section 4.4): the aggregation
+-- header and the elements. The relation says how a payload is composed, and the code parses one.
 use Rattle.std.specs.Prelude.{◌≡◌, ℕ, ◌+◌, ◌*◌, ◌<◌, ◌≤◌, Bool, List, [], ◌∷◌, ◌++◌, length, map}
 use Rattle.std.specs.List.{flat_map}
 use Rattle.sfu_base.specs.Bytes.{bit}
 use Rattle.av1_payload.specs.Leb.{leb_bytes, IsLength}
 
--- Z, the first element goes on from the packet before; Y, the last goes on in the next; N, a coded video sequence begins
+-- Z: the first element continues from the packet before. Y: the last continues in the next. N: a coded video sequence begins.
 pub record Flags : Type 0 where
   pub continues : Bool
   pub carries : Bool
   pub new_sequence : Bool
 
--- an element with its length before it, which is spelled by these groups
+-- an element with its length before it, which is encoded by these groups
 pub record SizedElement : Type 0 where
   pub groups : List ℕ
   pub element : List ℕ
@@ -19,7 +19,7 @@ pub record SizedElement : Type 0 where
 abbrev pub sized_bytes : SizedElement → List ℕ
 sized_bytes s = leb_bytes s.groups ++ s.element
 
--- the bytes of several, one after another
+-- the bytes of several elements, one after another
 abbrev pub all_bytes : List SizedElement → List ℕ
 all_bytes sized = flat_map sized_bytes sized
 
@@ -28,12 +28,12 @@ abbrev pub AreSized : List SizedElement → Type 0
 AreSized [] = Unit {0}
 AreSized (s ∷ others) = IsLength s.groups (length s.element) × AreSized others
 
--- How elements are laid: each with its length before it, one or more; or so, and behind them a last one without a length.
+-- The layout of elements: one or more, each with its length before it; or any number of these, and a last one without a length.
 pub data Laid : Type 0 where
   EachSized : (first : SizedElement) (others : List SizedElement) → Laid
   LastBare : (sized : List SizedElement) (last : List ℕ) → Laid
 
--- W says how many elements there are where the last has no length, and is 0 where each has one
+-- W is the number of elements if the last has no length, and 0 if each has a length
 abbrev pub count_said : Laid → ℕ
 count_said (EachSized first others) = 0
 count_said (LastBare sized last) = 1 + length sized
@@ -42,7 +42,7 @@ abbrev pub laid_bytes : Laid → List ℕ
 laid_bytes (EachSized first others) = all_bytes (first ∷ others)
 laid_bytes (LastBare sized last) = all_bytes sized ++ last
 
--- W has two bits, so at most two elements with a length are in front of one without
+-- W has two bits, so at most two elements with a length precede one without a length
 abbrev pub LaidFits : Laid → Type 0
 LaidFits (EachSized first others) = AreSized (first ∷ others)
 LaidFits (LastBare sized last) = AreSized sized × (length sized ≤ 2)

@@ -1,5 +1,5 @@
--- What is read from the bytes of a payload: its flags, and its elements up to the first fault (RTP Payload Format For
--- AV1, section 4.4). The code keeps what is left, and takes one element off its front at a time.
+-- What is read from the bytes of a payload: its flags, and its elements up to the first fault (RTP Payload Format
+-- For AV1, section 4.4). The code keeps the remaining bytes, and reads one element at a time from their start.
 use Rattle.std.specs.Prelude.{ℕ, zero, suc, ◌-◌, ◌/◌, ◌%◌, ◌^◌, ◌==◌, ◌||◌, nat_lt, not, if◌then◌else◌}
 use Rattle.std.specs.Prelude.{List, [], ◌∷◌, length, take, drop, slice_index, Option, Some, None, option_and_then, Result, Ok, Err}
 use Rattle.std.specs.Option.{option_map}
@@ -10,34 +10,34 @@ use Rattle.av1_payload.specs.Payloads.{Flags}
 
 -- Lengths (AV1 Bitstream Specification, section 4.10.5).
 
--- the groups of the bytes up to the first below 128, or none where there is no such byte
+-- the groups of the bytes up to the first byte below 128, or none if there is no such byte
 unfoldable pub groups_at : List ℕ → Option (List ℕ)
 groups_at [] = None
 groups_at (byte ∷ rest) =
     if nat_lt byte 128 then Some (byte ∷ []) else option_map (λ groups. byte % 128 ∷ groups) (groups_at rest)
 
--- the length that groups spell with the bytes behind them, or none where they are too many or it is too great
+-- the length that groups encode and the bytes after them, or none if there are too many groups or the length is too great
 abbrev pub length_of : List ℕ → List ℕ → Option (ℕ × List ℕ)
 length_of bytes groups =
     if nat_lt 8 (length groups) || not (nat_lt (number_of groups) (2 ^ 32)) then None
     else Some (number_of groups, drop (length groups) bytes)
 
--- the length at the start of bytes with the bytes after it, or none
+-- the length at the start of the bytes and the bytes after it, or none
 unfoldable pub length_at : List ℕ → Option (ℕ × List ℕ)
 length_at bytes = option_and_then (length_of bytes) (groups_at bytes)
 
 -- Elements.
 
--- the element of this length at the start of the bytes, and the bytes after it; or what is wrong with the length
+-- the element of this length at the start of the bytes, and the bytes after it; or the fault of the length
 abbrev pub front_element : Option (ℕ × List ℕ) → Result (List ℕ × List ℕ) PayloadFault
 front_element None = Err Leb
 front_element (Some (n, rest)) = if nat_lt (length rest) n then Err Length else Ok (take n rest, drop n rest)
 
--- the element with its length before it at the start of bytes, with the bytes after it; or what is wrong there
+-- the element after the length at the start of the bytes, and the bytes after the element; or the fault of the length
 abbrev pub sized_at : List ℕ → Result (List ℕ × List ℕ) PayloadFault
 sized_at bytes = front_element (length_at bytes)
 
--- elements up to the first fault, and that fault or none
+-- the elements up to the first fault, and that fault, or none
 pub record Found : Type 0 where
   pub elements : List (List ℕ)
   pub fault : Option PayloadFault
@@ -51,7 +51,7 @@ only_fault fault = record { elements = []; fault = Some fault }
 abbrev pub with_element : List ℕ → Found → Found
 with_element element others = record { elements = element ∷ others.elements; fault = others.fault }
 
--- an element that was read, and what is found behind it
+-- an element that was read, and what is found after it
 abbrev pub and_behind : Result (List ℕ × List ℕ) PayloadFault → (List ℕ → Found) → Found
 and_behind (Err fault) others = only_fault fault
 and_behind (Ok (element, behind)) others = with_element element (others behind)
@@ -62,7 +62,7 @@ sized_from skipped [] = no_elements
 sized_from (suc skipped) (byte ∷ rest) = sized_from skipped rest
 sized_from zero (byte ∷ rest) = and_behind (sized_at (byte ∷ rest)) (λ behind. sized_from (length rest - length behind) rest)
 
--- So many elements have their length before them, and all that follows is the last (W = 1 to 3).
+-- This many elements have their length before them, and all bytes after them are the last element (W = 1 to 3).
 unfoldable pub counted_from : ℕ → List ℕ → Found
 counted_from zero bytes = record { elements = bytes ∷ []; fault = None }
 counted_from (suc sized) bytes = and_behind (sized_at bytes) (counted_from sized)
@@ -73,7 +73,7 @@ counted_from (suc sized) bytes = and_behind (sized_at bytes) (counted_from sized
 abbrev pub count_in : ℕ → ℕ
 count_in header = header / 16 % 4
 
--- what is found behind a header with this W: where it is 0, each element has its length and there is one at least
+-- what is found after a header with this W: if W is 0, each element has its length, and there is at least one element
 abbrev pub found_behind : ℕ → List ℕ → Found
 found_behind zero [] = only_fault NoElement
 found_behind zero (byte ∷ rest) = sized_from 0 (byte ∷ rest)

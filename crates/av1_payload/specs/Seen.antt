@@ -1,5 +1,5 @@
--- What a payload that was read, and the elements that are left of it, are seen as. The code keeps how they are laid, and
--- their bytes.
+-- What contracts see of a payload that was read, and of its remaining elements. The code keeps the
+-- elements' layout and their bytes.
 use Rattle.std.specs.Prelude.{ℕ, zero, suc, List, [], ◌∷◌}
 use Rattle.av1_payload.specs.declared.fault.PayloadFault.TheVariants.{NoElement}
 use Rattle.av1_payload.specs.declared.left.Layout.{Layout}
@@ -14,18 +14,18 @@ abbrev pub layout_with : ℕ → Layout
 layout_with zero = EachSized
 layout_with (suc sized) = LastBare sized
 
--- what is found in bytes that are laid so
+-- what is found in bytes with this layout
 abbrev pub found_in : Layout → List ℕ → Found
 found_in EachSized bytes = sized_from 0 bytes
 found_in (LastBare sized) bytes = counted_from sized bytes
 
--- the same of all elements of a payload, of which there is one at least
+-- the same for all elements of a payload, which has at least one
 abbrev pub found_in_all : Layout → List ℕ → Found
 found_in_all EachSized [] = only_fault NoElement
 found_in_all EachSized (byte ∷ rest) = found_in EachSized (byte ∷ rest)
 found_in_all (LastBare sized) bytes = found_in (LastBare sized) bytes
 
--- what is found in what is left
+-- what is found in the remaining elements
 abbrev pub found_left : Left → Found
 found_left left = found_in left.layout left.bytes.now
 
