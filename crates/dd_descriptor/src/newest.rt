@@ -13,9 +13,9 @@ use crate::reading::read_into;
 use dd_structure::Structure;
 use std::marker::Model;
 
-/// Reads descriptors one after another and keeps the newest, which is what clauses see. A structure is long, so descriptors with a structure
-/// are read into one buffer and all others into a second one. A descriptor without a structure (most have none) needn't clear the first
-/// buffer then, and the next structure is read over the one in it.
+/// Reads descriptors one after another and keeps the newest, which is what clauses see. A structure is long. So descriptors that carry one
+/// are read into one buffer, and all others into a second one. A descriptor without a structure (most have none) then needn't clear the
+/// first buffer, and the next structure is read over the one in it.
 #[derive(Debug, Drop)]
 pub struct NewestDescriptor {
     carrying: Descriptor,
