@@ -100,7 +100,7 @@ impl FrameCache {
         }
     }
 
-    /// Shares the packet at this place of the frame, if all before it are shared and a buffer is free. Out of line: once for all subscribers.
+    /// Shares the packet at this place of the frame, if all before it are shared and a buffer is free. Out of line: once per packet.
     #[inline(never)]
     pub fn share(&mut self, place: u16, packet: &[u8])
         requires reads { first_fault packet.now ≡ None }
@@ -221,7 +221,7 @@ fn another(shared: Option<&SharedPacket>) -> Option<SharedPacket>
     shared?.another()
 }
 
-// Releases the packet that the ring no longer keeps, if there is one. One call before each push is enough: a take leaves at most one behind.
+// Releases the packet that the ring no longer keeps, if there is one. One call per push is enough: a take leaves at most one behind.
 #[inline(always)]
 fn evict(store: &mut PacketStore, ring: &mut OutRing)
     ensures ring { ring.new ≡ ring.old }

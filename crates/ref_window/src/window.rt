@@ -67,8 +67,8 @@ impl RefWindow {
         self.recent << (number - greatest)
     }
 
-    /// Inserts `number` if it is above all numbers inserted since the last reset, and forgets the numbers more than 4,096 below it. Any other
-    /// number changes nothing.
+    /// Inserts `number` if it is above all numbers inserted since the last reset, and forgets the numbers more than 4,096 below it.
+    /// Any other number changes nothing.
     pub fn insert(&mut self, number: u64)
         ensures inserted { IsAboveAll number self.old → self.new ≡ held_of (number ∷ self.old) }
         ensures refused { (IsAboveAll number self.old → ⊥) → self.new ≡ self.old }
