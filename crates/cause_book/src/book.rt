@@ -51,8 +51,8 @@ impl CauseBook {
         })
     }
 
-    /// Writes the verdict on the frame with this number, and forgets the verdicts on numbers 4,096 or more below it. If the number isn't above
-    /// all that were written before, nothing changes.
+    /// Writes the verdict on the frame with this number, and forgets the verdicts on numbers 4,096 or more below it. If the number isn't
+    /// above all that were written before, nothing changes.
     pub fn write(&mut self, number: u64, verdict: Verdict)
         ensures written { IsAboveAll number self.old → self.new ≡ recent (record { number = number; verdict = verdict } ∷ self.old) }
         ensures unchanged { is_ahead (newest_number self.old) number ≡ false → self.new ≡ self.old }

@@ -5,8 +5,8 @@
 pub enum Reason {
     /// At frame `at` the target's chain was found broken: the frame's link names frame `number`, which wasn't forwarded.
     BrokenLink { at: u64, number: u64 },
-    /// No target was opened since frame `since`. That frame was the first of its epoch to come, or its mask lacked the target that was open.
-    /// Before any frame came, `since` is 0.
+    /// No target was opened since frame `since`. That frame was the first of its epoch to come, or its mask lacked the target that was
+    /// open. Before any frame came, `since` is 0.
     NotOpened { since: u64 },
 }
 
