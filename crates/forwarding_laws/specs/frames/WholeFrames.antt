@@ -72,7 +72,7 @@ IsReadFrame format frame = IsReadBy format frame.structure frame.meaning
 abbrev pub IsSentWhole : {S : Type 0} → Format S → Sender S → Frame S → Type 0
 IsSentWhole format send frame = (target : CurrentTarget) → AreWhole format frame.structure frame.meaning (map rest_of (send frame target))
 
--- the sender sends so each frame that is valid, whole, and read with a structure that was carried
+-- each frame that is valid, whole, and read with a structure that was carried, is sent whole
 abbrev pub KeepsWhole : {S : Type 0} → Format S → Sender S → Type 0
 KeepsWhole format send = (frame : Frame _) → IsValid frame.meaning → IsReadFrame format frame → IsWholeFrame format frame → IsSentWhole format send frame
 
