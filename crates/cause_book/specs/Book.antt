@@ -1,5 +1,5 @@
--- Which verdicts are kept, and what is answered by them. Own rules. The code has 4,096 places, and finds a verdict by its number; here are
--- lists of verdicts, the newest first.
+-- Which verdicts are kept, and what a book returns by them. Own rules. The code has 4,096 entries, and finds a verdict by its number. Here
+-- these are lists of verdicts, the newest first.
 use Rattle.std.specs.Prelude.{◌≡◌, ◌<◌, ◌+◌, ℕ, List, [], ◌∷◌, if◌then◌else◌, nat_lt, Result, Ok, Err}
 use Rattle.std.specs.List.{AllByRecursion}
 use Rattle.sfu_base.specs.declared.call.Refusal.{Refusal}
@@ -12,7 +12,7 @@ use Rattle.forwarding_model.specs.forwarding.Causes.{cause_among, is_ahead, is_t
 abbrev pub Steps : Type 0
 Steps = List Step
 
--- from the front, as long as the numbers lie less than 4,096 below this one
+-- the longest prefix whose numbers are less than 4,096 below this one
 abbrev pub near : ℕ → List Step → List Step
 near newest [] = []
 near newest (step ∷ past) = if nat_lt newest (step.number + 4096) then step ∷ near newest past else []
@@ -25,18 +25,18 @@ recent steps = near (number_or (newest_number steps) 0) steps
 abbrev pub IsAboveAll : ℕ → List Step → Type 0
 IsAboveAll number steps = AllByRecursion (λ step. step.number < number) steps
 
--- each number is above all before it
+-- each number is above all that were written before it
 abbrev pub AreFalling : List Step → Type 0
 AreFalling [] = Unit {0}
 AreFalling (step ∷ past) = IsAboveAll step.number past × AreFalling past
 
--- what is answered about a number: too high, too low, or the cause
+-- what a book returns for a number: that it is too high or too low, or the cause
 abbrev pub judged : List Step → ℕ → Result Verdict Refusal
 judged steps n =
     if is_ahead (newest_number steps) n then Err (Ahead (newest_number steps))
     else if is_too_old (newest_number steps) n then Err (TooOld (oldest_asked (number_or (newest_number steps) 0)))
     else Ok (cause_among steps n)
 
--- a book is where these writes leave it
+-- a book is in the state that these writes leave
 abbrev pub IsAfter : List Step → List Step → Type 0
 IsAfter book steps = book ≡ recent steps

@@ -1,4 +1,4 @@
--- What one place of the book stands for.
+-- The value that one entry of the book has for contracts.
 use Rattle.std.specs.declared.option.Option.{Option}
 use Rattle.std.specs.declared.option.Option.TheVariants.{None, Some}
 use Rattle.std.specs.Option.{option_map}

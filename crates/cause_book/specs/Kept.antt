@@ -1,4 +1,4 @@
--- What the fields of a book stand for.
+-- The value that the fields of a book have for contracts.
 use Rattle.std.specs.Prelude.{◌≡◌, ◌<◌, ◌+◌, ◌-◌, ℕ, List, [], true, length, is_some}
 use Rattle.std.specs.declared.option.Option.{Option}
 use Rattle.std.specs.declared.option.Option.TheVariants.{None, Some}
@@ -14,7 +14,7 @@ steps_to (Some newest) slots = steps_down slots (newest - 4095) (newest + 1 - (n
 abbrev pub seen : Inside → List Step
 seen a = steps_to a.newest a.steps.items
 
--- the newest is there, and no higher one
+-- the newest number has a step, and no higher number has one
 abbrev pub IsNewest : Option ℕ → List (Option Step) → Type 0
 IsNewest None slots = (n : ℕ) → step_at slots n ≡ None
 IsNewest (Some newest) slots = (is_some (step_at slots newest) ≡ true) × ((n : ℕ) → newest < n → step_at slots n ≡ None)

@@ -1,4 +1,4 @@
--- That a book tells the causes of the forwarding model. Own statements.
+-- That a book returns the causes of the forwarding model. Own statements.
 use Rattle.std.specs.Prelude.{◌≡◌, ◌<◌, ◌≤◌, ◌+◌, ℕ, List, Ok}
 use Rattle.std.specs.declared.option.Option.TheVariants.{Some}
 use Rattle.sfu_base.specs.declared.frame.Step.{Step}
@@ -8,12 +8,12 @@ use Rattle.forwarding_model.specs.forwarding.Timeline.{Event, meanings_of}
 use Rattle.forwarding_model.specs.frames.TrackFrames.{IsOneTrack}
 use Rattle.cause_book.specs.Book.{AreFalling, IsAfter, judged}
 
--- a book in which each frame of a timeline has its verdict answers by all of them
+-- a book with the verdicts on all frames of a timeline returns what the list of all of them does
 pub record TellsCausesOf {S : Type 0} (book : List Step) (wish : Wish) (events : List (Event S)) : Type 0 where
   pub judged_by_all : (n : ℕ) → judged book n ≡ judged (verdicts wish events) n
   pub cause : (n newest : ℕ) → newest_number (verdicts wish events) ≡ Some newest → n ≤ newest → newest < n + 4096 → judged book n ≡ Ok (cause wish events n)
 
--- the frames of one track have falling verdicts, and a book in which they were written tells their causes
+-- the verdicts on the frames of one track have falling numbers, and a book in which they were written returns their causes
 abbrev pub KeepsCauses : Type 0 → Type 0
 KeepsCauses S = (wish : Wish) (events : List (Event S)) → IsOneTrack (meanings_of events)
     → AreFalling (verdicts wish events) × ((book : List Step) → IsAfter book (verdicts wish events) → TellsCausesOf book wish events)

@@ -1,4 +1,4 @@
--- The test of a path, as the code goes: over neighbours in a list. The model has the same in words (`IsPath`).
+-- The test of a path as the code does it: over neighbours in a list. The model defines the same in words (`IsPath`).
 use Rattle.std.specs.Prelude.{ℕ, List, [], ◌∷◌, Bool, true, false, ◌&&◌, ◌==◌, nat_lt}
 use Rattle.std.specs.declared.option.Option.{Option}
 use Rattle.std.specs.declared.option.Option.TheVariants.{None, Some}
@@ -21,7 +21,7 @@ abbrev pub is_number : Option ℕ → ℕ → Bool
 is_number None n = false
 is_number (Some m) n = m == n
 
--- the step names the next one's number, which is lower
+-- the step names the next step's number, which is below its own
 abbrev pub leads_to : Step → Step → Bool
 leads_to step next = is_number (followed step.verdict) next.number && nat_lt next.number step.number
 

@@ -1,4 +1,4 @@
--- The places of a book, and what stands at them.
+-- The entries of a book, by their indexes.
 use Rattle.std.specs.Prelude.{◌≡◌, ◌<◌, ◌≤◌, ◌+◌, ◌%◌, ◌==◌, ℕ, zero, suc, List, [], ◌∷◌, true, if◌then◌else◌, slice_get, is_some}
 use Rattle.std.specs.declared.option.Option.{Option}
 use Rattle.std.specs.declared.option.Option.TheVariants.{None, Some}
@@ -10,7 +10,7 @@ if_numbered n None = None
 if_numbered n (Some None) = None
 if_numbered n (Some (Some step)) = if step.number == n then Some step else None
 
--- the step with this number, if it is still at its place
+-- the step with this number, if it is still in its entry
 abbrev pub step_at : List (Option Step) → ℕ → Option Step
 step_at slots n = if_numbered n (slice_get slots (n % 4096))
 
@@ -18,7 +18,7 @@ abbrev pub and_step : Option Step → List Step → List Step
 and_step None steps = steps
 and_step (Some step) steps = step ∷ steps
 
--- the steps with so many numbers from the lowest on, the highest first
+-- the steps with this many numbers from the lowest on, the highest first
 abbrev pub steps_down : List (Option Step) → ℕ → ℕ → List Step
 steps_down slots low zero = []
 steps_down slots low (suc count) = and_step (step_at slots (low + count)) (steps_down slots low count)
@@ -33,7 +33,7 @@ pub record IsNextAbove (slots : List (Option Step)) (n above : ℕ) : Type 0 whe
   pub there : is_some (step_at slots above) ≡ true
   pub none : NoneBetween slots (n + 1) above
 
--- the greatest number from low to below n that has a step, if one has
+-- the greatest number from `low` up to, but not including, n that has a step, if one has
 abbrev pub IsNextBelow : List (Option Step) → ℕ → ℕ → Option ℕ → Type 0
 IsNextBelow slots low n None = NoneBetween slots low n
 IsNextBelow slots low n (Some below) = (low ≤ below) × (below < n) × (is_some (step_at slots below) ≡ true) × NoneBetween slots (below + 1) n

@@ -9,7 +9,7 @@ use sfu_base::{NoMemory, Refusal, Step, Verdict};
 use std::alloc::Global;
 use std::marker::Model;
 
-/// How many numbers are kept, the newest being the last (own rule).
+/// How many frame numbers the book covers, up to and including the newest (own rule).
 const SPAN: u64 = 4096;
 
 /// The verdicts on the frames of the last 4,096 numbers: why each was or wasn't forwarded. Clauses see the book as the list of these
@@ -17,7 +17,7 @@ const SPAN: u64 = 4096;
 #[derive(Debug, Drop)]
 pub struct CauseBook {
     newest: Option<u64>,
-    // The verdict on a frame is at the index of its number modulo 4,096, in place of what was there.
+    // The verdict on a frame is at the index of the frame's number modulo 4,096, and replaces the entry before it.
     steps: Vec<Entry>,
 }
 
@@ -35,7 +35,7 @@ impl Model for CauseBook {
 }
 
 impl CauseBook {
-    /// A book without verdicts. All memory is taken here; `NoMemory`: out of memory.
+    /// A book without verdicts. All memory is allocated here; `NoMemory`: out of memory.
     pub fn new(alloc: Global) -> Result<CauseBook, NoMemory>
         ensures { IfOk result (λ book. book ≡ []) }
     {
@@ -51,7 +51,7 @@ impl CauseBook {
         })
     }
 
-    /// Writes the verdict on the frame with this number, and forgets the verdicts on numbers 4,096 or more below. Where the number isn't
+    /// Writes the verdict on the frame with this number, and forgets the verdicts on numbers 4,096 or more below it. If the number isn't
     /// above all that were written before, nothing changes.
     pub fn write(&mut self, number: u64, verdict: Verdict)
         ensures written { IsAboveAll number self.old → self.new ≡ recent (record { number = number; verdict = verdict } ∷ self.old) }
@@ -109,7 +109,7 @@ fn step_in(steps: &[Entry], number: u64) -> Option<Step>
     }
 }
 
-// The least number above this one that has a step; the newest has one.
+// The least number above `number` that has a step. There is one, since `newest` has a step.
 fn next_above(steps: &[Entry], number: u64, newest: u64) -> u64
     requires places { length steps.now ≡ 4096 }
     requires lower { number < newest }
@@ -124,7 +124,7 @@ fn next_above(steps: &[Entry], number: u64, newest: u64) -> u64
     newest
 }
 
-// The greatest number below this one that has a step, and is at least `lowest`; `None` where none has.
+// The greatest number that has a step, from `lowest` up to, but not including, `number`; `None` if none has.
 fn next_below(steps: &[Entry], lowest: u64, number: u64) -> Option<u64>
     requires places { length steps.now ≡ 4096 }
     requires within { lowest ≤ number }

@@ -19,7 +19,7 @@ enum Kept {
     HoleAbove { above: u64 },
 }
 
-/// A frame number with the verdict on that frame, or nothing, in 32 bytes. Clauses see it as a step or none.
+/// A frame number with the verdict on that frame, or nothing, in 32 bytes. Clauses see it as a step or `None`.
 #[derive(Debug, Drop)]
 pub struct Entry {
     number: u64,

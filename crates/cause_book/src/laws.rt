@@ -1,8 +1,8 @@
-// What a book is in the words of the forwarding model.
+// The law that a book returns the causes of the forwarding model.
 ghost use Rattle.cause_book.specs.Model.{KeepsCauses};
 
-/// A law, for frames of one track: where the verdict on each frame of a subscriber's timeline was written, the book gives the cause of each
-/// number that is at most 4,095 below the newest, as the forwarding model does. `Structure` is the type of template dependency structures.
+/// A law, for frames of one track: if the verdict on each frame of a subscriber's timeline was written to a book, the book returns for each
+/// number at most 4,095 below the newest the cause that the forwarding model defines. `Structure` is the type of dependency structures.
 pub fn a_book_tells_causes<Structure>()
     ensures { KeepsCauses Structure }
 {}

@@ -1,5 +1,5 @@
 //! Why the frames of the last 4,096 numbers were or weren't forwarded to a subscriber, and whether a list of causes is a path to a root.
-//! Only the constructor takes memory.
+//! Only the constructor allocates memory.
 #![tactic(auto)]
 
 mod book;

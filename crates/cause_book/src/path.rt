@@ -5,7 +5,7 @@ ghost use Rattle.cause_book.specs.Path.{is_path, is_root, leads_to};
 
 use sfu_base::{Step, Verdict};
 
-/// Whether the steps are a path from a withheld frame to its root cause (own rule). They are where there is at least one step and
+/// Whether the steps are a path from a withheld frame to its root cause (own rule). They are if there is at least one step, and
 /// - each step but the last is a missing reference (`Reference`) or a broken chain link (`Link`), and names the number of the next step;
 /// - each number is below the number before it;
 /// - the last step is a root: a full queue (`Full`), a hole (`Hole`), a frame that isn't of the target (`NotOfTarget`), an unopened target
@@ -16,7 +16,7 @@ pub fn check_path(steps: &[Step]) -> bool
     leads_to_root(steps)
 }
 
-// The same, as a test of each step and the next.
+// Does what `check_path` does: tests each step together with the next one, and then the last step.
 fn leads_to_root(steps: &[Step]) -> bool
     ensures { result ≡ is_path steps.now }
 {

@@ -1,6 +1,6 @@
--- The bits of a descriptor laid end to end: of every descriptor, and not only of those that are written here. A mask may stand beside a structure
--- that says as much, a distance in more half bytes than it needs, and any bits behind the end.
--- RTP Payload Format For AV1 v1.0, Appendix A, dependency_descriptor. The code takes field by field off the front.
+-- The bits of a descriptor laid end to end, for every descriptor, not only for those that are written here. A mask may follow a structure
+-- that implies it, a distance may have more half bytes than it needs, and any bits may follow the end.
+-- RTP Payload Format For AV1 v1.0, Appendix A, dependency_descriptor. The code reads field after field from the start.
 use Rattle.std.specs.Prelude.{◌≡◌, ℕ, ◌-◌, ◌*◌, ◌≤◌, ◌^◌, Bool, true, false, List, [], ◌∷◌, ◌++◌, Option, Some, None, IfSome, is_some, if◌then◌else◌}
 use Rattle.std.specs.List.{flat_map}
 use Rattle.dd_bits.specs.Bits.{bits_of, bits_of_bytes}
@@ -10,7 +10,7 @@ use Rattle.dd_descriptor.specs.declared.descriptor.Custom.{Custom}
 use Rattle.dd_descriptor.specs.Content.{FrameContent, Content, holding}
 use Rattle.dd_descriptor.specs.Spelling.{flag_bits, head_bits, carried_bits, where_custom, settled_mask, IsWritable}
 
--- what the content of a descriptor leaves open of its bits
+-- what a descriptor's bits have that its content doesn't fix
 pub record Layout : Type 0 where
   -- whether anything follows the first three bytes
   pub is_long : Bool
@@ -35,7 +35,7 @@ laid_mask targets true (Some mask) = bits_of targets mask
 abbrev pub laid_distance : ℕ → ℕ → List Bool
 laid_distance size d = bits_of 2 size ++ bits_of (4 * size) (d - 1)
 
--- each distance in so many half bytes, and the mark that ends them
+-- each distance in its number of half bytes, and the code that ends them
 abbrev pub laid_distances : List ℕ → List ℕ → List Bool
 laid_distances [] ds = bits_of 2 0
 laid_distances (size ∷ sizes) [] = bits_of 2 0
@@ -51,18 +51,18 @@ unfoldable pub laid_more : ℕ → Layout → Content → List Bool
 laid_more targets l c =
     laid_flags l.has_mask c ++ (carried_bits c.structure ++ (laid_mask targets l.has_mask c.mask ++ (laid_frame l.sizes c.custom c.frame ++ l.behind)))
 
--- the whole, for a structure with so many decode targets
+-- all the bits, for a structure with this many decode targets
 unfoldable pub laid_bits : ℕ → Layout → Content → List Bool
 laid_bits targets l c = head_bits c ++ (if l.is_long then laid_more targets l c else [])
 
 -- ---- which contents have such bits
 
--- there is a mask where the flag says so, and else it is the one that a structure implies
+-- there is a mask if the flag says so; else the mask is the one that a carried structure implies, or none
 abbrev pub IsMask : Bool → Option TemplateStructure → Option ℕ → Type 0
 IsMask true carried mask = is_some mask ≡ true
 IsMask false carried mask = mask ≡ settled_mask carried None
 
--- so many half bytes hold this distance
+-- this many half bytes are enough for this distance
 abbrev pub HoldsDistance : ℕ → ℕ → Type 0
 HoldsDistance size d = (1 ≤ size) × (size ≤ 3) × (1 ≤ d) × (d ≤ 2 ^ (4 * size))
 
@@ -72,7 +72,7 @@ AreSizes [] (d ∷ ds) = ⊥
 AreSizes (size ∷ sizes) [] = ⊥
 AreSizes (size ∷ sizes) (d ∷ ds) = HoldsDistance size d × AreSizes sizes ds
 
--- three bytes say no more than a template
+-- a descriptor of three bytes has no structure, no mask, no part of the frame's own, and nothing after these bytes
 pub record IsShort (l : Layout) (c : Content) : Type 0 where
   pub structure : c.structure ≡ None
   pub mask : l.has_mask ≡ false
@@ -90,7 +90,7 @@ pub record IsLaid (s : TemplateStructure) (l : Layout) (c : Content) (bytes : Li
   pub short : l.is_long ≡ false → IsShort l c
   pub bits : bits_of_bytes bytes ≡ laid_bits s.target_count l c
 
--- so are they by the structure that they carry, or else by the one in force
+-- and they are so with the structure that they carry, or else with the one in force
 pub record IsDescriptor (bytes : List ℕ) (force : Option TemplateStructure) (c : Content) : Type 0 where
   pub by : TemplateStructure
   pub layout : Layout

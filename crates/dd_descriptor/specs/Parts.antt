@@ -1,5 +1,5 @@
--- The bits of a descriptor part by part, as a read of it finds them.
--- RTP Payload Format For AV1 v1.0, Appendix A, dependency_descriptor. The code keeps a reader from before and after each part.
+-- The bits of a descriptor part by part, as they are found when it is read.
+-- RTP Payload Format For AV1 v1.0, Appendix A, dependency_descriptor. The code keeps the reader from before and from after each part.
 use Rattle.std.specs.Prelude.{◌≡◌, ℕ, ◌-◌, ◌*◌, ◌<◌, ◌≤◌, Bool, true, List, ◌++◌, length, take, Option, Result, Ok, Err, is_some}
 use Rattle.dd_bits.specs.Bits.{bits_of, bits_of_bytes}
 use Rattle.dd_bits.specs.Reader.{bits_between}
@@ -22,7 +22,7 @@ pub record PartBits : Type 0 where
   -- the frame's definition
   pub frame : List Bool
 
--- what was taken of some bits where these others are left
+-- of these bits, those that were read when the others are left
 abbrev pub taken : List Bool → List Bool → List Bool
 taken bits rest = take (length bits - length rest) bits
 
@@ -47,7 +47,7 @@ parts_at bytes force = do
   body ← held_parts_at head.0.template flags.0 carried.0 force carried.1
   Ok (record { head = taken (bits_of_bytes bytes) head.1; flags = flags.0; structure = taken flags.1 carried.1; targets = body.0.0; frame = body.0.1 })
 
--- ---- what the code keeps of them
+-- ---- what the code keeps of the parts
 
 abbrev pub part_bits : Part → List Bool
 part_bits p = bits_between p.from p.to
@@ -65,12 +65,12 @@ with_mask p mask =
     p.head ++ ((flag_bits p.flags.structure ++ (flag_bits true ++ (flag_bits p.flags.dtis ++ (flag_bits p.flags.fdiffs ++ flag_bits p.flags.chains))))
     ++ (p.structure ++ (bits_of p.targets mask ++ p.frame)))
 
--- these are the bytes of the parts with this mask, as many as an element has room for
+-- these are the bytes of the parts with this mask, and an element has space for them
 abbrev pub MakesBytes : Result PartBits DdFault → ℕ → List ℕ → Type 0
 MakesBytes (Err fault) mask out = ⊥
 MakesBytes (Ok parts) mask out = IsPadded (with_mask parts mask) out × (length out ≤ 255)
 
--- there are no parts, or they would be more bytes with this mask
+-- there are no parts, or with this mask they don't fit into an element
 abbrev pub MakesNone : Result PartBits DdFault → ℕ → Type 0
 MakesNone (Err fault) mask = Unit {0}
 MakesNone (Ok parts) mask = 8 * 255 < length (with_mask parts mask)

@@ -1,6 +1,6 @@
--- A descriptor with another mask. Own rule, over the bits of RTP Payload Format For AV1 v1.0, Appendix A: the other parts stay unchanged, so
--- a distance keeps its size, the mask's flag is set and the new mask is in its place; what followed the frame's definition is dropped. The code
--- copies bits between places in the bytes.
+-- A descriptor with another mask. Own rule, over the bits of RTP Payload Format For AV1 v1.0, Appendix A: the other parts stay the same,
+-- so a distance keeps its size. The mask's flag is set, and the new mask is in its place. What followed the frame's definition is
+-- dropped. The code copies bits between positions in the bytes.
 use Rattle.std.specs.Prelude.{◌≡◌, ℕ, ◌<◌, ◌^◌, true, List, Bool, ◌++◌, Option, Some, Ok}
 use Rattle.dd_bits.specs.Bits.{bits_of}
 use Rattle.dd_structure.specs.TemplateStructure.{TemplateStructure}
@@ -22,7 +22,7 @@ remasked {c = c} d mask = remasked_bits d.by d.layout c mask
 abbrev pub with_new_mask : Content → ℕ → Content
 with_new_mask c mask = record c { mask = Some mask }
 
--- the bytes read, and the mask has a bit for each decode target at most
+-- the bytes read as a descriptor, and the mask has no bit past the last decode target
 pub record TakesMask (bytes : List ℕ) (force : Option TemplateStructure) (mask : ℕ) : Type 0 where
   pub content : Content
   pub by : TemplateStructure

@@ -50,7 +50,7 @@ pub struct Descriptor {
 }
 
 impl Descriptor {
-    /// A blank descriptor, for others to be read into.
+    /// A blank descriptor, over which others can be read.
     pub fn new() -> Descriptor
         ensures { IsBlank result }
     {
@@ -75,7 +75,7 @@ impl Descriptor {
         }
     }
 
-    // How many frame numbers back each frame is that this one refers to.
+    // The distances, in frame numbers, to the frames that this frame refers to.
     fn references(&self) -> &[u16]
         requires { self.now.ref_count ≤ 16 }
         ensures { result.now ≡ take self.now.ref_count self.now.refs }
@@ -83,8 +83,8 @@ impl Descriptor {
         &self.refs[..self.ref_count as usize]
     }
 
-    /// Whether the descriptor begins a key frame: it carries a structure, the packet is the first of its frame, and the frame refers to
-    /// nothing (own rule).
+    /// Whether the descriptor begins a key frame: it carries a structure, the packet is the first of its frame, and the frame has no
+    /// references (own rule).
     pub fn begins_key_frame(&self) -> bool
         requires { self.now.ref_count ≤ 16 }
         ensures { result ≡ (is_some self.now.structure && (self.now.start && length (take self.now.ref_count self.now.refs) == 0)) }

@@ -10,8 +10,8 @@ use crate::descriptor::Edges;
 use crate::reading::fields::head;
 use dd_bits::Short;
 
-/// What the first three bytes of a descriptor say, whatever follows them (RTP Payload Format For AV1 v1.0, Appendix A,
-/// mandatory_descriptor_fields). Returns `Short` where there are fewer than three.
+/// Reads the start and end flags and the frame number from the first three bytes of a descriptor, whatever follows them (RTP Payload Format
+/// For AV1 v1.0, Appendix A, mandatory_descriptor_fields). Returns `Short` if there are fewer than three bytes.
 pub fn edges(bytes: &[u8]) -> Result<Edges, Short>
     ensures short { IsErr result ↔ (length bytes.now < 3) }
     ensures front { IfOk result (BeginsWith bytes.now) }

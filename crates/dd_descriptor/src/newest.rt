@@ -1,4 +1,4 @@
-//! The newest descriptor of packets that are read one after another.
+//! The descriptor that was read last, of packets that are read one after another.
 
 ghost use Rattle.std.specs.Prelude.{◌≡◌, ◌≤◌, OnOk};
 ghost use Rattle.std.specs.Option.{option_copied};
@@ -13,14 +13,14 @@ use crate::reading::read_into;
 use dd_structure::Structure;
 use std::marker::Model;
 
-/// The newest of the descriptors that are read one after another; clauses see that one. Descriptors that carry a structure have a buffer of
-/// their own, since a structure is long. The next descriptor, which mostly carries none, needn't clear that buffer, and the next that carries
-/// one is read over it.
+/// Reads descriptors one after another and keeps the newest, which is what clauses see. A structure is long. So descriptors that carry one
+/// are read into one buffer, and all others into a second one. A descriptor without a structure (most have none) then needn't clear the
+/// first buffer, and the next structure is read over the one in it.
 #[derive(Debug, Drop)]
 pub struct NewestDescriptor {
     carrying: Descriptor,
     plain: Descriptor,
-    // Whether `carrying` holds the newest descriptor, and not `plain`.
+    // Whether the newest descriptor is in `carrying`, and not in `plain`.
     carries: bool,
 }
 
@@ -45,7 +45,7 @@ impl NewestDescriptor {
         }
     }
 
-    /// Reads the next descriptor, as [`read_into`] does. After a fault the newest may say anything.
+    /// Reads the next descriptor, as [`read_into`] does. After a fault the newest descriptor may have any contents.
     pub fn read(&mut self, bytes: &[u8], force: Option<&Structure>) -> Result<(), DdFault>
         ensures read { AnswersIn (option_copied force.entry) self.new result (descriptor_at bytes.now (option_copied force.entry)) }
         ensures writable { OnOk result (IsWritableBy (holding self.new.structure (option_copied force.entry))
@@ -73,8 +73,8 @@ impl NewestDescriptor {
     }
 }
 
-// Whether the first bit after the first three bytes, the flag of a carried structure, is set. A wrong answer does no harm: either buffer can
-// hold any descriptor.
+// Whether the first bit after the first three bytes, the flag of a carried structure, is set. A wrong answer does no harm: any descriptor
+// can be in either buffer.
 fn is_flagged(bytes: &[u8]) -> bool {
     match bytes {
         [_, _, _, flags, ..] => *flags >= 0x80,

@@ -46,7 +46,7 @@ fn clear(out: &mut Option<Structure>)
     *out = None;
 }
 
-/// Reads the carried structure, if there is one, in place of what was there; else `out` becomes `None`.
+/// Reads the carried structure into `out`, if there is one, in place of what was there; else `out` becomes `None`.
 #[tactic(auto, unfolding(crate::specs::Reading::carried_at))]
 #[inline(always)]
 pub fn put_carried(
@@ -66,7 +66,7 @@ pub fn put_carried(
     Ok(())
 }
 
-/// Reads the active decode targets, where the descriptor has a mask or carries a structure.
+/// Returns the active decode targets: the mask that is read, or all where only a structure is carried; else `None`.
 #[tactic(auto, unfolding(crate::specs::Reading::mask_at))]
 #[inline(always)]
 pub fn mask(
@@ -122,7 +122,7 @@ fn held<'a>(carried: &'a Option<Structure>, force: Option<&'a Structure>) -> Opt
     }
 }
 
-/// The same as `body`, by the carried structure or else the one in force.
+/// Does what `body` does, with the carried structure or, if there is none, the one in force.
 #[tactic(auto, unfolding(crate::specs::Reading::held_body_at))]
 #[inline(always)]
 fn held_body(
@@ -167,7 +167,7 @@ pub fn lemma_force_is_well_formed(force: Option<&Structure>)
     }
 }
 
-/// Reads each field, in place of what was there.
+/// Reads each field into `out`, in place of what was there.
 #[tactic(auto, unfolding(crate::specs::Reading::descriptor_at))]
 #[inline(always)]
 fn fill_fields(bytes: &[u8], force: Option<&Structure>, out: &mut Descriptor) -> Result<(), DdFault>
@@ -203,7 +203,7 @@ fn fill_fields(bytes: &[u8], force: Option<&Structure>, out: &mut Descriptor) ->
     Ok(())
 }
 
-/// The same, for descriptors with flags. Out of line, so that the code for descriptors without flags has nothing that depends on them.
+/// Does what `fill_fields` does, for descriptors with flags. Out of line, so that the code for those without flags depends on nothing here.
 #[inline(never)]
 fn fill_flagged(
     bytes: &[u8],
@@ -216,7 +216,7 @@ fn fill_flagged(
     fill_fields(bytes, force, out)
 }
 
-/// The same for any descriptor. Most have three bytes.
+/// Does what `fill_fields` does, for any descriptor. Most have three bytes.
 #[inline(always)]
 fn fill(bytes: &[u8], force: Option<&Structure>, out: &mut Descriptor) -> Result<(), DdFault>
     ensures read { AnswersIn (option_copied force.entry) out.new result (descriptor_at bytes.now (option_copied force.entry)) }
@@ -229,9 +229,9 @@ fn fill(bytes: &[u8], force: Option<&Structure>, out: &mut Descriptor) -> Result
     }
 }
 
-/// Reads a descriptor (RTP Payload Format For AV1 v1.0, Appendix A) into `out`, in place of what `out` held. A descriptor that carries no
+/// Reads a descriptor (RTP Payload Format For AV1 v1.0, Appendix A) into `out`, in place of what was there. A descriptor that carries no
 /// structure is read with `force`, the structure in force. Bits after the frame's definition are ignored. The error is the first fault from
-/// left to right; `out` may then say anything. What is read can be written.
+/// left to right; `out` may then have any contents. A descriptor that was read can be written.
 #[inline(always)]
 pub fn read_into(
     bytes: &[u8],
@@ -246,7 +246,7 @@ pub fn read_into(
     fill(bytes, force, out)
 }
 
-/// The same as [`read_into`], into a new descriptor. A descriptor takes 5 KB: where many are read, reusing one costs less.
+/// Reads as [`read_into`] does, into a new descriptor. A descriptor takes 5 KB: where many are read, reusing one costs less.
 pub fn read(bytes: &[u8], force: Option<&Structure>) -> Result<Descriptor, DdFault>
     ensures read { Answers (option_copied force.entry) result (descriptor_at bytes.now (option_copied force.entry)) }
     ensures writable { IfOk result (λ d. IsWritableBy (holding d.structure (option_copied force.entry)) (content_of (option_copied force.entry) d)) }

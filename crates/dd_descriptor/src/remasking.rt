@@ -1,4 +1,4 @@
-//! Replaces the mask of a descriptor and leaves all else as it is.
+//! Replaces the mask of a descriptor and leaves everything else as it is.
 
 ghost use Rattle.std.specs.Prelude.{◌≡◌, ◌<◌, ◌≤◌, ◌*◌, ◌%◌, ◌^◌, ◌↔◌, Some, Ok, IsErr, OnOk, OnErr, length};
 ghost use Rattle.std.specs.Option.{option_copied};
@@ -24,14 +24,14 @@ use dd_bits::{BitReader, BitWriter, NoRoom};
 use dd_structure::Structure;
 use sfu_base::{Dti, NoFit, PacketBuf};
 
-/// The bits between two places of a reader.
+/// The bits of a descriptor between two positions of a reader.
 #[derive(Clone, Copy)]
 pub struct Part<'a> {
     pub from: BitReader<'a>,
     pub to: BitReader<'a>,
 }
 
-/// The parts of a descriptor that stay under another mask.
+/// The parts of a descriptor that stay when its mask is replaced.
 #[derive(Clone, Copy)]
 pub struct Parts<'a> {
     pub head: Part<'a>,
@@ -41,7 +41,7 @@ pub struct Parts<'a> {
     pub frame: Part<'a>,
 }
 
-/// How many decode targets there are, and where the frame's definition lies.
+/// Returns how many decode targets there are, and the place of the frame's definition.
 #[tactic(auto, unfolding(crate::specs::Parts::body_parts_at))]
 fn body_parts<'a>(
     bits: &mut BitReader<'a>,
@@ -65,7 +65,7 @@ fn body_parts<'a>(
     Ok((structure.target_count(), Part { from, to: *bits }))
 }
 
-/// The same as `body_parts`, by the carried structure or else the one in force.
+/// Does what `body_parts` does, with the carried structure or, if there is none, the one in force.
 #[tactic(auto, unfolding(crate::specs::Parts::held_parts_at))]
 fn held_parts<'a>(
     bits: &mut BitReader<'a>,
@@ -86,7 +86,7 @@ fn held_parts<'a>(
     }
 }
 
-/// Where the parts lie in the bytes of a descriptor. A structure that the descriptor carries is read into `carried`.
+/// Finds the parts in the bytes of a descriptor. A structure that the descriptor carries is read into `carried`.
 #[tactic(auto, unfolding(crate::specs::Parts::parts_at))]
 fn parts_in<'a>(
     bytes: &'a [u8],
@@ -125,7 +125,7 @@ fn lowest(mask: u32, count: u8) -> u32
     }
 }
 
-/// Appends the parts with this mask.
+/// Appends the parts, with `mask` in the place of the mask.
 fn put_parts(out: &mut BitWriter, parts: &Parts<'_>, mask: u32) -> Result<(), NoRoom>
     ensures { Puts result out.old out.new (with_mask (parts_of parts.now) mask) }
 {
@@ -148,7 +148,7 @@ fn put_mask(out: &mut BitWriter, targets: u8, mask: u32) -> Result<(), NoRoom>
     out.put(targets, lowest(mask, targets))
 }
 
-/// The working memory of a remask, 7 KB; what it holds doesn't matter. A caller that keeps it saves clearing it for each call.
+/// The working memory of [`remask`], 7 KB. Its contents don't matter. A caller that reuses it saves clearing it for each call.
 #[derive(Debug, Drop)]
 pub struct RemaskRoom {
     structure: Option<Structure>,
@@ -156,7 +156,7 @@ pub struct RemaskRoom {
 }
 
 impl RemaskRoom {
-    /// Working memory that can serve any descriptor.
+    /// Working memory for any descriptor.
     pub fn new() -> RemaskRoom {
         RemaskRoom {
             structure: None,
@@ -171,8 +171,8 @@ impl Default for RemaskRoom {
     }
 }
 
-/// Does the same as [`remask`], for any bytes and any mask. The mask's lowest bits are written, as many as there are decode targets. Returns
-/// `NoFit` also where the bytes don't read with the structure in force; `out` is then as before. The bytes are read once.
+/// Does what [`remask`] does, but for any bytes and any mask. As many of the mask's lowest bits are written as there are decode targets.
+/// Returns `NoFit` also if the bytes don't read with the structure in force; `out` is then as before. The bytes are read once.
 pub fn remask_lowest(
     bytes: &[u8],
     force: Option<&Structure>,
@@ -201,9 +201,9 @@ pub fn remask_lowest(
     }
 }
 
-/// Replaces the contents of `out` with the same descriptor under another mask. Bit i of the mask, the lowest being bit 0, says whether decode
-/// target i is active. Each other part is copied bit by bit, the bits after the frame's definition are dropped, and zeros fill the last byte.
-/// Returns `NoFit` where there would be more than 255 bytes; `out` is then as before.
+/// Replaces the contents of `out` with the same descriptor under another mask. Bit i of the mask (bit 0 is the lowest) says whether decode
+/// target i is active. Every other part is copied bit by bit, the bits after the frame's definition are dropped, and zeros fill the last
+/// byte. Returns `NoFit` if there would be more than 255 bytes; `out` is then as before.
 ///
 /// The bytes must read with the structure in force, and the mask must have no bit past the last decode target.
 pub fn remask(

@@ -1,4 +1,4 @@
--- What the arrays of a structure hold.
+-- What the arrays of a structure contain.
 use Rattle.std.specs.Prelude.{◌≡◌, ℕ, ◌≤◌, List, length, take, map}
 use Rattle.sfu_base.specs.declared.frame.Dti.{Dti}
 use Rattle.dd_structure.specs.declared.layer.Layer.{Layer}
@@ -37,7 +37,7 @@ structure_of c = record {
   resolutions = resolutions_in c.resolutions;
 }
 
--- the counts are within the arrays
+-- each count is at most the length of its array
 pub record IsWithin (c : Columns) : Type 0 where
   pub some_target : 1 ≤ c.target_count
   pub targets : c.target_count ≤ 32
@@ -52,7 +52,7 @@ pub record IsWhole (c : Columns) : Type 0 where
   pub within : IsWithin c
   pub well_formed : IsWellFormed (structure_of c)
 
--- so much of each column is equal as counts of the first, which has the counts of the second
+-- the columns are equal in all entries that count, where the two have the same counts
 pub record HaveSameFields (a b : Columns) : Type 0 where
   pub layers : take a.template_count a.layers ≡ take a.template_count b.layers
   pub indications : map (take a.target_count) (take a.template_count a.indications) ≡ map (take a.target_count) (take a.template_count b.indications)

@@ -29,7 +29,7 @@ greatest_of (t ∷ ts) = Some (record { spatial = greatest (map (λ x. x.layer.s
 abbrev pub pair_of : TemplateStructure → ℕ → Option Wish
 pair_of s target = greatest_of (filter (is_present_in target) s.templates)
 
--- ---- how the greatest layers of two lists of templates are those of both, template by template
+-- ---- the greatest layers of two lists of templates together, from those of each
 
 -- the greater of each id
 abbrev pub joined : Option Wish → Option Wish → Option Wish

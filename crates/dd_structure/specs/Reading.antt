@@ -22,7 +22,7 @@ below_at n bits = or_fault faults.Short (non_symmetric n bits)
 
 -- ---- template_layers
 
--- what next_layer_idc says of the next template's layer, none where there is no next template
+-- the next template's layer by its next_layer_idc, or none if there is no next template
 abbrev pub layer_after : Layer → ℕ → Result (Option Layer) StructureFault
 layer_after layer zero = Ok (Some layer)
 layer_after layer (suc zero) =
@@ -125,7 +125,7 @@ structure_at bits = do
     resolutions.1,
   )
 
--- the same, as a place for a structure that may be there holds it
+-- the same, with the structure in an `Option`
 unfoldable pub some_structure_at : List Bool → Result (Option TemplateStructure × List Bool) StructureFault
 some_structure_at bits = do
   s ← structure_at bits

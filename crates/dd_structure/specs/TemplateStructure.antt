@@ -5,14 +5,14 @@ use Rattle.std.specs.Prelude.{ℕ, List, [], ◌∷◌, map, slice_index_or}
 use Rattle.sfu_base.specs.declared.frame.Dti.{Dti}
 use Rattle.dd_structure.specs.declared.layer.Layer.{Layer}
 
--- what frames that name this template have in common
+-- what the frames that name this template have in common
 pub record Template : Type 0 where
   pub layer : Layer
-  -- decode target by decode target
+  -- for each decode target
   pub indications : List Dti
-  -- how many frames back each frame is that it refers to
+  -- for each frame that the template refers to, how many frame numbers back it is
   pub distances : List ℕ
-  -- chain by chain, how many frames back the chain's previous frame is, 0 where none is needed
+  -- for each chain, how many frame numbers back its previous frame is, 0 where none is needed
   pub links : List ℕ
 
 pub record TemplateStructure : Type 0 where
@@ -21,16 +21,16 @@ pub record TemplateStructure : Type 0 where
   pub target_count : ℕ
   pub chain_count : ℕ
   pub templates : List Template
-  -- decode target by decode target, the chain that protects it; empty where there are no chains
+  -- for each decode target, the chain that protects it; empty where there are no chains
   pub guards : List ℕ
-  -- spatial id by spatial id from 0, the width and height in pixels; empty where there are none
+  -- for each spatial id from 0, the width and height in pixels; empty where there are none
   pub resolutions : List (ℕ × ℕ)
 
 -- the layer of the first template
 abbrev pub first_layer : Layer
 first_layer = record { spatial = 0; temporal = 0 }
 
--- the template at an index from 0, of which only those below the number of templates count
+-- the template at an index from 0; only indexes below the number of templates count
 abbrev pub template_at : TemplateStructure → ℕ → Template
 template_at s i = slice_index_or s.templates i (record { layer = first_layer; indications = []; distances = []; links = [] })
 

@@ -64,8 +64,8 @@ impl Structure {
         &columns.indications[template as usize][..columns.target_count as usize]
     }
 
-    /// The indications at the start of a whole array, which is copied faster than a slice. Entries past the last decode
-    /// target don't count.
+    /// A template's indications, as the first entries of an array. An array is copied faster than a slice.
+    /// Entries past the last decode target don't count.
     pub fn indication_row(&self, template: u8) -> &[Dti; 32]
         requires { template < length self.now.templates }
         ensures value { take self.now.target_count result.now ≡ (template_at self.now template).indications }
@@ -73,7 +73,7 @@ impl Structure {
         &self.columns.indications[template as usize]
     }
 
-    /// A template's frame differences: how many frame numbers back each frame is that the template refers to. There are
+    /// A template's frame differences: how many frame numbers back each referenced frame is. There are
     /// at most 16, each 1 to 16.
     pub fn distances(&self, template: u8) -> &[u8]
         requires { template < length self.now.templates }
@@ -84,8 +84,8 @@ impl Structure {
         &distances.items[..distances.count as usize]
     }
 
-    /// How many frame differences a template has, at most 16, and the differences at the start of a whole array. Entries
-    /// behind them don't count.
+    /// How many frame differences a template has, at most 16, and an array that begins with them. The
+    /// other entries don't count.
     pub fn distance_row(&self, template: u8) -> (u8, &[u8; 16])
         requires { template < length self.now.templates }
         ensures value { take result.0 result.1.now ≡ (template_at self.now template).distances }
@@ -106,7 +106,7 @@ impl Structure {
         &columns.links[template as usize][..columns.chain_count as usize]
     }
 
-    /// The links at the start of a whole array. Entries past the last chain don't count.
+    /// A template's links, as the first entries of an array. Entries past the last chain don't count.
     pub fn link_row(&self, template: u8) -> &[u8; 32]
         requires { template < length self.now.templates }
         ensures value { take self.now.chain_count result.now ≡ (template_at self.now template).links }

@@ -1,4 +1,4 @@
-//! A blank structure, for others to be read into.
+//! A blank structure, over which another one is read.
 
 ghost use Rattle.dd_structure.specs.Columns.{IsWhole};
 
@@ -16,7 +16,7 @@ const NO_RESOLUTIONS: Resolutions = Resolutions {
     items: [(0, 0); 4],
 };
 
-/// One template of the first layer for one decode target.
+/// A structure with one template, of the first layer, and with one decode target.
 pub const BLANK: Columns = Columns {
     offset: 0,
     target_count: 1,
@@ -30,8 +30,8 @@ pub const BLANK: Columns = Columns {
     resolutions: NO_RESOLUTIONS,
 };
 
-/// Makes columns valid again after a fault left them half read: the entries that count become those of [`BLANK`], and
-/// the others stay.
+/// Makes columns valid again after a fault left them half read: the entries that count become those of
+/// [`BLANK`], and the others stay.
 #[inline(never)]
 pub fn mend(out: &mut Columns)
     ensures { IsWhole out.new }

@@ -5,7 +5,7 @@ ghost use Rattle.std.specs.Prelude.{◌≤◌};
 use crate::layer::Layer;
 use sfu_base::Dti;
 
-/// The distances of a template.
+/// A template's distances to the frames that it refers to. Only the first `count` items count.
 #[derive(Clone, Copy, Debug)]
 pub struct Distances {
     pub count: u8,
@@ -13,7 +13,7 @@ pub struct Distances {
     ghost within: { count ≤ 16 },
 }
 
-/// The width and height of each spatial id in pixels, from id 0 on, where the structure has them.
+/// The width and height of each spatial id in pixels, from id 0 on. `count` is 0 where the structure has no resolutions.
 #[derive(Clone, Copy, Debug)]
 pub struct Resolutions {
     pub count: u8,
@@ -21,8 +21,8 @@ pub struct Resolutions {
     ghost within: { count ≤ 4 },
 }
 
-/// The fields of a structure, in arrays of which only the first entries count: `template_count` where there is an entry for each template,
-/// `target_count` where there is one for each decode target, `chain_count` where there is one for each chain.
+/// The fields of a structure. Only the first entries of each array count: `template_count` where each template has an entry,
+/// `target_count` where each decode target has one, and `chain_count` where each chain has one.
 #[derive(Clone, Copy, Debug)]
 pub struct Columns {
     pub offset: u8,

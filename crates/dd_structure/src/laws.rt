@@ -10,7 +10,7 @@ pub fn structure_reads_back()
     ensures { (s : TemplateStructure) (rest : List Bool) → IsWellFormed s → structure_at (structure_bits s ++ rest) ≡ Ok (s, rest) }
 {}
 
-/// A structure that is read is well formed, and was read from exactly the bits in which it is written.
+/// A structure that was read is well formed, and the bits that it was read from are exactly those in which it is written.
 pub fn structures_are_well_formed()
     ensures well_formed { (bits : List Bool) (s : TemplateStructure) (rest : List Bool) → structure_at bits ≡ Ok (s, rest) → IsWellFormed s }
     ensures spelled { (bits : List Bool) (s : TemplateStructure) (rest : List Bool) → structure_at bits ≡ Ok (s, rest) → bits ≡ structure_bits s ++ rest }

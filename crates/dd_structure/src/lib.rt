@@ -1,9 +1,9 @@
 //! The template structure of an AV1 dependency descriptor, read from bits and written to bits (RTP Payload Format For AV1
 //! v1.0, Appendix A).
 //!
-//! A [`Structure`] says what the frames that name one of its templates have in common: their layer, their decode target indications, the
-//! frames that they refer to and the chains' previous frames. It also says which chain protects each decode target. Nothing here takes
-//! memory.
+//! A [`Structure`] has up to 64 templates. A template says what the frames that name it have in common: their layer, their decode target
+//! indications, the frames that they refer to and, for each chain, its previous frame. The structure also says which chain protects each
+//! decode target. Nothing here allocates memory.
 #![tactic(auto)]
 
 mod access;

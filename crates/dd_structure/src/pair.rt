@@ -18,7 +18,7 @@ fn is_present_to(indications: &[Dti], target: u8) -> bool
     }
 }
 
-/// The template's layer, if the template is present.
+/// The template's layer, if the template is present in the target; else `None`.
 fn layer_if(is_there: bool, layer: Layer) -> Option<Wish>
     ensures { result ≡ layer_where is_there layer }
 {

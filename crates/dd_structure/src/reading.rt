@@ -25,7 +25,7 @@ use crate::reading::resolutions::resolutions;
 use dd_bits::BitReader;
 
 /// Reads a structure into `out`, in place of what was there, or returns the first fault. After a fault the reader may have moved on, and
-/// `out` may hold a part of a structure.
+/// `out` may contain a part of a structure.
 #[tactic(auto, unfolding(crate::specs::Reading::structure_at))]
 fn fill_columns(bits: &mut BitReader<'_>, out: &mut Columns) -> Result<(), StructureFault>
     ensures read { Gives (λ _. structure_of out.new) result bits.new (structure_at (bits_left bits.old)) }
@@ -47,7 +47,7 @@ fn fill_columns(bits: &mut BitReader<'_>, out: &mut Columns) -> Result<(), Struc
     Ok(())
 }
 
-/// The same, but after a fault the columns are those of some structure, and the reader is as before.
+/// Reads as `fill_columns` does, but after a fault the columns are those of some structure, and the reader is as before.
 pub fn fill_whole(bits: &mut BitReader<'_>, out: &mut Columns) -> Result<(), StructureFault>
     ensures read { Gives (λ _. structure_of out.new) result bits.new (structure_at (bits_left bits.old)) }
     ensures unchanged { OnErr result (bits.new ≡ bits.old) }

@@ -53,7 +53,7 @@ fn put_chains(out: &mut BitWriter, columns: &Columns) -> Result<(), NoRoom>
     put_link_table(out, chains as usize, &columns.links[..templates])
 }
 
-/// Appends the bits of a structure. Where they don't fit, a part of them may have been appended.
+/// Appends the bits of a structure. Returns `NoRoom` if they don't fit; a part of them may have been appended by then.
 #[tactic(auto, unfolding(crate::specs::Spelling::structure_bits))]
 pub fn put_columns(out: &mut BitWriter, columns: &Columns) -> Result<(), NoRoom>
     requires { IsWhole columns.now }

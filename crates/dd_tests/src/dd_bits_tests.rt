@@ -30,7 +30,7 @@ fn numbers_of_both_kinds_are_written_one_after_another(rt: HostRuntime) -> Resul
     for value in 0..5 {
         out.put_ns(5, value)?;
     }
-    // 00 01 10 110 111, and zeros
+    // the codes 00 01 10 110 111, and the zeros after them
     assert_eq!(rt; out.bytes(), [0xcb, 0x55, 0x1b, 0x70].as_slice());
     Ok(())
 }

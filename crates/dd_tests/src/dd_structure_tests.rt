@@ -4,7 +4,7 @@ use sfu_base::{Dti, Wish};
 use std::process::Abort;
 use std::test::Fail;
 
-/// What a template has to read as.
+/// The contents that a template is expected to have.
 #[derive(Clone, Copy)]
 struct Row {
     layer: Layer,
@@ -119,8 +119,8 @@ fn structures_are_read_field_by_field_and_written_back(rt: HostRuntime) -> Resul
     expect(&rt, &D_BYTES, &read(&D_BYTES)?, &[1, 1, 0, 0], &d)
 }
 
-/// A structure that a test writes: the codes that lead to new layers, how many more templates of the last layer follow (`same`), and the
-/// code after them (`end`); the numbers of targets and of chains, and the number of distances of each template.
+/// A structure that a test writes: `codes` lead to new layers, then `same` more templates of the last layer follow, and then the code
+/// `end`. `targets` and `chains` are their numbers, and `distances` is the number of distances of each template.
 #[derive(Clone, Copy)]
 struct Case {
     codes: &'static [u32],
@@ -129,7 +129,7 @@ struct Case {
     targets: u32,
     chains: u32,
     distances: u32,
-    /// What has to be found: the greatest spatial id and the greatest temporal id, or a fault.
+    /// The expected result: the greatest spatial id and the greatest temporal id, or a fault.
     found: Result<(u8, u8), StructureFault>,
 }
 
@@ -298,7 +298,7 @@ fn structures_are_read_up_to_their_limits(rt: HostRuntime) -> Result<(), Fail> {
             found: Err(StructureFault::Layer),
             ..PLAIN
         },
-        // The temporal id begins anew with the spatial id.
+        // The temporal id restarts at 0 when the spatial id rises.
         Case {
             codes: &[1, 1, 2, 1],
             found: Ok((1, 2)),
@@ -321,7 +321,7 @@ fn structures_are_read_up_to_their_limits(rt: HostRuntime) -> Result<(), Fail> {
             chains: 32,
             ..PLAIN
         },
-        // Of two faults at one place the layer's is found, of faults at two places the first.
+        // Of two faults at one place, the layer's is reported; of faults at two places, the first.
         Case {
             codes: &[2, 2, 2],
             same: 60,

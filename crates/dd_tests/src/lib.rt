@@ -1,5 +1,5 @@
 #![tactic(auto)]
-//! Tests of the crates that read and write the dependency descriptor, and of whole packets that carry one. They are here and not in those
+//! Tests of the crates that read and write the dependency descriptor, and of whole packets that carry one. The tests aren't in those
 //! crates, since a crate with tests is proved twice.
 
 #[cfg(test)]

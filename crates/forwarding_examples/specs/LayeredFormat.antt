@@ -1,7 +1,7 @@
--- A second format for worked packets, with templates and chains. A packet's rest is a list of numbers as in `WorkedFormat`, but that a
--- template stands before the distances, which are those of the frame's own where there are any. Structure 1 has two spatial layers: target
--- 0 has the layers (1, 0) and is protected by chain 1, target 1 has the layers (0, 0) and is protected by chain 0. Any other structure has
--- one target, of the layers (0, 0), and one chain. Own words. It has all the facts on which the laws rest.
+-- A second format for the examples, with templates and chains. A packet's rest is a list of numbers as in `WorkedFormat`, except that a
+-- template comes before the distances, which are the frame's own if there are any. Structure 1 has two spatial layers: target 0 has the
+-- layers (1, 0) and is protected by chain 1; target 1 has the layers (0, 0) and is protected by chain 0. Any other structure has one
+-- target, of the layers (0, 0), and one chain. Own words. All facts on which the laws rest hold for it.
 use Rattle.std.specs.Prelude.{◌^◌, ℕ, List, [], ◌∷◌, if◌then◌else◌, Bool, ◌==◌, ◌&&◌, nat_lt, nat_le, length, slice_get}
 use Rattle.std.specs.List.{list_all}
 use Rattle.std.specs.declared.option.Option.{Option}
@@ -39,9 +39,9 @@ pub record Template : Type 0 where
   pub distances : List ℕ
   pub links : List ℕ
 
--- of the two layers: a key frame, the lower layer two after the last, the upper layer above a key frame, and above the lower layer and the
--- upper layer before; of the one
--- layer: a key frame, and a frame that refers to the one before
+-- for two layers: a key frame; the lower layer, which refers two frames back; the upper layer above a key frame; and the upper layer above
+-- the lower one, which also refers to the upper layer before.
+-- For one layer: a key frame, and a frame that refers to the one before
 abbrev pub templates : ℕ → List Template
 templates s =
     if s == 1
@@ -92,7 +92,7 @@ abbrev pub of_structure : WorkedFields → ℕ → List ℕ → DescriptorReadin
 of_structure fields s [] = Faulty
 of_structure fields s (t ∷ own) = with_template fields own (slice_get (templates s) t)
 
--- the frame number and the mask fit
+-- the frame number and the mask are in range
 abbrev pub fit : WorkedFields → ℕ → Bool
 fit fields s = nat_lt fields.number 65536 && nat_le fields.mask (2 ^ (layered_layout s).target_count)
 

@@ -1,5 +1,5 @@
--- Worked histories of layered tracks, from packets that come, and packets that are lost, to causes and what goes out. They are read by the
--- format of `LayeredFormat`, were worked out by hand, and compute. Items and histories stand with the newest first.
+-- Histories of layered tracks, from packets that come or are lost to causes and forwarded packets. They are read with the format of
+-- `LayeredFormat`, were worked out by hand, and are checked by computation. Items and histories have the newest first.
 use Rattle.std.specs.Prelude.{◌≡◌, ℕ, List, [], ◌∷◌, Bool, true, false, map}
 use Rattle.std.specs.declared.option.Option.TheVariants.{None, Some}
 use Rattle.sfu_base.specs.declared.frame.Verdict.{Verdict}
@@ -24,7 +24,7 @@ subscriber = record { ssrc = 2; first = 10; wish = record { spatial = 1; tempora
 abbrev pub late_subscriber : Subscriber
 late_subscriber = record { ssrc = 3; first = 0; wish = record { spatial = 0; temporal = 0 } }
 
--- what happens to a subscriber that joined before all of these, one call for each
+-- what happens to a subscriber that joined before all of these, with one call for each item
 abbrev pub released : List Item → List Entry
 released [] = Joined 1 subscriber ∷ []
 released (item ∷ past) = Released (item ∷ []) ∷ released past
@@ -35,7 +35,7 @@ happened items = timeline layered_format send_marked 1 (released items)
 abbrev pub causes_in : List (Event ℕ) → List ℕ → List Verdict
 causes_in events numbers = map (cause subscriber.wish events) numbers
 
--- of each packet that goes out its number and its marker
+-- the number and the marker of each forwarded packet
 abbrev pub Told : Type 0
 Told = List (ℕ × Bool)
 
@@ -102,14 +102,14 @@ WishedSent =
 abbrev pub WishedUnmet : Type 0
 WishedUnmet = causes_in (timeline layered_format send_marked 1 (wished (frame_of true 6 0 0 3 []))) (6 ∷ []) ≡ NotOfTarget (Some 1) ∷ []
 
--- ---- a template that the structure hasn't isn't read, and neither is a mask that doesn't fit it
+-- ---- a packet isn't read if its structure lacks the template, or if its mask is too wide for the structure
 
 abbrev pub OtherTemplate : Type 0
 OtherTemplate =
     causes_in (happened (frame_of true 4 0 0 1 [] ∷ frame_of true 3 0 3 1 [] ∷ frame_of true 2 0 0 2 [] ∷ frame_of true 1 2 0 0 [] ∷ [])) (2 ∷ 3 ∷ 4 ∷ [])
     ≡ Hole (Some 1) 4 ∷ Hole (Some 1) 4 ∷ Reference 3 ∷ []
 
--- ---- a key frame brings another structure: its one target is of the lower layer, so that its frames end the picture
+-- ---- a key frame carries another structure: its one target is of the lower layer, so its frames end the picture
 
 abbrev pub NewStructureSent : Type 0
 NewStructureSent =

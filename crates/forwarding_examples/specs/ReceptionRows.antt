@@ -1,4 +1,4 @@
--- More packets at a strict receiver: where it complains, and of what. They were worked out by hand, and compute.
+-- More packets at a strict receiver: where it complains, and about what. They were worked out by hand, and are checked by computation.
 use Rattle.std.specs.Prelude.{◌≡◌, ℕ, List, [], ◌∷◌, replicate}
 use Rattle.std.specs.declared.option.Option.{Option}
 use Rattle.std.specs.declared.option.Option.TheVariants.{None, Some}
@@ -9,7 +9,7 @@ use Rattle.forwarding_examples.specs.WorkedPackets.{complaint_at, first_rest, fr
 use Rattle.forwarding_model.specs.Receiver.{frames_accepted, packets_accepted}
 use Rattle.forwarding_model.specs.Receiver.Receiver.{Waiting}
 
--- what the receiver complains of, how many packets it accepted before, and how many frames
+-- what the receiver complains about, and how many packets and how many frames it accepted before
 pub record Heard : Type 0 where
   pub complaint : Option Complaint
   pub packets : ℕ
@@ -25,8 +25,8 @@ heard came = record {
 abbrev pub complains : Complaint → ℕ → ℕ → Heard
 complains complaint packets frames = record { complaint = Some complaint; packets = packets; frames = frames }
 
--- inside a frame each packet is judged as it comes, and not at the frame's end: another number, a broken join, a second start, a payload
--- that is broken
+-- inside a frame each packet is judged when it comes, not at the frame's end: another number, a broken join, a second start, a broken
+-- payload
 abbrev pub OtherNumberAtOnce : Type 0
 OtherNumberAtOnce = heard (read_from 10 (key_rest 1 ∷ first_rest 2 ∷ middle_rest 3 ∷ [])) ≡ complains Complaint.NotWhole 2 1
 
@@ -43,7 +43,7 @@ BrokenPayloadAtOnce = heard (read_from 10 (key_rest 1 ∷ first_rest 2 ∷ (0 �
 abbrev pub TooManyAtOnce : Type 0
 TooManyAtOnce = heard (read_from 10 (key_rest 1 ∷ first_rest 2 ∷ replicate 512 (middle_rest 2))) ≡ complains Complaint.NotWhole 513 1
 
--- references are judged at the end of a frame, the first one first
+-- references are judged at the end of a frame, in their order
 abbrev pub ReferenceAtTheEnd : Type 0
 ReferenceAtTheEnd =
     heard (read_from 10 (key_rest 1 ∷ first_rest 3 ∷ middle_rest 3 ∷ last_rest 3 ∷ [])) ≡ complains (Complaint.MissingReference 3 1) 3 1
@@ -51,11 +51,11 @@ ReferenceAtTheEnd =
 abbrev pub FirstReference : Type 0
 FirstReference = heard (read_from 10 (key_rest 1 ∷ (1 ∷ 1 ∷ 5 ∷ 0 ∷ 0 ∷ 0 ∷ 0 ∷ 2 ∷ 4 ∷ 3 ∷ []) ∷ [])) ≡ complains (Complaint.MissingReference 5 2) 1 1
 
--- a reference as far back as there are any
+-- a reference at the greatest distance that there is
 abbrev pub FarthestReference : Type 0
 FarthestReference = heard (read_from 10 (key_rest 1 ∷ frame_rest 4097 4096 ∷ [])) ≡ record { complaint = None; packets = 2; frames = 2 }
 
--- bytes that aren't RTP, as the first that comes; and a packet without a descriptor or a payload
+-- bytes that aren't RTP, as the first that come; and a packet without a descriptor or a payload
 abbrev pub NotRtpFirst : Type 0
 NotRtpFirst = heard (None ∷ []) ≡ complains Complaint.Unread 0 0
 
@@ -68,11 +68,11 @@ LongKeyFrameAccepted =
     heard (read_from 10 ((1 ∷ 0 ∷ 1 ∷ 7 ∷ 0 ∷ 0 ∷ 1 ∷ []) ∷ (0 ∷ 1 ∷ 1 ∷ 0 ∷ 0 ∷ 1 ∷ 0 ∷ []) ∷ []))
     ≡ record { complaint = None; packets = 2; frames = 1 }
 
--- an end that leaves an element open comes before a reference that is missing
+-- an end that leaves an element open is reported before a missing reference
 abbrev pub OpenEndFirst : Type 0
 OpenEndFirst = heard (read_from 10 (key_rest 1 ∷ (1 ∷ 1 ∷ 3 ∷ 0 ∷ 0 ∷ 0 ∷ 1 ∷ 1 ∷ []) ∷ [])) ≡ complains Complaint.NotWhole 1 1
 
--- and a payload that is broken, or another structure, before what isn't whole
+-- and a broken payload, or another structure, is reported before a frame that isn't whole
 abbrev pub BrokenPayloadFirst : Type 0
 BrokenPayloadFirst =
     heard (read_from 10 (key_rest 1 ∷ first_rest 2 ∷ (1 ∷ 1 ∷ 3 ∷ 0 ∷ 0 ∷ 3 ∷ 0 ∷ 2 ∷ []) ∷ [])) ≡ complains Complaint.Unread 2 1
@@ -88,6 +88,6 @@ StructureWithoutKey = heard (read_from 10 ((1 ∷ 1 ∷ 2 ∷ 7 ∷ 0 ∷ 0 ∷ 
 abbrev pub WrappedFrameNumber : Type 0
 WrappedFrameNumber = heard (read_from 10 (key_rest 65535 ∷ frame_rest 1 1 ∷ [])) ≡ complains (Complaint.MissingReference 1 1) 1 1
 
--- that there is no structure comes before a payload that is broken
+-- a missing structure is reported before a broken payload
 abbrev pub NoStructureBeforeBroken : Type 0
 NoStructureBeforeBroken = heard (read_from 10 ((1 ∷ 1 ∷ 2 ∷ 0 ∷ 0 ∷ 3 ∷ 0 ∷ 1 ∷ []) ∷ [])) ≡ complains Complaint.NoStructure 0 0

@@ -1,5 +1,5 @@
--- What the words of the laws refuse, where they stand only in what is concluded, and what they hold of, where they stand only in what is
--- asked: without these such a word could be weaker, or narrower, with nothing red.
+-- What the definitions in the laws reject, if they are only in conclusions, and what they accept, if they are only in assumptions: without
+-- these rows such a definition could become weaker, or narrower, and no check would fail.
 -- Own statements, over small timelines that `Rows` has too.
 use Rattle.std.specs.Prelude.{◌≡◌, ◌==◌, ℕ, List, [], ◌∷◌, if◌then◌else◌, length}
 use Rattle.sfu_base.specs.declared.frame.FrameMeaning.{FrameMeaning}
@@ -25,7 +25,7 @@ use Rattle.forwarding_laws.specs.histories.HistoryWords.{NoneJoins}
 abbrev pub step : ℕ → Verdict → Step
 step number verdict = record { number = number; verdict = verdict }
 
--- no path is empty, ends where it should go on, goes on where it should end, names another frame than the next, or doesn't fall
+-- no path is empty, ends too early, goes on past a root, names another frame than the next, or has numbers that don't fall
 abbrev pub EmptyIsNoPath : Type 0
 EmptyIsNoPath = IsPath [] → ⊥
 
@@ -62,7 +62,7 @@ EqualNumbersDontFall = IsPath (step 2 (Reference 2) ∷ step 2 (Unopened 1) ∷ 
 abbrev pub PathsFall : Type 0
 PathsFall = IsPath (step 2 (Reference 3) ∷ step 3 (Unopened 1) ∷ []) → ⊥
 
--- a step that tells another verdict than the cause
+-- a step whose verdict isn't the cause of its number
 abbrev pub OthersAreNoCauses : Type 0
 OthersAreNoCauses = TellsCauses (λ n. Passed) (step 3 (Reference 2) ∷ []) → ⊥
 
@@ -97,12 +97,12 @@ plain_frame key number refs =
 abbrev pub LacksReference : Type 0
 LacksReference = IsDecodable (plain_frame false 3 (1 ∷ []) ∷ plain_frame true 1 [] ∷ []) (plain_frame false 3 (1 ∷ [])) → ⊥
 
--- nor is frame 4, which refers to it
+-- nor is frame 4, which refers to frame 3
 abbrev pub LacksFartherReference : Type 0
 LacksFartherReference =
     IsDecodable (plain_frame false 4 (1 ∷ []) ∷ plain_frame false 3 (1 ∷ []) ∷ plain_frame true 1 [] ∷ []) (plain_frame false 4 (1 ∷ [])) → ⊥
 
--- nor is a frame the second of whose references, neither the first nor the last, isn't there
+-- nor is a frame with three references of which the middle one is missing
 abbrev pub LacksMiddleReference : Type 0
 LacksMiddleReference =
     IsDecodable (plain_frame false 4 (3 ∷ 2 ∷ 3 ∷ []) ∷ plain_frame true 1 [] ∷ []) (plain_frame false 4 (3 ∷ 2 ∷ 3 ∷ [])) → ⊥
@@ -113,7 +113,7 @@ LacksKeyFrame = IsDecodable (plain_frame false 3 [] ∷ []) (plain_frame false 3
 abbrev pub IsNotThere : Type 0
 IsNotThere = IsDecodable (plain_frame true 1 [] ∷ []) (plain_frame true 2 []) → ⊥
 
--- frame 4, which is no switch and no key frame, and all of whose references passed, is no restart
+-- frame 4 is no switch and no key frame; though all its references passed, it is no restart
 abbrev pub no_restart : FrameMeaning
 no_restart = plain_frame false 4 (3 ∷ [])
 
@@ -123,7 +123,7 @@ after_key = standing {S = ℕ} (layers_wish 1 0) (key_a 1 1 ∷ [])
 abbrev pub OthersAreNoRestart : Type 0
 OthersAreNoRestart = IsRestart after_key no_restart → ⊥
 
--- nor is a key frame that refers to a frame which didn't pass
+-- nor is a key frame that refers to a frame that didn't pass
 abbrev pub IncompleteIsNoRestart : Type 0
 IncompleteIsNoRestart = IsRestart after_key (plain_frame true 4 (2 ∷ [])) → ⊥
 
@@ -177,7 +177,7 @@ OpenedIsOpenFromThere = IsOpenAndLinked (λ d. true) true (layers_wish 1 0) lowe
 abbrev pub ClosedIsNotOpen : Type 0
 ClosedIsNotOpen = IsOpenAndLinked (λ d. true) true (layers_wish 1 0) no_restart (Closed (NotOpened 1)) (Closed (NotOpened 1)) → ⊥
 
--- what is said of each frame since is said of a frame that came
+-- `EachFrameSince` includes each frame that came since
 abbrev pub FramesSinceCount : Type 0
 FramesSinceCount = EachFrameSince {S = ℕ} (λ before later. ⊥) (key_a 1 1 ∷ []) [] → ⊥
 
@@ -188,12 +188,12 @@ abbrev pub FramesBehindEventsCount : Type 0
 FramesBehindEventsCount =
     EachFrameSince {S = ℕ} (λ before later. ⊥) (Take ∷ WishChange (layers_wish 0 0) ∷ PlainPacket (packet true) ∷ key_a 1 1 ∷ []) [] → ⊥
 
--- and of what came before that frame, and that alone
+-- and for each it sees exactly what came before that frame
 abbrev pub SinceLooksBefore : Type 0
 SinceLooksBefore =
     EachFrameSince {S = ℕ} (λ before later. before ≡ Take ∷ key_a 1 1 ∷ []) (Take ∷ key_a 3 2 ∷ Take ∷ []) (key_a 1 1 ∷ [])
 
--- where others join, and packets, wishes and askings come, nobody with this number joins; where this number joins, somebody does
+-- if others join, and packets, wishes and requests come, nobody with this number joins; if this number joins, somebody does
 abbrev pub OthersMayJoin : Type 0
 OthersMayJoin =
     NoneJoins 1

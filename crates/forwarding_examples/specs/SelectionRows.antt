@@ -1,5 +1,5 @@
--- Worked timelines for single rules of selection, causes and markers, worked out by hand. They compute. Each has another value where its
--- rule is another one. Structures A and C are those of `Rows`.
+-- Timelines that show single rules of selection, causes and markers, worked out by hand. They are checked by computation. Each has another
+-- value if its rule is changed. Structures A and C are those of `Rows`.
 -- Structure D has four targets with layers (1, 1), (1, 0), (0, 1) and (0, 0), which chains 1, 1, 0 and 0 protect.
 use Rattle.std.specs.Prelude.{◌≡◌, ℕ, List, [], ◌∷◌, ◌++◌, Bool, true, false, map, length, replicate}
 use Rattle.std.specs.declared.option.Option.TheVariants.{None, Some}
@@ -16,8 +16,8 @@ use Rattle.forwarding_examples.specs.Rows.{broken_chain, layers_wish, packet, on
 
 -- ---- opening
 
--- Frame 3 passes and opens nothing, so that frame 1 stays the opening frame. Frame 4 links to frame 2, which lies before frame 3 and after
--- frame 1, and was lost.
+-- Frame 3 passes and opens nothing, so frame 1 stays the opening frame. Frame 4 links to frame 2, which came between frames 1 and 3 and
+-- was lost.
 abbrev pub PassingOpensNothing : Type 0
 PassingOpensNothing =
     map
@@ -31,7 +31,7 @@ PassingOpensNothing =
 
 -- ---- reasons
 
--- Frame 3 closes the target for its link. Key frame 5 begins another epoch and finds no room, so that frame 6 is unopened since frame 5.
+-- Frame 3 closes the target because of its link. Key frame 5 begins another epoch, but the queue is full, so 6 is unopened since 5.
 abbrev pub NewEpochGivesTheReason : Type 0
 NewEpochGivesTheReason =
     map
@@ -82,11 +82,11 @@ four_targets number key mask dtis links refs =
 abbrev pub key_d : Event ℕ
 key_d = four_targets 0 true 15 (Required ∷ Required ∷ Switch ∷ Switch ∷ []) (0 ∷ 0 ∷ []) []
 
--- of the layer (0, 1): target 2 can do without it, and it is in neither target of temporal id 0
+-- of the layer (0, 1): target 2 can do without it, and neither target of temporal id 0 has it
 abbrev pub odd_d : Event ℕ
 odd_d = four_targets 2 false 15 (Required ∷ NotPresent ∷ Discardable ∷ NotPresent ∷ []) (2 ∷ 1 ∷ []) (2 ∷ [])
 
--- the wish (0, 0) allows target 3 alone
+-- the wish (0, 0) allows only target 3
 abbrev pub TemporalWishIsKept : Type 0
 TemporalWishIsKept = cause (layers_wish 0 0) (odd_d ∷ key_d ∷ []) 2 ≡ NotOfTarget (Some 3)
 
@@ -98,7 +98,7 @@ DiscardableFramesPass = cause (layers_wish 0 1) (odd_d ∷ key_d ∷ []) 2 ≡ P
 abbrev pub DiscardableFramesOpenNothing : Type 0
 DiscardableFramesOpenNothing = cause (layers_wish 0 0) (odd_d ∷ WishChange (layers_wish 0 1) ∷ key_d ∷ []) 2 ≡ NotOfTarget (Some 3)
 
--- the mask 8 leaves target 3 alone, which the frame opens
+-- the mask 8 leaves only target 3, which the frame opens
 abbrev pub FourthBitIsTargetThree : Type 0
 FourthBitIsTargetThree =
     cause (layers_wish 1 1) (four_targets 2 false 8 (Required ∷ Required ∷ Switch ∷ Switch ∷ []) (2 ∷ 1 ∷ []) (2 ∷ []) ∷ key_d ∷ []) 2
@@ -106,8 +106,8 @@ FourthBitIsTargetThree =
 
 -- ---- the order of verdicts where no target is open
 
--- A frame that isn't present in the aim, first with a reference that wasn't passed, then with none: that comes before the reference, and
--- before the reason.
+-- A frame that isn't present in the aim, first with a reference that wasn't passed, then with none. That it isn't present decides before
+-- the reference, and before the reason.
 abbrev pub AbsenceComesFirst : Type 0
 AbsenceComesFirst =
     cause (layers_wish 0 0) (upper_c 4 1 1 (1 ∷ []) ∷ []) 4 ∷ cause (layers_wish 0 0) (upper_c 4 1 1 [] ∷ []) 4 ∷ []
@@ -143,7 +143,7 @@ NoTargetComesFirst = cause (layers_wish 1 0) (masked_referring 3 0 Switch (1 ∷
 
 -- ---- causes
 
--- of the frames below a hole the greatest is told
+-- a hole names the greatest of the frames below it
 abbrev pub GreatestBelowIsTold : Type 0
 GreatestBelowIsTold =
     cause (layers_wish 1 0)
@@ -163,9 +163,9 @@ OldFramesKeepTheirCauses =
 abbrev pub KeyFramesArentForgotten : Type 0
 KeyFramesArentForgotten = cause (layers_wish 1 0) (masked 5000 1 Switch ∷ masked 2 0 Switch ∷ key_a 1 1 ∷ []) 5000 ≡ Passed
 
--- ---- what goes out
+-- ---- what is forwarded
 
--- a marker that stands on a frame below the target's layer is kept
+-- a marker that is set on a frame below the target's layer is kept
 abbrev pub LowerMarkersAreKept : Type 0
 LowerMarkersAreKept = markers (outgoing send_marked joined_at_10 (two_targets 1 1 1 true 3 0 Required Switch 0 0 [] true ∷ [])) ≡ true ∷ []
 

@@ -1,4 +1,4 @@
--- More worked packets: frames of a track, what marks make of a frame, and histories. They were worked out by hand, and compute.
+-- More packets: frames of a track, the outcomes of marks, and histories. They were worked out by hand, and are checked by computation.
 use Rattle.std.specs.Prelude.{◌≡◌, ℕ, zero, suc, List, [], ◌∷◌, ◌++◌, Bool, true, false, if◌then◌else◌, map, length, replicate}
 use Rattle.std.specs.declared.option.Option.TheVariants.{None, Some}
 use Rattle.std.specs.Option.{option_map}
@@ -17,9 +17,9 @@ use Rattle.forwarding_model.specs.History.{Entry, plain_timeline, timeline}
 use Rattle.forwarding_model.specs.History.Entry.{Released, Joined, Asked}
 use Rattle.forwarding_examples.specs.WorkedPackets.{came, first_rest, frame_rest, joined_as, key_rest, numbers_and_markers, sent_to, told, three_subscribers}
 
--- ---- frames: the items stand with the newest first
+-- ---- frames: the items have the newest first
 
--- a frame that is torn doesn't count, though its number lies above the next frame's
+-- a torn frame doesn't count, though its number is above the next frame's
 abbrev pub TornNumber : Type 0
 TornNumber = told (came (frame_rest 4 3) ∷ Missing ∷ came (first_rest 5) ∷ came (key_rest 1) ∷ []) ≡ (4 ∷ 1 ∷ 3 ∷ []) ∷ (1 ∷ 1 ∷ 3 ∷ []) ∷ []
 
@@ -31,7 +31,7 @@ EqualNumber = told (came (frame_rest 4 1) ∷ came (key_rest 4) ∷ []) ≡ (4 �
 abbrev pub OwnMask : Type 0
 OwnMask = told (came (frame_rest 2 1) ∷ came (1 ∷ 1 ∷ 1 ∷ 7 ∷ 3 ∷ 0 ∷ 0 ∷ []) ∷ []) ≡ (2 ∷ 1 ∷ 2 ∷ []) ∷ (1 ∷ 1 ∷ 2 ∷ []) ∷ []
 
--- all of three targets
+-- all of three targets are active
 abbrev pub ThreeTargets : Type 0
 ThreeTargets = told (came (1 ∷ 1 ∷ 1 ∷ 9 ∷ 0 ∷ 0 ∷ 0 ∷ []) ∷ []) ≡ (1 ∷ 1 ∷ 7 ∷ []) ∷ []
 
@@ -56,7 +56,7 @@ StructureInside =
 abbrev pub StructureFirst : Type 0
 StructureFirst = told (came (frame_rest 3 1) ∷ came (1 ∷ 1 ∷ 2 ∷ 7 ∷ 0 ∷ 0 ∷ 0 ∷ 1 ∷ []) ∷ []) ≡ []
 
--- ---- what each mark makes of the frame so far; the marks stand with the newest first, and so do the outcomes
+-- ---- the outcome of each mark; the marks have the newest first, and so have the outcomes
 
 abbrev pub part : (start end : Bool) → ℕ → (continues carries : Bool) → Mark ℕ
 part start end number continues carries =
@@ -89,7 +89,7 @@ PartsOfAFrame =
 
 -- ---- histories
 
--- another's change of wish is none of the third subscriber's
+-- a change of another's wish doesn't change the third subscriber's
 abbrev pub ThirdSubscriberMarkers : Type 0
 ThirdSubscriberMarkers = numbers_and_markers (sent_to 3 (joined_as 4 7 1)) ≡ None ∷ None ∷ []
 
@@ -120,13 +120,13 @@ plain_subscriber = joined_as 2 10 0
 abbrev pub plain : Bool → ℕ → Packet
 plain marker content = record { sequence_number = 77; ssrc = 1; marker = marker; rest = content ∷ [] }
 
--- packets go out as they came, but for the number and the SSRC
+-- packets are forwarded as they came, except for the number and the SSRC
 abbrev pub PlainContents : Type 0
 PlainContents =
     outgoing {S = ℕ} send_marked plain_subscriber (PlainPacket (plain false 9) ∷ PlainPacket (plain true 8) ∷ [])
     ≡ record { sequence_number = 10; ssrc = 2; marker = true; rest = 8 ∷ [] } ∷ record { sequence_number = 11; ssrc = 2; marker = false; rest = 9 ∷ [] } ∷ []
 
--- 512 are queued at most, and a take makes room for one
+-- at most 512 packets are queued, and a take makes space for one
 abbrev pub PlainQueue : Type 0
 PlainQueue =
     length (outgoing {S = ℕ} send_marked plain_subscriber (replicate 513 (PlainPacket (plain false 9))))
@@ -134,7 +134,7 @@ PlainQueue =
     ∷ []
     ≡ 512 ∷ 513 ∷ []
 
--- a history: what came before the join isn't the subscriber's, and what was given up is nothing to it
+-- a history: what came before the join isn't the subscriber's, and numbers that were given up add nothing
 abbrev pub plain_history : List Entry
 plain_history =
     Asked 1

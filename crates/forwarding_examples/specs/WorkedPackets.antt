@@ -1,5 +1,5 @@
--- Worked packets: small lists of packets whose frames, and whose complaints at a strict receiver, were worked out by hand. They compute.
--- They are read by the format of `WorkedFormat`.
+-- Small lists of packets whose frames, and whose complaints at a strict receiver, were worked out by hand. They are checked by computation,
+-- and read with the format of `WorkedFormat`.
 use Rattle.std.specs.Prelude.{◌≡◌, ◌+◌, ℕ, List, [], ◌∷◌, ◌++◌, false, if◌then◌else◌, map, length, replicate}
 use Rattle.std.specs.declared.option.Option.{Option}
 use Rattle.std.specs.declared.option.Option.TheVariants.{None, Some}
@@ -40,22 +40,22 @@ middle_rest number = 0 ∷ 0 ∷ number ∷ 0 ∷ 0 ∷ 1 ∷ 1 ∷ []
 abbrev pub last_rest : ℕ → List ℕ
 last_rest number = 0 ∷ 1 ∷ number ∷ 0 ∷ 0 ∷ 1 ∷ 0 ∷ []
 
--- ---- frames: the items stand with the newest first
+-- ---- frames: the items have the newest first
 
 abbrev pub came : List ℕ → Item
 came rest = Arrived (sent_as 0 rest)
 
--- of each frame its number, how many packets it has, and its mask; the newest first
+-- of each frame its number, its count of packets, and its mask; the newest first
 abbrev pub told : List Item → List (List ℕ)
 told items = map (λ (x : Frame ℕ). x.meaning.number ∷ length x.packets ∷ x.meaning.mask ∷ []) (frames_after worked_format items)
 
--- padding may stand between the packets of a frame
+-- padding may come between the packets of a frame
 abbrev pub PaddedFrame : Type 0
 PaddedFrame =
     told (came (last_rest 2) ∷ came padding_rest ∷ came (middle_rest 2) ∷ came (first_rest 2) ∷ came padding_rest ∷ came (key_rest 1) ∷ [])
     ≡ (2 ∷ 3 ∷ 3 ∷ []) ∷ (1 ∷ 1 ∷ 3 ∷ []) ∷ []
 
--- a number that was given up inside a frame tears it, and the next frame begins anew
+-- a number that was given up inside a frame tears the frame, and the next frame starts over
 abbrev pub TornFrame : Type 0
 TornFrame =
     told (came (frame_rest 3 1) ∷ came (last_rest 2) ∷ Missing ∷ came (first_rest 2) ∷ came (key_rest 1) ∷ [])
@@ -65,13 +65,13 @@ TornFrame =
 abbrev pub EarlyStart : Type 0
 EarlyStart = told (came (last_rest 2) ∷ came (frame_rest 3 2) ∷ came (first_rest 2) ∷ came (key_rest 1) ∷ []) ≡ (3 ∷ 1 ∷ 3 ∷ []) ∷ (1 ∷ 1 ∷ 3 ∷ []) ∷ []
 
--- frame numbers wrap, and a key frame's number lies above all before
+-- frame numbers wrap, and a key frame's number is above all before
 abbrev pub WrappedNumbers : Type 0
 WrappedNumbers =
     told (came (key_rest 5) ∷ came (frame_rest 0 1) ∷ came (key_rest 65535) ∷ [])
     ≡ (65541 ∷ 1 ∷ 3 ∷ []) ∷ (65536 ∷ 1 ∷ 3 ∷ []) ∷ (65535 ∷ 1 ∷ 3 ∷ []) ∷ []
 
--- a frame number that doesn't rise is no frame
+-- a frame whose number isn't above the newest is ignored
 abbrev pub StaleNumber : Type 0
 StaleNumber = told (came (frame_rest 4 1) ∷ came (frame_rest 5 1) ∷ came (key_rest 4) ∷ []) ≡ (5 ∷ 1 ∷ 3 ∷ []) ∷ (4 ∷ 1 ∷ 3 ∷ []) ∷ []
 
@@ -81,13 +81,13 @@ NewMask =
     told (came (frame_rest 4 1) ∷ came (1 ∷ 1 ∷ 3 ∷ 0 ∷ 3 ∷ 0 ∷ 0 ∷ 1 ∷ []) ∷ came (frame_rest 2 1) ∷ came (key_rest 1) ∷ [])
     ≡ (4 ∷ 1 ∷ 2 ∷ []) ∷ (3 ∷ 1 ∷ 2 ∷ []) ∷ (2 ∷ 1 ∷ 3 ∷ []) ∷ (1 ∷ 1 ∷ 3 ∷ []) ∷ []
 
--- only a key start brings another structure; the frame that does it otherwise is unreadable
+-- only a key start may carry another structure; any other frame with another structure is unreadable
 abbrev pub OtherStructure : Type 0
 OtherStructure =
     told (came (frame_rest 3 1) ∷ came (1 ∷ 1 ∷ 2 ∷ 8 ∷ 0 ∷ 0 ∷ 0 ∷ 1 ∷ []) ∷ came (key_rest 1) ∷ [])
     ≡ (3 ∷ 1 ∷ 3 ∷ []) ∷ (1 ∷ 1 ∷ 3 ∷ []) ∷ []
 
--- a packet that doesn't read tears the frame that it lies in, and so do a broken payload and another structure
+-- a packet that can't be read tears the frame around it, and so do a broken payload and another structure
 abbrev pub UnreadInside : Type 0
 UnreadInside = told (came (last_rest 2) ∷ came (0 ∷ 0 ∷ 2 ∷ 0 ∷ 9 ∷ 1 ∷ 1 ∷ []) ∷ came (first_rest 2) ∷ came (key_rest 1) ∷ []) ≡ (1 ∷ 1 ∷ 3 ∷ []) ∷ []
 
@@ -97,7 +97,7 @@ BrokenInside = told (came (last_rest 2) ∷ came (0 ∷ 0 ∷ 2 ∷ 0 ∷ 0 ∷ 
 abbrev pub OtherStructureInside : Type 0
 OtherStructureInside = told (came (last_rest 2) ∷ came (0 ∷ 0 ∷ 2 ∷ 8 ∷ 0 ∷ 1 ∷ 1 ∷ []) ∷ came (first_rest 2) ∷ came (key_rest 1) ∷ []) ≡ (1 ∷ 1 ∷ 3 ∷ []) ∷ []
 
--- a key start acts though its payload is broken: number 4 doesn't lie above it, and number 6 does
+-- a key start takes effect though its payload is broken: number 4 isn't above it, and number 6 is
 abbrev pub BrokenKeyStart : Type 0
 BrokenKeyStart = told (came (frame_rest 6 1) ∷ came (frame_rest 4 1) ∷ came (1 ∷ 1 ∷ 5 ∷ 7 ∷ 0 ∷ 3 ∷ 0 ∷ []) ∷ came (key_rest 1) ∷ [])
     ≡ (6 ∷ 1 ∷ 3 ∷ []) ∷ (1 ∷ 1 ∷ 3 ∷ []) ∷ []
@@ -129,14 +129,14 @@ MaskAgain = told (came (1 ∷ 1 ∷ 3 ∷ 7 ∷ 0 ∷ 0 ∷ 0 ∷ 1 ∷ []) ∷ 
 abbrev pub FirstNumberZero : Type 0
 FirstNumberZero = told (came (frame_rest 1 1) ∷ came (key_rest 0) ∷ []) ≡ (1 ∷ 1 ∷ 3 ∷ []) ∷ (0 ∷ 1 ∷ 3 ∷ []) ∷ []
 
--- a number 32,767 ahead lies above, and one 32,768 ahead doesn't
+-- a number 32,767 ahead is above, and one 32,768 ahead isn't
 abbrev pub FarthestAbove : Type 0
 FarthestAbove = told (came (1 ∷ 1 ∷ 32768 ∷ 0 ∷ 0 ∷ 0 ∷ 0 ∷ []) ∷ came (key_rest 1) ∷ []) ≡ (32768 ∷ 1 ∷ 3 ∷ []) ∷ (1 ∷ 1 ∷ 3 ∷ []) ∷ []
 
 abbrev pub NearestBehind : Type 0
 NearestBehind = told (came (1 ∷ 1 ∷ 32769 ∷ 0 ∷ 0 ∷ 0 ∷ 0 ∷ []) ∷ came (key_rest 1) ∷ []) ≡ (1 ∷ 1 ∷ 3 ∷ []) ∷ []
 
--- 512 packets are a frame, and 513 are none
+-- 512 packets can be a frame, and 513 can't
 abbrev pub LongFrame : Type 0
 LongFrame = told (came (last_rest 2) ∷ replicate 510 (came (middle_rest 2)) ++ came (first_rest 2) ∷ came (key_rest 1) ∷ []) ≡ (2 ∷ 512 ∷ 3 ∷ [])
     ∷ (1 ∷ 1 ∷ 3 ∷ []) ∷ []
@@ -166,11 +166,11 @@ worked_history =
 abbrev pub worked_timeline : List (Event ℕ)
 worked_timeline = timeline worked_format send_marked 1 worked_history
 
--- frame 2 refers to what came before the join, so the key frame and the frame of three packets go out
+-- frame 2 refers to a frame from before the join, so only the key frame and the frame of three packets are forwarded
 abbrev pub HistoryNumbers : Type 0
 HistoryNumbers = map (λ (p : Packet). p.sequence_number) (outgoing send_marked worked_subscriber worked_timeline) ≡ 65535 ∷ 0 ∷ 1 ∷ 2 ∷ []
 
--- the second asking found nothing
+-- the second request found nothing
 abbrev pub HistoryTaken : Type 0
 HistoryTaken = map (λ (p : Packet). p.sequence_number) (taken send_marked worked_subscriber worked_timeline) ≡ 65535 ∷ 0 ∷ []
 
@@ -203,7 +203,7 @@ three_subscribers =
 abbrev pub sent_to : ℕ → Subscriber → List Packet
 sent_to number subscriber = outgoing send_marked subscriber (timeline worked_format send_marked number three_subscribers)
 
--- of each packet with the marker its number
+-- the number of each packet that has the marker, and `None` for each other
 abbrev pub numbers_and_markers : List Packet → List (Option ℕ)
 numbers_and_markers packets = map (λ (p : Packet). if p.marker then Some p.sequence_number else None) packets
 
@@ -211,7 +211,7 @@ abbrev pub FirstSubscriber : Type 0
 FirstSubscriber =
     map (λ (p : Packet). p.sequence_number) (sent_to 1 (joined_as 2 65535 1)) ≡ 65535 ∷ 0 ∷ 1 ∷ 2 ∷ 3 ∷ []
 
--- all frames are of the lower layer, so that the marker is set for those of the lower target alone; of the others stands none
+-- all frames are of the lower layer, so the marker is set for those of the lower target, and no other packet has it
 abbrev pub FirstSubscriberMarkers : Type 0
 FirstSubscriberMarkers = numbers_and_markers (sent_to 1 (joined_as 2 65535 1)) ≡ None ∷ None ∷ None ∷ None ∷ Some 3 ∷ []
 
@@ -225,12 +225,12 @@ SecondSubscriberTaken =
 abbrev pub ThirdSubscriber : Type 0
 ThirdSubscriber = map (λ (p : Packet). p.sequence_number) (sent_to 3 (joined_as 4 7 1)) ≡ 7 ∷ 8 ∷ []
 
--- frame 2 got whole after subscriber 3 joined, and what it refers to before
+-- frame 2 became whole after subscriber 3 joined, and the frame that it refers to before
 abbrev pub ThirdSubscriberCauses : Type 0
 ThirdSubscriberCauses = map (cause (layered_wish 1) (timeline worked_format send_marked 3 three_subscribers)) (1 ∷ 2 ∷ 3 ∷ 4 ∷ []) ≡ Hole None 2
     ∷ Reference 1 ∷ Passed ∷ Passed ∷ []
 
--- ---- a strict receiver: the packets stand with the oldest first
+-- ---- a strict receiver: the packets have the oldest first
 
 abbrev pub read_from : ℕ → List (List ℕ) → List (Option Packet)
 read_from sequence_number [] = []
@@ -250,7 +250,7 @@ AcceptedCounts =
     ∷ []
     ≡ 6 ∷ 3 ∷ []
 
--- no RTP
+-- bytes that aren't RTP
 abbrev pub NotRtp : Type 0
 NotRtp = complaint_at (Some (sent_as 10 (key_rest 1)) ∷ None ∷ []) ≡ Some Complaint.Unread
 
@@ -329,20 +329,20 @@ StructureRule = complaint_at (read_from 10 (key_rest 1 ∷ (1 ∷ 1 ∷ 2 ∷ 7 
 abbrev pub SameStructure : Type 0
 SameStructure = complaint_at (read_from 10 (key_rest 1 ∷ (1 ∷ 1 ∷ 2 ∷ 7 ∷ 0 ∷ 0 ∷ 0 ∷ 1 ∷ []) ∷ [])) ≡ None
 
--- that there is no structure comes before the payload
+-- a missing structure is reported before the payload
 abbrev pub NoStructureFirst : Type 0
 NoStructureFirst = complaint_at (read_from 10 ((1 ∷ 1 ∷ 2 ∷ 0 ∷ 0 ∷ 2 ∷ 0 ∷ 1 ∷ []) ∷ [])) ≡ Some Complaint.NoStructure
 
--- the source comes before the number
+-- the source is checked before the number
 abbrev pub SourceFirst : Type 0
 SourceFirst = complaint_at (Some (sent_as 10 (key_rest 1)) ∷ Some (record { sequence_number = 13; ssrc = 2; marker = false; rest = frame_rest 2 1 })
     ∷ []) ≡ Some (Complaint.OtherSource 1 2)
 
--- and the number before what the packet says
+-- and the number before the packet's content
 abbrev pub NumberBeforeContent : Type 0
 NumberBeforeContent = complaint_at (Some (sent_as 10 (key_rest 1)) ∷ Some (sent_as 12 padding_rest) ∷ []) ≡ Some (Complaint.Sequence 10 12)
 
--- the first complaint stays, whatever comes
+-- the first complaint stays, whatever comes after it
 abbrev pub FirstComplaintStays : Type 0
 FirstComplaintStays = complaint_at (Some (sent_as 10 (frame_rest 2 1)) ∷ Some (sent_as 13 (key_rest 1)) ∷ None ∷ []) ≡ Some Complaint.NoStructure
 

@@ -1,16 +1,16 @@
-// Worked frames.
+// Examples of frames.
 
 ghost use Rattle.forwarding_examples.specs.TrackRows;
 ghost use Rattle.forwarding_examples.specs.WorkedFormat;
 ghost use Rattle.forwarding_examples.specs.WorkedPackets;
 ghost use Rattle.forwarding_model.specs.frames.Reading.{IsFormat};
 
-/// The worked packets are read by a format that has all the facts on which the laws rest.
+/// The packets of the examples are read by a format for which all assumptions of the laws hold.
 pub fn worked_packets_have_a_format()
     ensures { IsFormat WorkedFormat.worked_format }
 {}
 
-/// Worked packets, with the frames that they make, worked out by hand.
+/// Packets with the frames that they make, worked out by hand.
 pub fn worked_frames()
     ensures padded_frame { WorkedPackets.PaddedFrame }
     ensures torn_frame { WorkedPackets.TornFrame }
@@ -35,7 +35,7 @@ pub fn worked_frames()
     ensures too_long_frame { WorkedPackets.TooLongFrame }
 {}
 
-/// More worked frames, outcomes and histories.
+/// More frames, outcomes and histories, worked out by hand.
 pub fn worked_tracks()
     ensures torn_number { TrackRows.TornNumber }
     ensures equal_number { TrackRows.EqualNumber }

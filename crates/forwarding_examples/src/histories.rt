@@ -1,11 +1,11 @@
-// Worked histories.
+// Examples of histories.
 
 ghost use Rattle.forwarding_examples.specs.LayeredFormat;
 ghost use Rattle.forwarding_examples.specs.LayeredRows;
 ghost use Rattle.forwarding_examples.specs.WorkedPackets;
 ghost use Rattle.forwarding_model.specs.frames.Reading.{IsFormat};
 
-/// Worked histories: joins, packets, a wish that changes, and what is forwarded, taken and withheld, worked out by hand.
+/// Histories with joins, packets, a change of wish, and what is forwarded, taken and withheld, worked out by hand.
 pub fn worked_history()
     ensures numbers { WorkedPackets.HistoryNumbers }
     ensures taken { WorkedPackets.HistoryTaken }
@@ -18,8 +18,8 @@ pub fn worked_history()
     ensures third_subscriber_causes { WorkedPackets.ThirdSubscriberCauses }
 {}
 
-/// Worked histories of layered tracks with chains, from packets to causes and to what is forwarded. Their format has all the facts on which
-/// the laws rest.
+/// Histories of layered tracks with chains, from packets to causes and to what is forwarded. All assumptions of the laws hold for their
+/// format.
 pub fn worked_layers()
     ensures format { IsFormat LayeredFormat.layered_format }
     ensures broken_chain { LayeredRows.BrokenChain }

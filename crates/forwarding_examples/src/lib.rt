@@ -1,5 +1,5 @@
 //! Worked examples of forwarding: what the definitions of `forwarding_model` give for packets, timelines and histories that were worked
-//! out by hand, and what the words of `forwarding_laws` refuse. Each table of rows is the contract of a function that does nothing.
+//! out by hand, and what the definitions in `forwarding_laws` reject. Each table of rows is the contract of a function that does nothing.
 #![tactic(auto)]
 
 mod forwarding;

@@ -1,9 +1,9 @@
-// What the words of the laws refuse.
+// What the definitions in the laws reject.
 
 ghost use Rattle.forwarding_examples.specs.Refusals;
 
-/// Definitions that only conclusions of laws use refuse what they should: a path that is empty, doesn't decrease, goes on past a root,
-/// doesn't end at one or gives another cause; a frame that isn't decodable; a restart, a link or an open target that is none. `NoneJoins`
+/// Definitions that only conclusions of laws use reject what they should: a path that is empty, doesn't decrease, goes on past a root,
+/// doesn't end at a root or has another cause; a frame that isn't decodable; what isn't a restart, a link or an open target. `NoneJoins`
 /// and `EachFrameSince` are no narrower than they should be.
 pub fn words_refuse_what_they_should()
     ensures empty_is_no_path { Refusals.EmptyIsNoPath }

@@ -1,4 +1,4 @@
-// How a crate takes a law: it calls the law's function, and knows the law from there on.
+// How a crate uses a law: it calls the law's function, and may rely on the law from there on.
 
 ghost use Rattle.std.specs.Prelude.{◌≤◌, List};
 ghost use Rattle.sfu_base.specs.declared.frame.Wish.{Wish};
@@ -7,7 +7,7 @@ ghost use Rattle.forwarding_model.specs.forwarding.Timeline.{Event};
 
 use forwarding_laws::queues_are_short;
 
-/// Whatever happened to a subscriber, at most 512 packets wait for it.
+/// Whatever happened to a subscriber, at most 512 packets are queued for it.
 pub fn no_queue_is_long<Structure>()
     ensures { (wish : Wish) (events : List (Event Structure)) → (standing wish events).queued ≤ 512 }
 {

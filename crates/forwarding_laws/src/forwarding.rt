@@ -30,7 +30,7 @@ pub fn chosen_targets_are_the_best()
     ensures opening { Laws.OpeningIsBest }
 {}
 
-// ---- a standing step by step
+// ---- how a subscriber's standing changes
 
 /// A frame closes the open target, each time for its own reason, if it is of another epoch, if its mask lacks the target, or if the
 /// target's link is broken. Nothing else closes it. Within an epoch a closed target keeps its reason.
@@ -46,7 +46,7 @@ pub fn frames_leave_the_target_or_close_it()
 {}
 
 /// A broken link closes the open target, and no other link does. Once a frame has come, a closed target was closed by a frame of the
-/// timeline, for the reason that the target has. That frame was the last to close one, and no frame was forwarded since.
+/// timeline, for the reason that the target has. That frame was the last to close a target, and no frame was forwarded since.
 pub fn targets_are_closed_for_their_reasons<Structure>()
     ensures broken { Decisions.BrokenLinksClose }
     ensures other { Decisions.OtherLinksKeep }
@@ -54,14 +54,14 @@ pub fn targets_are_closed_for_their_reasons<Structure>()
     ensures reasons { Decisions.ReasonsHold Structure }
 {}
 
-/// A frame that can open a target opens one, and what it opens is the best of those that it can open.
+/// A frame that can open a target opens one: the best of those that it can open.
 pub fn frames_open_the_best_that_they_can()
     ensures best { Decisions.OpensTheBest }
     ensures any { Decisions.OpensWhatItCan }
 {}
 
-/// If a frame opens nothing, the target that it leaves open keeps its opening frame; if it opens a target, it is that target's opening
-/// frame. An open target was opened by the frame with its opening number. That frame was forwarded, and no frame since closed the target or
+/// If a frame opens a target, it is the target's opening frame. If it opens none, the target that it leaves open keeps its opening frame.
+/// An open target was opened by the frame with its opening number. That frame was forwarded, and no frame since closed the target or
 /// opened another.
 pub fn open_targets_were_opened_by_their_frame<Structure>()
     ensures kept { Openings.NothingOpenedIsKept }
@@ -69,13 +69,13 @@ pub fn open_targets_were_opened_by_their_frame<Structure>()
     ensures frame { Openings.OpeningsHold Structure }
 {}
 
-/// A forwarded frame is present in its target, and the frame's mask has that target.
+/// A forwarded frame is present in its target, and the frame's mask has the target's bit set.
 pub fn passed_frames_are_in_their_target()
     ensures { Decisions.PassesInTarget }
 {}
 
 /// A forwarded frame opens its target, or the target was open before. In the second case the frame's link in the target's chain isn't
-/// broken: if it names the opening frame or a later one, that was forwarded.
+/// broken: if the link names the opening frame or a later one, the named frame was forwarded.
 pub fn passed_frames_are_linked()
     ensures { Laws.PassesLinked }
 {}
@@ -90,8 +90,8 @@ pub fn each_event_changes_the_standing<Structure>()
     ensures epoch { StandingSteps.NewestFramesHaveTheEpoch Structure }
 {}
 
-/// At a frame of a track, exactly the forwarded frames of its epoch count as forwarded. Its references, its links and its epoch's key frame
-/// are looked for among those.
+/// When a frame of a track comes, exactly the forwarded frames of its epoch count as forwarded. Its references, its links and its epoch's
+/// key frame are looked up among those.
 pub fn passed_frames_of_the_epoch_count<Structure>()
     ensures frames { PassedFrames.EpochsFramesCount Structure }
     ensures number { PassedFrames.HasPassedInWords Structure }
@@ -99,7 +99,7 @@ pub fn passed_frames_of_the_epoch_count<Structure>()
 {}
 
 /// Given the wish, the target, the queue and whether the epoch's key frame was forwarded, a decision on a frame depends only on which of
-/// the frames that it refers to or is linked to were forwarded.
+/// its referenced and linked frames were forwarded.
 pub fn decisions_rest_on_named_frames()
     ensures kept { Laws.KeepAlike }
     ensures candidate { Laws.OpenAlike }
@@ -141,29 +141,29 @@ pub fn verdicts_are_true()
     ensures hole { Decisions.NoFrameIsAHole }
 {}
 
-/// What the verdict on a frame says is true, and what any other verdict says is false. A frame is forwarded exactly when it is present in
-/// an open target, all its references were forwarded, and the queue has space for it.
+/// What the verdict on a frame says is true, and what any other verdict would say is false. A frame is forwarded exactly when it is present
+/// in an open target, all its references were forwarded, and the queue has space for it.
 pub fn the_verdict_says_what_is_so()
     ensures verdict { VerdictWords.VerdictsSayWhatIsSo }
     ensures passes { VerdictWords.PassingInWords }
 {}
 
 /// The cause of a frame's number is the verdict on the frame when it came, never a hole. The cause of any other number below the newest
-/// frame's is a hole between two frame numbers: the least above it and the greatest below it, if that is less than 4,096 below the newest.
+/// frame's is a hole. It lies between the least frame number above it and the greatest below it, if that is under 4,096 below the newest.
 pub fn causes_are_verdicts_and_holes<Structure>()
     ensures frames { CauseWords.FramesHaveTheirVerdicts Structure }
     ensures others { CauseWords.OtherNumbersAreHoles Structure }
     ensures holes { CauseWords.HolesAreNoFrames Structure }
 {}
 
-/// Causes can be asked for of the 4,096 numbers up to the newest frame's.
+/// Causes are known for the 4,096 numbers up to and including the newest frame's.
 pub fn causes_are_known_up_to_the_newest()
     ensures too_old { Laws.TooOldIsBelow }
     ensures ahead { Laws.AheadIsAbove }
 {}
 
-/// The path of each withheld frame begins at the frame, strictly decreases, ends at a root, and gives the cause of each of its numbers.
-/// Each frame that came and wasn't forwarded is withheld.
+/// The path of each withheld frame begins at the frame, has strictly decreasing numbers, ends at a root, and has the cause of each of its
+/// numbers. Each frame that came and wasn't forwarded is withheld.
 pub fn withheld_frames_have_a_path_to_a_root<Structure>()
     ensures root { Laws.EndsAtRoot Structure }
     ensures unpassed { Laws.EndsAtRootUnpassed Structure }
@@ -175,7 +175,7 @@ pub fn withheld_frames_have_a_path_to_a_root<Structure>()
 
 // ---- which packets are forwarded
 
-/// A frame of the target's spatial layer is forwarded with the marker on its last packet, and any other frame with its own markers.
+/// A frame of the target's spatial layer is forwarded with the marker bit on its last packet, and any other frame with its own markers.
 pub fn markers_end_the_target_layer<Structure>()
     ensures top_layer { OutgoingWords.TopLayerInWords }
     ensures last { OutgoingWords.LastPacketsAreMarked Structure }
@@ -190,15 +190,15 @@ pub fn marking_keeps_frames_whole<Structure>()
 {}
 
 /// The packets of a forwarded frame follow all that were forwarded before. They are sent for the frame's candidate, with the next sequence
-/// numbers and the subscriber's SSRC. At any other frame, at a change of the wish and at a take nothing is forwarded.
+/// numbers and the subscriber's SSRC. Any other frame, a change of the wish, or a take forwards nothing.
 pub fn packets_of_passing_frames_go_out<Structure>()
     ensures passing { OutgoingWords.PassingFramesGoOut Structure }
     ensures others { OutgoingWords.NothingElseGoesOut Structure }
     ensures numbers { OutgoingWords.PacketsAreRenumbered }
 {}
 
-/// A packet of a plain track is forwarded exactly if fewer than 512 packets are queued. All of it but its sequence number and its SSRC
-/// stays as it came. In a history of a plain track each take found a packet.
+/// A packet of a plain track is forwarded exactly if fewer than 512 packets are queued. Only its sequence number and its SSRC are
+/// rewritten. In a history of a plain track each take found a packet.
 pub fn plain_packets_go_out_as_they_came<Structure>()
     ensures passes { Plain.PlainPacketsGoOut Structure }
     ensures full { Plain.FullQueuesTakeNone Structure }
@@ -220,7 +220,7 @@ pub fn next_numbers_count_the_takes<Structure>()
     ensures { OutgoingWords.NextNumbersCountTakes Structure }
 {}
 
-/// Where each take found a packet, as many packets are queued as were forwarded and not taken. In a history each take found one.
+/// If each take found a packet, as many packets are queued as were forwarded and not taken. In a history each take found one.
 pub fn queued_packets_are_those_not_taken<Structure>()
     ensures queued { Laws.QueuesTheRest Structure }
     ensures history { HistoryLaws.TakesFindPackets Structure }
@@ -231,7 +231,7 @@ pub fn queues_are_short<Structure>()
     ensures { Plain.QueuesAreShort Structure }
 {}
 
-/// Where each take found a packet, what the takes returned, in order, is what was taken. The next packet has the next sequence number.
+/// If each take found a packet, the takes returned, in order, exactly what was taken. The next packet has the next sequence number.
 pub fn takes_give_what_was_taken<Structure>()
     ensures given { Taken.TakesGiveWhatWasTaken Structure }
     ensures next { Taken.NextHasNextNumber Structure }

@@ -1,12 +1,12 @@
-// The laws of frames: which packets in a row are one, and what the items of a track make.
+// The laws of frames: which packets in a row form a frame, and which frames the items of a track make.
 
 ghost use Rattle.forwarding_laws.specs.frames.Laws;
 ghost use Rattle.forwarding_laws.specs.frames.Making;
 
 // ---- whole cuts
 
-/// A run of parts that ends is a whole cut at the end of the marks, and each such cut is a run that ends. `Brought` is the type of what a
-/// part brings with it.
+/// A run of parts that has ended is a whole cut at the end of the marks, and each whole cut there is such a run. `Brought` is the type of
+/// the data that a part carries.
 pub fn ended_runs_are_the_whole_cuts<Brought>()
     ensures whole { Laws.EndedRunsAreWhole Brought }
     ensures found { Laws.WholeCutsAreFound Brought }
@@ -14,7 +14,7 @@ pub fn ended_runs_are_the_whole_cuts<Brought>()
 
 /// The outcome of a mark is a whole frame exactly when the mark ends a whole cut, and padding exactly when the mark is padding. It is a
 /// partial frame only if a run goes on. It is a torn one only if no run goes on, or one has ended with an element open. `Brought` is the
-/// type of what a part brings with it.
+/// type of the data that a part carries.
 pub fn outcomes_are_those_of_runs<Brought>()
     ensures whole { Laws.WholeOutcomesAreCuts Brought }
     ensures partial { Laws.PartialOutcomesGoOn Brought }
@@ -23,7 +23,7 @@ pub fn outcomes_are_those_of_runs<Brought>()
     ensures torn { Laws.TornOutcomesAreTorn Brought }
 {}
 
-/// A mark leaves a frame partial exactly when the marks end in an unfinished cut. `Brought` is the type of what a part brings with it.
+/// A mark leaves a frame partial exactly when the marks end in an unfinished cut. `Brought` is the type of the data that a part carries.
 pub fn partial_frames_are_the_unfinished_cuts<Brought>()
     ensures unfinished { Laws.PartialFramesAreUnfinished Brought }
     ensures found { Laws.UnfinishedCutsArePartial Brought }
@@ -50,8 +50,8 @@ pub fn frames_of_items_are_one_track<Structure>()
     ensures newest { Laws.NewestAreTrack Structure }
 {}
 
-/// Structure, mask and epoch in force are those of the descriptors that were read. The first key start has its own number, and each later
-/// one the least number above the newest.
+/// The structure, mask and epoch in force are those of the descriptors that were read. The first key start keeps its own number, and each
+/// later one gets the least number above the newest that equals its own modulo 65,536.
 pub fn what_was_read_is_in_force<Structure>()
     ensures in_force { Making.WhatWasReadIsInForce Structure }
     ensures numbers { Making.KeyStartsAreNumbered Structure }
@@ -62,7 +62,7 @@ pub fn the_newest_number_is_that_of_what_came_last<Structure>()
     ensures { Making.TheNewestIsTheLast Structure }
 {}
 
-/// The newest descriptor that has a mask or carries a structure sets the mask: its own, or else all targets of the structure.
+/// The newest descriptor that has a mask or carries a structure sets the mask in force: its own mask, or else all targets of the structure.
 pub fn masks_are_what_was_said_last<Structure>()
     ensures said { Making.MasksAreSaid Structure }
     ensures all { Making.AllTargetsAreActive }

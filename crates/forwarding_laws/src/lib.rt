@@ -1,6 +1,6 @@
 //! The laws of forwarding, and the words in which they are stated. `forwarding_model` has the definitions.
 //!
-//! Each law is the contract of a function that does nothing. A crate above uses a law by calling its function, or by naming the lemma of
+//! Each law is the contract of a function that does nothing. Another crate uses a law by calling its function, or by naming the lemma in
 //! `proofs/` that proves it. For each part, `specs/` has the definitions of its words and the statements of its laws. `Structure` is the
 //! type of template dependency structures. There is no other code here.
 #![tactic(auto)]

@@ -1,5 +1,5 @@
--- Histories of one track, layered or plain, and its subscribers, and what happens to each subscriber in one. Own rules.
--- A history has the newest first. No answer of the code needs one, and only a room that records keeps its calls.
+-- Histories of one track, layered or plain, with its subscribers, and what happens to each subscriber in a history. Own rules.
+-- A history has its newest entry first. The code returns nothing that needs a history, and only a room that records keeps its calls.
 use Rattle.std.specs.Prelude.{ℕ, List, [], ◌∷◌, ◌++◌, if◌then◌else◌, ◌==◌, nat_lt, length, map}
 use Rattle.std.specs.declared.option.Option.{Option}
 use Rattle.std.specs.declared.option.Option.TheVariants.{None, Some}
@@ -11,8 +11,8 @@ use Rattle.forwarding_model.specs.frames.Reading.{Format}
 use Rattle.forwarding_model.specs.frames.Frames.{Item, frames_since}
 use Rattle.forwarding_model.specs.frames.Frames.Item.{Missing, Arrived}
 
--- A packet came or time went on, which released these items, the newest first; a subscriber joined, changed its wish, or asked for a
--- packet.
+-- One of these: a packet came or time passed, which released these items, the newest first; a subscriber joined, changed its wish, or
+-- requested a packet.
 pub data Entry : Type 0 where
   Released : (items : List Item) → Entry
   Joined : (number : ℕ) → (subscriber : Subscriber) → Entry
@@ -38,23 +38,23 @@ subscriber_of number (Asked other ∷ past) = subscriber_of number past
 abbrev pub frame_events : {S : Type 0} → List (Frame S) → List (Event S)
 frame_events frames = map WholeFrame frames
 
--- a subscriber that asks takes a packet where one is queued
+-- a subscriber that requests a packet takes one if one is queued
 abbrev pub asked : {S : Type 0} → Sender S → Option Subscriber → List (Event S) → List (Event S)
 asked send None events = events
 asked send (Some subscriber) events = if nat_lt (takes_of events) (length (outgoing send subscriber events)) then Take ∷ events else events
 
--- A subscriber of a layered track sees, of released items, the frames that they made whole.
+-- Of released items, a subscriber of a layered track sees the frames that they made whole.
 abbrev pub frames_released : {S : Type 0} → Format S → List Item → List Item → List (Event S)
 frames_released format older items = frame_events (frames_since format older items)
 
--- One of a plain track sees each packet that came, whatever was given up before it.
+-- A subscriber of a plain track sees each packet that came, whatever was given up before it.
 abbrev pub packets_released : {S : Type 0} → List Item → List Item → List (Event S)
 packets_released older [] = []
 packets_released older (Missing ∷ items) = packets_released older items
 packets_released older (Arrived packet ∷ items) = PlainPacket packet ∷ packets_released older items
 
--- What happened to the subscriber since it joined: what was released, and its own changes of wish and takes. A number that never joined is
--- looked at since the beginning.
+-- What happened to the subscriber since it joined: what was released, and its own changes of wish and takes. For a number that never
+-- joined, everything since the beginning counts.
 abbrev pub timeline_by : {S : Type 0} → (List Item → List Item → List (Event S)) → Sender S → ℕ → List Entry → List (Event S)
 timeline_by released send number [] = []
 timeline_by released send number (Released items ∷ past) = released (items_of past) items ++ timeline_by released send number past

@@ -1,5 +1,5 @@
--- Words on lists that several topics use. Own words; the code has indexes and counts.
--- Histories, timelines and passed frames are lists with the newest first; packets that go out and packets of a frame are lists with the
+-- Definitions on lists that several topics use. Own words; the code has indexes and counts.
+-- Histories, timelines and passed frames are lists with the newest first. Outgoing packets and the packets of a frame are lists with the
 -- oldest first.
 use Rattle.std.specs.Prelude.{◌≡◌, ◌⊎◌, ◌-◌, ℕ, List, [], ◌∷◌, Bool, true, false, if◌then◌else◌, drop, length}
 use Rattle.std.specs.declared.option.Option.{Option}

@@ -1,4 +1,4 @@
--- A strict receiver, which sees packets alone and complains of the first thing that is wrong.
+-- A strict receiver, which sees only packets and complains about the first thing that is wrong.
 -- Own rules, over RFC 3550, section 5.1 (SSRC, sequence number) and AV1 RTP payload format with Appendix A (frame_number, frame_fdiff, Z, Y).
 -- It shares with the forwarder what a packet is and how one is read (the structure rule and the key start among it), and which of the
 -- numbers that are congruent modulo 65,536 is the nearest; no other definition of the forwarder occurs in it. The code keeps the newest
@@ -23,7 +23,7 @@ pub record Received : Type 0 where
   pub newest : ℕ
   pub numbers : List ℕ
 
--- The first frame is a key frame, so what stands here is never looked at.
+-- The first frame is a key frame, so these values are never used.
 abbrev pub nothing_received : Received
 nothing_received = record { newest = 0; numbers = [] }
 
@@ -33,8 +33,8 @@ pub record FrameHeader : Type 0 where
   pub key : Bool
   pub references : List ℕ
 
--- The frame's number, and the numbers that count as received before it. A key frame empties them and has its own number. Any other has the
--- nearest number; where that isn't above the newest, they are emptied too. Then only distances matter, so the number may be taken anew.
+-- The frame's number, and the numbers that count as received before it. A key frame empties these and has its own number. Any other has
+-- the nearest number; if that isn't above the newest, these are emptied too, and its own number will do, as only distances matter.
 abbrev pub placed : Received → FrameHeader → Received
 placed received header =
     if header.key then record { newest = header.number; numbers = [] }
@@ -102,7 +102,7 @@ first_packet d joins = record { header = header_of d; packets = 1; carries = joi
 abbrev pub next_packet : OpenFrame → Joins → OpenFrame
 next_packet frame joins = record { header = frame.header; packets = frame.packets + 1; carries = joins.carries }
 
--- a start comes where no frame is open, and continues no element; any other packet continues the open frame
+-- a packet with the start bit comes only where no frame is open, and continues no element; any other continues the open frame
 abbrev pub with_part : {S : Type 0} → Reception S → Option OpenFrame → Descriptor S → Joins → Receiver S
 with_part r None d joins =
     if d.start && not joins.continues then with_frame r (first_packet d joins) d.end else Complaining Complaint.NotWhole
@@ -147,12 +147,12 @@ unread Waiting = Complaining Complaint.Unread
 unread (Receiving r) = Complaining Complaint.Unread
 unread (Complaining complaint) = Complaining complaint
 
--- what comes is a packet, or bytes that RTP doesn't read
+-- what comes is a packet, or bytes that aren't an RTP packet
 abbrev pub receive : {S : Type 0} → Format S → Receiver S → Option Packet → Receiver S
 receive format receiver None = unread receiver
 receive format receiver (Some packet) = receive_packet format receiver packet
 
--- after all of these, the oldest first
+-- after all of these packets, the oldest first
 abbrev pub receive_all : {S : Type 0} → Format S → Receiver S → List (Option Packet) → Receiver S
 receive_all format receiver [] = receiver
 receive_all format receiver (came ∷ more) = receive_all format (receive format receiver came) more
@@ -162,7 +162,7 @@ complaint_of Waiting = None
 complaint_of (Receiving r) = None
 complaint_of (Complaining complaint) = Some complaint
 
--- the first complaint of a receiver that sees all of these, if it has one
+-- the first complaint of a receiver that gets all of these, if it has one
 abbrev pub complaint : {S : Type 0} → Format S → List (Option Packet) → Option Complaint
 complaint format came = complaint_of (receive_all format Waiting came)
 
@@ -179,7 +179,7 @@ packets_accepted format receiver [] = 0
 packets_accepted format receiver (came ∷ more) =
     if is_content (receive format receiver came) then packets_accepted format (receive format receiver came) more + 1 else 0
 
--- a packet that is accepted and leaves no frame open has ended one
+-- 1 for a packet that is accepted and leaves no frame open, since it ends one
 abbrev pub ends_frame : {S : Type 0} → Receiver S → ℕ
 ends_frame Waiting = 0
 ends_frame (Receiving r) = open_or_ended r.frame

@@ -1,4 +1,4 @@
--- What happens to a subscriber, which frames pass to it, what goes out, and why a frame was withheld.
+-- What happens to a subscriber, which frames are forwarded to it, as which packets, and why a frame was withheld.
 pub mod Timeline
 pub mod Targets
 pub mod Selection

@@ -1,6 +1,6 @@
-// What a strict receiver finds wrong.
+// The faults that a strict receiver finds.
 
-/// The first thing that a strict receiver finds wrong with the packets that it is given. Own rule.
+/// The first fault that a strict receiver finds in the packets that it receives. Own rule.
 #[derive(Clone, Copy, Debug, PartialEq, Eq)]
 pub enum Complaint {
     /// The bytes aren't an RTP packet, the payload is empty or broken, or the descriptor's header extension is missing. Or the descriptor
@@ -12,8 +12,8 @@ pub enum Complaint {
     Sequence { had: u16, got: u16 },
     /// A descriptor needs a template dependency structure, and none has come.
     NoStructure,
-    /// The packets of a frame don't make it whole.
+    /// The packets of a frame don't form a whole frame.
     NotWhole,
-    /// The frame with the 16-bit number `frame` refers to the one `fdiff` numbers back, which doesn't count as received.
+    /// The frame with the 16-bit number `frame` refers to the frame `fdiff` numbers back, which doesn't count as received.
     MissingReference { frame: u16, fdiff: u16 },
 }

@@ -3,10 +3,10 @@
 /// Why no decode target is open. Own rule; frames are named by their unwrapped numbers.
 #[derive(Clone, Copy, Debug, PartialEq, Eq)]
 pub enum Reason {
-    /// At frame `at` the target's chain was found broken: its link names frame `number`, which wasn't forwarded.
+    /// At frame `at` the target's chain was found broken: the frame's link names frame `number`, which wasn't forwarded.
     BrokenLink { at: u64, number: u64 },
-    /// No target was opened since frame `since`: it was the first to come of its epoch, or its mask took the open target away. Before any
-    /// frame came, `since` is 0.
+    /// No target was opened since frame `since`. That frame was the first of its epoch to come, or its mask lacked the target that was
+    /// open. Before any frame came, `since` is 0.
     NotOpened { since: u64 },
 }
 

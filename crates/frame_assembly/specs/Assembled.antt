@@ -1,5 +1,5 @@
--- What contracts see of an assembly, and which packets it stands for. Lists of marks have the newest first, lists of packets the oldest.
--- Which marks make a frame is said in `forwarding_model`, of whole lists of marks.
+-- What contracts see of an assembly, and after which packets it is in that state. Lists of marks have the newest first, lists of packets
+-- the oldest. Which marks make a frame is defined in `forwarding_model`, on whole lists of marks.
 use Rattle.std.specs.Prelude.{◌≡◌, ◌≢◌, ◌∷◌, [], ℕ, Bool, if◌then◌else◌, List, Option, None, Some, map}
 use Rattle.forwarding_model.specs.frames.Cuts.{Part, Mark as CutMark, Run, Outcome as CutOutcome, parts_of, run_of, cut_of, IsWholeCut, IsUnfinishedCut, EndsIn}
 use Rattle.forwarding_model.specs.frames.Cuts.Mark.{Gone, Padding, Unreadable, Read}
@@ -9,7 +9,7 @@ use Rattle.frame_assembly.specs.declared.mark.Mark.TheVariants as mark
 use Rattle.frame_assembly.specs.declared.mark.Outcome.{Outcome}
 use Rattle.frame_assembly.specs.declared.mark.Outcome.TheVariants as made
 
--- a mark with its packet: a part brings its bytes
+-- a mark with its packet: a part carries the packet's bytes
 abbrev pub marked : Mark → List ℕ → CutMark (List ℕ)
 marked mark.Gone bytes = Gone
 marked mark.Pad bytes = Padding
@@ -17,7 +17,7 @@ marked mark.Unread bytes = Unreadable
 marked (mark.Part start end number continues carries) bytes =
     Read (record { start = start; end = end; number = number; continues = continues; carries = carries; brings = bytes })
 
--- what is answered
+-- the outcome that a call returns
 abbrev pub answer : CutOutcome → Outcome
 answer IsPadding = made.Pad
 answer IsWhole = made.Whole
@@ -31,17 +31,17 @@ EndsWhole marks = (parts : List (Part (List ℕ))) × IsWholeCut parts × EndsIn
 abbrev pub EndsUnfinished : List (CutMark (List ℕ)) → Type 0
 EndsUnfinished marks = (parts : List (Part (List ℕ))) × IsUnfinishedCut parts × EndsIn marks parts
 
--- the mark isn't padding, and with it the marks end in neither
+-- the mark isn't padding, and the marks with it end in neither a whole nor an unfinished cut
 abbrev pub EndsNothing : CutMark (List ℕ) → List (CutMark (List ℕ)) → Type 0
 EndsNothing mark past = (mark ≢ Padding) × (EndsWhole (mark ∷ past) → ⊥) × (EndsUnfinished (mark ∷ past) → ⊥)
 
--- a frame that goes on: its frame number, whether an element is open, and the bytes of its packets
+-- an unfinished frame: its frame number, whether an element is open, and the bytes of its packets
 pub record Unfinished : Type 0 where
   pub number : ℕ
   pub open_element : Bool
   pub packets : List (List ℕ)
 
--- The frame under assembly, if there is one, and the packets of the frame that the last call made whole, or none.
+-- The frame under assembly, if there is one, and the packets of the frame that the last call completed, or none.
 pub record Seen : Type 0 where
   pub unfinished : Option Unfinished
   pub frame : List (List ℕ)
@@ -49,7 +49,7 @@ pub record Seen : Type 0 where
 abbrev pub packets_of : Run (List ℕ) → List (List ℕ)
 packets_of run = map (λ p. p.brings) (parts_of run)
 
--- what goes on of a run
+-- the unfinished frame of a run
 abbrev pub unfinished_of : Option (Run (List ℕ)) → Option Unfinished
 unfinished_of None = None
 unfinished_of (Some run) =
@@ -60,7 +60,7 @@ abbrev pub frame_of : Option (Run (List ℕ)) → List (List ℕ)
 frame_of None = []
 frame_of (Some run) = packets_of run
 
--- the assembly stands for these marks with their packets
+-- the assembly is in the state that these marks with their packets leave
 pub record IsAfter (assembly : Seen) (past : List (CutMark (List ℕ))) : Type 0 where
   pub unfinished : assembly.unfinished ≡ unfinished_of (run_of past)
   pub frame : assembly.frame ≡ frame_of (cut_of past)

@@ -1,4 +1,4 @@
--- That the parts of a frame join says the same here and of their packets' flags (RTP Payload Format For AV1, section 4.4).
+-- The parts of a frame join exactly when their packets do by their flags (RTP Payload Format For AV1, section 4.4).
 use Rattle.std.specs.Prelude.{◌↔◌, false, List, map}
 use Rattle.obu_element.specs.Joins.{Flags, AreJoined, Join as PacketsJoin}
 use Rattle.forwarding_model.specs.frames.Cuts.{Part, Join, JoinSoFar}

@@ -1,4 +1,4 @@
--- What the fields of a frame stand for.
+-- The value that the fields of a frame have for contracts.
 use Rattle.std.specs.Prelude.{[], ℕ, List, Option, None, Some}
 use Rattle.frame_assembly.specs.declared.frame.Frame.TheInside.{Inside}
 use Rattle.frame_assembly.specs.declared.frame.Progress.{Progress}

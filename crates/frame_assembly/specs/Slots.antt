@@ -1,4 +1,4 @@
--- The packets that the slots hold.
+-- The packets in the slots.
 use Rattle.std.specs.Prelude.{◌≡◌, ◌≤◌, ℕ, List, take, length, map}
 use Rattle.frame_assembly.specs.declared.packets.Packets.TheInside.{Inside}
 

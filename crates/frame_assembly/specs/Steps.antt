@@ -1,4 +1,4 @@
--- What one mark makes of what is seen. Own to the code: contracts of public calls speak of whole lists of marks.
+-- How one mark changes what contracts see. Only for the code here: contracts of public calls are about whole lists of marks.
 use Rattle.std.specs.Prelude.{◌++◌, ◌∷◌, [], ℕ, ◌==◌, ◌&&◌, nat_lt, Bool, false, if◌then◌else◌, List, Option, None, Some, length}
 use Rattle.std.specs.Bool.{beq}
 use Rattle.forwarding_model.specs.frames.Cuts.{Part, Mark as CutMark}
@@ -10,14 +10,14 @@ use Rattle.frame_assembly.specs.Assembled.{Seen, Unfinished}
 abbrev pub nothing : Seen
 nothing = record { unfinished = None; frame = [] }
 
--- a frame without packets, which its start begins
+-- a frame without packets, as its start begins it
 abbrev pub begun : ℕ → Unfinished
 begun number = record { number = number; open_element = false; packets = [] }
 
 abbrev pub begun_at : Part (List ℕ) → Option Unfinished → Option Unfinished
 begun_at part u = if part.start then Some (begun part.number) else u
 
--- the frame with a packet of this number, Z and Y, if it goes on with it
+-- the frame with one more packet, of this number, Z and Y, if the packet continues the frame
 abbrev pub continued : Option Unfinished → ℕ → Bool → Bool → List ℕ → Option Unfinished
 continued None number continues carries bytes = None
 continued (Some u) number continues carries bytes =
@@ -28,7 +28,7 @@ continued (Some u) number continues carries bytes =
 abbrev pub with_part : Option Unfinished → Part (List ℕ) → Option Unfinished
 with_part u part = continued (begun_at part u) part.number part.continues part.carries part.brings
 
--- what is seen then, and answered, where the part perhaps ends the frame
+-- what contracts see then, and the outcome, for a part that may end the frame
 abbrev pub ended : Bool → Option Unfinished → Seen
 ended end None = nothing
 ended end (Some u) =

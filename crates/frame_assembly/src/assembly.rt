@@ -1,4 +1,4 @@
-// Puts packets together into whole frames.
+// Assembles packets into whole frames.
 ghost use Rattle.std.specs.Prelude.{◌≡◌, ◌<◌, ◌≤◌, ◌↔◌, ◌∷◌, [], IfOk, List, None, Some, length, map, slice_get, ℕ};
 ghost use Rattle.forwarding_model.specs.frames.Cuts.{EndsIn, IsWholeCut, Mark as CutMark, Part, outcome, run_of};
 ghost use Rattle.frame_assembly.specs.Assembled.{EndsNothing, EndsUnfinished, EndsWhole, IsAfter, answer, marked};
@@ -11,7 +11,7 @@ use sfu_base::NoMemory;
 use std::alloc::Global;
 use std::marker::Model;
 
-/// Puts the packets of a layered track together into frames (RTP Payload Format For AV1, section 4.4 and Appendix A). Clauses see the frame
+/// Assembles the packets of a layered track into frames (RTP Payload Format For AV1, section 4.4 and Appendix A). Clauses see the frame
 /// under assembly, if there is one, and the packets of the frame that the last call completed, or none.
 #[derive(Drop)]
 pub struct Assembly {
@@ -29,7 +29,7 @@ impl Model for Assembly {
 }
 
 impl Assembly {
-    /// An assembly without packets. All memory is taken here: slots for 512 packets, and a spare one. `NoMemory`: out of memory.
+    /// An assembly without packets. All memory is allocated here: slots for 512 packets, and a spare one. `NoMemory`: out of memory.
     pub fn new(alloc: Global) -> Result<Assembly, NoMemory>
         ensures value { IfOk result (λ assembly. assembly ≡ record { unfinished = None; frame = [] }) }
         ensures stands { IfOk result (λ assembly. IsAfter assembly []) }
@@ -40,11 +40,11 @@ impl Assembly {
         })
     }
 
-    /// Takes the next packet, at most 1,500 bytes, which are copied. Returns
-    /// - `Whole` where the packet completes a frame: at most 512 parts (own rule) in a row, apart from padding, all with one frame number.
+    /// Processes the next packet, at most 1,500 bytes, which are copied. Returns
+    /// - `Whole` if the packet completes a frame: at most 512 parts (own rule), with only padding between them, all with one frame number.
     ///   Only the first part has `start`, and only the last has `end`. The first part's Z is 0, each next part's Z is the Y of the part
     ///   before, and the last part's Y is 0;
-    /// - `Partial` where such a frame isn't complete yet; an element may be open then;
+    /// - `Partial` if such a frame isn't complete yet; its last OBU element may be open then;
     /// - `Pad` at padding;
     /// - `Torn` at anything else: the frame under assembly, if there is one, is dropped (own rule).
     pub fn push(&mut self, mark: &Mark, packet: &[u8]) -> Outcome
@@ -67,7 +67,7 @@ impl Assembly {
         self.frame.take_mark(mark, &mut self.spare)
     }
 
-    /// Takes the next packet as [`Assembly::push`] does, but in a slot. Where the packet becomes a part of the frame under assembly, the
+    /// Processes the next packet as [`Assembly::push`] does, but in a slot. If the packet becomes a part of the frame under assembly, the
     /// slot is swapped with one of the assembly's, so that no byte is copied. The bytes in the slot then belong to no frame.
     pub fn push_slot(&mut self, mark: &Mark, slot: &mut Box<PacketSlot>) -> Outcome
         ensures stands { (past : List (CutMark (List ℕ))) → IsAfter self.old past → IsAfter self.new (marked mark.now slot.old.value ∷ past) }
@@ -87,7 +87,7 @@ impl Assembly {
         self.frame.take_mark(mark, slot)
     }
 
-    /// How many packets the frame has that the last call completed, at most 512; 0 where that call completed none.
+    /// The number of packets of the frame that the last call completed, at most 512; 0 if that call completed none.
     pub fn count(&self) -> u16
         ensures count { result ≡ length self.now.frame }
         ensures few { length self.now.frame ≤ 512 }

@@ -41,7 +41,7 @@ impl Model for Frame {
 }
 
 impl Frame {
-    /// No frame. All memory is taken here; `NoMemory`: out of memory.
+    /// No frame. All memory is allocated here; `NoMemory`: out of memory.
     pub fn new(alloc: Global) -> Result<Frame, NoMemory>
         ensures { IfOk result (λ frame. frame ≡ nothing) }
     {
@@ -54,8 +54,8 @@ impl Frame {
     }
 
     // Clauses here say how one call changes what is seen; those of `Assembly` say what follows for whole lists of marks.
-    /// Applies a mark, whose packet is in the slot, to the frame so far. Where the packet is added, the slot is swapped with one of the
-    /// frame's.
+    /// Applies a mark, whose packet is in the slot, to the frame so far. If the packet is added to the frame, the slot is swapped with one
+    /// of the frame's.
     pub fn take_mark(&mut self, mark: &Mark, slot: &mut Box<PacketSlot>) -> Outcome
         ensures seen { self.new ≡ pushed self.old (marked mark.now slot.old.value) }
         ensures made { result ≡ made_of self.old (marked mark.now slot.old.value) }
@@ -96,7 +96,7 @@ impl Frame {
         Outcome::Torn
     }
 
-    // Forgets a whole frame, which stays only until the next packet.
+    // Forgets a whole frame: it is available only until the next mark.
     fn forget_whole(&mut self)
         ensures { self.new ≡ record { unfinished = self.old.unfinished; frame = [] } }
     {
@@ -139,7 +139,7 @@ impl Frame {
         true
     }
 
-    // Ends the frame so far: it is whole, or is dropped as torn where an element is open.
+    // Ends the frame so far: it is whole, or it is dropped as torn if an OBU element is open.
     fn finish(&mut self) -> Outcome
         requires { is_some self.old.unfinished ≡ true }
         ensures seen { self.new ≡ ended true self.old.unfinished }
@@ -163,7 +163,7 @@ impl Frame {
         }
     }
 
-    /// The bytes of one packet of the whole frame, by its place from 0.
+    /// The bytes of one packet of the whole frame, by its place, counted from 0.
     pub fn packet(&self, place: u16) -> &[u8]
         requires { place < length self.now.frame }
         ensures { slice_get self.now.frame place ≡ Some result.now }

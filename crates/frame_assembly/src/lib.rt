@@ -1,4 +1,4 @@
-//! Whole frames out of the packets of a layered track, one packet after another. Only the constructor takes memory.
+//! Assembles whole frames from the packets of a layered track, one packet after another. Only the constructor allocates memory.
 #![tactic(auto)]
 
 mod assembly;

@@ -1,13 +1,13 @@
-// What a packet is to the frame under assembly, and what the packet makes of that frame.
+// What frame assembly sees of each packet (a mark), and the outcome of a mark.
 
 /// What comes next in the order of a layered track, as the frame under assembly sees it.
 #[derive(Clone, Copy, Debug, PartialEq, Eq)]
 pub enum Mark {
-    /// Packets are missing here, and were given up.
+    /// Packets are missing here, and are no longer waited for.
     Gone,
     /// A packet without a payload.
     Pad,
-    /// A packet whose descriptor or payload doesn't read.
+    /// A packet whose descriptor or payload can't be read.
     Unread,
     /// A part of a frame.
     Part {
@@ -24,15 +24,15 @@ pub enum Mark {
     },
 }
 
-/// What a packet made of the frame under assembly.
+/// The outcome of a mark for the frame under assembly.
 #[derive(Clone, Copy, Debug, PartialEq, Eq)]
 pub enum Outcome {
     /// The frame so far isn't complete yet.
     Partial,
     /// The frame is whole.
     Whole,
-    /// No frame is under assembly any more: what there was is dropped, with this packet.
+    /// No frame is under assembly any more: its packets so far are dropped, with this packet.
     Torn,
-    /// Nothing: the packet is padding, and an unfinished frame stays as it is.
+    /// Nothing changes: the packet is padding, and an unfinished frame stays as it is.
     Pad,
 }

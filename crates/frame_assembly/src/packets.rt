@@ -56,7 +56,7 @@ impl Packets {
         self.count = 0;
     }
 
-    /// Adds a packet. Its slot is swapped with one of these.
+    /// Adds a packet: its slot is swapped with an unused one of these.
     pub fn push(&mut self, slot: &mut Box<PacketSlot>)
         requires { length self.old < 512 }
         ensures { self.new ≡ self.old ++ slot.old.value ∷ [] }
@@ -65,7 +65,7 @@ impl Packets {
         self.count += 1;
     }
 
-    /// The bytes of the packet at this place.
+    /// The bytes of the packet at this place, counted from 0.
     pub fn at(&self, place: usize) -> &[u8]
         requires { place < length self.now }
         ensures { slice_get self.now place ≡ Some result.now }
@@ -74,7 +74,7 @@ impl Packets {
     }
 }
 
-/// A slot without bytes.
+/// A slot without bytes. `NoMemory`: out of memory.
 pub fn empty_slot(alloc: Global) -> Result<Box<PacketSlot>, NoMemory>
     ensures { IfOk result (λ slot. slot.value ≡ []) }
 {

@@ -1,8 +1,8 @@
--- How many buffers of a store subscribers need.
+-- How many buffers of a store the subscribers need.
 use Rattle.std.specs.Prelude.{◌+◌, ◌*◌, min, zero, suc, ℕ}
 
--- where there are n subscribers: for a queue, for what up to three of them keep apart from the others, and for a few of
--- each one's own, of at most 256; for none where fewer than two could share them
+-- for n subscribers: 512 buffers for a queue, 1,024 for each of up to three subscribers that keep packets apart from the others, and
+-- 12 of its own for each of up to 256 subscribers; none where fewer than two subscribers could share them
 abbrev pub capacity_for : ℕ → ℕ
 capacity_for zero = 0
 capacity_for (suc zero) = 0

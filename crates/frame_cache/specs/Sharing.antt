@@ -1,18 +1,18 @@
--- What the subscribers of the frame in hand share: packets of the frame, and its first one remasked.
+-- What the subscribers of the current frame share: packets of the frame, and its first packet remasked.
 use Rattle.std.specs.Prelude.{◌≡◌, ◌⊎◌, ℕ, List, [], ◌∷◌, ◌++◌, Option, None, Some, length, slice_get, take}
 use Rattle.dd_structure.specs.TemplateStructure.{TemplateStructure}
 use Rattle.packet_format.specs.Remasked.{remasked_bytes}
 
--- what is kept is the packet with the mask, where one is kept
+-- if a mask is cached, the cached packet is the first packet with this mask
 abbrev pub CarriesMask : ℕ → Option TemplateStructure → List ℕ → Option ℕ → List ℕ → Type 0
 CarriesMask id force packet None kept = Unit {0}
 CarriesMask id force packet (Some mask) kept = kept ≡ remasked_bytes id force mask packet
 
--- where a packet is shared at this place, it is this one
+-- if a packet is shared at this place, it is this one
 abbrev pub IsShared : ℕ → List ℕ → List (List ℕ) → Type 0
 IsShared place packet shared = (other : List ℕ) → slice_get shared place ≡ Some other → other ≡ packet
 
--- this packet is shared behind the others, if this is its place; or nothing changed
+-- this packet is shared after the others, if its place is the next one; or nothing changed
 abbrev pub MayShare : ℕ → List ℕ → List (List ℕ) → List (List ℕ) → Type 0
 MayShare place packet old new = (new ≡ old) ⊎ ((length old ≡ place) × (new ≡ old ++ packet ∷ []))
 

@@ -15,21 +15,21 @@ use packet_format::Remasker;
 use sfu_base::{NoMemory, PacketBuf};
 use std::alloc::Global;
 
-/// The most packets of a frame that are shared: as many as a subscriber's queue holds, since no longer frame passes.
+/// The most packets of a frame that are shared: the capacity of a subscriber's queue, since no longer frame is forwarded.
 const MOST_SHARED: usize = 512;
 
 /// For how many subscribers with different wishes a track's store has buffers. Each of these keeps packets that the others don't.
 const MOST_APART: usize = 3;
 
-/// How many packets each of these keeps.
+/// How many packets each of these subscribers keeps.
 const KEPT: usize = 1024;
 
-/// How many packets of its own each subscriber has buffers for: first packets with its mask, and packets that wait for it alone.
+/// For how many packets of its own each subscriber has buffers: first packets with its mask, and packets queued for it alone.
 const OWN: usize = 12;
 
-/// Caches what the subscribers of a track are sent of its current frame: the frame's packets, each stored once for all subscribers that get it, and
-/// the first packet rewritten with one mask of active decode targets. This is the mask that was asked for last, since most subscribers of a frame get
-/// the same. The cache changes no packet that is sent. `packet` is filled in place, so that no frame clears it.
+/// Caches what the subscribers of a track are sent of its current frame: the frame's packets, each stored once for all subscribers that get
+/// it, and the first packet rewritten with one mask of active decode targets. Only the mask that was requested last is cached, since most
+/// subscribers of a frame get the same one. The cache changes no packet that is sent. `packet` is overwritten in place, never cleared.
 #[derive(Drop)]
 pub struct FrameCache {
     pub store: PacketStore,
@@ -44,7 +44,7 @@ pub struct FrameCache {
 }
 
 impl FrameCache {
-    /// An empty cache, whose store has no buffers. Takes the memory to share a frame of 512 packets.
+    /// An empty cache, whose store has no buffers. Allocates the list for 512 shared packets. `NoMemory`: out of memory.
     pub fn new(alloc: Global) -> Result<FrameCache, NoMemory>
         ensures mask { IfOk result (λ cache. cache.mask ≡ None) }
         ensures shared { IfOk result (λ cache. cache.shared.items ≡ []) }
@@ -64,9 +64,9 @@ impl FrameCache {
         })
     }
 
-    /// Allocates the buffers that this many subscribers need and that aren't there yet: for packets that wait, for packets that subscribers with
-    /// different wishes keep, and for some of each subscriber's own. A single subscriber needs none: its packets are copied into its ring.
-    /// `NoMemory`: out of memory; some buffers may have been allocated.
+    /// Allocates the buffers that this many subscribers need and the store doesn't have yet: for queued packets, for packets that
+    /// subscribers with different wishes keep, and for some of each subscriber's own. A single subscriber needs none: its packets are
+    /// copied into its ring. `NoMemory`: out of memory; some buffers may have been allocated.
     pub fn reserve(&mut self, alloc: Global, subscribers: usize) -> Result<(), NoMemory>
         ensures free { self.old.store.free ≤ self.new.store.free }
         ensures grown { self.new.store.free + self.old.store.all ≡ self.old.store.free + self.new.store.all }
@@ -76,7 +76,7 @@ impl FrameCache {
         self.store.grow(alloc, capacity_for(subscribers))
     }
 
-    /// Releases the packets of a ring that ends, and frees buffers that the `left` remaining subscribers don't need.
+    /// Releases the packets of a ring that is no longer used, and frees buffers that the `left` remaining subscribers don't need.
     pub fn release(&mut self, ring: OutRing, left: usize)
         ensures all { self.new.store.all ≤ self.old.store.all }
         ensures kept { capacity_for left ≤ self.old.store.all → capacity_for left ≤ self.new.store.all }
@@ -85,7 +85,7 @@ impl FrameCache {
         self.store.shrink(capacity_for(left));
     }
 
-    /// Empties the cache: another frame begins.
+    /// Empties the cache before another frame begins.
     pub fn forget(&mut self)
         ensures mask { self.new.mask ≡ None }
         ensures shared { self.new.shared.items ≡ [] }
@@ -100,7 +100,7 @@ impl FrameCache {
         }
     }
 
-    /// Shares the packet at this place of the frame, if those before it are shared and a buffer is free. Out of line: once for all subscribers.
+    /// Shares the packet at this place of the frame, if all before it are shared and a buffer is free. Out of line: once per packet.
     #[inline(never)]
     pub fn share(&mut self, place: u16, packet: &[u8])
         requires reads { first_fault packet.now ≡ None }
@@ -141,7 +141,7 @@ impl FrameCache {
         }
     }
 
-    /// Queues the packet that [`FrameCache::remask`] left: shared, or copied where it can't be shared.
+    /// Queues the packet that [`FrameCache::remask`] cached: shared, or copied where it can't be shared.
     pub fn queue_remasked(&mut self, ring: &mut OutRing, marker: bool)
         requires capacity { length ring.old.queued < 512 }
         requires reads { first_fault self.old.packet ≡ None }
@@ -162,8 +162,8 @@ impl FrameCache {
         }
     }
 
-    /// Caches the current frame's first packet, rewritten with this mask, or copied where it can't be rewritten. If a packet with this mask is cached
-    /// already, nothing changes. `id` is the header extension id of the packet's descriptor, which is read by the structure `force`.
+    /// Caches the current frame's first packet, rewritten with this mask, or copied where it can't be rewritten. If a packet with this mask
+    /// is cached already, nothing changes. `id` is the header extension id of the dependency descriptor, which is read with `force`.
     pub fn remask(&mut self, packet: &[u8], id: u8, force: Option<&Structure>, mask: u32)
         requires reads { first_fault packet.now ≡ None }
         requires fits { length packet.now ≤ 1536 }
@@ -213,7 +213,7 @@ impl FrameCache {
     }
 }
 
-// The packet for one more ring, if there is a packet and one more can be counted.
+// One more reference to the packet, for another ring. `None` without a packet, or where its count of references is full.
 #[inline(always)]
 fn another(shared: Option<&SharedPacket>) -> Option<SharedPacket>
     ensures { IfSome result (λ packet. option_copied shared.entry ≡ Some packet) }
@@ -221,7 +221,7 @@ fn another(shared: Option<&SharedPacket>) -> Option<SharedPacket>
     shared?.another()
 }
 
-// Releases the packet that the ring no longer keeps, if there is one. Once before each push is enough, since a take leaves at most one behind.
+// Releases the packet that the ring no longer keeps, if there is one. One call per push is enough: a take leaves at most one behind.
 #[inline(always)]
 fn evict(store: &mut PacketStore, ring: &mut OutRing)
     ensures ring { ring.new ≡ ring.old }
@@ -232,7 +232,7 @@ fn evict(store: &mut PacketStore, ring: &mut OutRing)
     }
 }
 
-// Queues a shared packet, and releases the packet that its slot in the ring still has, if any.
+// Queues a shared packet, and releases the packet that is still in its slot of the ring, if there is one.
 #[inline(always)]
 fn push_shared(store: &mut PacketStore, ring: &mut OutRing, packet: SharedPacket, marker: bool)
     requires { length ring.old.queued < 512 }

@@ -1,4 +1,4 @@
--- What is kept of a frame's first descriptor until the frame is whole, and what it means then.
+-- What is kept of a frame's first descriptor until the frame is whole, and the frame's meaning then.
 use Rattle.std.specs.Prelude.{◌≤◌, ◌<◌, ℕ, Bool, true, false, if◌then◌else◌, slice_index, Option, None, Some, Result, Ok, Err}
 use Rattle.sfu_base.specs.declared.frame.FrameMeaning.{FrameMeaning}
 use Rattle.sfu_base.specs.Frame.{IsDistance}
@@ -28,7 +28,7 @@ pub record HasReferences (head : FrameHead) : Type 0 where
   pub few : head.ref_count ≤ 16
   pub distances : (i : ℕ) → i < head.ref_count → IsDistance (slice_index head.refs i)
 
--- the same as `number_of` and `meaning_by` of the first descriptor
+-- the same number and meaning as `number_of` and `meaning_by` of the first descriptor
 abbrev pub number_at : Force TemplateStructure → FrameHead → Option ℕ
 number_at force head =
     if head.key then Some force.start
@@ -67,7 +67,7 @@ meant_with_head s force head (Some number) = Ok (meaning_at (layout_of s) force 
 abbrev pub meant_at : TemplateStructure → Force TemplateStructure → FrameHead → Result FrameMeaning Stale
 meant_at s force head = meant_with_head s force head (number_at force head)
 
--- a meaning that was written where it is kept, or the fault of a stale number
+-- a meaning that was written to its place, or the fault of a stale number
 abbrev pub written_or_stale : Bool → FrameMeaning → ℕ → Result FrameMeaning Stale
 written_or_stale false meaning newest = Err (record { newest = newest })
 written_or_stale true meaning newest = Ok meaning

@@ -1,4 +1,4 @@
--- What the fields of a table stand for, and what they keep.
+-- The value that the fields of a table have for contracts, and what holds of these fields.
 use Rattle.std.specs.Prelude.{◌≡◌, ◌+◌, ◌<◌, ◌≤◌, ◌^◌, IfSome, None}
 use Rattle.forwarding_model.specs.frames.Frames.{Force}
 use Rattle.dd_structure.specs.TemplateStructure.{TemplateStructure}
@@ -9,7 +9,7 @@ use Rattle.frame_table.specs.declared.table.FrameTable.TheInside.{Inside}
 abbrev pub in_force : Inside → Force TemplateStructure
 in_force t = record { structure = t.structure; mask = t.mask; epoch = t.epoch; start = t.start; newest = t.newest }
 
--- what is kept of the structure is what it says
+-- the kept layout is that of the structure
 pub record IsLaidOut (t : Inside) (s : TemplateStructure) : Type 0 where
   pub targets : t.target_count ≡ s.target_count
   pub chains : t.chain_count ≡ s.chain_count

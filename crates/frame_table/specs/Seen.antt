@@ -1,4 +1,4 @@
--- What is asked of the descriptors that a table sees, and what is answered.
+-- What a table requires of the descriptors that it processes, and what it returns.
 use Rattle.std.specs.Prelude.{◌≡◌, ◌⊎◌, ◌+◌, ◌<◌, ◌≤◌, ◌^◌, ℕ, List, Bool, if◌then◌else◌, Option, None, Some, Result, Ok, Err, IfSome}
 use Rattle.sfu_base.specs.declared.frame.FrameMeaning.{FrameMeaning}
 use Rattle.forwarding_model.specs.frames.Reading.{Descriptor as Said, is_key_start, obeys_structure}
@@ -23,7 +23,7 @@ pub record IsReadBy (force : Option TemplateStructure) (d : Descriptor) : Type 0
 abbrev pub IsMaskOf : Option ℕ → TemplateStructure → Type 0
 IsMaskOf mask s = IfSome mask (λ m. m < 2 ^ s.target_count)
 
--- what a descriptor says to the forwarder
+-- the part of a descriptor that the forwarder uses
 abbrev pub said : Content → Said TemplateStructure
 said c =
     descriptor_with c.start c.end c.number c.structure c.mask
@@ -42,11 +42,11 @@ obeys force d = obeys_structure structures_alone force.structure (said_of force.
 abbrev pub answer : Force TemplateStructure → Descriptor → Reading
 answer force d = answered (obeys force d) (is_key_start (said_of force.structure d))
 
--- what is in force once the descriptor was seen; one that isn't read changes nothing
+-- what is in force after the descriptor was processed; a descriptor that isn't read changes nothing
 abbrev pub seen_by : Force TemplateStructure → Descriptor → Force TemplateStructure
 seen_by force d = if obeys force d then after_descriptor structures_alone force (said_of force.structure d) else force
 
--- the first descriptor of a frame whose packets were all read by the structure that is in force now
+-- a descriptor that was read with the structure in force now: the first of a frame whose packets were all read with this structure
 pub record IsFirst (force : Force TemplateStructure) (d : Descriptor) : Type 0 where
   pub structure : TemplateStructure
   pub is : force.structure ≡ Some structure
@@ -58,7 +58,7 @@ pub record IsFirst (force : Force TemplateStructure) (d : Descriptor) : Type 0 w
 abbrev pub number_by : Force TemplateStructure → Descriptor → Option ℕ
 number_by force d = number_of force (said_of force.structure d)
 
--- the meaning of a frame with this first descriptor, or none where its number is stale
+-- the meaning of a frame with this first descriptor, or `Stale` where its number is stale
 abbrev pub meant_with : TemplateStructure → Force TemplateStructure → Said TemplateStructure → Option ℕ → Result FrameMeaning Stale
 meant_with s force d None = Err (record { newest = force.newest })
 meant_with s force d (Some number) = Ok (meaning_by (layout_of s) force number d)
@@ -66,7 +66,7 @@ meant_with s force d (Some number) = Ok (meaning_by (layout_of s) force number d
 abbrev pub meant : TemplateStructure → Force TemplateStructure → Descriptor → Result FrameMeaning Stale
 meant s force d = meant_with s force (said_of force.structure d) (number_by force d)
 
--- the newest number is then that of the frame, if there is one
+-- the newest number is then the frame's, if the frame has one
 abbrev pub newest_after : Option ℕ → ℕ → ℕ
 newest_after None newest = newest
 newest_after (Some number) newest = number

@@ -18,7 +18,7 @@ const COUNTED: &[bool; 64] = &[
     false, false, false, false, false, false,
 ];
 
-// Whether a place is among the first `count`, by a row of 32 times true and then 32 times false.
+// Whether a place is among the first `count`, looked up in a row of 32 times true and then 32 times false.
 #[inline(always)]
 fn counts_in(row: &[bool; 64], place: u8, count: u8) -> bool
     requires row { row.now ≡ replicate 32 true ++ replicate 32 false }
@@ -29,7 +29,7 @@ fn counts_in(row: &[bool; 64], place: u8, count: u8) -> bool
     row[32 - usize::from(count) + usize::from(place)]
 }
 
-// Whether a place is among the first `count`. It is looked up and not compared, so that the compiler looks up many at once.
+// Whether a place is among the first `count`. This is looked up, not compared, so that the compiler looks up many at once.
 #[inline(always)]
 fn counts(place: u8, count: u8) -> bool
     requires place { place < 32 }
@@ -39,7 +39,7 @@ fn counts(place: u8, count: u8) -> bool
     counts_in(COUNTED, place, count)
 }
 
-/// The first `count` indications, and `NotPresent` behind them. All places are written, so that the compiler writes many at once.
+/// The first `count` indications, followed by `NotPresent`. All places are written, so that the compiler writes many at once.
 pub fn prefix_indications(row: &[Dti; 32], count: u8) -> [Dti; 32]
     requires { count ≤ 32 }
     ensures { result ≡ filled_up 32 NotPresent (take count row.now) }
@@ -52,7 +52,7 @@ pub fn prefix_indications(row: &[Dti; 32], count: u8) -> [Dti; 32]
     out
 }
 
-/// The first `count` numbers, and 0 behind them. All places are written, so that the compiler writes many at once.
+/// The first `count` numbers, followed by zeros. All places are written, so that the compiler writes many at once.
 pub fn prefix_numbers(row: &[u8; 32], count: u8) -> [u8; 32]
     requires { count ≤ 32 }
     ensures { result ≡ filled_up 32 0 (take count row.now) }
@@ -65,8 +65,8 @@ pub fn prefix_numbers(row: &[u8; 32], count: u8) -> [u8; 32]
     out
 }
 
-/// The first `count` distances, and 0 behind them. All places are written, so that the compiler writes many at once. As `count` is at most 16,
-/// the row has that many.
+/// The first `count` distances, followed by zeros. All places are written, so that the compiler writes many at once. As `count` is at
+/// most 16, the row has that many.
 pub fn prefix_distances(row: &[u16; 16], count: u8) -> [u16; 16]
     requires { count ≤ 16 }
     ensures filled { result ≡ filled_up 16 0 (take count row.now) }
@@ -80,7 +80,7 @@ pub fn prefix_distances(row: &[u16; 16], count: u8) -> [u16; 16]
     out
 }
 
-/// The numbers, and 0 behind them.
+/// The numbers, followed by zeros.
 pub fn filled_numbers(row: &[u8]) -> [u8; 32]
     requires { length row.now ≤ 32 }
     ensures { result ≡ filled_up 32 0 row.now }
@@ -90,7 +90,7 @@ pub fn filled_numbers(row: &[u8]) -> [u8; 32]
     out
 }
 
-/// The greatest layers of each decode target, and `None` behind them.
+/// The greatest layers of each decode target of the structure, followed by `None`.
 pub fn filled_pairs(structure: &Structure) -> [Option<Wish>; 32]
     ensures { result ≡ filled_up 32 None (pairs_below structure.now structure.now.target_count) }
 {

@@ -23,16 +23,16 @@ use wrap_number::above;
 /// How a descriptor relates to the structure in force.
 #[derive(Clone, Copy, Debug, PartialEq, Eq)]
 pub enum Reading {
-    /// It begins a key frame: its structure is in force now.
+    /// The descriptor begins a key frame: its structure is in force now.
     Key,
-    /// It is read by the structure in force.
+    /// The descriptor is read with the structure in force.
     Part,
-    /// It begins no key frame and carries a structure other than the one in force, so it isn't read.
+    /// The descriptor begins no key frame and carries a structure other than the one in force, so it isn't read.
     Unread,
 }
 
-/// The number of a whole frame isn't above the newest, so the frame counts as none (own rule). A number is above another if it is 1 to 32,767 ahead,
-/// modulo 65,536.
+/// The number of a whole frame isn't above the newest frame number, so the frame is ignored (own rule). A number is above another if it is
+/// 1 to 32,767 ahead of it, modulo 65,536.
 #[derive(Clone, Copy, Debug, PartialEq, Eq, Error)]
 #[error("the frame's number isn't above {newest}, the newest")]
 pub struct Stale {
@@ -40,8 +40,8 @@ pub struct Stale {
     pub newest: u64,
 }
 
-/// The parts of a frame's first descriptor that the frame's meaning takes. In each array only the first places count, as in the meaning: one for each
-/// decode target, chain or reference.
+/// The parts of a frame's first descriptor from which the frame's meaning is made. In each array, as in the meaning, only the first entries
+/// count: one for each decode target, chain or reference.
 #[derive(Clone, Copy, Debug, PartialEq, Eq)]
 pub struct FrameHead {
     /// Whether the frame is a key frame: its first descriptor carries a structure and refers to nothing.
@@ -96,7 +96,7 @@ pub const NO_MEANING: FrameMeaning = FrameMeaning {
     refs: [0; 16],
 };
 
-/// How far above the newest a frame number may be, modulo 65,536; a number further ahead counts as behind.
+/// How far above the newest frame number a frame number may be, modulo 65,536. A number further ahead counts as behind.
 const FARTHEST_AHEAD: u64 = 32767;
 
 impl Model for FrameTable {
@@ -137,9 +137,9 @@ impl FrameTable {
         self.structure.as_ref()
     }
 
-    /// Processes the next descriptor, which was read by the structure in force. A key start (a descriptor with a structure, the start bit and no
-    /// references) puts its structure in force, begins an epoch and is numbered. Any other descriptor whose structure isn't the one in force is
-    /// `Unread` and changes nothing. The mask of a descriptor that is read is in force from then on.
+    /// Processes the next descriptor, which was read with the structure in force. A key start (a descriptor with a structure, the start bit
+    /// and no references) puts its structure in force, begins an epoch and is numbered. Any other descriptor whose structure isn't the one
+    /// in force is `Unread` and changes nothing. The mask of a descriptor that is read is in force from then on.
     pub fn see(&mut self, descriptor: &Descriptor) -> Reading
         requires read { IsReadBy self.old.structure descriptor.now }
         requires bound { IfSome self.old.structure (λ _. self.old.newest < 2 ^ 63) }
@@ -168,9 +168,9 @@ impl FrameTable {
         }
     }
 
-    /// Returns what a frame means that just got whole, by its first descriptor. Every descriptor of the frame was seen and read. The frame's number
-    /// becomes the newest. `Stale`: that number isn't above the newest; nothing changes. This is [`FrameTable::head`] and [`FrameTable::whole_into`]
-    /// in one.
+    /// Returns the meaning of a frame that has just become whole, by its first descriptor. Every descriptor of the frame was seen and
+    /// read. The frame's number becomes the newest. `Stale`: the number isn't above the newest, and nothing changes. This is
+    /// [`FrameTable::head`] and then [`FrameTable::whole_into`].
     pub fn whole(&mut self, first: &Descriptor) -> Result<FrameMeaning, Stale>
         requires first { IsFirst self.old first.now }
         requires bound { self.old.newest < 2 ^ 63 }
@@ -185,7 +185,7 @@ impl FrameTable {
         or_stale(is_whole, meaning, newest)
     }
 
-    /// The parts of a frame's first descriptor that the frame's meaning takes: all that has to be kept until the frame is whole.
+    /// The parts of a frame's first descriptor from which the frame's meaning is made: all that must be kept until the frame is whole.
     pub fn head(&self, first: &Descriptor) -> FrameHead
         requires { IsFirst self.now first.now }
         ensures head { result ≡ head_of (said_of self.now.structure first.now) }
@@ -196,8 +196,8 @@ impl FrameTable {
         self.fields(first, key)
     }
 
-    /// Writes to `out` what a frame means that just got whole, by the head of its first descriptor, and makes the frame's number the newest. Returns
-    /// false if that number isn't above the newest: the frame is stale, and nothing changes.
+    /// Writes the meaning of a frame that has just become whole to `out`, and makes the frame's number the newest. `head` is from the
+    /// frame's first descriptor. Returns false if the number isn't above the newest: the frame is then stale, and nothing changes.
     pub fn whole_into(&mut self, head: &FrameHead, out: &mut FrameMeaning) -> bool
         requires structure { is_some self.old.structure ≡ true }
         requires references { HasReferences head.now }
@@ -217,7 +217,7 @@ impl FrameTable {
         true
     }
 
-    // The head of a frame with this first descriptor. `key` is whether that is a key start.
+    // The head of a frame with this first descriptor. `key` says whether the descriptor is a key start.
     fn fields(&self, first: &Descriptor, key: bool) -> FrameHead
         requires first { IsFirst self.now first.now }
         requires key { key ≡ is_key_start (said_of self.now.structure first.now) }
@@ -242,7 +242,7 @@ impl FrameTable {
         let _ = &self.structure;
     }
 
-    // Puts the mask of a descriptor, if it carries one, in force.
+    // Puts the descriptor's mask in force, if it carries one.
     fn take_mask(&mut self, mask: Option<u32>)
         requires { IfSome self.old.structure (IsMaskOf mask) }
         ensures { self.new ≡ masked self.old mask }

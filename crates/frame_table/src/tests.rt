@@ -11,14 +11,14 @@ const REPEATED: [u8; 9] = [0x40, 0xff, 0xff, 0x80, 0x00, 0x3a, 0x41, 0x01, 0x00]
 
 const OTHER: [u8; 9] = [0x40, 0xff, 0xff, 0x80, 0x00, 0x3b, 0x41, 0x01, 0x00];
 
-// What a table that saw the first descriptor returns for the second, if both read.
+// What a table returns for the second descriptor after it saw the first; `None` if either can't be read.
 fn seen_after(first: &[u8], second: &[u8]) -> Option<Reading> {
     let mut table = FrameTable::new();
     see(&mut table, first)?;
     see(&mut table, second)
 }
 
-// What a table returns for a descriptor, if that reads.
+// What a table returns for a descriptor; `None` if the descriptor can't be read.
 fn see(table: &mut FrameTable, bytes: &[u8]) -> Option<Reading>
     requires { table.old.newest < 2 ^ 62 }
     ensures { table.new.newest ≤ table.old.newest + 65536 }

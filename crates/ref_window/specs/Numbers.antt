@@ -8,23 +8,23 @@ use Rattle.std.specs.List.{AllByRecursion, list_any}
 abbrev pub is_near : ℕ → ℕ → Bool
 is_near greatest number = nat_le greatest (number + 4096)
 
--- of the numbers that were inserted those that a window holds: the newest, and all before it that are near
+-- of all inserted numbers, those that a window contains: the newest, and all before it that are at most 4,096 below it
 abbrev pub held_of : List ℕ → List ℕ
 held_of [] = []
 held_of (newest ∷ before) = newest ∷ filter (is_near newest) before
 
--- the number is among these
+-- the number is in the list
 abbrev pub is_among : List ℕ → ℕ → Bool
 is_among numbers number = list_any (λ n. n == number) numbers
 
--- one of these numbers lies d below n
+-- the list has a number that is d below n
 abbrev pub has_below : List ℕ → ℕ → ℕ → Bool
 has_below numbers n d = list_any (λ m. (m + d) == n) numbers
 
--- the number is greater than each of these
+-- the number is greater than each in the list
 abbrev pub IsAboveAll : ℕ → List ℕ → Type 0
 IsAboveAll number numbers = AllByRecursion (λ n. n < number) numbers
 
--- Where bit d of the mask is set, one of these numbers lies d below n; none is n itself.
+-- Where bit d of the mask is set, d is at least 1 and below 64, and the list has a number that is d below n.
 abbrev pub AreBelow : List ℕ → ℕ → ℕ → Type 0
 AreBelow numbers n mask = (d : ℕ) → bit_at mask d ≡ 1 → (0 < d) × (d < 64) × (has_below numbers n d ≡ true)

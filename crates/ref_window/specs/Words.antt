@@ -14,22 +14,22 @@ unfoldable pub passing_below : (ℕ → Bool) → ℕ → List ℕ
 passing_below test zero = []
 passing_below test (suc n) = if test n then n ∷ passing_below test n else passing_below test n
 
--- the greatest number, and those near it whose bits are 1
+-- the greatest number, and the numbers at most 4,096 below it whose bits are 1
 unfoldable pub held_in : Option ℕ → List ℕ → List ℕ
 held_in None words = []
 held_in (Some greatest) words = greatest ∷ passing_below (λ n. is_near greatest n && has_bit words n) greatest
 
--- where bit d is set, the number d below the greatest is held
+-- where bit d is set, the window contains the number d below the greatest
 abbrev pub AreRecent : Option ℕ → List ℕ → ℕ → Type 0
 AreRecent None words recent = Unit {0}
 AreRecent (Some greatest) words recent = (d : ℕ) → bit_at recent d ≡ 1 → has_below (held_in (Some greatest) words) greatest d ≡ true
 
--- one number's bit, which it shares with those a multiple of 4,096 away, has this value now
+-- a number's bit, which is also that of every number a multiple of 4,096 away, has this value now
 pub record ChangesBit (old new : List ℕ) (number : ℕ) (value : Bool) : Type 0 where
   pub changed : (n : ℕ) → n % 4096 ≡ number % 4096 → has_bit new n ≡ value
   pub others : (n : ℕ) → n % 4096 ≢ number % 4096 → has_bit new n ≡ has_bit old n
 
--- Of the 4,096 numbers below `end`, those from one up to another have the bit 0 now, and the others the bit that they had.
+-- Of the 4,096 numbers below `end`, those from `from` up to, but not including, `to` have the bit 0 now. The others keep their bits.
 pub record ClearsBits (old new : List ℕ) (from to end : ℕ) : Type 0 where
   pub cleared : (n : ℕ) → end ≤ n + 4096 → n < end → from ≤ n → n < to → has_bit new n ≡ false
   pub below : (n : ℕ) → end ≤ n + 4096 → n < from → has_bit new n ≡ has_bit old n

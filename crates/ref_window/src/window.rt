@@ -10,9 +10,9 @@ use std::marker::Model;
 #[derive(Debug, Drop)]
 pub struct RefWindow {
     greatest: Option<u64>,
-    // bits for the numbers below the greatest; without meaning where there is none
+    // bits for the numbers below the greatest; meaningless where there is no greatest
     words: Words,
-    // the greatest and those right below it once more: bit d, the lowest being 0, is set only where the number d below it is in the window
+    // a second copy of the newest part: bit d (bit 0 is the lowest) is set only if the window contains `greatest - d`
     recent: u64,
 }
 
@@ -39,7 +39,7 @@ impl RefWindow {
         }
     }
 
-    /// Whether the window contains the number.
+    /// Whether the window contains `number`.
     pub fn holds(&self, number: u64) -> bool
         ensures { result ≡ is_among self.now number }
     {
@@ -52,8 +52,8 @@ impl RefWindow {
         greatest - number <= SPAN && bit(&self.words, number)
     }
 
-    /// The window's numbers right below this one, as a mask: where bit d is set, the lowest being bit 0, the window contains the number d below it. Bit 0
-    /// is never set, and a bit that isn't says nothing.
+    /// A mask of the window's numbers right below `number`: if bit d is set (bit 0 is the lowest), the window contains `number - d`.
+    /// Bit 0 is never set. A bit that isn't set says nothing.
     #[inline(always)]
     pub fn right_below(&self, number: u64) -> u64
         ensures { AreBelow self.now number result }
@@ -67,8 +67,8 @@ impl RefWindow {
         self.recent << (number - greatest)
     }
 
-    /// Inserts a number that is above all that were inserted since the last reset, and forgets those more than 4,096 below it. Any other
-    /// number changes nothing.
+    /// Inserts `number` if it is above all numbers inserted since the last reset, and forgets the numbers more than 4,096 below it.
+    /// Any other number changes nothing.
     pub fn insert(&mut self, number: u64)
         ensures inserted { IsAboveAll number self.old → self.new ≡ held_of (number ∷ self.old) }
         ensures refused { (IsAboveAll number self.old → ⊥) → self.new ≡ self.old }

@@ -1,9 +1,9 @@
-// The ring of bits. A number's bit is at that number modulo 4,096, so the ring isn't moved when the window moves on.
+// The ring of bits. A number's bit is at the number modulo 4,096, so the bits stay in place when the window moves on.
 ghost use Rattle.std.specs.Prelude.{◌≡◌, ◌∷◌, ◌+◌, ◌/◌, ◌%◌, ◌<◌, ◌≤◌, ℕ, Some, true, false};
 ghost use Rattle.ref_window.specs.Numbers.{IsAboveAll, held_of};
 ghost use Rattle.ref_window.specs.Words.{ChangesBit, ClearsBits, has_bit, held_in};
 
-/// How far below the greatest number a number may be.
+/// How far below the greatest number a kept number may be.
 pub const SPAN: u64 = 4096;
 
 /// Words in the ring, of `WORD_BITS` bits each.
@@ -41,7 +41,7 @@ fn clear_bit(words: &mut Words, number: u64)
     words[word_of(number)] &= !(1 << (number % WORD_BITS));
 }
 
-// Clears the bits of the numbers from `from` to below `to`, whole words where it can, so in at most 190 steps.
+// Clears the bits of the numbers from `from` up to, but not including, `to`: whole words where it can, so in at most 190 steps.
 fn clear_bits(words: &mut Words, from: u64, to: u64)
     requires order { from ≤ to }
     requires span { to ≤ from + 4096 }
@@ -53,7 +53,7 @@ fn clear_bits(words: &mut Words, from: u64, to: u64)
     }
 }
 
-// Clears the bits of the numbers from `number` to below the result.
+// Clears the bits of the numbers from `number` up to, but not including, the result.
 fn clear_some(words: &mut Words, number: u64, to: u64) -> u64
     requires order { number < to }
     requires span { to ≤ number + 4096 }
@@ -76,7 +76,7 @@ fn clear_all(words: &mut Words)
     *words = [0; WORDS];
 }
 
-/// Updates the bits to those of the numbers below `number`, which is inserted after `greatest`, or as the first.
+/// Inserts `number`, the first one or one above `greatest`: the bits become those of the numbers in the window below `number`.
 pub fn move_on(words: &mut Words, greatest: Option<u64>, number: u64)
     requires { IsAboveAll number (held_in greatest words.old) }
     ensures { held_in (Some number) words.new ≡ held_of (number ∷ held_in greatest words.old) }

@@ -34,9 +34,9 @@ const PAYLOADS: [Row; 20] = [
     (&[0x10], NO_FLAGS, &[&[]]),
     (&[0x20, 0], NO_FLAGS, &[&[], &[]]),
     (&[0x30, 0, 0], NO_FLAGS, &[&[], &[], &[]]),
-    // a last element that is empty because a length takes all bytes
+    // an empty last element, because the first one's length takes all bytes
     (&[0x20, 2, 1, 2], NO_FLAGS, &[&[1, 2], &[]]),
-    // each flag by itself, and all
+    // each flag by itself, then all three
     (&[0x90], [true, false, false], &[&[]]),
     (&[0x50], [false, true, false], &[&[]]),
     (&[0x18], [false, false, true], &[&[]]),
@@ -44,7 +44,7 @@ const PAYLOADS: [Row; 20] = [
     // reserved bits
     (&[0x17, 9], NO_FLAGS, &[&[9]]),
     (&[0x27, 1, 9], NO_FLAGS, &[&[9], &[]]),
-    // lengths that are spelled longer than needed, up to eight bytes
+    // lengths in longer codes than needed, up to eight bytes
     (&[0x00, 0x80, 0], NO_FLAGS, &[&[]]),
     (&[0x00, 0x81, 0x80, 0, 9], NO_FLAGS, &[&[9]]),
     (
@@ -64,7 +64,7 @@ const FAULTS: [(&[u8], PayloadFault); 20] = [
     // W = 0 and nothing after the header, whatever its other bits
     (&[0x00], PayloadFault::NoElement),
     (&[0xCF], PayloadFault::NoElement),
-    // the bytes end where a length is due
+    // the bytes end where a length should begin
     (&[0x20], PayloadFault::Leb),
     (&[0x30, 1, 0xAA], PayloadFault::Leb),
     // the bytes end within a length
@@ -82,14 +82,14 @@ const FAULTS: [(&[u8], PayloadFault); 20] = [
         PayloadFault::Leb,
     ),
     (&[0x00, 0xFF, 0xFF, 0xFF, 0xFF, 0x0F], PayloadFault::Length),
-    // a length of one byte more than is left
+    // a length greater than the number of bytes that are left
     (&[0x00, 1], PayloadFault::Length),
     (&[0x00, 3, 0xAA, 0xBB], PayloadFault::Length),
     (&[0x00, 1, 0xAA, 3, 0xBB, 0xCC], PayloadFault::Length),
     (&[0x20, 3, 0xAA, 0xBB], PayloadFault::Length),
     (&[0x20, 5, 0x30], PayloadFault::Length),
     (&[0x30, 1, 0xAA, 2, 0xBB], PayloadFault::Length),
-    // the first fault is the one that counts
+    // the first of two faults is returned
     (&[0x30, 5, 0xAA, 0x80], PayloadFault::Length),
     (&[0x30, 0x80, 0x80], PayloadFault::Leb),
     (&[0x30, 0, 0x80], PayloadFault::Leb),

@@ -1,6 +1,6 @@
 #![tactic(auto)]
-//! Tests of the crates that read and write RTP, its header extensions, RTX and the AV1 payload. They are here and not in those crates,
-//! since a crate with tests is proved twice.
+//! Tests of the crates that read and write RTP, its header extensions, RTX and the AV1 payload. The tests aren't in those crates, since a
+//! crate with tests is proved twice.
 
 #[cfg(test)]
 mod av1_payload_tests;

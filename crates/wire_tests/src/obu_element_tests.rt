@@ -27,7 +27,7 @@ fn each_header_says_its_fields(rt: HostRuntime) {
         (&[0x36, 0xF8, 0x00], Ok(obu(6, 7, 3, true, 2))),
         (&[0x24, 0x20], Ok(obu(4, 1, 0, false, 2))),
         (&[0x24, 0x08], Ok(obu(4, 0, 1, false, 2))),
-        // the reserved bit, and the least and the greatest kind
+        // the reserved bit, and the least and the greatest type
         (&[0x31, 0xFF], Ok(obu(6, 0, 0, false, 1))),
         (&[0x00], Ok(obu(0, 0, 0, false, 1))),
         (&[0x7B], Ok(obu(15, 0, 0, true, 1))),
@@ -42,7 +42,7 @@ fn each_header_says_its_fields(rt: HostRuntime) {
     }
 }
 
-// Feeds packets, each given by its Z and Y. Returns what the last one gave, and whether no element is open after it.
+// Feeds packets, each given by its Z and Y. Returns the result for the last one, and whether no element is open after it.
 fn fed(packets: &[(bool, bool)]) -> (Result<(), JoinFault>, bool) {
     let mut joiner = Joiner::new();
     let mut last = Ok(());

@@ -18,7 +18,7 @@ fn check_elements(rt: &impl Abort, profile: u16, block: &[u8], wanted: &[(u8, &[
 #[test]
 fn each_block_has_its_elements(rt: HostRuntime) {
     let rows: [(u16, &[u8], &[(u8, &[u8])]); 17] = [
-        // padding, then id 15 ends processing
+        // padding, then id 15, which ends processing
         (
             0xBEDE,
             &[0x10, 0xAA, 0, 0xF0, 0x42, 0xC1, 0, 2],
@@ -30,9 +30,9 @@ fn each_block_has_its_elements(rt: HostRuntime) {
             &[1, 2, 0xAA, 0xBB, 0, 4, 0, 0],
             &[(1, &[0xAA, 0xBB]), (4, &[])],
         ),
-        // a value that would reach past the end
+        // a value that would reach past the end of the block
         (0xBEDE, &[0x44, 0xAA, 0, 0], &[]),
-        // no bytes, and padding alone
+        // an empty block, and padding alone
         (0xBEDE, &[], &[]),
         (0x1000, &[0, 0, 0, 0], &[]),
         // values of 1 and 16 bytes that end with the block
@@ -47,7 +47,7 @@ fn each_block_has_its_elements(rt: HostRuntime) {
         (0x1000, &[3, 1, 9, 3, 2, 8], &[(3, &[9])]),
         // id 0 with a length ends the one-byte form
         (0xBEDE, &[0x10, 9, 0x01, 8, 8, 0x20, 7], &[(1, &[9])]),
-        // id 15 is an id like others in the two-byte form
+        // id 15 is an ordinary id in the two-byte form
         (0x1000, &[15, 1, 9, 255, 0], &[(15, &[9]), (255, &[])]),
         // an id whose length byte is missing
         (0x1000, &[1, 0, 5], &[(1, &[])]),

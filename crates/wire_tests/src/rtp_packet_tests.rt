@@ -13,7 +13,7 @@ static FULL: [u8; 34] = [
     0, 1, 0x10, 0xAA, 0, 0, 7, 8, 9, 0, 0, 3,
 ];
 
-// The fault that is found in these bytes, if there is one.
+// The fault in these bytes, if there is one.
 fn fault(bytes: &[u8]) -> Option<RtpFault> {
     match read(bytes) {
         Ok(_) => None,
@@ -72,22 +72,22 @@ fn each_fault_comes_first_at_its_edge(rt: HostRuntime) {
     let rows: [(u8, &[u8], Option<RtpFault>); 14] = [
         // a fixed header alone
         (0x80, &[], None),
-        // other versions, whatever faults follow
+        // other versions are reported, whatever other faults follow
         (0x00, &[], version),
         (0x7F, &[], version),
         (0xC0, &[], version),
-        // one CSRC word, short by a byte and whole
+        // one CSRC word: one byte short, then whole
         (0x81, &[0, 0, 0], csrc),
         (0x81, &[0, 0, 0, 5], None),
-        // an extension of no words, and one of two words that lacks one
+        // an extension of no words, and one of two words of which one is missing
         (0x90, &[0xBE, 0xDE, 0, 0], None),
         (0x90, &[0xBE, 0xDE, 0, 2, 0, 0, 0, 0], extension),
-        // padding: no byte; a count of 0; a count of all bytes after the header; one more
+        // padding: no byte; a count of 0; a count of all bytes after the header; a count of one more
         (0xA0, &[], padding),
         (0xA0, &[9, 9, 0], padding),
         (0xA0, &[9, 9, 3], None),
         (0xA0, &[9, 9, 4], padding),
-        // the padding doesn't reach into the extension
+        // padding may not reach into the extension
         (0xB0, &[0xBE, 0xDE, 0, 0, 1], None),
         (0xB0, &[0xBE, 0xDE, 0, 0, 2], padding),
     ];

@@ -1,4 +1,4 @@
-//! The distances of a frame that are its own.
+//! Reads the distances of a frame that are its own, and not its template's.
 
 ghost use Rattle.dd_bits.specs.Reader.{bits_left};
 ghost use Rattle.dd_bits.specs.Sequences.{Gives};
@@ -23,7 +23,7 @@ fn next_distance(bits: &mut BitReader<'_>) -> Result<Option<u16>, DdFault>
     Ok(Some(less as u16 + 1))
 }
 
-/// Reads the distances, up to their end.
+/// Reads the distances, up to the code that ends them.
 pub fn distances(bits: &mut BitReader<'_>) -> Result<References, DdFault>
     ensures { Gives distances_in result bits.new (distances_at (bits_left bits.old)) }
 {

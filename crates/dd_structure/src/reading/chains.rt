@@ -36,7 +36,7 @@ fn fill_guard_list(
     Ok(())
 }
 
-/// Reads the chain that protects each decode target, in place of what was there.
+/// Reads into `out` which chain protects each decode target, in place of what was there.
 #[tactic(auto, unfolding(crate::specs::Reading::guards_at))]
 pub fn fill_guards(
     bits: &mut BitReader<'_>,
@@ -52,7 +52,7 @@ pub fn fill_guards(
 }
 
 /// Reads a link of `width` bits for each chain, in place of what was there. Returns `short` where there are too few bits; the reader may
-/// then have moved on, and `out` may hold any links. Out of line: few frames have links of their own.
+/// then have moved on, and `out` may contain any links. Out of line: few frames have links of their own.
 #[inline(never)]
 pub fn read_links_into<E: Copy>(
     bits: &mut BitReader<'_>,

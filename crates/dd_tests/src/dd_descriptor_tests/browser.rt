@@ -1,11 +1,11 @@
-//! The descriptors of a browser's encoder against the values of an independent parser.
+//! The descriptors of a browser's encoder, compared with the values of an independent parser.
 
 ghost use Rattle.std.specs.Prelude.{◌<◌};
 
 use super::real::REAL;
 use super::*;
 
-/// Cuts off and returns the text before the next byte `at`. Drops that byte.
+/// Cuts off the text before the next byte `at` and returns it. The byte itself is dropped.
 fn cut<'a>(text: &mut &'a [u8], at: u8) -> &'a [u8] {
     let all = *text;
     for (i, byte) in all.iter().enumerate() {
@@ -54,7 +54,7 @@ fn hex(text: &mut &[u8]) -> PacketBuf {
     out
 }
 
-/// The mask that the next word spells, target 0 first. `-` is the mask of all targets where a structure is carried, and else none.
+/// The mask in the next word, target 0 first. `-` is the mask of all targets if a structure is carried, and else no mask.
 fn mask(text: &mut &[u8], carries: bool, targets: usize) -> Option<u32> {
     let word = cut(text, b' ');
     if word == [b'-'].as_slice() {
@@ -124,7 +124,7 @@ fn digit_values(digits: &[u8]) -> [u8; 32] {
     out
 }
 
-/// Checks that a line's descriptor reads as the line says and is written back, and then the same with each other mask.
+/// Checks that a line's descriptor reads as the line says and is written back, and that it does so with each other mask.
 fn expect_line(rt: &impl Abort, line: &[u8]) -> Result<(), Fail> {
     let mut text = line;
     let structure = hex(&mut text);

@@ -24,7 +24,7 @@ const DISTANCES_TELLING_BOTH: [u8; 17] = [
     0x00,
 ];
 
-/// Fixed headers of packets with a header extension. The second also has a CSRC identifier, and padding at its packet's end.
+/// Fixed headers of packets with a header extension. The second also has one CSRC identifier, and the padding bit set.
 const HEADER: [u8; 12] = [0x90, 0xe0, 0x03, 0xe8, 1, 2, 3, 4, 0x11, 0x11, 0x11, 0x11];
 
 const PADDED_HEADER: [u8; 16] = [
@@ -54,7 +54,7 @@ fn laid(header: &[u8], extension: &[u8], tail: &[u8]) -> PacketBuf
     packet
 }
 
-/// The packet with the mask in the descriptor, which is the element with id 4. `None`: the packet isn't remasked, and the buffer is unchanged.
+/// The packet with the mask in its descriptor, the element with id 4. `None`: the packet isn't remasked, and the output is unchanged.
 fn remasked(
     packet: &[u8],
     force: Option<&Structure>,
@@ -142,7 +142,7 @@ fn frames_of_a_structure_in_force_tell_the_new_mask(rt: HostRuntime) -> Result<(
         0xbe, 0xde, 0x00, 0x02, 0x45, 0xc1, 0x00, 0x03, 0x47, 0xff, 0xff, 0,
     ];
     check(&HEADER, &behind, &PAYLOAD, force, 2, &told)?;
-    // A distance of the frame's own, a padding byte, and elements before and after the descriptor's, one of them with the descriptor's id again.
+    // Own distances of the frame, a padding byte, and elements before and after the descriptor's; one of them has the descriptor's id too.
     let among = [
         0xbe, 0xde, 0x00, 0x04, 0x31, 0xaa, 0xbb, 0x00, 0x44, 0xc3, 0x00, 0x06, 0x12, 0x00, 0x42,
         0xc1, 0x00, 0x03, 0x50, 0xcc,
@@ -211,7 +211,7 @@ fn a_descriptor_of_more_than_255_bytes_isnt_sent(rt: HostRuntime) -> Result<(), 
     new[256] = 0x08;
     new[260] = 0x10;
     check(&HEADER, &old, &PAYLOAD, None, 0x80000001, &new)?;
-    // With the distance 4 too, the descriptor has 2,009 bits and 32 of mask: more than 255 bytes.
+    // With the distance 4 too, the descriptor has 2,009 bits and 32 mask bits: more than 255 bytes.
     old[5] = 252;
     old[252] = 0x4c;
     let packet = laid(&HEADER, &old, &PAYLOAD);
@@ -222,7 +222,7 @@ fn a_descriptor_of_more_than_255_bytes_isnt_sent(rt: HostRuntime) -> Result<(), 
 #[test]
 fn a_packet_of_more_than_1536_bytes_isnt_sent(rt: HostRuntime) -> Result<(), Fail> {
     let structure = structure_of(&C)?;
-    // The descriptor, and 40 elements of one byte each: 97 bytes and three of padding before remasking, 139 and one after it.
+    // The descriptor, and 40 elements of one byte each. Before remasking: 97 bytes and three of padding; after it: 139 and one of padding.
     let mut old = [0; 104];
     old[..5].copy_from_slice(&[0xbe, 0xde, 0x00, 0x19, 0x4f]);
     old[5..21].copy_from_slice(&DISTANCES);
@@ -248,7 +248,7 @@ fn a_packet_of_more_than_1536_bytes_isnt_sent(rt: HostRuntime) -> Result<(), Fai
 #[test]
 fn a_packet_without_a_descriptor_that_reads_isnt_remasked(rt: HostRuntime) -> Result<(), Fail> {
     let structure = structure_of(&C)?;
-    // In turn: no structure in force; template 63, which C doesn't have; another id; a cut descriptor; no element.
+    // In turn: no structure in force; template 63, which C lacks; another id; a truncated descriptor; no element.
     let frame = [0xbe, 0xde, 0x00, 0x01, 0x42, 0xc2, 0x00, 0x02];
     let rows: [(&[u8], Option<&Structure>); 5] = [
         (&frame, None),

@@ -1,4 +1,4 @@
--- The decisions of selection in words, and the laws that tie the rules to them: where a target is closed, what a frame opens, and what
+-- The decisions of selection in words, and the laws that tie the rules to them: when a target is closed, what a frame opens, and what
 -- each verdict claims. Own statements, over AV1 RTP payload format, Appendix A. The rules are tests that compute, as the code's are.
 use Rattle.std.specs.Prelude.{◌≡◌, ◌≢◌, ◌⊎◌, ◌+◌, ◌<◌, ◌≤◌, ℕ, List, [], ◌∷◌, ◌++◌, Bool, true, false}
 use Rattle.std.specs.List.{AllByRecursion}
@@ -28,7 +28,7 @@ pub record IsBrokenLink (has : ℕ → Bool) (f : FrameMeaning) (target opened :
   pub late : opened + chain_link f target ≤ f.number
   pub lost : has (chain_link f target) ≡ false
 
--- where f comes, this target is open, in f's epoch
+-- when f comes, this target is open, in f's epoch
 pub record IsOpenAt (s : Standing) (f : FrameMeaning) (target opened : ℕ) : Type 0 where
   pub epoch : s.epoch ≡ Some f.epoch
   pub target_is : s.target ≡ Open target opened
@@ -43,13 +43,13 @@ abbrev pub OtherLinksKeep : Type 0
 OtherLinksKeep = (has : ℕ → Bool) (f : FrameMeaning) (target opened : ℕ) → (IsBrokenLink has f target opened → ⊥)
     → target_after_link has f (Open target opened) ≡ Open target opened
 
--- so where an open target that f's mask has has a broken link, the chain is found broken at f
+-- so if the target is open, the mask of f has it, and its link is broken, the chain is found broken at f
 abbrev pub BrokenLinksBreak : Type 0
 BrokenLinksBreak = (s : Standing) (f : FrameMeaning) (target opened : ℕ) → IsOpenAt s f target opened → is_active f target ≡ true
     → IsBrokenLink (has_passed s f) f target opened → BreaksAt s f
 
--- Why a target is closed at f: its link is broken and names the frame with this number; or f is of another epoch, or its mask hasn't the
--- target.
+-- Why a target is closed at f: its link is broken and names the frame with this number; or f is of another epoch; or the mask of f lacks
+-- the target.
 abbrev pub ClosesAt : Standing → FrameMeaning → Reason → Type 0
 ClosesAt s f (BrokenLink at number) =
     (at ≡ f.number) × (target : ℕ) × (opened : ℕ) × IsOpenAt s f target opened × (is_active f target ≡ true)
@@ -61,7 +61,7 @@ ClosesAt s f (NotOpened since) =
 abbrev pub ClosesNone : Standing → FrameMeaning → Type 0
 ClosesNone s f = (reason : Reason) → ClosesAt s f reason → ⊥
 
--- A frame of the timeline closed the target for this reason. It was the last frame to close one, and no frame passed since.
+-- A frame of the timeline closed the target for this reason. It was the last frame to close a target, and no frame passed since.
 pub record WasClosedFor {S : Type 0} (wish : Wish) (events : List (Event S)) (reason : Reason) : Type 0 where
   pub since : List (Event S)
   pub frame : Frame S
@@ -71,7 +71,7 @@ pub record WasClosedFor {S : Type 0} (wish : Wish) (events : List (Event S)) (re
   pub none_passed : (standing wish events).passed ≡ (standing wish past).passed
   pub last : EachFrameSince (λ before later. ClosesNone (standing wish before) later.meaning) since (WholeFrame frame ∷ past)
 
--- once a frame came, a target is closed for the reason that it has
+-- once a frame has come, a target is closed for the reason that it has
 abbrev pub ReasonsHold : Type 0 → Type 0
 ReasonsHold S = (wish : Wish) (events : List (Event S)) (reason : Reason) → frames_of events ≢ [] → (standing wish events).target ≡ Closed reason
     → WasClosedFor wish events reason
@@ -92,14 +92,14 @@ pub record CanOpen (has : ℕ → Bool) (key_passed : Bool) (wish : Wish) (f : F
   pub keyed : (f.key ≡ true) ⊎ (key_passed ≡ true)
   pub upgrade : IsUpgrade wish f current target
 
--- what f opens it can open, and each other that it can open is worse
+-- a frame can open what it opens, and each other target that it can open is worse
 abbrev pub OpensTheBest : Type 0
 OpensTheBest = (has : ℕ → Bool) (key_passed : Bool) (wish : Wish) (f : FrameMeaning) (current : CurrentTarget) (target : ℕ)
     → opening has key_passed wish f current ≡ Some target
     → CanOpen has key_passed wish f current target
     × ((other : ℕ) → CanOpen has key_passed wish f current other → (other ≡ target) ⊎ IsBetter f target other)
 
--- where f opens nothing it can open nothing
+-- a frame that opens nothing can open nothing
 abbrev pub OpensWhatItCan : Type 0
 OpensWhatItCan = (has : ℕ → Bool) (key_passed : Bool) (wish : Wish) (f : FrameMeaning) (current : CurrentTarget) (target : ℕ)
     → opening has key_passed wish f current ≡ None → CanOpen has key_passed wish f current target → ⊥
@@ -115,7 +115,7 @@ PassesInTarget = (has : ℕ → Bool) (key_passed : Bool) (wish : Wish) (f : Fra
 
 -- ---- what each verdict claims
 
--- f's first reference that wasn't passed lies d back
+-- the first reference of f that wasn't passed is d numbers back
 pub record IsFirstMissing (has : ℕ → Bool) (f : FrameMeaning) (d : ℕ) : Type 0 where
   pub before : List ℕ
   pub behind : List ℕ
@@ -131,7 +131,7 @@ pub record IsClosedAt (s : Standing) (f : FrameMeaning) (reason : Reason) : Type
   pub kept : kept_target_at s f ≡ Closed reason
   pub opens_none : (target : ℕ) → CanOpen (has_passed s f) (key_passed s f) s.wish f (kept_target_at s f) target → ⊥
 
--- the target of f: the candidate, or the aim where none is open
+-- the target of f: the candidate, or the aim if no target is open
 abbrev pub IsTargetOf : Standing → FrameMeaning → ℕ → Type 0
 IsTargetOf s f target =
     ((opened : ℕ) × (candidate_at s f ≡ Open target opened)) ⊎ ((reason : Reason) × IsClosedAt s f reason × (aim s.wish f ≡ Some target))

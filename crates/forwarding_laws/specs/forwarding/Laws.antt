@@ -1,4 +1,4 @@
--- The laws of forwarding, over every timeline: own statements. The laws that tie a definition to its words stand beside those words.
+-- The laws of forwarding, over every timeline: own statements. The laws that tie a definition to its words are next to those words.
 -- S is the type of template dependency structures.
 use Rattle.std.specs.Prelude.{◌≡◌, ◌≢◌, ◌+◌, ◌<◌, ◌≤◌, ℕ, List, ◌∷◌, ◌++◌, Bool, true, false, length}
 use Rattle.std.specs.List.{AllByRecursion}
@@ -27,12 +27,12 @@ abbrev pub AreDecodable : Type 0 → Type 0
 AreDecodable S = (wish : Wish) (events : List (Event S))
     → AllByRecursion (λ f. IsDecodable (of_epoch f.epoch (standing wish events).passed) f) (standing wish events).passed
 
--- where a chain is found broken at f, and f passes, f is a restart
+-- if a chain is found broken at f, and f passes, f is a restart
 abbrev pub RestartsAtOnce : Type 0 → Type 0
 RestartsAtOnce S = (wish : Wish) (past : List (Event S)) (f : FrameMeaning) (packets : ℕ) → BreaksAt (standing wish past) f
     → passes_at (standing wish past) f packets ≡ true → IsRestart (standing wish past) f
 
--- where a chain is found broken at a frame, and nothing passed since, the next frame that passes is a restart
+-- if a chain is found broken at a frame, and nothing passed since, the next frame that passes is a restart
 abbrev pub RestartsLater : Type 0 → Type 0
 RestartsLater S = (wish : Wish) (past since : List (Event S)) (frame : Frame S) (f : FrameMeaning) (packets : ℕ) → BreaksAt (standing wish past) frame.meaning
     → (standing wish (since ++ WholeFrame frame ∷ past)).passed ≡ (standing wish past).passed
@@ -43,7 +43,7 @@ abbrev pub EndsAtRoot : Type 0 → Type 0
 EndsAtRoot S = (wish : Wish) (events : List (Event S)) (n : ℕ) → IsOneTrack (meanings_of events) → IsWithheld wish events n
     → IsPath (path (cause wish events) n)
 
--- and so does the path of each number whose cause isn't that it passed
+-- and so does the path of each number whose cause isn't `Passed`
 abbrev pub EndsAtRootUnpassed : Type 0 → Type 0
 EndsAtRootUnpassed S = (wish : Wish) (events : List (Event S)) (n : ℕ) → IsOneTrack (meanings_of events) → cause wish events n ≢ Passed
     → IsPath (path (cause wish events) n)
@@ -59,7 +59,7 @@ abbrev pub PathsBegin : Type 0 → Type 0
 PathsBegin S = (wish : Wish) (events : List (Event S)) (n : ℕ)
     → (steps : List Step) × (path (cause wish events) n ≡ record { number = n; verdict = cause wish events n } ∷ steps)
 
--- a number is too old where it lies below the oldest that can be asked for, and ahead where it lies above the newest frame
+-- a number is too old if it is below the oldest whose cause is known, and ahead if it is above the newest frame's
 abbrev pub TooOldIsBelow : Type 0
 TooOldIsBelow = (newest n : ℕ)
     → (is_too_old (Some newest) n ≡ true → n < oldest_asked newest) × (is_too_old (Some newest) n ≡ false → oldest_asked newest ≤ n)
@@ -71,32 +71,32 @@ AheadIsAbove = (newest n : ℕ) → (is_ahead (Some newest) n ≡ true → newes
 abbrev pub PathsTellCauses : Type 0 → Type 0
 PathsTellCauses S = (wish : Wish) (events : List (Event S)) (n : ℕ) → TellsCauses (cause wish events) (path (cause wish events) n)
 
--- sequence numbers that go out are consecutive modulo 65,536
+-- outgoing sequence numbers are consecutive modulo 65,536
 abbrev pub AreNumberedInOrder : Type 0 → Type 0
 AreNumberedInOrder S = (send : Sender S) (subscriber : Subscriber) (events : List (Event S)) → AreConsecutive (outgoing send subscriber events)
 
--- whatever comes, what went out stays as it was, and more comes behind it
+-- whatever comes, what was forwarded stays as it was, and more follows it
 abbrev pub OnlyGrows : Type 0 → Type 0
 OnlyGrows S = (send : Sender S) (subscriber : Subscriber) (since past : List (Event S))
     → (more : List Packet) × (outgoing send subscriber (since ++ past) ≡ outgoing send subscriber past ++ more)
 
--- A packet that a take gave is what a resend of its number gives, whatever came since, as long as it is among the last 1,024 taken.
+-- A retransmission of a taken packet's number returns that packet, whatever came since, if it is among the last 1,024 taken.
 abbrev pub ResendsFirstBytes : Type 0 → Type 0
 ResendsFirstBytes S = (send : Sender S) (subscriber : Subscriber) (past since : List (Event S)) (packet : Packet)
     → next_packet send subscriber past ≡ Some packet → takes_of (since ++ Take ∷ past) ≤ takes_of past + 1024
     → resent send subscriber (since ++ Take ∷ past) packet.sequence_number ≡ Some packet
 
--- and what a resend gives is a kept packet with that number
+-- and a retransmission returns a kept packet with that number
 abbrev pub ResendsKept : Type 0 → Type 0
 ResendsKept S = (send : Sender S) (subscriber : Subscriber) (events : List (Event S)) (n : ℕ) (packet : Packet) → resent send subscriber events n ≡ Some packet
     → IsMember packet (kept send subscriber events) × (packet.sequence_number ≡ n)
 
--- the number that a standing has as queued is that of the packets that weren't taken
+-- a standing's number of queued packets is that of the packets that weren't taken
 abbrev pub QueuesTheRest : Type 0 → Type 0
 QueuesTheRest S = (send : Sender S) (subscriber : Subscriber) (events : List (Event S)) → KeepsCount send → FindPackets send subscriber events
     → (standing subscriber.wish events).queued ≡ length (queue send subscriber events)
 
--- setting the marker of a frame's last packet changes nothing of what is read, nor how many packets there are
+-- setting the marker of a frame's last packet changes neither what is read nor how many packets there are
 abbrev pub MarkingKeepsWhole : Type 0 → Type 0
 MarkingKeepsWhole S = (format : Format S) (frame : Frame S) → IsWholeFrame format frame → IsSentWhole format send_marked frame
 
@@ -117,7 +117,7 @@ abbrev pub OpeningIsBest : Type 0
 OpeningIsBest = (wish : Wish) (complete keyed : Bool) (f : FrameMeaning) (current : CurrentTarget)
     → IsBest f (can_open wish complete keyed f current) f.target_count (best f (can_open wish complete keyed f current))
 
--- the verdict is that a frame passed exactly when it passes
+-- the verdict on a frame is `Passed` exactly when the frame passes
 abbrev pub PassedWherePasses : Type 0
 PassedWherePasses = (has : ℕ → Bool) (key_passed : Bool) (wish : Wish) (f : FrameMeaning) (current : CurrentTarget) (queued packets : ℕ)
     → passes has key_passed wish f current queued packets ≡ true → verdict has key_passed wish f current queued packets ≡ Passed
@@ -133,7 +133,7 @@ PassesLinked = (has : ℕ → Bool) (key_passed : Bool) (wish : Wish) (f : Frame
     → passes has key_passed wish f current queued packets ≡ true
     → IsOpenAndLinked has key_passed wish f current (candidate has key_passed wish f current)
 
--- two tests that agree on what a frame names decide alike
+-- two tests that agree on the frames that a frame names lead to the same decisions
 abbrev pub KeepAlike : Type 0
 KeepAlike = (p q : ℕ → Bool) (f : FrameMeaning) (current : CurrentTarget) → Agree p q f → kept_target p f current ≡ kept_target q f current
 

@@ -15,12 +15,12 @@ use Rattle.forwarding_laws.specs.forwarding.Decisions.{CanOpen, ClosesNone}
 
 -- ---- the candidate
 
--- where f opens nothing, the candidate is what f leaves of the target, with its opening frame
+-- if f opens nothing, the candidate is the target after f's closing rules, with its opening frame
 abbrev pub NothingOpenedIsKept : Type 0
 NothingOpenedIsKept = (has : ℕ → Bool) (key_passed : Bool) (wish : Wish) (f : FrameMeaning) (current : CurrentTarget)
     → opening has key_passed wish f (kept_target has f current) ≡ None → candidate has key_passed wish f current ≡ kept_target has f current
 
--- where f opens a target, that is the candidate, and f is its opening frame
+-- if f opens a target, this target is the candidate, and f is its opening frame
 abbrev pub OpenedTargetsAreCandidates : Type 0
 OpenedTargetsAreCandidates = (has : ℕ → Bool) (key_passed : Bool) (wish : Wish) (f : FrameMeaning) (current : CurrentTarget) (target : ℕ)
     → opening has key_passed wish f (kept_target has f current) ≡ Some target
@@ -31,12 +31,12 @@ OpenedTargetsAreCandidates = (has : ℕ → Bool) (key_passed : Bool) (wish : Wi
 abbrev pub CanOpenAt : Standing → FrameMeaning → ℕ → Type 0
 CanOpenAt s f target = CanOpen (has_passed s f) (key_passed s f) s.wish f (kept_target_at s f) target
 
--- f can open the target, and each other that it can open is worse
+-- f can open the target, and each other target that f can open is worse
 pub record OpensAt (s : Standing) (f : FrameMeaning) (target : ℕ) : Type 0 where
   pub can : CanOpenAt s f target
   pub best : (other : ℕ) → CanOpenAt s f other → (other ≡ target) ⊎ IsBetter f target other
 
--- f closes no target, and, where it passes, opens none
+-- f closes no target, and, if it passes, opens none
 pub record LeavesOpen (s : Standing) (f : FrameMeaning) (packets : ℕ) : Type 0 where
   pub closes_none : ClosesNone s f
   pub opens_none : passes_at s f packets ≡ true → (other : ℕ) → CanOpenAt s f other → ⊥

@@ -1,4 +1,4 @@
--- What goes out at a frame, and its markers and numbers, in words. RFC 3550, section 5.1; own rule for which packet gets the marker, over
+-- What is forwarded at a frame, with markers and numbers, in words. RFC 3550, section 5.1; own rule for which packet gets the marker, over
 -- AV1 RTP payload format, section 4.2. Own statements.
 use Rattle.std.specs.Prelude.{◌≡◌, ◌↔◌, ◌+◌, ◌%◌, ℕ, List, [], ◌∷◌, ◌++◌, true, false, length, slice_get}
 use Rattle.std.specs.Option.{option_map}
@@ -26,18 +26,18 @@ pub record EndsThePicture (f : FrameMeaning) (current : CurrentTarget) : Type 0 
 abbrev pub TopLayerInWords : Type 0
 TopLayerInWords = (f : FrameMeaning) (current : CurrentTarget) → (is_top_layer f current ≡ true) ↔ EndsThePicture f current
 
--- such a frame goes out with the marker set on its last packet, whether or not it stood there, and with nothing else changed
+-- such a frame is forwarded with the marker set on its last packet, whether or not it was set before, and with nothing else changed
 abbrev pub LastPacketsAreMarked : Type 0 → Type 0
 LastPacketsAreMarked S = (frame : Frame S) (target : CurrentTarget) (before : List Packet) (last : Packet)
     → is_top_layer frame.meaning target ≡ true
     → frame.packets ≡ before ++ last ∷ [] → send_marked frame target ≡ before ++ record last { marker = true } ∷ []
 
--- and any other frame as it is: a marker that stands is kept
+-- and any other frame is forwarded as it is: a marker that is set stays set
 abbrev pub OtherMarkersAreKept : Type 0 → Type 0
 OtherMarkersAreKept S = (frame : Frame S) (target : CurrentTarget) → is_top_layer frame.meaning target ≡ false
     → send_marked frame target ≡ frame.packets
 
--- the packets of a frame that passes go out behind all before them, with the next numbers, as they are sent for the frame's candidate
+-- the packets of a frame that passes follow all forwarded before, with the next numbers, as they are sent for the frame's candidate
 abbrev pub PassingFramesGoOut : Type 0 → Type 0
 PassingFramesGoOut S = (send : Sender S) (subscriber : Subscriber) (frame : Frame S) (past : List (Event S))
     → passes_at (standing subscriber.wish past) frame.meaning (length frame.packets) ≡ true
@@ -46,7 +46,7 @@ PassingFramesGoOut S = (send : Sender S) (subscriber : Subscriber) (frame : Fram
     ++ numbered (subscriber.first + length (outgoing send subscriber past)) subscriber.ssrc
     (send frame (candidate_at (standing subscriber.wish past) frame.meaning))
 
--- and nothing goes out at a frame that doesn't pass, at a change of the wish, or at a take
+-- and nothing is forwarded at a frame that doesn't pass, at a change of the wish, or at a take
 abbrev pub NothingElseGoesOut : Type 0 → Type 0
 NothingElseGoesOut S = (send : Sender S) (subscriber : Subscriber) (frame : Frame S) (wish : Wish) (past : List (Event S))
     → (passes_at (standing subscriber.wish past) frame.meaning (length frame.packets) ≡ false
@@ -54,7 +54,7 @@ NothingElseGoesOut S = (send : Sender S) (subscriber : Subscriber) (frame : Fram
     × (outgoing send subscriber (WishChange wish ∷ past) ≡ outgoing send subscriber past)
     × (outgoing send subscriber (Take ∷ past) ≡ outgoing send subscriber past)
 
--- the i-th packet, from 0, has the i-th number and the subscriber's SSRC, and is else as it was
+-- the i-th packet, counted from 0, has the i-th number and the subscriber's SSRC, and is otherwise as it was
 abbrev pub PacketsAreRenumbered : Type 0
 PacketsAreRenumbered = (n ssrc : ℕ) (packets : List Packet) (i : ℕ)
     → slice_get (numbered n ssrc packets) i ≡ option_map (renumbered (n + i) ssrc) (slice_get packets i)

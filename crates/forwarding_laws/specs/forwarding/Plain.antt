@@ -1,5 +1,5 @@
--- What goes out to subscribers of plain tracks, in words, and that no queue gets longer than 512 packets. Own rules.
--- The other laws on what goes out (numbers, takes, resends) are of all timelines, those of plain tracks among them.
+-- What is forwarded to subscribers of plain tracks, in words, and that no queue gets longer than 512 packets. Own rules.
+-- The other laws on forwarded packets (numbers, takes, retransmissions) are about all timelines, also those of plain tracks.
 use Rattle.std.specs.Prelude.{◌≡◌, ◌+◌, ◌%◌, ◌<◌, ◌≤◌, ℕ, List, [], ◌∷◌, ◌++◌, length}
 use Rattle.std.specs.declared.option.Option.TheVariants.{Some}
 use Rattle.sfu_base.specs.declared.frame.Wish.{Wish}
@@ -9,17 +9,17 @@ use Rattle.forwarding_model.specs.forwarding.Standing.{standing}
 use Rattle.forwarding_model.specs.forwarding.Outgoing.{Sender, Subscriber, FindPackets, outgoing}
 use Rattle.forwarding_model.specs.History.{Entry, plain_timeline, subscriber_of}
 
--- the packet as it came, but for its number and its SSRC
+-- the packet as it came, except for its number and its SSRC
 abbrev pub renumbered : ℕ → ℕ → Packet → Packet
 renumbered n ssrc packet = record { sequence_number = n % 65536; ssrc = ssrc; marker = packet.marker; rest = packet.rest }
 
--- where fewer than 512 packets are queued, a plain packet goes out behind all before it, with the next number
+-- if fewer than 512 packets are queued, a plain packet is forwarded after all before it, with the next number
 abbrev pub PlainPacketsGoOut : Type 0 → Type 0
 PlainPacketsGoOut S = (send : Sender S) (subscriber : Subscriber) (packet : Packet) (past : List (Event S)) → (standing subscriber.wish past).queued < 512
     → outgoing send subscriber (PlainPacket packet ∷ past)
     ≡ outgoing send subscriber past ++ renumbered (subscriber.first + length (outgoing send subscriber past)) subscriber.ssrc packet ∷ []
 
--- and else it doesn't
+-- and otherwise it isn't
 abbrev pub FullQueuesTakeNone : Type 0 → Type 0
 FullQueuesTakeNone S = (send : Sender S) (subscriber : Subscriber) (packet : Packet) (past : List (Event S)) → 512 ≤ (standing subscriber.wish past).queued
     → outgoing send subscriber (PlainPacket packet ∷ past) ≡ outgoing send subscriber past

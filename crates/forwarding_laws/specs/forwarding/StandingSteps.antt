@@ -1,4 +1,4 @@
--- A standing step by step, in words: what a frame leaves of the target, and what each event makes of a standing. Own statements, over AV1
+-- How a standing changes, in words: what a frame leaves of the target, and how each event changes a standing. Own statements, over AV1
 -- RTP payload format, Appendix A (active_decode_targets_bitmask, chains).
 use Rattle.std.specs.Prelude.{◌≡◌, ◌≢◌, ◌+◌, ◌-◌, ◌<◌, ◌≤◌, ℕ, List, [], ◌∷◌, true, false, length}
 use Rattle.std.specs.declared.option.Option.TheVariants.{None, Some}
@@ -21,22 +21,22 @@ abbrev pub OtherEpochsBeginAnew : Type 0
 OtherEpochsBeginAnew = (s : Standing) (f : FrameMeaning) → s.epoch ≢ Some f.epoch
     → (passed_at s f ≡ []) × (kept_target_at s f ≡ Closed (NotOpened f.number))
 
--- within an epoch all that passed of it counts
+-- within an epoch, all frames of it that passed count
 abbrev pub EpochsGoOn : Type 0
 EpochsGoOn = (s : Standing) (f : FrameMeaning) → s.epoch ≡ Some f.epoch → passed_at s f ≡ s.epoch_passed
 
--- an open target that f's mask hasn't is closed, since f
+-- an open target that the mask of f lacks is closed, since f
 abbrev pub MasksClose : Type 0
 MasksClose = (s : Standing) (f : FrameMeaning) (target opened : ℕ) → IsOpenAt s f target opened → is_active f target ≡ false
     → kept_target_at s f ≡ Closed (NotOpened f.number)
 
--- one whose link is broken is closed at f, for the frame that the link names
+-- a target whose link is broken is closed at f, because of the frame that the link names
 abbrev pub LinksClose : Type 0
 LinksClose = (s : Standing) (f : FrameMeaning) (target opened number : ℕ) → IsOpenAt s f target opened → is_active f target ≡ true
     → IsBrokenLink (has_passed s f) f target opened → number + chain_link f target ≡ f.number
     → kept_target_at s f ≡ Closed (BrokenLink f.number number)
 
--- and any other stays open, with its opening frame
+-- and any other target stays open, with its opening frame
 abbrev pub OtherTargetsStay : Type 0
 OtherTargetsStay = (s : Standing) (f : FrameMeaning) (target opened : ℕ) → IsOpenAt s f target opened → is_active f target ≡ true
     → (IsBrokenLink (has_passed s f) f target opened → ⊥) → kept_target_at s f ≡ Open target opened
@@ -54,7 +54,7 @@ ClosingFramesClose = (s : Standing) (f : FrameMeaning) (reason : Reason) → Clo
 abbrev pub OtherFramesKeep : Type 0
 OtherFramesKeep = (s : Standing) (f : FrameMeaning) → ClosesNone s f → kept_target_at s f ≡ s.target
 
--- ---- what an event makes of a standing
+-- ---- how an event changes a standing
 
 -- f passed: it is the newest of what passed, of its epoch and in all; the candidate is the target; its packets are queued
 pub record TakesIn (before : Standing) (f : FrameMeaning) (packets : ℕ) (after : Standing) : Type 0 where
@@ -84,19 +84,19 @@ OtherFramesAreWithheld S = (wish : Wish) (frame : Frame S) (past : List (Event S
     → passes_at (standing wish past) frame.meaning (length frame.packets) ≡ false
     → Withholds (standing wish past) frame.meaning (standing wish (WholeFrame frame ∷ past))
 
--- a packet of a plain track changes the queue alone, and where it has 512 packets nothing
+-- a packet of a plain track changes only the queue, and nothing if 512 packets are queued
 abbrev pub PlainPacketsAreQueued : Type 0 → Type 0
 PlainPacketsAreQueued S = (wish : Wish) (packet : Packet) (past : List (Event S))
     → ((standing wish past).queued < 512
     → standing wish (PlainPacket packet ∷ past) ≡ record (standing wish past) { queued = (standing wish past).queued + 1 })
     × (512 ≤ (standing wish past).queued → standing wish (PlainPacket packet ∷ past) ≡ standing wish past)
 
--- a change of the wish changes the wish alone
+-- a change of the wish changes only the wish
 abbrev pub WishesChangeAlone : Type 0 → Type 0
 WishesChangeAlone S = (wish changed : Wish) (past : List (Event S))
     → standing wish (WishChange changed ∷ past) ≡ record (standing wish past) { wish = changed }
 
--- a take changes the queue alone
+-- a take changes only the queue
 abbrev pub TakesChangeTheQueue : Type 0 → Type 0
 TakesChangeTheQueue S = (wish : Wish) (past : List (Event S))
     → standing wish (Take ∷ past) ≡ record (standing wish past) { queued = (standing wish past).queued - 1 }

@@ -1,4 +1,4 @@
--- What was taken and what is kept, in words. Own statements. The code gives packets one by one and keeps the last of them.
+-- What was taken and what is kept, in words. Own statements. The code returns packets one by one and keeps the last of them.
 use Rattle.std.specs.Prelude.{◌≡◌, ◌≢◌, ◌⊎◌, ◌+◌, ◌%◌, ◌<◌, ◌≤◌, ℕ, List, [], ◌∷◌, ◌++◌, length}
 use Rattle.std.specs.declared.option.Option.{Option}
 use Rattle.std.specs.declared.option.Option.TheVariants.{None, Some}
@@ -10,7 +10,7 @@ abbrev pub and_last : List Packet → Option Packet → List Packet
 and_last packets None = packets
 and_last packets (Some packet) = packets ++ packet ∷ []
 
--- what the takes gave, one after another: at each, the packet that was next
+-- what the takes returned, one after another: each the packet that was next
 abbrev pub given : {S : Type 0} → Sender S → Subscriber → List (Event S) → List Packet
 given send subscriber [] = []
 given send subscriber (WholeFrame frame ∷ past) = given send subscriber past
@@ -18,12 +18,12 @@ given send subscriber (PlainPacket packet ∷ past) = given send subscriber past
 given send subscriber (WishChange wish ∷ past) = given send subscriber past
 given send subscriber (Take ∷ past) = and_last (given send subscriber past) (next_packet send subscriber past)
 
--- where each take found a packet, those are what was taken
+-- if each take found a packet, the returned packets are those that were taken
 abbrev pub TakesGiveWhatWasTaken : Type 0 → Type 0
 TakesGiveWhatWasTaken S = (send : Sender S) (subscriber : Subscriber) (events : List (Event S)) → FindPackets send subscriber events
     → given send subscriber events ≡ taken send subscriber events
 
--- what is kept is the end of what was taken: at most 1,024 packets, and fewer only where no more were taken
+-- the kept packets are the last that were taken: at most 1,024, and fewer only if no more were taken
 abbrev pub KeepsTheLast : Type 0 → Type 0
 KeepsTheLast S = (send : Sender S) (subscriber : Subscriber) (events : List (Event S))
     → (older : List Packet) × (taken send subscriber events ≡ older ++ kept send subscriber events) × (length (kept send subscriber events) ≤ 1024)
@@ -39,14 +39,14 @@ abbrev pub OldestIsKept : Type 0 → Type 0
 OldestIsKept S = (send : Sender S) (subscriber : Subscriber) (events : List (Event S))
     → (oldest_number send subscriber events + length (kept send subscriber events)) % 65536 ≡ next_number send subscriber events
 
--- the oldest number is that of the oldest packet that is kept, and where none is kept the next number
+-- the oldest number is that of the oldest packet that is kept, or, if none is kept, the next number
 abbrev pub OldestIsTold : Type 0 → Type 0
 OldestIsTold S = (send : Sender S) (subscriber : Subscriber) (events : List (Event S))
     → (kept send subscriber events ≡ [] → oldest_number send subscriber events ≡ next_number send subscriber events)
     × ((packet : Packet) (packets : List Packet) → kept send subscriber events ≡ packet ∷ packets
     → oldest_number send subscriber events ≡ packet.sequence_number)
 
--- a number that lies behind the kept ones isn't resent, and each kept one is
+-- a number outside the kept ones isn't retransmitted, and each kept one is
 abbrev pub ResendsTheKeptNumbers : Type 0 → Type 0
 ResendsTheKeptNumbers S = (send : Sender S) (subscriber : Subscriber) (events : List (Event S)) (i : ℕ)
     → (i < length (kept send subscriber events) → resent send subscriber events ((oldest_number send subscriber events + i) % 65536) ≢ None)

@@ -8,7 +8,7 @@ use Rattle.sfu_base.specs.declared.frame.Dti.TheVariants.{NotPresent, Switch}
 use Rattle.sfu_base.specs.declared.frame.Wish.{Wish}
 use Rattle.forwarding_model.specs.forwarding.Targets.{indication, is_switch, is_present, is_active, is_allowed, layers}
 
--- a number's bit is one: the number is put together of the bits above it, this one, and the bits below it
+-- a number's bit is 1: the number is the sum of the bits above it, this bit, and the bits below it
 pub record HasBit (number bit : ℕ) : Type 0 where
   pub above : ℕ
   pub below : ℕ
@@ -23,11 +23,11 @@ pub record IsAllowed (wish : Wish) (f : FrameMeaning) (target : ℕ) : Type 0 wh
   pub spatial : pair.spatial ≤ wish.spatial
   pub temporal : pair.temporal ≤ wish.temporal
 
--- a target is active where its bit is set in the mask
+-- a target is active if its bit is set in the mask
 abbrev pub ActiveInWords : Type 0
 ActiveInWords = (f : FrameMeaning) (target : ℕ) → (is_active f target ≡ true) ↔ HasBit f.mask target
 
--- a frame is a switch for a target where its indication says so
+-- a frame is a switch for a target if its indication says so
 abbrev pub SwitchInWords : Type 0
 SwitchInWords = (f : FrameMeaning) (target : ℕ) → (is_switch f target ≡ true) ↔ (indication f target ≡ Switch)
 

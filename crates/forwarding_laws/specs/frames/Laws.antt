@@ -1,5 +1,5 @@
--- The laws of the frames that a track's items make, and of runs and cuts: own statements. Those that tell the frames in words stand in
--- `Making`. S is the type of template dependency structures, X that of what a part brings with it.
+-- The laws of the frames that a track's items make, and of runs and cuts: own statements. The laws that say in words which frames these
+-- are, are in `Making`. S is the type of template dependency structures, X that of the data that a part carries.
 use Rattle.std.specs.Prelude.{◌≡◌, ◌⊎◌, List, ◌∷◌, ◌++◌, true, false}
 use Rattle.std.specs.List.{AllByRecursion}
 use Rattle.std.specs.declared.option.Option.{Option}
@@ -12,15 +12,15 @@ use Rattle.forwarding_model.specs.frames.Cuts.Outcome.{IsPadding, IsWhole, IsPar
 use Rattle.forwarding_model.specs.frames.Frames.{Item, frames_after, frames_since}
 use Rattle.forwarding_laws.specs.frames.WholeFrames.{IsReadFrame, IsTrack}
 
--- the frames that come out of items are one track's frames, each whole
+-- the frames that items make are one track's frames, each whole
 abbrev pub FramesAreTrack : Type 0 → Type 0
 FramesAreTrack S = (format : Format S) (items : List Item) → IsFormat format → IsTrack format (frames_after format items)
 
--- and what each means is told by a structure that was carried
+-- and the meaning of each was read with a structure that was carried
 abbrev pub FramesAreRead : Type 0 → Type 0
 FramesAreRead S = (format : Format S) (items : List Item) → IsFormat format → AllByRecursion (IsReadFrame format) (frames_after format items)
 
--- the frames of items that came after others are added in front
+-- the frames of items that came after others are added at the start of the list
 abbrev pub FramesAreAdded : Type 0 → Type 0
 FramesAreAdded S = (format : Format S) (items older : List Item)
     → frames_after format (items ++ older) ≡ frames_since format older items ++ frames_after format older
@@ -29,11 +29,11 @@ FramesAreAdded S = (format : Format S) (items older : List Item)
 abbrev pub NewestAreTrack : Type 0 → Type 0
 NewestAreTrack S = (format : Format S) (newest older : List (Frame S)) → IsTrack format (newest ++ older) → IsTrack format newest
 
--- a run that ends is a whole cut, and is at the end of the marks
+-- a run that has ended is a whole cut, and is at the end of the marks
 abbrev pub EndedRunsAreWhole : Type 0 → Type 0
 EndedRunsAreWhole X = (marks : List (Mark X)) (run : Run X) → cut_of marks ≡ Some run → IsWholeCut (parts_of run) × EndsIn marks (parts_of run)
 
--- and a whole cut that is at the end of the marks is a run that ends
+-- and a whole cut at the end of the marks is a run that has ended
 abbrev pub WholeCutsAreFound : Type 0 → Type 0
 WholeCutsAreFound X = (marks : List (Mark X)) (part : Part X) (more : List (Part X)) → EndsIn marks (part ∷ more) → IsWholeCut (part ∷ more)
     → (run : Run X) × (cut_of marks ≡ Some run) × (parts_of run ≡ part ∷ more)
@@ -53,7 +53,7 @@ abbrev pub UnfinishedCutsArePartial : Type 0 → Type 0
 UnfinishedCutsArePartial X = (mark : Mark X) (past : List (Mark X)) (first : Part X) (more : List (Part X))
     → IsUnfinishedCut (first ∷ more) → EndsIn (mark ∷ past) (first ∷ more) → outcome (run_of past) mark ≡ IsPartial
 
--- a frame is partial only where a run goes on, which hasn't ended; and padding, alone, is padding
+-- a frame is partial only if a run goes on and hasn't ended; and exactly a mark of padding has the outcome padding
 abbrev pub PartialOutcomesGoOn : Type 0 → Type 0
 PartialOutcomesGoOn X = (run : Option (Run X)) (mark : Mark X) → outcome run mark ≡ IsPartial
     → (ongoing : Run X) × (extended run mark ≡ Some ongoing) × (ongoing.newest.end ≡ false)
@@ -64,7 +64,7 @@ PaddingIsPadded X = (run : Option (Run X)) → outcome run Padding ≡ IsPadding
 abbrev pub PaddingOutcomesArePadding : Type 0 → Type 0
 PaddingOutcomesArePadding X = (run : Option (Run X)) (mark : Mark X) → outcome run mark ≡ IsPadding → mark ≡ Padding
 
--- only no run, or one that has ended with an element open, is torn
+-- the outcome is torn only without a run, or with a run that has ended with an element open
 abbrev pub TornOutcomesAreTorn : Type 0 → Type 0
 TornOutcomesAreTorn X = (run : Option (Run X)) (mark : Mark X) → outcome run mark ≡ IsTorn
     → (extended run mark ≡ None) ⊎ ((ended : Run X) × (extended run mark ≡ Some ended) × (ended.newest.end ≡ true) × (ended.newest.carries ≡ true))

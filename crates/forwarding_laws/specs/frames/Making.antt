@@ -1,6 +1,6 @@
--- What a track's items make, in words: what each item is, what is in force, and which items end a frame that means what.
--- Own statements, over AV1 RTP payload format, section 4.4 and Appendix A. `Frames` makes frames item by item; the laws here say of the
--- whole list that it makes those frames and no others.
+-- What a track's items make, in words: what each item is, what is in force, and which items end a frame of which meaning.
+-- Own statements, over AV1 RTP payload format, section 4.4 and Appendix A. `Frames` makes frames item by item. The laws here say that, of
+-- the whole list, it makes exactly these frames.
 use Rattle.std.specs.Prelude.{◌≡◌, ◌≢◌, ◌⊎◌, ◌+◌, ◌/◌, ◌%◌, ◌^◌, ◌<◌, ℕ, List, [], ◌∷◌, true, false, if◌then◌else◌, map}
 use Rattle.std.specs.declared.option.Option.{Option}
 use Rattle.std.specs.declared.option.Option.TheVariants.{None, Some}
@@ -36,7 +36,7 @@ abbrev pub structure_of : {S : Type 0} → List (Descriptor S) → Option S
 structure_of [] = None
 structure_of (d ∷ past) = if is_key_start d then d.structure else structure_of past
 
--- what the newest says of the mask, or what stood before it
+-- the mask by the newest descriptor, or, if it sets none, the mask before it
 abbrev pub mask_of : {S : Type 0} → Format S → List (Descriptor S) → ℕ
 mask_of format [] = 0
 mask_of format (d ∷ past) = mask_by format d.mask d.structure (mask_of format past)
@@ -50,7 +50,7 @@ abbrev pub and_said : {S : Type 0} → Option (Descriptor S) → List (Descripto
 and_said None past = past
 and_said (Some d) past = d ∷ past
 
--- all that was read, the newest first, each by the structure in force
+-- all descriptors that were read, the newest first, each with the structure in force
 abbrev pub said : {S : Type 0} → Format S → List Item → List (Descriptor S)
 said format [] = []
 said format (item ∷ past) = and_said (said_by format (structure_of (said format past)) item) (said format past)
@@ -62,12 +62,12 @@ newest_number format items = (state_after format items).force.newest
 abbrev pub start_number : {S : Type 0} → Format S → List Item → ℕ
 start_number format items = (state_after format items).force.start
 
--- the item says no key start
+-- the item carries no key start
 abbrev pub BeginsNoEpoch : {S : Type 0} → Format S → Item → List Item → Type 0
 BeginsNoEpoch format item past = (d : Descriptor _) → said_by format (structure_of (said format past)) item ≡ Some d → is_key_start d ≡ false
 
--- Where the newest item makes a frame, that frame's number is the newest. Where it makes none but says a key start, the new epoch's number
--- is the newest. And where it does neither, the newest stays, whatever is torn. The epoch's start changes at a key start alone.
+-- If the newest item makes a frame, that frame's number is the newest. If it makes none but carries a key start, the new epoch's number is
+-- the newest. If it does neither, the newest number stays, whatever is torn. Only a key start changes the epoch's start.
 pub record NumbersGoOn {S : Type 0} (format : Format S) (item : Item) (past : List Item) : Type 0 where
   pub frame : (frame : Frame S) → frames_since format past (item ∷ []) ≡ frame ∷ [] → newest_number format (item ∷ past) ≡ frame.meaning.number
   pub key_start : (d : Descriptor S) → frames_since format past (item ∷ []) ≡ [] → said_by format (structure_of (said format past)) item ≡ Some d
@@ -78,7 +78,7 @@ pub record NumbersGoOn {S : Type 0} (format : Format S) (item : Item) (past : Li
 abbrev pub TheNewestIsTheLast : Type 0 → Type 0
 TheNewestIsTheLast S = (format : Format S) (item : Item) (past : List Item) → NumbersGoOn format item past
 
--- what the newest descriptor says of the mask: its own, or all targets of the structure that it carries, or nothing
+-- how the newest descriptor sets the mask: to its own, or to all targets of the structure that it carries, or not at all
 pub record MaskIsSaid {S : Type 0} (format : Format S) (d : Descriptor S) (past : List (Descriptor S)) : Type 0 where
   pub own : (mask : ℕ) → d.mask ≡ Some mask → mask_of format (d ∷ past) ≡ mask
   pub all : (s : S) → d.mask ≡ None → d.structure ≡ Some s → mask_of format (d ∷ past) ≡ all_targets (format.layout s)
@@ -101,7 +101,7 @@ pub record IsInForceBy {S : Type 0} (format : Format S) (items : List Item) : Ty
 abbrev pub WhatWasReadIsInForce : Type 0 → Type 0
 WhatWasReadIsInForce S = (format : Format S) (items : List Item) → IsInForceBy format items
 
--- a key start of the first epoch has its own number, and a later one the least above the newest
+-- a key start of the first epoch has its own number; a later one has the least above the newest that equals its own modulo 65,536
 abbrev pub KeyStartsAreNumbered : Type 0 → Type 0
 KeyStartsAreNumbered S = (format : Format S) (item : Item) (past : List Item) (d : Descriptor S) → said_by format (structure_of (said format past)) item
     ≡ Some d
@@ -123,7 +123,7 @@ abbrev pub IsPaddingOf : {S : Type 0} → Format S → Item → Type 0
 IsPaddingOf format Missing = ⊥
 IsPaddingOf format (Arrived packet) = format.payload packet.rest ≡ Empty
 
--- a number that was given up; a packet with an empty payload; any other that is no part; a part
+-- missing numbers that were given up; a packet with an empty payload; any other packet that is no part; a part
 abbrev pub IsMarkOf : {S : Type 0} → Format S → Option S → Item → Mark (ReadPacket S) → Type 0
 IsMarkOf format force item Gone = item ≡ Missing
 IsMarkOf format force item Padding = IsPaddingOf format item

@@ -1,6 +1,6 @@
--- What the packets of a whole frame guarantee to whoever reads them.
--- AV1 RTP payload format, section 4.4 and Appendix A. Own statement: a frame is whole under the structure that it was read by. The code
--- doesn't compute it; it is what laws say of the frames that come out of a track's packets.
+-- What the packets of a whole frame guarantee to those that read them.
+-- AV1 RTP payload format, section 4.4 and Appendix A. Own statement: a frame is whole under the structure with which it was read. The code
+-- doesn't compute it; it is what the laws say of the frames that a track's packets make.
 use Rattle.std.specs.Prelude.{◌≡◌, ◌⊎◌, ◌+◌, ◌%◌, ◌<◌, ℕ, List, [], ◌∷◌, Bool, true, false, map}
 use Rattle.std.specs.List.{AllByRecursion}
 use Rattle.std.specs.declared.option.Option.{Option}
@@ -17,18 +17,18 @@ use Rattle.forwarding_model.specs.frames.Reading.{Descriptor, Format, IsCarried,
 use Rattle.forwarding_model.specs.frames.Reading.Payload.{Elements}
 use Rattle.forwarding_model.specs.frames.Reading.Showing.{Shows}
 
--- a descriptor and a payload's flags are what a packet shows
+-- a packet shows a descriptor and the flags of a payload
 abbrev pub ReadsAs : {S : Type 0} → Format S → Option S → List ℕ → Descriptor S → Joins → Type 0
 ReadsAs format force rest d joins = shown format force rest ≡ Shows d (Elements joins)
 
--- a packet that continues a frame with this number, whose packet before it left an element open or not
+-- a packet that continues a frame with this number; `carries` says whether the packet before it left an element open
 pub record Continues {S : Type 0} (format : Format S) (s : S) (number : ℕ) (carries : Bool) (rest : List ℕ) (d : Descriptor S) (joins : Joins) : Type 0 where
   pub reads : ReadsAs format (Some s) rest d joins
   pub start : d.start ≡ false
   pub numbered : d.number ≡ number
   pub continues : joins.continues ≡ carries
 
--- the packets after so many; the last of them ends the frame and leaves no element open
+-- the packets after the first `count`; the last of them ends the frame and leaves no element open
 abbrev pub AreContinuations : {S : Type 0} → Format S → S → ℕ → Bool → ℕ → List (List ℕ) → Type 0
 AreContinuations format s number carries count [] = ⊥
 AreContinuations format s number carries count (rest ∷ more) =
@@ -36,7 +36,7 @@ AreContinuations format s number carries count (rest ∷ more) =
     × (((d.end ≡ true) × (joins.carries ≡ false) × (more ≡ []))
     ⊎ ((d.end ≡ false) × AreContinuations format s number joins.carries (count + 1) more))
 
--- The first packet of a frame. It reads by the frame's structure, and where the frame is a key frame by any or none.
+-- The first packet of a frame. It reads with the frame's structure in force; a key frame's reads with any in force, or none.
 pub record IsFirst {S : Type 0} (format : Format S) (s : S) (f : FrameMeaning) (rest : List ℕ) (d : Descriptor S) (joins : Joins) : Type 0 where
   pub reads : (force : Option S) → (f.key ≡ true) ⊎ (force ≡ Some s) → ReadsAs format force rest d joins
   pub start : d.start ≡ true
@@ -57,7 +57,7 @@ AreWhole format s f (rest ∷ more) =
 abbrev pub IsWholeFrame : {S : Type 0} → Format S → Frame S → Type 0
 IsWholeFrame format frame = AreWhole format frame.structure frame.meaning (map rest_of frame.packets)
 
--- the frame's structure was carried, and the frame's meaning says of targets and chains what the structure says
+-- the frame's structure was carried, and the targets and chains in the frame's meaning are those of the structure
 pub record IsReadBy {S : Type 0} (format : Format S) (s : S) (f : FrameMeaning) : Type 0 where
   pub carried : IsCarried format s
   pub targets : f.target_count ≡ (format.layout s).target_count
@@ -68,15 +68,15 @@ pub record IsReadBy {S : Type 0} (format : Format S) (s : S) (f : FrameMeaning) 
 abbrev pub IsReadFrame : {S : Type 0} → Format S → Frame S → Type 0
 IsReadFrame format frame = IsReadBy format frame.structure frame.meaning
 
--- whatever the target, what is sent of the frame reads as that frame, whole
+-- whatever the target, the packets that are sent of the frame read as that frame, whole
 abbrev pub IsSentWhole : {S : Type 0} → Format S → Sender S → Frame S → Type 0
 IsSentWhole format send frame = (target : CurrentTarget) → AreWhole format frame.structure frame.meaning (map rest_of (send frame target))
 
--- the sender does that with each frame that is valid, whole, and read by a structure that was carried
+-- each frame that is valid, whole, and read with a structure that was carried, is sent whole
 abbrev pub KeepsWhole : {S : Type 0} → Format S → Sender S → Type 0
 KeepsWhole format send = (frame : Frame _) → IsValid frame.meaning → IsReadFrame format frame → IsWholeFrame format frame → IsSentWhole format send frame
 
--- frames of one epoch were read by one structure
+-- frames of one epoch were read with one structure
 abbrev pub HaveEpochStructures : {S : Type 0} → List (Frame S) → Type 0
 HaveEpochStructures [] = Unit {0}
 HaveEpochStructures (frame ∷ past) =

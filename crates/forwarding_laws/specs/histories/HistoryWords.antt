@@ -1,4 +1,4 @@
--- What a subscriber sees of a history, in words. Own statements. The definition walks the history from the newest entry down.
+-- What a subscriber sees of a history, in words. Own statements. The definition goes through the history from the newest entry down.
 use Rattle.std.specs.Prelude.{◌≡◌, ◌≢◌, ◌<◌, ◌≤◌, ℕ, List, [], ◌∷◌, ◌++◌, length}
 use Rattle.std.specs.declared.option.Option.TheVariants.{None, Some}
 use Rattle.sfu_base.specs.declared.frame.Wish.{Wish}
@@ -20,13 +20,13 @@ NoneJoins number (Joined other subscriber ∷ since) = (other ≢ number) × Non
 NoneJoins number (Aimed other wish ∷ since) = NoneJoins number since
 NoneJoins number (Asked other ∷ since) = NoneJoins number since
 
--- the frames that a subscriber sees, and those that were whole when it joined, are all frames of the track: none is left out
+-- the frames that a subscriber sees, with those that were whole when it joined, are all frames of the track: none is left out
 abbrev pub TimelinesHaveTheFrames : Type 0 → Type 0
 TimelinesHaveTheFrames S = (format : Format S) (send : Sender S) (number : ℕ) (subscriber : Subscriber) (since past : List Entry) → NoneJoins number since
     → frames_of (timeline format send number (since ++ Joined number subscriber ∷ past)) ++ frames_after format (items_of past)
     ≡ frames_after format (items_of (since ++ past))
 
--- and they are one track's frames, of which the laws on timelines speak
+-- and they are one track's frames, which the laws on timelines are about
 abbrev pub TimelinesAreTracks : Type 0 → Type 0
 TimelinesAreTracks S = (format : Format S) (send : Sender S) (number : ℕ) (history : List Entry) → IsFormat format
     → IsTrack format (frames_of (timeline format send number history)) × IsLayered (timeline format send number history)
@@ -36,14 +36,14 @@ abbrev pub TimelinesOnlyGrow : Type 0 → Type 0
 TimelinesOnlyGrow S = (released : List Item → List Item → List (Event S)) (send : Sender S) (number : ℕ) (since past : List Entry) → NoneJoins number since
     → (more : List (Event S)) × (timeline_by released send number (since ++ past) ≡ more ++ timeline_by released send number past)
 
--- nothing of another subscriber is this one's
+-- nothing that concerns another subscriber changes this one's timeline
 pub record IsUntouched {S : Type 0} (released : List Item → List Item → List (Event S)) (send : Sender S) (number other : ℕ) (past : List Entry)
     (events : List (Event S)) : Type 0 where
   pub aim : (wish : Wish) → timeline_by released send number (Aimed other wish ∷ past) ≡ events
   pub ask : timeline_by released send number (Asked other ∷ past) ≡ events
   pub join : (subscriber : Subscriber) → timeline_by released send number (Joined other subscriber ∷ past) ≡ events
 
--- what each entry adds to the timeline of a subscriber that joined: what is released; its own change of wish; a take, where it asks and a
+-- what each entry adds to the timeline of a subscriber that joined: what is released; its own change of wish; a take, if it requests and a
 -- packet is queued; and nothing of others
 pub record EntriesAdd {S : Type 0} (released : List Item → List Item → List (Event S)) (send : Sender S) (number : ℕ) (subscriber : Subscriber)
     (past : List Entry) (events : List (Event S)) : Type 0 where
@@ -63,7 +63,7 @@ abbrev pub JoinsBegin : Type 0 → Type 0
 JoinsBegin S = (released : List Item → List Item → List (Event S)) (send : Sender S) (number : ℕ) (subscriber : Subscriber) (past : List Entry)
     → timeline_by released send number (Joined number subscriber ∷ past) ≡ []
 
--- how somebody joined is known whatever comes, until the number joins again; before, nobody is known under it
+-- the join of a number is known whatever comes, until the number joins again; before its first join, nobody is known under it
 abbrev pub JoinsAreKnown : Type 0
 JoinsAreKnown = (number : ℕ) (subscriber : Subscriber) (since past : List Entry) → NoneJoins number since
     → subscriber_of number (since ++ Joined number subscriber ∷ past) ≡ Some subscriber
@@ -71,7 +71,7 @@ JoinsAreKnown = (number : ℕ) (subscriber : Subscriber) (since past : List Entr
 abbrev pub NobodyIsKnown : Type 0
 NobodyIsKnown = (number : ℕ) (history : List Entry) → NoneJoins number history → subscriber_of number history ≡ None
 
--- the packets that came, of a list of items, and those of a timeline
+-- the packets that came, in a list of items, and those in a timeline
 abbrev pub arrived : List Item → List Packet
 arrived [] = []
 arrived (Missing ∷ items) = arrived items

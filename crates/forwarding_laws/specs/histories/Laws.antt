@@ -1,4 +1,4 @@
--- The laws of forwarding over histories, from the facts about reading alone: own statements. S is the type of template dependency
+-- The laws of forwarding over histories, only from the facts about reading: own statements. S is the type of template dependency
 -- structures.
 use Rattle.std.specs.Prelude.{◌≡◌, ℕ, List}
 use Rattle.std.specs.declared.option.Option.TheVariants.{Some}

@@ -1,6 +1,6 @@
--- What a strict receiver has seen when it has no complaint, in words: one source, consecutive numbers, whole frames, every reference.
+-- What a strict receiver without a complaint has seen, in words: one source, consecutive numbers, whole frames, every reference.
 -- Own statements, over RFC 3550, section 5.1, and AV1 RTP payload format, section 4.4 and Appendix A. A receiver that never complains
--- meets the laws on what goes out; it doesn't meet these. The code keeps none of these lists.
+-- would meet the laws on forwarded packets; it wouldn't meet these. The code keeps none of these lists.
 use Rattle.std.specs.Prelude.{◌≡◌, ◌⊎◌, ◌+◌, ◌%◌, ◌&&◌, ℕ, List, [], ◌∷◌, ◌++◌, Bool, true, false, if◌then◌else◌, nat_lt, length, map}
 use Rattle.std.specs.List.{AllByRecursion}
 use Rattle.std.specs.declared.option.Option.{Option}
@@ -17,7 +17,7 @@ use Rattle.forwarding_model.specs.frames.Frames.{ReadPacket, packet_of}
 use Rattle.forwarding_model.specs.Receiver.{structure_after, complaint, frames_accepted, packets_accepted}
 use Rattle.forwarding_model.specs.Receiver.Receiver.{Waiting}
 
--- a whole frame that was received: its number without limit, and its parts, the oldest first
+-- a whole frame that was received: its unwrapped number, and its parts, the oldest first
 pub record ReceivedFrame (S : Type 0) : Type 0 where
   pub number : ℕ
   pub first : Part (ReadPacket S)
@@ -39,7 +39,7 @@ abbrev pub structure_in : {S : Type 0} → List (ReceivedFrame S) → Option S
 structure_in [] = None
 structure_in (x ∷ past) = structure_after (structure_in past) x.first.brings.descriptor
 
--- what the part says is what its packet shows by this structure
+-- the packet of the part, read with this structure in force, shows what the part says
 pub record IsReadAs {S : Type 0} (format : Format S) (force : Option S) (part : Part (ReadPacket S)) : Type 0 where
   pub reads : shown format force part.brings.packet.rest
       ≡ Shows part.brings.descriptor (Elements (record { continues = part.continues; carries = part.carries }))
@@ -47,16 +47,16 @@ pub record IsReadAs {S : Type 0} (format : Format S) (force : Option S) (part : 
   pub end : part.end ≡ part.brings.descriptor.end
   pub number : part.number ≡ part.brings.descriptor.number
 
--- one of these frames lies d below n
+-- one of these frames is d below n
 abbrev pub IsThere : {S : Type 0} → List (ReceivedFrame S) → ℕ → ℕ → Type 0
 IsThere frames n d = (g : ReceivedFrame _) × IsMember g frames × (g.number + d ≡ n)
 
--- n lies above the number of the newest of these frames, by less than 32,768
+-- n is above the number of the newest of these frames, by less than 32,768
 abbrev pub is_next_to : {S : Type 0} → List (ReceivedFrame S) → ℕ → Bool
 is_next_to [] n = false
 is_next_to (g ∷ past) n = nat_lt g.number n && nat_lt n (g.number + 32768)
 
--- of the frames that counted as received, those that still do when the next frame comes: none where it is a key frame, and none where its
+-- of the frames that counted as received, those that still count when the next frame comes: none if it is a key frame, and none if its
 -- number isn't next to the newest
 abbrev pub counting : {S : Type 0} → (is_key is_next : Bool) → List (ReceivedFrame S) → List (ReceivedFrame S)
 counting is_key is_next frames = if is_key then [] else (if is_next then frames else [])
@@ -66,11 +66,11 @@ abbrev pub counted : {S : Type 0} → List (ReceivedFrame S) → List (ReceivedF
 counted [] = []
 counted (x ∷ past) = x ∷ counting (is_key_frame x) (is_next_to past x.number) (counted past)
 
--- where its number isn't next to the newest, no other number does that is the same modulo 65,536
+-- no number that equals n modulo 65,536 is next to the newest
 abbrev pub NoneIsNextTo : {S : Type 0} → List (ReceivedFrame S) → ℕ → Type 0
 NoneIsNextTo past n = (m : ℕ) → m % 65536 ≡ n % 65536 → is_next_to past m ≡ false
 
--- x is a whole frame, read by the structure in force, with its number; and all that it refers to counts as received when it comes
+-- x is a whole frame, read with the structure in force, with its number; and all its references count as received when it comes
 pub record IsReceived {S : Type 0} (format : Format S) (past : List (ReceivedFrame S)) (x : ReceivedFrame S) : Type 0 where
   pub first : IsReadAs format (structure_in past) x.first
   pub more : AllByRecursion (IsReadAs format (structure_in (x ∷ past))) x.more
@@ -104,34 +104,34 @@ pub record AreAccepted {S : Type 0} (format : Format S) (packets : List Packet) 
   pub source : HaveOneSource packets
   pub numbers : AreConsecutive packets
 
--- of what a strict receiver has no complaint, that is so
+-- if a strict receiver has no complaint about packets, they are accepted in this sense
 abbrev pub NoComplaintAccepts : Type 0 → Type 0
 NoComplaintAccepts S = (format : Format S) (packets : List Packet) → complaint format (map Some packets) ≡ None → AreAccepted format packets
 
--- and what is so, a strict receiver has no complaint of
+-- and it has no complaint about packets that are accepted in this sense
 abbrev pub AcceptedIsNotComplainedOf : Type 0 → Type 0
 AcceptedIsNotComplainedOf S = (format : Format S) (packets : List Packet)
     → AreAccepted format packets → complaint format (map Some packets) ≡ None
 
--- and it complains of bytes that RTP doesn't read, wherever they come: what it has no complaint of is packets
+-- and it complains about bytes that aren't RTP, wherever they come: if it has no complaint, all that came are packets
 abbrev pub NoComplaintIsOfPackets : Type 0 → Type 0
 NoComplaintIsOfPackets S = (format : Format S) (came : List (Option Packet))
     → complaint format came ≡ None → (packets : List Packet) × (came ≡ map Some packets)
 
--- ---- what was accepted is counted, and a complaint has its place
+-- ---- how much was accepted, and where a complaint is
 
--- what a strict receiver has no complaint of, it accepts to the last packet
+-- if a strict receiver has no complaint, it accepts all that came
 abbrev pub CountsAreWhole : Type 0 → Type 0
 CountsAreWhole S = (format : Format S) (came : List (Option Packet))
     → complaint format came ≡ None → packets_accepted format Waiting came ≡ length came
 
--- and as many frames as the words have; where there is a complaint, those of what came before it (`IsComplaintOf`), of which there is none
+-- and as many frames as the words have; if there is a complaint, those of what came before it (`IsComplaintOf`), about which there is none
 abbrev pub FramesAreCounted : Type 0 → Type 0
 FramesAreCounted S = (format : Format S) (packets : List Packet) (a : AreAccepted format packets)
     → frames_accepted format Waiting (map Some packets) ≡ length a.frames
 
--- What was accepted is what came before what is complained of, and the frames are those of it. Of that alone there is no complaint, and
--- where the next comes too, there is this one.
+-- What was accepted is all that came before the item that is complained about, and the accepted frames are those of it. About that alone
+-- there is no complaint; with the next item, there is this one.
 pub record IsComplaintOf {S : Type 0} (format : Format S) (came : List (Option Packet)) (c : Complaint) : Type 0 where
   pub before : List (Option Packet)
   pub next : Option Packet
@@ -142,7 +142,7 @@ pub record IsComplaintOf {S : Type 0} (format : Format S) (came : List (Option P
   pub frames : frames_accepted format Waiting came ≡ frames_accepted format Waiting before
   pub ground : complaint format (before ++ next ∷ []) ≡ Some c
 
--- a complaint stands at its place
+-- a complaint comes at its place
 abbrev pub ComplaintsHaveTheirPlace : Type 0 → Type 0
 ComplaintsHaveTheirPlace S = (format : Format S) (came : List (Option Packet)) (c : Complaint)
     → complaint format came ≡ Some c → IsComplaintOf format came c

@@ -1,4 +1,4 @@
--- The headline: a strict receiver has no complaint of what goes out. Own statements. What that says stands in `Accepted`.
+-- The main law: a strict receiver has no complaint about what is forwarded. Own statements. `Accepted` says what that means.
 -- S is the type of template dependency structures.
 use Rattle.std.specs.Prelude.{◌≡◌, ℕ, List, ◌++◌, map}
 use Rattle.std.specs.List.{AllByRecursion}
@@ -10,20 +10,20 @@ use Rattle.forwarding_model.specs.Receiver.{complaint}
 use Rattle.forwarding_laws.specs.frames.WholeFrames.{IsSentWhole, KeepsWhole, IsTrack, IsLayered}
 use Rattle.forwarding_model.specs.History.{Entry, timeline}
 
--- where each frame is sent whole, a strict receiver of what goes out, and of each prefix of it, has no complaint
+-- if each frame is sent whole, a strict receiver has no complaint about what is forwarded, nor about any prefix of it
 abbrev pub NeverComplains : Type 0 → Type 0
 NeverComplains S = (format : Format S) (send : Sender S) (subscriber : Subscriber) (events : List (Event S)) (sent queued : List Packet)
     → AllByRecursion (IsSentWhole format send) (frames_of events) → IsLayered events → IsTrack format (frames_of events)
     → sent ++ queued ≡ outgoing send subscriber events
     → complaint format (map Some sent) ≡ None
 
--- whatever items came, and whoever joined, changed a wish and took, a strict receiver of what a subscriber has taken has no complaint
+-- whatever items came, and whoever joined, changed a wish and took, a strict receiver has no complaint about what a subscriber has taken
 abbrev pub TakenNeverComplains : Type 0 → Type 0
 TakenNeverComplains S = (format : Format S) (send : Sender S) (number : ℕ) (history : List Entry) (subscriber : Subscriber) → IsFormat format
     → KeepsWhole format send
     → complaint format (map Some (taken send subscriber (timeline format send number history))) ≡ None
 
--- nor has one of what goes out to it, or of a prefix of that
+-- nor about what is forwarded to the subscriber, or about a prefix of that
 abbrev pub OutgoingNeverComplains : Type 0 → Type 0
 OutgoingNeverComplains S = (format : Format S) (send : Sender S) (number : ℕ) (history : List Entry) (subscriber : Subscriber) (sent queued : List Packet)
     → IsFormat format → KeepsWhole format send → sent ++ queued ≡ outgoing send subscriber (timeline format send number history)

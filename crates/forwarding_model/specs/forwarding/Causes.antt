@@ -1,5 +1,5 @@
 -- Why each frame was or wasn't passed, and the path from a withheld frame to a root. Own rules.
--- The code keeps the verdicts of the last 4,096 numbers as they fell.
+-- The code keeps the verdicts of the last 4,096 numbers as they were when the frames came.
 use Rattle.std.specs.Prelude.{◌≡◌, ◌⊎◌, ◌<◌, ◌+◌, ◌-◌, ℕ, zero, suc, List, [], ◌∷◌, Bool, true, false, if◌then◌else◌, ◌==◌, nat_lt, nat_le, length}
 use Rattle.std.specs.List.{AllByRecursion}
 use Rattle.std.specs.declared.option.Option.{Option}
@@ -12,7 +12,7 @@ use Rattle.forwarding_model.specs.forwarding.Timeline.{Event}
 use Rattle.forwarding_model.specs.forwarding.Timeline.Event.{WholeFrame, PlainPacket, WishChange, Take}
 use Rattle.forwarding_model.specs.forwarding.Standing.{standing, passes_at, verdict_at}
 
--- ---- causes of numbers, over verdicts that were written down, the newest first
+-- ---- causes of numbers, from verdicts that were recorded, the newest first
 
 -- the verdict of the frame with this number
 abbrev pub verdict_among : List Step → ℕ → Option Verdict
@@ -51,7 +51,7 @@ abbrev pub cause_among : List Step → ℕ → Verdict
 cause_among steps n =
     verdict_or_hole (verdict_among steps n) (next_below steps (number_or (newest_number steps) 0) n) (next_above steps n)
 
--- The cause of a number can be asked for, unless it lies above the newest frame, or 4,096 or more below it.
+-- The cause of a number is known unless the number is above the newest frame's, or 4,096 or more below it.
 abbrev pub is_ahead : Option ℕ → ℕ → Bool
 is_ahead None n = true
 is_ahead (Some newest) n = nat_lt newest n
@@ -60,13 +60,13 @@ abbrev pub is_too_old : Option ℕ → ℕ → Bool
 is_too_old None n = false
 is_too_old (Some newest) n = nat_le (n + 4096) newest
 
--- the oldest number that can be asked for, or 0
+-- the oldest number whose cause is known, or 0
 abbrev pub oldest_asked : ℕ → ℕ
 oldest_asked newest = newest - 4095
 
 -- ---- causes over a timeline
 
--- the verdict on each frame as it fell, the newest first
+-- the verdict on each frame when it came, the newest first
 abbrev pub verdicts : {S : Type 0} → Wish → List (Event S) → List Step
 verdicts wish [] = []
 verdicts wish (WholeFrame frame ∷ past) =
@@ -89,7 +89,7 @@ IsWithheld wish (Take ∷ past) n = IsWithheld wish past n
 
 -- ---- paths
 
--- the number that a verdict gives as its own cause
+-- the number that a verdict names as its own cause
 abbrev pub followed : Verdict → Option ℕ
 followed Passed = None
 followed (NotOfTarget target) = None
@@ -120,7 +120,7 @@ abbrev pub path_within : ℕ → (ℕ → Verdict) → ℕ → List Step
 path_within zero causes n = []
 path_within (suc limit) causes n = record { number = n; verdict = causes n } ∷ path_on (followed (causes n)) (path_within limit causes)
 
--- Numbers on a path fall, so that n + 1 of them are enough.
+-- The numbers on a path fall, so n + 1 of them are enough.
 abbrev pub path : (ℕ → Verdict) → ℕ → List Step
 path causes n = path_within (n + 1) causes n
 

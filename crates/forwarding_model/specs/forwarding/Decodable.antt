@@ -11,8 +11,8 @@ use Rattle.forwarding_model.specs.forwarding.Standing.{is_key}
 abbrev pub of_epoch : ℕ → List FrameMeaning → List FrameMeaning
 of_epoch epoch frames = filter (λ g. g.epoch == epoch) frames
 
--- f is among these frames, f is a key frame or they have one, and each reference of f is to a frame that is decodable in them.
--- The recursion ends, as it does for a proof, since references fall.
+-- f is among these frames; f is a key frame or a key frame is among them; and each reference of f is to a frame that they make decodable.
+-- The recursion ends, since the numbers of references fall.
 pub data IsDecodable (frames : List FrameMeaning) : FrameMeaning → Type 0 where
   Decodes : (f : FrameMeaning) → IsMember f frames → ((f.key ≡ true) ⊎ (list_any is_key frames ≡ true))
       → (referred : (d : ℕ) → IsMember d (references f) → FrameMeaning)

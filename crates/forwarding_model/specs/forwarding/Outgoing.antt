@@ -1,7 +1,7 @@
--- What goes out to a subscriber, what of it was taken, and what is kept for a resend.
+-- Which packets are forwarded to a subscriber, which of them were taken, and which are kept for retransmission.
 -- Sequence number, SSRC and marker: RFC 3550, section 5.1. Own rules: which packets go out, and that the last packet of a frame of the
 -- target's spatial layer gets the marker, over AV1 RTP payload format, section 4.2 (the marker ends a temporal unit).
--- The definitions have the list of all that went out; the code has the packets that are queued and the last that were taken.
+-- The definitions have the list of all forwarded packets; the code has the packets that are queued and the last that were taken.
 use Rattle.std.specs.Prelude.{◌≡◌, ◌<◌, ◌+◌, ◌%◌, ℕ, List, [], ◌∷◌, ◌++◌, Bool, false, if◌then◌else◌, ◌==◌, ◌||◌, length, take, drop}
 use Rattle.std.specs.List.{find}
 use Rattle.std.specs.declared.option.Option.{Option}
@@ -30,7 +30,7 @@ abbrev pub is_top_layer : FrameMeaning → CurrentTarget → Bool
 is_top_layer f (Open target opened) = has_spatial f.spatial (layers f target)
 is_top_layer f (Closed reason) = false
 
--- the last packet's marker is set where the test says so, and every other marker is kept
+-- the last packet's marker is set if the test says so, and every other marker is kept
 abbrev pub marked : Bool → List Packet → List Packet
 marked is_last [] = []
 marked is_last (packet ∷ []) = record packet { marker = is_last || packet.marker } ∷ []
@@ -51,7 +51,7 @@ forwarded send wish (PlainPacket packet ∷ past) =
 forwarded send wish (WishChange changed ∷ past) = forwarded send wish past
 forwarded send wish (Take ∷ past) = forwarded send wish past
 
--- the packets with consecutive sequence numbers from n on, modulo 65,536, and with this SSRC; nothing else of them is changed
+-- the packets with consecutive sequence numbers from n on, modulo 65,536, and with this SSRC; nothing else in them is changed
 abbrev pub numbered : ℕ → ℕ → List Packet → List Packet
 numbered n ssrc [] = []
 numbered n ssrc (packet ∷ packets) =
@@ -63,7 +63,7 @@ pub record Subscriber : Type 0 where
   pub first : ℕ  -- its first sequence number
   pub wish : Wish
 
--- all that goes out, whether taken or queued, the oldest first
+-- all forwarded packets, whether taken or queued, the oldest first
 abbrev pub outgoing : {S : Type 0} → Sender S → Subscriber → List (Event S) → List Packet
 outgoing send subscriber events = numbered subscriber.first subscriber.ssrc (forwarded send subscriber.wish events)
 
@@ -79,7 +79,7 @@ queue send subscriber events = drop (takes_of events) (outgoing send subscriber 
 abbrev pub kept : {S : Type 0} → Sender S → Subscriber → List (Event S) → List Packet
 kept send subscriber events = last_part 1024 (taken send subscriber events)
 
--- the packet that the next take gives, if one is queued
+-- the packet that the next take returns, if one is queued
 abbrev pub next_packet : {S : Type 0} → Sender S → Subscriber → List (Event S) → Option Packet
 next_packet send subscriber events = first_of (queue send subscriber events)
 
@@ -87,7 +87,7 @@ next_packet send subscriber events = first_of (queue send subscriber events)
 abbrev pub next_number : {S : Type 0} → Sender S → Subscriber → List (Event S) → ℕ
 next_number send subscriber events = (subscriber.first + length (taken send subscriber events)) % 65536
 
--- the sequence number of the oldest packet that is kept, or the next where none is
+-- the sequence number of the oldest packet that is kept, or the next number if none is
 abbrev pub oldest_of : List Packet → ℕ → ℕ
 oldest_of [] next = next
 oldest_of (packet ∷ packets) next = packet.sequence_number
@@ -105,7 +105,7 @@ AreConsecutive [] = Unit {0}
 AreConsecutive (packet ∷ []) = Unit {0}
 AreConsecutive (packet ∷ next ∷ rest) = (next.sequence_number ≡ (packet.sequence_number + 1) % 65536) × AreConsecutive (next ∷ rest)
 
--- each take found a packet queued, as takes that find none are refused
+-- each take found a queued packet; takes that find none are refused
 abbrev pub FindPackets : {S : Type 0} → Sender S → Subscriber → List (Event S) → Type 0
 FindPackets send subscriber [] = Unit {0}
 FindPackets send subscriber (WholeFrame frame ∷ past) = FindPackets send subscriber past
@@ -113,6 +113,6 @@ FindPackets send subscriber (PlainPacket packet ∷ past) = FindPackets send sub
 FindPackets send subscriber (WishChange wish ∷ past) = FindPackets send subscriber past
 FindPackets send subscriber (Take ∷ past) = (takes_of past < length (outgoing send subscriber past)) × FindPackets send subscriber past
 
--- a frame is sent as so many packets as it has
+-- a frame is sent in as many packets as it has
 abbrev pub KeepsCount : {S : Type 0} → Sender S → Type 0
 KeepsCount send = (frame : Frame _) (target : CurrentTarget) → length (send frame target) ≡ length frame.packets

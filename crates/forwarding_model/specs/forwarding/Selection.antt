@@ -1,9 +1,9 @@
 -- Whether a frame goes to a subscriber: the rules on another epoch, the mask, the link, opening and passing, and the verdict on a frame.
 -- Own rules, over the fields of AV1 RTP payload format, Appendix A. Two readings are fixed here: a frame that is a switch for a target
 -- may open it, and a chain distance of 0 (frame_chain_fdiff) closes nothing.
--- What was passed before is seen through two things alone: a test `has`, where `has d` says that the frame d below f was passed in f's
--- epoch, and `key_passed`, that a key frame of f's epoch was. The code answers the test by a window of bits, a standing (`Standing`) by
--- the whole list. No test subtracts, since numbers stop at 0: a frame d below number n is one whose number plus d is n.
+-- The rules see what was passed before only through two values: a test `has`, where `has d` says that the frame d below f was passed in
+-- f's epoch, and `key_passed`, which says that a key frame of f's epoch was. In the code, a window of bits answers the test; in a standing
+-- (`Standing`), the whole list does. No test subtracts, since numbers stop at 0: a frame d below n is one whose number plus d is n.
 use Rattle.std.specs.Prelude.{◌≡◌, ◌<◌, ◌+◌, ◌-◌, ℕ, Bool, true, false, if◌then◌else◌, ◌&&◌, ◌||◌, not, nat_lt, nat_le, slice_index_or}
 use Rattle.std.specs.List.{AllByRecursion}
 use Rattle.std.specs.declared.option.Option.{Option}
@@ -28,9 +28,9 @@ abbrev pub open_target : CurrentTarget → Option ℕ
 open_target (Open target opened) = Some target
 open_target (Closed reason) = None
 
--- The rule on another epoch, that a frame of one closes the target, is a rule on the standing.
+-- The rule on another epoch (a frame of another epoch closes the target) is a rule on the standing.
 
--- The rule on the mask: a target whose bit f's mask hasn't is closed.
+-- The rule on the mask: if the mask of f lacks the target's bit, the target is closed.
 abbrev pub target_under_mask : FrameMeaning → CurrentTarget → CurrentTarget
 target_under_mask f (Open target opened) = if is_active f target then Open target opened else Closed (NotOpened f.number)
 target_under_mask f (Closed reason) = Closed reason
@@ -53,7 +53,7 @@ target_after_link has f (Open target opened) =
     if is_link_broken has f target opened then Closed (BrokenLink f.number (f.number - chain_link f target)) else Open target opened
 target_after_link has f (Closed reason) = Closed reason
 
--- what the rules on the mask and the link leave of the target; where f doesn't pass, this is the target after f
+-- the target after the rules on the mask and the link; if f doesn't pass, this is the target after f
 abbrev pub kept_target : (ℕ → Bool) → FrameMeaning → CurrentTarget → CurrentTarget
 kept_target has f target = target_after_link has f (target_under_mask f target)
 
@@ -81,7 +81,7 @@ abbrev pub opened_or : FrameMeaning → Option ℕ → CurrentTarget → Current
 opened_or f None current = current
 opened_or f (Some target) current = Open target f.number
 
--- the best target that f can open, else the one that is open; where f passes, this is the target after f
+-- the best target that f can open, else the one that is open; if f passes, this is the target after f
 abbrev pub candidate : (ℕ → Bool) → Bool → Wish → FrameMeaning → CurrentTarget → CurrentTarget
 candidate has key_passed wish f current =
     opened_or f (opening has key_passed wish f (kept_target has f current)) (kept_target has f current)
@@ -90,7 +90,7 @@ abbrev pub is_present_in : FrameMeaning → CurrentTarget → Bool
 is_present_in f (Open target opened) = is_present f target
 is_present_in f (Closed reason) = false
 
--- a subscriber's queue has at most 512 packets
+-- the queue of a subscriber contains at most 512 packets
 abbrev pub has_room : ℕ → ℕ → Bool
 has_room queued packets = nat_le (queued + packets) 512
 
@@ -102,7 +102,7 @@ passes has key_passed wish f current queued packets =
 
 -- ---- the verdict
 
--- the target of f: the candidate, or the aim where there is none
+-- the target of f: the candidate, or the aim if there is no candidate
 abbrev pub target_of : Wish → FrameMeaning → CurrentTarget → Option ℕ
 target_of wish f (Open target opened) = Some target
 target_of wish f (Closed reason) = aim wish f
@@ -111,18 +111,18 @@ abbrev pub reason_verdict : Reason → Verdict
 reason_verdict (BrokenLink at number) = Link at number
 reason_verdict (NotOpened since) = Unopened since
 
--- of an open candidate: passed, or full; of a closed one: its reason
+-- for an open candidate: passed, or full; for a closed one: its reason
 abbrev pub candidate_verdict : ℕ → ℕ → CurrentTarget → Verdict
 candidate_verdict queued packets (Open target opened) = if has_room queued packets then Passed else Full queued packets
 candidate_verdict queued packets (Closed reason) = reason_verdict reason
 
--- Before that comes a reference that wasn't passed. It is behind where it lies below the epoch's start.
+-- A reference that wasn't passed decides before that. Its verdict is `Behind` if it lies below the epoch's start.
 abbrev pub reference_verdict : FrameMeaning → Option ℕ → Verdict → Verdict
 reference_verdict f None otherwise = otherwise
 reference_verdict f (Some distance) otherwise =
     if nat_lt f.number (f.start + distance) then Behind distance f.start else Reference (f.number - distance)
 
--- Before both comes that there is no target, or that f isn't present in it.
+-- Two things decide before both: that there is no target, and that f isn't present in it.
 abbrev pub target_verdict : FrameMeaning → Option ℕ → Verdict → Verdict
 target_verdict f None otherwise = NotOfTarget None
 target_verdict f (Some target) otherwise = if is_present f target then otherwise else NotOfTarget (Some target)
@@ -135,8 +135,8 @@ verdict has key_passed wish f current queued packets =
 
 -- ---- two tests
 
--- The tests agree on the references of f and on its links, which are all that the rules ask for. So a window of numbers that is exact
--- for those distances decides as the whole list does.
+-- The tests agree on the references of f and on its links, which are all that the rules look at. So a window of numbers that is exact
+-- for those distances leads to the same decisions as the whole list.
 pub record Agree (p q : ℕ → Bool) (f : FrameMeaning) : Type 0 where
   pub references : AllByRecursion (λ d. p d ≡ q d) (references f)
   pub links : (target : ℕ) → 0 < chain_link f target → p (chain_link f target) ≡ q (chain_link f target)

@@ -1,5 +1,5 @@
 -- The standing of a subscriber after a timeline. Own rules.
--- The standing has the whole list of what was passed of the epoch; the code keeps a window of the last 4,096 numbers and whether a key
+-- The standing has the list of all passed frames of the epoch; the code keeps a window of the last 4,096 numbers and whether a key
 -- frame was passed.
 use Rattle.std.specs.Prelude.{◌+◌, ◌-◌, ℕ, List, [], ◌∷◌, Bool, true, false, if◌then◌else◌, ◌==◌, nat_lt, length}
 use Rattle.std.specs.declared.option.Option.{Option}
@@ -23,7 +23,7 @@ pub record Standing : Type 0 where
   pub passed : List FrameMeaning  -- all frames that passed, the newest first
   pub queued : ℕ  -- the packets that passed, less those taken
 
--- Nothing came yet. The reason is never seen, since the first frame gives another.
+-- Nothing has come yet. The reason is never used, since the first frame sets another.
 abbrev pub joined : Wish → Standing
 joined wish = record { wish = wish; epoch = None; epoch_passed = []; target = Closed (NotOpened 0); passed = []; queued = 0 }
 
@@ -38,7 +38,7 @@ is_key f = f.key
 abbrev pub has_below : List FrameMeaning → ℕ → ℕ → Bool
 has_below frames n d = list_any (λ g. (g.number + d) == n) frames
 
--- The rule on another epoch: at a frame of one nothing of it was passed, and no target is open.
+-- The rule on another epoch: when its first frame comes, nothing of that epoch was passed, and no target is open.
 abbrev pub passed_at : Standing → FrameMeaning → List FrameMeaning
 passed_at s f = if is_epoch s.epoch f.epoch then s.epoch_passed else []
 
@@ -69,7 +69,7 @@ verdict_at s f packets = verdict (has_passed s f) (key_passed s f) s.wish f (tar
 
 -- ---- one event after another
 
--- after the frame f of so many packets: true where it passes
+-- after the frame f with this many packets; `true` if it passes
 abbrev pub admitted : Bool → Standing → FrameMeaning → ℕ → Standing
 admitted true s f packets =
     record {

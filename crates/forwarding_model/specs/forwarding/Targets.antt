@@ -1,7 +1,7 @@
 -- Decode targets: which of them a wish allows, which is better, and the aim.
 -- A frame's indications, pairs and mask are those of AV1 RTP payload format, Appendix A (decode target indications, templates'
 -- layers, active_decode_targets_bitmask). What is allowed and what is better are this project's own rules.
--- The code reads fixed arrays in one loop over the targets; the words of the subject are `IsBest`.
+-- The code reads fixed arrays in one loop over the targets; `IsBest` says in words what the loop finds.
 use Rattle.std.specs.Prelude.{◌≡◌, ◌⊎◌, ◌<◌, ◌/◌, ◌%◌, ◌^◌, ℕ, zero, suc, List, Bool, true, false, if◌then◌else◌, ◌==◌, ◌&&◌, ◌||◌, nat_lt, nat_le, slice_index_or, take}
 use Rattle.std.specs.declared.option.Option.{Option}
 use Rattle.std.specs.declared.option.Option.TheVariants.{None, Some}
@@ -53,7 +53,7 @@ is_within wish (Some pair) = nat_le pair.spatial wish.spatial && nat_le pair.tem
 abbrev pub is_allowed : Wish → FrameMeaning → ℕ → Bool
 is_allowed wish f target = is_active f target && is_within wish (layers f target)
 
--- of two targets with these pairs and indexes the first is better: the spatial id decides, then the temporal, then the lower index
+-- the first of two targets with these pairs and indexes is better: the spatial id decides, then the temporal, then the lower index
 abbrev pub is_better_pair : Wish → Wish → ℕ → ℕ → Bool
 is_better_pair p q target other =
     nat_lt q.spatial p.spatial
@@ -67,7 +67,7 @@ is_better_of (Some p) (Some q) target other = is_better_pair p q target other
 abbrev pub is_better : FrameMeaning → ℕ → ℕ → Bool
 is_better f target other = is_better_of (layers f target) (layers f other) target other
 
--- the better of a target, where it passes the test, and the best before it
+-- the better of two: a target, if it passes the test, and the best before it
 abbrev pub better_one : FrameMeaning → Bool → ℕ → Option ℕ → Option ℕ
 better_one f passes target None = if passes then Some target else None
 better_one f passes target (Some other) = if passes && is_better f target other then Some target else Some other
@@ -99,7 +99,7 @@ IsBetterOf (Some p) (Some q) target other = IsBetterPair p q target other
 abbrev pub IsBetter : FrameMeaning → ℕ → ℕ → Type 0
 IsBetter f target other = IsBetterOf (layers f target) (layers f other) target other
 
--- of the targets below n, none passes the test; or this one does, and it is better than each other that does
+-- Of the targets below n, none passes the test; or this one does, and it is better than each other one that does.
 abbrev pub IsBest : FrameMeaning → (ℕ → Bool) → ℕ → Option ℕ → Type 0
 IsBest f test n None = (target : ℕ) → target < n → test target ≡ true → ⊥
 IsBest f test n (Some best) =

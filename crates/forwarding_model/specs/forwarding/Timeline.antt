@@ -13,7 +13,7 @@ pub record Packet : Type 0 where
 abbrev pub rest_of : Packet → List ℕ
 rest_of packet = packet.rest
 
--- A whole frame: what it means, the template dependency structure that it was read by, and its packets, the oldest first.
+-- A whole frame: its meaning, the template dependency structure with which it was read, and its packets, the oldest first.
 -- S is the type of structures.
 pub record Frame (S : Type 0) : Type 0 where
   pub meaning : FrameMeaning
@@ -23,8 +23,8 @@ pub record Frame (S : Type 0) : Type 0 where
 abbrev pub meaning_of : {S : Type 0} → Frame S → FrameMeaning
 meaning_of frame = frame.meaning
 
--- What happens to a subscriber, since it joined: a frame of its layered track got whole, a packet of its plain track came in order,
--- its wish was changed, it took a packet (so one was queued). A call that makes several frames adds several events.
+-- What happens to a subscriber after it joined: a frame of its layered track became whole, a packet of its plain track came in order,
+-- its wish was changed, or it took a packet (so one was queued). A call that makes several frames adds several events.
 -- A timeline is a list of events, the newest first. The code keeps no such list.
 pub data Event (S : Type 0) : Type 0 where
   WholeFrame : (frame : Frame S) → Event S

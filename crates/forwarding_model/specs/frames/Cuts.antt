@@ -1,9 +1,9 @@
 -- Whole cuts: which packets in a row are one whole frame.
 -- AV1 RTP payload format, section 4.4 (Z and Y of the aggregation header), and Appendix A (start_of_frame, end_of_frame, frame_number).
--- That a frame has at most 512 packets, and that everything else tears it, are own rules.
--- The whole cut is said twice. `IsWholeCut` has the words, over a list of parts. A run is built mark by mark, which is how the frames of
--- a track are defined and what code keeps; a law says that the runs that end are the whole cuts, no more and no fewer.
--- X is the type of what a part brings with it.
+-- That a frame has at most 512 packets, and that anything else tears it, are own rules.
+-- There are two definitions of the whole cut. `IsWholeCut` has the words, over a list of parts. A run is built mark by mark; this is how
+-- the frames of a track are defined and what code keeps. A law says that the runs that end are exactly the whole cuts.
+-- X is the type of the data that a part carries.
 use Rattle.std.specs.Prelude.{◌≡◌, ◌+◌, ◌≤◌, ℕ, List, [], ◌∷◌, ◌++◌, Bool, true, false, if◌then◌else◌, ◌==◌, ◌&&◌, not, nat_lt, length}
 use Rattle.std.specs.Bool.{beq}
 use Rattle.std.specs.List.{AllByRecursion}
@@ -19,7 +19,7 @@ pub record Part (X : Type 0) : Type 0 where
   pub carries : Bool  -- Y
   pub brings : X
 
--- the packets of a track in order: given up, padding alone, unreadable, or a part of a frame. Lists of marks have the newest first.
+-- the packets of a track in order: given up, only padding, unreadable, or a part of a frame. Lists of marks have the newest first.
 pub data Mark (X : Type 0) : Type 0 where
   Gone : Mark X
   Padding : Mark X
@@ -28,7 +28,7 @@ pub data Mark (X : Type 0) : Type 0 where
 
 -- ---- a run, mark by mark
 
--- A start and the parts that continued it: the first, the others with the oldest first, and the newest of all.
+-- A start and the parts that continue it: the first, the others with the oldest first, and the newest of all.
 pub record Run (X : Type 0) : Type 0 where
   pub first : Part X
   pub more : List (Part X)
@@ -43,7 +43,7 @@ is_next run part =
     not run.newest.end
     && (part.number == run.first.number && (beq part.continues run.newest.carries && nat_lt (length run.more + 1) 512))
 
--- a start begins a run, whatever stood before it, unless it continues an element
+-- a start begins a run, whatever came before it, unless it continues an element
 abbrev pub begun : {X : Type 0} → Part X → Option (Run X)
 begun part = if part.continues then None else Some (record { first = part; more = []; newest = part })
 
@@ -62,7 +62,7 @@ abbrev pub run_of : {X : Type 0} → List (Mark X) → Option (Run X)
 run_of [] = None
 run_of (mark ∷ past) = extended (run_of past) mark
 
--- a run is whole where its newest part ends the frame and leaves no element open
+-- a run is whole if its newest part ends the frame and leaves no element open
 abbrev pub whole : {X : Type 0} → Option (Run X) → Option (Run X)
 whole None = None
 whole (Some run) = if run.newest.end && not run.newest.carries then Some run else None
@@ -124,13 +124,13 @@ pub record IsWholeCut {X : Type 0} (parts : List (Part X)) : Type 0 where
   pub number : HaveOneNumber parts
   pub joins : Join false parts
 
--- The same, but that the last Y is 0 or 1.
+-- The same, except that the last Y may be 0 or 1.
 abbrev pub JoinSoFar : {X : Type 0} → Bool → List (Part X) → Type 0
 JoinSoFar open_element [] = Unit {0}
 JoinSoFar open_element (part ∷ more) = (part.continues ≡ open_element) × JoinSoFar part.carries more
 
--- The parts of a frame that hasn't ended, the oldest first. It is a whole cut but for two things: no part ends it, and the last element may
--- be open.
+-- The parts of a frame that hasn't ended, the oldest first. They differ from a whole cut in two ways: no part ends them, and the last
+-- element may be open.
 pub record IsUnfinishedCut {X : Type 0} (parts : List (Part X)) : Type 0 where
   pub few : length parts ≤ 512
   pub starts : FirstAloneStarts parts
@@ -160,7 +160,7 @@ abbrev pub newest_first : {X : Type 0} → List (Part X) → List (Mark X)
 newest_first [] = []
 newest_first (part ∷ more) = newest_first more ++ Read part ∷ []
 
--- The newest mark is a part; and without padding, the newest marks are just these parts.
+-- The newest mark is a part, and apart from padding the newest marks are exactly these parts.
 pub record EndsIn {X : Type 0} (marks : List (Mark X)) (parts : List (Part X)) : Type 0 where
   pub newest : NewestIsPart marks
   pub older : List (Mark X)

@@ -1,7 +1,7 @@
--- The whole frames of a track, out of the packets that come in order, and what each means.
+-- The whole frames of a track, made from its packets in order, and the meaning of each.
 -- AV1 RTP payload format, Appendix A: the template dependency structure and the active decode targets in force, frame numbers, and the
 -- fields of a frame. Epochs, which key starts begin, and what is done with stale numbers are own rules.
--- What is in force and the run that goes on are folded over the items; the code keeps the first descriptor of the run alone.
+-- What is in force and the current run are folded over the items; the code keeps only the first descriptor of the run.
 use Rattle.std.specs.Prelude.{◌+◌, ◌-◌, ◌^◌, ℕ, List, [], ◌∷◌, ◌++◌, Bool, true, false, if◌then◌else◌, map}
 use Rattle.std.specs.declared.option.Option.{Option}
 use Rattle.std.specs.declared.option.Option.TheVariants.{None, Some}
@@ -35,13 +35,13 @@ no_force = record { structure = None; mask = 0; epoch = 0; start = 0; newest = 0
 abbrev pub all_targets : Layout → ℕ
 all_targets layout = 2 ^ layout.target_count - 1
 
--- a descriptor's own mask; or all targets, where it carries a structure; or the mask of before
+-- a descriptor's own mask; or all targets, if it carries a structure; or the mask from before
 abbrev pub mask_by : {S : Type 0} → Format S → Option ℕ → Option S → ℕ → ℕ
 mask_by format (Some mask) structure old = mask
 mask_by format None (Some s) old = all_targets (format.layout s)
 mask_by format None None old = old
 
--- the number of a key start: its frame number in the first epoch, and then the least above the newest
+-- the number of a key start: its frame number in the first epoch, and later the least above the newest that agrees with it (mod 65,536)
 abbrev pub key_number : {S : Type 0} → Option S → ℕ → ℕ → ℕ
 key_number None newest n = n
 key_number (Some s) newest n = least_above newest n
@@ -57,7 +57,7 @@ seen_as format force d true =
     }
 seen_as format force d false = record force { mask = mask_by format d.mask d.structure force.mask }
 
--- A descriptor that was read acts whether or not its payload reads or its frame gets whole.
+-- A descriptor that was read takes effect whether or not its payload reads or its frame becomes whole.
 abbrev pub after_descriptor : {S : Type 0} → Format S → Force S → Descriptor S → Force S
 after_descriptor format force d = seen_as format force d (is_key_start d)
 
@@ -101,7 +101,7 @@ is_padding (Elements joins) = false
 
 -- ---- frames
 
--- a key frame has its epoch's start; any other the nearest number, and none where that isn't above the newest
+-- a key frame has its epoch's start; any other frame has the nearest number, or none if that isn't above the newest
 abbrev pub number_of : {S : Type 0} → Force S → Descriptor S → Option ℕ
 number_of force d =
     if is_key_start d then Some force.start

@@ -1,7 +1,7 @@
 -- What a packet says: its dependency descriptor and its payload's flags.
--- AV1 RTP payload format, Appendix A (dependency descriptor) and section 4.4 (aggregation header). How bits are read is told by a
--- `Format`, which the crates of those grammars give; here stand the rules over what was read. The structure rule is this project's own.
--- The code reads bytes; here a packet's rest is what a reader answers for.
+-- AV1 RTP payload format, Appendix A (dependency descriptor) and section 4.4 (aggregation header). A `Format` says how bits are read; the
+-- crates of those grammars provide it. Here are the rules on what was read. The structure rule is this project's own.
+-- The code reads bytes; here a packet's rest is whatever a format can read.
 -- S is the type of template dependency structures.
 use Rattle.std.specs.Prelude.{◌≡◌, ◌≢◌, ◌<◌, ◌≤◌, ◌^◌, ℕ, List, Bool, true, false, if◌then◌else◌, ◌==◌, ◌&&◌, ◌||◌, slice_index, take}
 use Rattle.std.specs.declared.option.Option.{Option}
@@ -10,7 +10,7 @@ use Rattle.sfu_base.specs.declared.frame.Dti.{Dti}
 use Rattle.sfu_base.specs.declared.frame.Wish.{Wish}
 use Rattle.sfu_base.specs.Frame.{IsDistance}
 
--- a descriptor, with what its template gives filled in; of `refs` the first `ref_count` count
+-- a descriptor, with its template's parts filled in; only the first `ref_count` entries of `refs` count
 pub record Descriptor (S : Type 0) : Type 0 where
   pub start : Bool  -- start_of_frame
   pub end : Bool  -- end_of_frame
@@ -39,20 +39,20 @@ pub data Payload : Type 0 where
   Broken : Payload
   Elements : (joins : Joins) → Payload
 
--- what a structure says of decode targets and chains
+-- the decode targets and chains of a structure
 pub record Layout : Type 0 where
   pub target_count : ℕ
   pub pairs : List (Option Wish)
   pub chain_count : ℕ
   pub guards : List ℕ
 
--- How the packets of a track are read, given its extension id. All of it looks at a packet's rest, and not at its sequence number, SSRC
+-- How the packets of a track are read, given its extension id. A format reads only a packet's rest, and not its sequence number, SSRC
 -- and marker.
 pub record Format (S : Type 0) : Type 0 where
-  -- the descriptor in the first header extension element of the track's id, with the structure in force; faulty where there is none
+  -- the descriptor in the first header extension element of the track's id, with the structure in force; faulty if there is none
   pub descriptor : Option S → List ℕ → DescriptorReading S
   pub payload : List ℕ → Payload
-  -- two structures are the same in all that they say
+  -- whether two structures are equal in everything
   pub same : S → S → Bool
   pub layout : S → Layout
 
@@ -64,17 +64,17 @@ has_structure (Some s) = true
 abbrev pub is_key_start : {S : Type 0} → Descriptor S → Bool
 is_key_start d = has_structure d.structure && (d.start && d.ref_count == 0)
 
--- there is no structure, or it is the same as the one in force
+-- the packet carries no structure, or the same as the one in force
 abbrev pub keeps_structure : {S : Type 0} → Format S → Option S → Option S → Bool
 keeps_structure format force None = true
 keeps_structure format None (Some s) = false
 keeps_structure format (Some current) (Some s) = format.same s current
 
--- the structure rule: only a key start brings a structure that isn't in force
+-- the structure rule: only a key start may carry a structure that isn't in force
 abbrev pub obeys_structure : {S : Type 0} → Format S → Option S → Descriptor S → Bool
 obeys_structure format force d = is_key_start d || keeps_structure format force d.structure
 
--- what a packet shows by the structure in force: nothing, or a descriptor that obeys the structure rule, and its payload
+-- what a packet shows with the structure in force: nothing, or a descriptor that obeys the structure rule, and its payload
 pub data Showing (S : Type 0) : Type 0 where
   LacksStructure : Showing S
   Unread : Showing S
@@ -93,7 +93,7 @@ shown format force rest = shown_by format force (format.payload rest) (format.de
 abbrev pub referred_distances : {S : Type 0} → Descriptor S → List ℕ
 referred_distances d = take d.ref_count d.refs
 
--- the structure that a descriptor was read by
+-- the structure with which a descriptor was read
 abbrev pub read_by : {S : Type 0} → Option S → Option S → Option S
 read_by force None = force
 read_by force (Some s) = Some s
@@ -112,7 +112,7 @@ pub record IsDescriptor {S : Type 0} (format : Format S) (force : Option S) (d :
   pub layout : (s : S) → d.structure ≡ Some s → IsLayout (format.layout s)
   pub mask : (s : S) (m : ℕ) → read_by force d.structure ≡ Some s → d.mask ≡ Some m → m < 2 ^ (format.layout s).target_count
 
--- a descriptor that reads carries this structure; other values of S needn't be structures at all
+-- a descriptor that can be read carries this structure; other values of S needn't be structures at all
 pub record IsCarried {S : Type 0} (format : Format S) (s : S) : Type 0 where
   pub rest : List ℕ
   pub descriptor : Descriptor S
@@ -124,7 +124,7 @@ abbrev pub MayBeInForce : {S : Type 0} → Format S → Option S → Type 0
 MayBeInForce format None = Unit {0}
 MayBeInForce format (Some s) = IsCarried format s
 
--- The facts about reading on which the laws rest: each descriptor that reads is one, a descriptor that reads with no structure in force
+-- The facts about reading on which the laws rest: each descriptor that is read is valid, one that is read with no structure in force
 -- carries one, a descriptor that carries a structure reads the same whatever is in force, and structures are the same where they are equal.
 pub record IsFormat {S : Type 0} (format : Format S) : Type 0 where
   pub valid : (force : Option S) (rest : List ℕ) (d : Descriptor S) → MayBeInForce format force → format.descriptor force rest ≡ Reads d

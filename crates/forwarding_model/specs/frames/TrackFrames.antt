@@ -1,12 +1,12 @@
 -- What is true of the frames of one track.
--- Own facts, over AV1 RTP payload format, Appendix A. They say nothing of how frames are made; `Frames` makes some that have them.
+-- Own facts, over AV1 RTP payload format, Appendix A. They don't say how frames are made; `Frames` makes frames that have them.
 use Rattle.std.specs.Prelude.{◌≡◌, ◌≢◌, ◌⊎◌, ◌<◌, List, [], ◌∷◌, true}
 use Rattle.std.specs.List.{AllByRecursion}
 use Rattle.sfu_base.specs.declared.frame.FrameMeaning.{FrameMeaning}
 use Rattle.sfu_base.specs.Frame.{IsValid}
 use Rattle.forwarding_model.specs.forwarding.Targets.{references}
 
--- a frame's meaning is valid, and a key frame begins its epoch and refers to nothing
+-- a frame's meaning is valid, and a key frame begins its epoch and has no references
 pub record IsTrackFrame (f : FrameMeaning) : Type 0 where
   pub valid : IsValid f
   pub key_number : f.key ≡ true → f.number ≡ f.start
