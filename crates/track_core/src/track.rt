@@ -103,7 +103,7 @@ impl Track {
 
     /// Accepts a packet that arrives at `moment`, in milliseconds. First call [`Track::advance`] until it returns `Idle`. The packets of the last
     /// step stay readable. A refused packet changes nothing; the error is the first that applies. `TooBig`: more than 1,500 bytes. `Unreadable`:
-    /// not RTP. `WrongSsrc`: another SSRC than the track's. `Spent`, `Late` and `Repeat`: by the sequence number.
+    /// not RTP. `WrongSsrc`: another SSRC than the track's. `Spent`, `Late`, `Repeat`: the unwrapped number is 2^46 or more, passed, or buffered.
     pub fn arrive(&mut self, moment: u64, bytes: &[u8]) -> Result<(), Refusal>
         requires idle { self.old.window.waiting ≡ [] }
         requires length { length bytes.now ≤ 4294967295 }
