@@ -1,6 +1,6 @@
--- What is kept of the numbers that count as received. Own rule. Of a number only how far it lies below the newest counts, and a frame refers
--- at most 4,096 back (AV1 RTP payload format, Appendix A, frame_fdiff). So what is kept may stand lower than the definition's numbers, by a
--- multiple of 65,536, and lacks those too far below.
+-- Which of the received frame numbers are stored. Own rule. Only a number's distance below the newest matters, and a frame refers
+-- at most 4,096 back (AV1 RTP payload format, Appendix A, frame_fdiff). So the stored numbers may be lower than the definition's, by a
+-- multiple of 65,536, and those too far below are missing.
 use Rattle.std.specs.Prelude.{◌≡◌, ◌%◌, ◌≤◌, ◌<◌, ℕ, Option, None, Some}
 use Rattle.std.specs.List.{AllByRecursion}
 use Rattle.forwarding_model.specs.Receiver.{Judged, Received, is_received}
