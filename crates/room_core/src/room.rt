@@ -48,7 +48,7 @@ impl<R: Recorder> Room<R> {
         ensures { ServesInto R.noted R.may_refuse self.old self.new seat call.now result scratch.old scratch.new }
     {
         match call {
-            // Most calls are of these three kinds, for which nothing has to be allocated.
+            // Most calls are of these three kinds, for which nothing has to be prepared.
             Call::Take { subscriber } => self.take(seat, *subscriber, scratch),
             Call::Packet {
                 track,
@@ -89,7 +89,7 @@ impl<R: Recorder> Room<R> {
 
     /// Begins a track, as [`Call::Publish`] does. `NumberUsed`: the number is at most the highest that a track ever had, which is 0 before
     /// the first. `TooMany`: 64 tracks are live. `BadExtensionId`: the id of a layered track's header extension element is 0 or 15. `NoMemory`:
-    /// out of memory, where no other refusal applies.
+    /// out of memory, and no other refusal applies.
     pub fn publish(&mut self, seat: u32, track: u32, kind: Kind, ssrc: u32, hold: u32) -> Reply
         ensures { DoesAsServe R.noted R.may_refuse self.old self.new seat (call.Publish track kind ssrc hold) result }
     {
@@ -158,7 +158,7 @@ impl<R: Recorder> Room<R> {
     }
 
     /// Begins a subscriber, as [`Call::Join`] does. `NoTrack`: no live track has the number. `NumberUsed`: the number is at most the highest
-    /// that a subscriber ever had. `TooMany`: 256 subscribers are live. `NoMemory`: out of memory, where no other refusal applies.
+    /// that a subscriber ever had. `TooMany`: 256 subscribers are live. `NoMemory`: out of memory, and no other refusal applies.
     pub fn join(
         &mut self,
         seat: u32,

@@ -31,7 +31,7 @@ pub fn take_place(tracks: &mut IndexMap<u32, LiveTrack>, track: u32, place: usiz
     }
 }
 
-/// After a subscriber was removed from `place`: the one that was last in the table is at `place` now, and its track's set is changed so.
+/// After a subscriber was removed from `place`: records in its track's set that the one that was last in the table is at `place` now.
 pub fn move_last(
     tracks: &mut IndexMap<u32, LiveTrack>,
     subscribers: &IndexMap<u32, LiveSubscriber>,

@@ -10,8 +10,8 @@ use Rattle.stream_maker.specs.Bytes.{starts_frame}
 use Rattle.stream_maker.specs.Fates.{fate_of, word_at, is_lost, is_twice, is_to_be_held}
 use Rattle.stream_maker.specs.Turn.{Given, tick_event, turn}
 
--- the number of frames, the seed of the generator, and the percentage of the packets that are lost, and again of those that are sent twice
--- and that are held back
+-- the number of frames, the seed of the generator, and the percentage of packets that are lost; the same percentage is sent twice, and is
+-- held back
 pub record Stream : Type 0 where
   pub frames : ℕ
   pub start : ℕ

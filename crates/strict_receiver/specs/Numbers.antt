@@ -13,14 +13,14 @@ pub record AreKeptOf (kept received : Received) : Type 0 where
   pub before : AllByRecursion (λ m. m ≤ received.newest) received.numbers
   pub distances : (d : ℕ) → d < 4096 → is_received kept.numbers kept.newest d ≡ is_received received.numbers received.newest d
 
--- once the next frame has its number, and doesn't count as received yet
+-- after the next frame's number became the newest, and before that frame counts as received
 pub record ArePlacedAs (kept placed : Received) : Type 0 where
   pub newest : kept.newest % 65536 ≡ placed.newest % 65536
   pub below : AllByRecursion (λ m. m < kept.newest) kept.numbers
   pub before : AllByRecursion (λ m. m < placed.newest) placed.numbers
   pub distances : (d : ℕ) → 1 ≤ d → d ≤ 4096 → is_received kept.numbers kept.newest d ≡ is_received placed.numbers placed.newest d
 
--- no distance is lacking, and these numbers are kept then; or this distance is
+-- no distance is missing, and these numbers are stored then; or this distance is missing
 abbrev pub Judges : Received → Option ℕ → Judged → Type 0
 Judges now None (Complete received) = AreKeptOf now received
 Judges now None (Lacks fdiff) = ⊥
