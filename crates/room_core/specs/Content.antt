@@ -62,7 +62,7 @@ pub record IsAfter (content : Content) (past : List Call) : Type 0 where
 
 -- ---- what a call does
 
--- Whatever calls were accepted before, the reply is the answer after them, and the content is in the state that it leaves.
+-- Whatever calls were accepted before, the reply is the answer after them, and the content is in the state that the call then leaves.
 pub record Does (old new : Content) (call : Call) (reply : Reply) (bytes numbers : List ℕ) : Type 0 where
   pub answered : (past : List Call) → IsAfter old past → answer_of reply bytes numbers ≡ answer past call
   pub done : (past : List Call) → IsAfter old past → IsAfter new (after (answer past call) call past)
@@ -71,7 +71,7 @@ pub record Does (old new : Content) (call : Call) (reply : Reply) (bytes numbers
 abbrev pub DoesSilently : Content → Content → Call → Reply → Type 0
 DoesSilently old new call reply = (bytes numbers : List ℕ) → Does old new call reply bytes numbers
 
--- ---- what is allocated before a call changes anything
+-- ---- what is prepared before a call changes anything
 
 abbrev pub IsPipelineReady : Option Refusal → Content → Kind → ℕ → ℕ → Ready → Type 0
 IsPipelineReady (Some why) content kind ssrc hold ready = ready ≡ Nothing
@@ -104,7 +104,7 @@ IsReady content (call.Join subscriber track ssrc first wish) ready =
     IsFeedReady (refusal_to_join content subscriber track) content track ssrc first wish ready
 IsReady content other ready = Unit {0}
 
--- nothing is allocated for any other call
+-- nothing is prepared for any other call
 abbrev pub MayBeReady : Call → Ready → Type 0
 MayBeReady (call.Publish track kind ssrc hold) ready = Unit {0}
 MayBeReady (call.Join subscriber track ssrc first wish) ready = Unit {0}

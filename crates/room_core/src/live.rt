@@ -30,7 +30,7 @@ pub struct LiveSubscriber {
     pub feed: Box<Feed>,
 }
 
-/// What is allocated for a call before anything changes: the pipeline and the frame cache of an accepted publish, the feed of an accepted
+/// What is prepared for a call before anything changes: the pipeline and the frame cache of an accepted publish, the feed of an accepted
 /// join, or nothing.
 #[derive(Drop)]
 pub enum Ready {

@@ -1,4 +1,4 @@
--- What it does to serve a session's calls on a room. Own rule. The code stores no history.
+-- The effect of serving a session's calls on a room. Own rule. The code stores no history.
 use Rattle.std.specs.Prelude.{◌≡◌, ◌⊎◌, IsTrue, ℕ, Bool, if◌then◌else◌, List, [], ◌∷◌, ◌++◌, Option}
 use Rattle.sfu_base.specs.Answer.{Answer, Refused}
 use Rattle.sfu_base.specs.declared.call.Refusal.TheVariants.{NoMemory}
