@@ -135,7 +135,7 @@ fn a_path_names_its_next_number_falls_and_ends_at_a_root(rt: HostRuntime) {
         assert!(rt; check_path(&[step(5, to_three), step(3, to_two), step(2, root)]));
         // a root before the last step
         assert!(rt; !check_path(&[step(3, root), step(2, root)]));
-        // a step with another number than the one that the step before names
+        // a step whose number isn't the one that the previous step names
         assert!(rt; !check_path(&[step(5, to_three), step(2, root)]));
         // numbers that don't decrease
         assert!(rt; !check_path(&[step(3, to_three), step(3, root)]));

@@ -5,7 +5,7 @@ use packet_slot::PacketSlot;
 use std::process::Abort;
 use std::test::Fail;
 
-// Packets of frame 2, by whether they start and end it, and by whether they continue an element and carry one on.
+// Packets of frame 2, by whether they start and end it, and by whether they continue an element and leave one open.
 const FIRST: Mark = Mark::Part {
     start: true,
     end: false,
@@ -87,7 +87,7 @@ const OTHER_LAST: Mark = Mark::Part {
     carries: false,
 };
 
-// Pushes each mark with a packet of one byte, the mark's place in the row. `frame` has the bytes of the frame that the last mark made whole.
+// Pushes each mark with a packet of one byte, the mark's place in the row. `frame` has the bytes of the frame that the last mark completed.
 fn check_row(rt: &impl Abort, assembly: &mut Assembly, marks: &[(Mark, Outcome)], frame: &[u8]) {
     let mut place = 0u8;
     for (mark, outcome) in marks {
@@ -100,7 +100,7 @@ fn check_row(rt: &impl Abort, assembly: &mut Assembly, marks: &[(Mark, Outcome)]
     }
 }
 
-// Rows: marks with what is returned for each, and the first byte of each packet of the frame that the last mark made whole.
+// Rows: marks with what is returned for each, and the first byte of each packet of the frame that the last mark completed.
 const ROWS: [(&[(Mark, Outcome)], &[u8]); 20] = [
     // before the first frame
     (
@@ -230,7 +230,7 @@ const ROWS: [(&[(Mark, Outcome)], &[u8]); 20] = [
         ],
         &[],
     ),
-    // the next packet ends a whole frame, even if it is padding
+    // behind a whole frame, the next packet ends it, even if that packet is padding
     (&[(ALONE, Outcome::Whole), (LAST, Outcome::Torn)], &[]),
     (&[(ALONE, Outcome::Whole), (Mark::Pad, Outcome::Pad)], &[]),
 ];
@@ -270,7 +270,7 @@ fn check_frame(rt: &impl Abort, assembly: &Assembly, frame: &[&[u8]]) {
     }
 }
 
-// One slot brings all packets. So it holds what the assembly gave in exchange for the packet before.
+// The same slot variable brings all packets: it has the slot that the assembly exchanged for that of the previous packet.
 #[test]
 fn packets_in_slots_make_the_same_frames_as_their_bytes(rt: HostRuntime) -> Result<(), Fail> {
     let mut bytes = Assembly::new(rt.alloc())?;

@@ -1,4 +1,4 @@
-// A slot holds what it was filled with last.
+// A slot contains what it was filled with last.
 use packet_slot::*;
 
 #[test]

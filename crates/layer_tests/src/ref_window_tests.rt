@@ -1,7 +1,7 @@
 use ref_window::*;
 use std::process::Abort;
 
-// Checks that a window into which `inserted` were inserted holds each of `held` and none of `others`.
+// Checks that a window into which `inserted` were inserted contains each of `held` and none of `others`.
 fn holds_only(rt: &impl Abort, inserted: &[u64], held: &[u64], others: &[u64]) {
     let mut window = RefWindow::new();
     for number in inserted {

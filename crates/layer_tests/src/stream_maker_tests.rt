@@ -2,7 +2,7 @@ use sfu_base::PacketBuf;
 use std::process::Abort;
 use stream_maker::*;
 
-// Checks that the next event, at this moment, is a packet with this sequence number or, where none is given, a tick.
+// Checks that the next event, at this moment, is a packet with this sequence number or, for `None`, a tick.
 fn expect_next(rt: &impl Abort, maker: &mut Maker, sequence: Option<u8>, moment: u64) {
     let mut out = PacketBuf::new();
     let event = maker.next_event(&mut out);
@@ -18,7 +18,7 @@ fn expect_next(rt: &impl Abort, maker: &mut Maker, sequence: Option<u8>, moment:
     }
 }
 
-// A separate program worked out the draws: of nine packets, 0, 1, 2, 6 and 7 are lost, 3 and 5 are held back, and 4 and 8 are sent twice.
+// A separate program computed the draws: of nine packets, 0, 1, 2, 6 and 7 are lost, 3 and 5 are held back, and 4 and 8 are sent twice.
 #[test]
 fn a_held_packet_is_sent_behind_the_next(rt: HostRuntime) {
     let mut maker = Maker::new(5, 1, 50);

@@ -53,7 +53,7 @@ pub record IsTaken (ring : Ring) (h : History) (packet : List ℕ) (rest : List 
   pub gives : Gives h h.takes (record { number = ring.next; bytes = packet })
   pub more : h.takes < length h.pushes
 
--- the queue's first packet is the one that the next take gives
+-- the queue's first packet is the one that the next take returns
 first_bytes_of : (xs : List Sent) (packet : List ℕ) (rest : List (List ℕ)) → map bytes_of xs ≡ packet ∷ rest
     → (x : Sent) × (ys : List Sent) × (xs ≡ x ∷ ys) × (x.bytes ≡ packet) × (map bytes_of ys ≡ rest)
 first_bytes_of [] packet rest e = absurd (cc e)

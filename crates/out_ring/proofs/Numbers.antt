@@ -53,7 +53,7 @@ number-numbered n ssrc (q ∷ ps) (suc i) x e =
 
 -- ---- by number
 
--- the first packet with a number is the one so many places on
+-- the first packet with a number is the one at the number's distance from n
 pub find-numbered : (n ssrc s i : ℕ) (ps : List Pushed) (p : Pushed) → slice_get ps i ≡ Some p → i < 65536 → (n + i) % 65536 ≡ s
     → find (λ packet. packet.number == s) (numbered n ssrc ps) ≡ Some (sent s ssrc p)
 find-numbered n ssrc s i [] p at few e = absurd (cc at)

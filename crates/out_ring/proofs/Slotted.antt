@@ -20,7 +20,7 @@ same_least : (shared : Option (List ℕ)) → bytes_by shared (Some least_packet
 same_least None = refl
 same_least (Some packet) = refl
 
--- one copy more begins as the least packet, which its slot had without it
+-- a new copy begins as the least packet, which its slot had before
 pub one_more_copy : (own : List (List ℕ)) → AreAlike own (own ++ least_packet ∷ [])
 one_more_copy [] shared zero = same_least shared
 one_more_copy [] shared (suc place) = refl
@@ -33,7 +33,7 @@ packets_alike place (head ∷ heads) own new alike =
     ap₂ (λ (bytes : List ℕ) (packets : List Pushed). record { bytes = bytes; marker = head.marker } ∷ packets) (alike head.shared (place % 1536))
     (packets_alike (suc place) heads own new alike)
 
--- before the first copy it is all one where copies stand
+-- before the first copy, the place of the copies doesn't matter
 packets_rebased : (place other : ℕ) (heads : List Head) → packets_from place heads [] ≡ packets_from other heads []
 packets_rebased place other [] = refl
 packets_rebased place other (head ∷ heads) = ap (λ (packets : List Pushed). packet_by head None ∷ packets) (packets_rebased (suc place) (suc other) heads)
@@ -59,7 +59,7 @@ copied_elsewhere place at (head ∷ heads) own packet others =
     (item_elsewhere own at (place % 1536) packet (others place (omega arith) (omega arith)))
     (copied_elsewhere (suc place) at heads own packet (λ j above below. others j (omega (arith, above)) (omega (arith, below))))
 
--- ---- a head is put in as the last one, and the first is gone
+-- ---- a head is appended, and the first is dropped
 
 packets_after : (count place : ℕ) (heads : List Head) (own : List (List ℕ)) → packets_from (place + count) (drop count heads) own ≡ drop count (packets_from place heads own)
 packets_after zero place heads own = ap (λ (k : ℕ). packets_from k heads own) (let e : place + 0 ≡ place = omega arith in e)
@@ -91,7 +91,7 @@ pushed_last first heads own head full =
     ∙ ap (λ (k : ℕ). packets_from (suc first) (drop 1 heads) own ++ packet_by head (slice_get own k) ∷ [])
     (let e : (suc first + length (drop 1 heads)) % 1536 ≡ first % 1536 = omega (arith, length-drop 1 heads, full) in e)
 
--- one that is shared, where there are copies, and some more of them
+-- a shared packet, where there are copies, and maybe more of them than before
 pub shared_last : (first : ℕ) (heads : List Head) (own new : List (List ℕ)) (packet : List ℕ) (marker : Bool) → length heads ≡ 1536 → AreAlike own new
     → packets_from ((first + 1) % 1536) (drop 1 heads ++ record { shared = Some packet; marker = marker } ∷ []) new
     ≡ drop 1 (packets_from first heads own) ++ record { bytes = packet; marker = marker } ∷ []
@@ -115,7 +115,7 @@ copied_last first heads own new packet marker full below alike there =
     apart : (j : ℕ) → suc first ≤ j → j < suc first + length (drop 1 heads) → j % 1536 ≢ first
     apart j above under same = omega (arith, above, under, same, below, length-drop 1 heads, full)
 
--- ---- one lets go of its packet
+-- ---- a slot's shared packet is evicted
 
 pub shared_there : (heads : List Head) (i : ℕ) (head : Head) → slice_get heads i ≡ Some head → shared_at heads i ≡ head.shared
 shared_there [] i head e = absurd (cc e)

@@ -11,7 +11,7 @@ use Rattle.out_ring.proofs.Numbers.{drop-numbered, length-numbered, numbered-app
 abbrev pub bytes_of : Sent → List ℕ
 bytes_of packet = packet.bytes
 
--- the ring with these packets, so many of which are kept
+-- the ring with these packets, this many of which are kept
 abbrev pub ring_of : ℕ → ℕ → ℕ → List Pushed → Ring
 ring_of ssrc next kept held = record {
   ssrc = ssrc;
@@ -22,7 +22,7 @@ ring_of ssrc next kept held = record {
 
 -- ---- a push
 
--- in a full ring the front place is given up for one at the back
+-- in a full ring the first slot is dropped, and one is appended
 pub rotated : {X : Type 0} (xs : List X) (x : X) (m : ℕ) → length xs ≡ 1536 → m < 1536 → drop m (drop 1 xs ++ x ∷ []) ≡ drop (m + 1) xs ++ x ∷ []
 rotated xs x m full lt =
     drop-append-le m (drop 1 xs) (x ∷ []) (omega (arith, length-drop 1 xs, full))
@@ -45,7 +45,7 @@ ring_pushed ssrc next kept held p few =
 
 -- ---- a take
 
--- the packet that a place gives
+-- the packet that is sent from a place
 pub record GivesAt (slots : List Pushed) (place number ssrc : ℕ) (bytes : List ℕ) : Type 0 where
   pub packet : Pushed
   pub at : slice_get slots place ≡ Some packet
@@ -100,7 +100,7 @@ pub size_of_queue : (ssrc next kept queued : ℕ) (held : List Pushed) → lengt
 size_of_queue ssrc next kept queued held size =
     length-map (numbered next ssrc (drop kept held)) bytes_of ∙ length-numbered next ssrc (drop kept held) ∙ length-drop kept held ∙ omega (arith, size)
 
--- what is held after a push
+-- the kept and queued packets after a push
 pub held_pushed : (slots : List Pushed) (slot : Pushed) (queued kept : ℕ) → length slots ≡ 1536 → queued + kept < 1536
     → drop (1536 - (queued + 1) - kept) (drop 1 slots ++ slot ∷ []) ≡ drop (1536 - queued - kept) slots ++ slot ∷ []
 held_pushed slots slot queued kept full few =
@@ -115,7 +115,7 @@ held_taken slots queued kept keeps some few most =
     ap (λ (k : ℕ). drop k slots) (let e : 1536 - (queued - 1) - keeps ≡ 1536 - queued - kept + d = omega (arith, some, few, most) in e)
     ∙ sym (drop-drop d (1536 - queued - kept) slots)
 
--- the place of what is held
+-- the place of the kept and queued packets
 pub held_at : (slots : List Pushed) (from i : ℕ) → slice_get (drop from slots) i ≡ slice_get slots (from + i)
 held_at slots from i = item_after_drop slots from i
 

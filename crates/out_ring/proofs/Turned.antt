@@ -10,7 +10,7 @@ module _ {X : Type 0} where
   pub size_turned : (place : ℕ) (xs : List X) → length (turned place xs) ≡ length xs
   size_turned place xs = omega (arith, length-append (drop place xs) (take place xs), length-drop place xs, length-take place xs)
 
-  -- to begin behind the last item is to begin at the front
+  -- to begin behind the last item is to begin at the first
   turned_whole : (place : ℕ) (xs : List X) → length xs ≡ 1536 → place ≤ 1536 → turned (place % 1536) xs ≡ turned place xs
   turned_whole place xs full within = elim (cases_lt place 1536) [
     | inl below ↦ ap (λ (k : ℕ). turned k xs) (let e : place % 1536 ≡ place = omega (arith, below) in e)
@@ -21,7 +21,7 @@ module _ {X : Type 0} where
         ∙ ap (λ (l : List X). l ++ take place xs) (sym (drop_all place xs (omega (arith, full, above))))
   ]
 
-  -- an item in place of the first one is the last, where the list then begins behind it
+  -- an item that replaces the first one is the last, if the list then begins behind it
   pub put_in_first : (first : ℕ) (xs : List X) (x : X) → length xs ≡ 1536 → first < 1536
       → turned ((first + 1) % 1536) (set xs first x) ≡ drop 1 (turned first xs) ++ x ∷ []
   put_in_first first xs x full below =
@@ -46,13 +46,13 @@ module _ {X : Type 0} where
             ∙ ap (λ (k : ℕ). get_or xs k d) (let e : i - (1536 - first) ≡ (first + i) % 1536 = omega (arith, high, within, below) in e)
       ]
 
-  -- which item stands at a place
+  -- which item is at a place
   pub item_there : (first i : ℕ) (xs : List X) (x : X) → length xs ≡ 1536 → first < 1536 → i < 1536 → x ≡ get_or xs ((first + i) % 1536) x
       → slice_get (turned first xs) i ≡ Some x
   item_there first i xs x full below within is =
       slice_get_read (turned first xs) 1536 i x (sym (size_turned first xs ∙ full)) within (is ∙ sym (get_or-turned first i xs x full below within))
 
-  -- to put an item in there is to put it in at its place
+  -- to replace an item there is to replace it at its place
   pub put_in_there : (first i : ℕ) (xs : List X) (x : X) → length xs ≡ 1536 → first < 1536 → i < 1536
       → turned first (set xs ((first + i) % 1536) x) ≡ set (turned first xs) i x
   put_in_there first i xs x full below within =

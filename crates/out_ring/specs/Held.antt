@@ -9,7 +9,7 @@ use Rattle.out_ring.specs.Ring.{Pushed, Ring}
 use Rattle.out_ring.specs.History.{numbered}
 use Rattle.out_ring.specs.Slots.{packets_from}
 
--- the items from this place on, and then those before it
+-- the items from this place on, followed by those before it
 abbrev pub turned : {X : Type 0} → ℕ → List X → List X
 turned place xs = drop place xs ++ take place xs
 

@@ -1,10 +1,10 @@
--- What was done with a ring since it was made, and which ring that leaves. Own rules. The code has the last packets alone.
+-- All pushes and takes since a ring was made, and the ring that they leave. Own rules. The code stores the last packets only.
 use Rattle.std.specs.Prelude.{◌≡◌, ◌≢◌, ◌<◌, ◌≤◌, ◌+◌, ◌%◌, ℕ, List, [], ◌∷◌, ◌++◌, Bool, length, map, take, drop, slice_get}
 use Rattle.std.specs.declared.option.Option.TheVariants.{Some}
 use Rattle.forwarding_model.specs.Lists.{last_part}
 use Rattle.out_ring.specs.Ring.{Pushed, Ring, Sent, sent}
 
--- how the ring was made, what was pushed, the oldest first, and how many takes gave a packet
+-- how the ring was made, what was pushed, the oldest first, and how many takes returned a packet
 pub record History : Type 0 where
   pub ssrc : ℕ
   pub first : ℕ  -- the first sequence number
@@ -25,11 +25,11 @@ abbrev pub numbered : ℕ → ℕ → List Pushed → List Sent
 numbered n ssrc [] = []
 numbered n ssrc (p ∷ pushes) = sent (n % 65536) ssrc p ∷ numbered (n + 1) ssrc pushes
 
--- all that goes out, whether it was taken or is queued, the oldest first
+-- all packets as they are sent, taken or still queued, the oldest first
 abbrev pub outgoing : History → List Sent
 outgoing h = numbered h.first h.ssrc h.pushes
 
--- the ring is where this leaves it
+-- the ring is in the state that this history leaves
 pub record IsAfter (ring : Ring) (h : History) : Type 0 where
   pub ssrc : ring.ssrc ≡ h.ssrc
   pub next : ring.next ≡ (h.first + h.takes) % 65536
@@ -37,14 +37,14 @@ pub record IsAfter (ring : Ring) (h : History) : Type 0 where
   pub kept : ring.kept ≡ last_part 1024 (take h.takes (outgoing h))
   pub found : h.takes ≤ length h.pushes
 
--- the take after so many takes gives this packet
+-- the take after this many takes returns this packet
 abbrev pub Gives : History → ℕ → Sent → Type 0
 Gives h takes packet = slice_get (outgoing h) takes ≡ Some packet
 
--- one of the last 1,024 takes gave this packet
+-- one of the last 1,024 takes returned this packet
 abbrev pub GaveLately : History → Sent → Type 0
 GaveLately h packet = (takes : ℕ) × (takes < h.takes) × (h.takes ≤ takes + 1024) × Gives h takes packet
 
--- none of the last 1,024 takes gave a packet with this number
+-- none of the last 1,024 takes returned a packet with this number
 abbrev pub GaveNoneLately : History → ℕ → Type 0
 GaveNoneLately h number = (takes : ℕ) (packet : Sent) → takes < h.takes → h.takes ≤ takes + 1024 → Gives h takes packet → packet.number ≢ number

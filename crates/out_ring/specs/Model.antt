@@ -1,5 +1,5 @@
--- That a ring is the queue and the store which the forwarding model gives a subscriber. Own statements. The model's packets have sequence
--- number, SSRC, marker and a rest; a ring is handed bytes and a marker.
+-- A ring is the queue and the store that a subscriber has in the forwarding model. Own statements. The model's packets have sequence
+-- number, SSRC, marker and a rest; what is pushed into a ring are bytes and a marker.
 use Rattle.std.specs.Prelude.{◌≡◌, ◌==◌, ℕ, List, [], ◌∷◌, Bool, map}
 use Rattle.std.specs.List.{find}
 use Rattle.std.specs.Option.{option_map}
@@ -16,26 +16,26 @@ bytes_of packet = rewritten packet.sequence_number packet.ssrc packet.marker pac
 abbrev pub sent_of : Packet → Sent
 sent_of packet = record { number = packet.sequence_number; bytes = bytes_of packet }
 
--- what was handed in is the model's packet: it has its marker, and goes out with the same bytes whatever it is numbered
+-- what was pushed is the model's packet: it has the same marker, and is sent with the same bytes for each sequence number
 pub record IsPushOf (p : Pushed) (packet : Packet) : Type 0 where
   pub marker : p.marker ≡ packet.marker
   pub bytes : (number ssrc : ℕ) (marker : Bool) → rewritten number ssrc marker p.bytes ≡ rewritten number ssrc marker packet.rest
 
--- one after another, and no more of either
+-- each push is that of the model's packet at the same place, and there are as many of both
 abbrev pub ArePushesOf : List Pushed → List Packet → Type 0
 ArePushesOf [] [] = Unit {0}
 ArePushesOf [] (packet ∷ packets) = ⊥
 ArePushesOf (p ∷ pushes) [] = ⊥
 ArePushesOf (p ∷ pushes) (packet ∷ packets) = IsPushOf p packet × ArePushesOf pushes packets
 
--- what passed to this subscriber was pushed, and it took what it took
+-- what was forwarded to this subscriber was pushed, and as many packets were taken as it took
 pub record IsHistoryOf {S : Type 0} (h : History) (send : Sender S) (to : Subscriber) (events : List (Event S)) : Type 0 where
   pub ssrc : h.ssrc ≡ to.ssrc
   pub first : h.first ≡ to.first
   pub pushes : ArePushesOf h.pushes (forwarded send to.wish events)
   pub takes : h.takes ≡ takes_of events
 
--- the ring has the subscriber's queue and what is kept for it, finds a kept packet where the model does, and has its numbers
+-- the ring has the subscriber's queue, its kept packets and its numbers, and finds a kept packet where the model does
 pub record IsStoreOf {S : Type 0} (ring : Ring) (send : Sender S) (to : Subscriber) (events : List (Event S)) : Type 0 where
   pub ssrc : ring.ssrc ≡ to.ssrc
   pub next : ring.next ≡ next_number send to events
@@ -44,7 +44,7 @@ pub record IsStoreOf {S : Type 0} (ring : Ring) (send : Sender S) (to : Subscrib
   pub oldest : oldest_in ring.kept ring.next ≡ oldest_number send to events
   pub found : (n : ℕ) → find (λ packet. packet.number == n) ring.kept ≡ option_map sent_of (resent send to events n)
 
--- where the accepted calls on a ring are those of a subscriber's timeline, it is the subscriber's queue and store
+-- if the accepted calls on a ring are those of a subscriber's timeline, the ring is the subscriber's queue and store
 abbrev pub StoresWhatGoesOut : Type 0 → Type 0
 StoresWhatGoesOut S = (send : Sender S) (to : Subscriber) (events : List (Event S)) (ring : Ring) (h : History) → IsAfter ring h → IsHistoryOf h send to events
     → IsStoreOf ring send to events

@@ -11,7 +11,7 @@ least_packet = 128 ∷ 0 ∷ 0 ∷ 0 ∷ 0 ∷ 0 ∷ 0 ∷ 0 ∷ 0 ∷ 0 ∷ 0 �
 abbrev pub bytes_in : Inside → List ℕ
 bytes_in packet = take packet.count packet.buf
 
--- there is a packet in it, and it reads
+-- the buffer contains a packet, and it is valid RTP
 pub record HasPacket (packet : Inside) : Type 0 where
   pub few : packet.count ≤ 1536
   pub reads : first_fault (take packet.count packet.buf) ≡ None

@@ -1,5 +1,5 @@
--- What contracts see of the packets that go out to a subscriber, and what each call makes of it. Own rules, over RTP's fields (RFC 3550,
--- section 5.1). The code has slots for packets as they were handed in; a packet's number follows from its place.
+-- What contracts see of the packets that are sent to a subscriber, and how each call changes it. Own rules, over RTP's fields (RFC 3550,
+-- section 5.1). The code has slots for packets as they were pushed; a packet's number follows from its place.
 use Rattle.std.specs.Prelude.{◌≡◌, ◌+◌, ◌%◌, ◌==◌, ℕ, List, [], ◌∷◌, ◌++◌, Bool, Result, Ok, Err, length}
 use Rattle.std.specs.List.{find}
 use Rattle.std.specs.declared.option.Option.{Option}
@@ -9,12 +9,12 @@ use Rattle.sfu_base.specs.declared.call.Refusal.TheVariants.{Empty, NotKept}
 use Rattle.rtp_packet.specs.Rewritten.{rewritten}
 use Rattle.forwarding_model.specs.Lists.{last_part}
 
--- a packet as it was handed in, and the marker that it goes out with
+-- a packet as it was pushed, and the marker that it is sent with
 pub record Pushed : Type 0 where
   pub bytes : List ℕ
   pub marker : Bool
 
--- a packet as it goes out, and its sequence number
+-- a packet as it is sent, and its sequence number
 pub record Sent : Type 0 where
   pub number : ℕ
   pub bytes : List ℕ
@@ -50,7 +50,7 @@ taken ring packet rest = record {
   kept = last_part 1024 (ring.kept ++ record { number = ring.next; bytes = packet } ∷ []);
 }
 
--- The oldest queued packet is taken. Where none is queued, nothing changes.
+-- The oldest queued packet is taken. If none is queued, nothing changes.
 abbrev pub TakesFrom : List (List ℕ) → Ring → Ring → Result ℕ Refusal → List ℕ → List ℕ → Type 0
 TakesFrom [] old new result before bytes = (result ≡ Err Empty) × (new ≡ old) × (bytes ≡ before)
 TakesFrom (packet ∷ rest) old new result before bytes = (result ≡ Ok old.next) × (new ≡ taken old packet rest) × (bytes ≡ packet)
@@ -58,12 +58,12 @@ TakesFrom (packet ∷ rest) old new result before bytes = (result ≡ Ok old.nex
 abbrev pub Takes : Ring → Ring → Result ℕ Refusal → List ℕ → List ℕ → Type 0
 Takes old new result before bytes = TakesFrom old.queued old new result before bytes
 
--- the sequence number of the oldest kept packet, or of the next take where none is kept
+-- the sequence number of the oldest kept packet, or of the next take if none is kept
 abbrev pub oldest_in : List Sent → ℕ → ℕ
 oldest_in [] next = next
 oldest_in (packet ∷ kept) next = packet.number
 
--- The kept packet is handed out. Where none is kept with the number, nothing changes.
+-- The kept packet is returned. If no kept packet has the number, nothing changes.
 abbrev pub ResendsIt : Option Sent → Ring → Result (Unit {0}) Refusal → List ℕ → List ℕ → Type 0
 ResendsIt None ring result before bytes = (result ≡ Err (NotKept (oldest_in ring.kept ring.next) ring.next)) × (bytes ≡ before)
 ResendsIt (Some packet) ring result before bytes = (result ≡ Ok tt) × (bytes ≡ packet.bytes)

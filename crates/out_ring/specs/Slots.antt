@@ -4,7 +4,7 @@ use Rattle.out_ring.specs.declared.heads.Head.{Head}
 use Rattle.out_ring.specs.Packet.{least_packet}
 use Rattle.out_ring.specs.Ring.{Pushed}
 
--- what is shared, or else the copy, or else the least packet
+-- the shared packet, or else the copy, or else the least packet
 abbrev pub bytes_by : Option (List ℕ) → Option (List ℕ) → List ℕ
 bytes_by (Some shared) own = shared
 bytes_by None (Some copy) = copy
@@ -13,7 +13,7 @@ bytes_by None None = least_packet
 abbrev pub packet_by : Head → Option (List ℕ) → Pushed
 packet_by head own = record { bytes = bytes_by head.shared own; marker = head.marker }
 
--- the packets of these slots, the first of which has its copy at this place; copies stand in turn
+-- the packets of these slots; the first slot's copy is at this place, and the other copies follow in order
 abbrev pub packets_from : ℕ → List Head → List (List ℕ) → List Pushed
 packets_from place [] own = []
 packets_from place (head ∷ heads) own = packet_by head (slice_get own (place % 1536)) ∷ packets_from (suc place) heads own
@@ -24,12 +24,12 @@ shared_at [] place = None
 shared_at (head ∷ heads) zero = head.shared
 shared_at (head ∷ heads) (suc place) = shared_at heads place
 
--- the head at this place, if there is one, shares nothing any more
+-- the head at this place, if there is one, shares nothing from now on
 abbrev pub evict : List Head → ℕ → List Head
 evict [] place = []
 evict (head ∷ heads) zero = record { shared = None; marker = head.marker } ∷ heads
 evict (head ∷ heads) (suc place) = head ∷ evict heads place
 
--- no slot has another packet
+-- each slot has the same packet as before
 abbrev pub AreAlike : List (List ℕ) → List (List ℕ) → Type 0
 AreAlike own new = (shared : Option (List ℕ)) (place : ℕ) → bytes_by shared (slice_get new place) ≡ bytes_by shared (slice_get own place)

@@ -78,7 +78,7 @@ impl Heads {
         self.ring[place_from(oldest, place)].shared.take()
     }
 
-    /// Puts a head in as the newest, in place of the oldest. Returns the packet that the oldest shared, if any.
+    /// Drops the oldest head, and adds one as the newest. Returns the packet that the oldest head shared, if any.
     #[inline(always)]
     pub fn put_last(&mut self, shared: Option<SharedPacket>, marker: bool) -> Option<SharedPacket>
         ensures shared { result ≡ shared_at self.old 0 }

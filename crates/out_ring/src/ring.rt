@@ -95,7 +95,7 @@ impl OutRing {
     }
 
     /// Looks at the oldest slot that may still share a packet that isn't kept any more. Removes and returns that packet, if there is one. Call this before
-    /// each push, and release what it returns: a take leaves at most one such slot behind, so no packet stays for long.
+    /// each push, and release the returned packet: each take leaves at most one such slot, so a buffer is free again soon.
     #[inline(always)]
     pub fn evict(&mut self) -> Option<SharedPacket>
         ensures { self.new ≡ self.old }
@@ -117,8 +117,8 @@ impl OutRing {
         slots.release(store);
     }
 
-    /// Takes the oldest queued packet: replaces the contents of `out` with it, and returns its sequence number. The packet is kept from then on; of 1,025
-    /// kept packets the oldest is forgotten. `Empty`: none is queued; nothing changes then. The bytes are copied once.
+    /// Takes the oldest queued packet: replaces the contents of `out` with it, and returns its sequence number. The packet is kept from then on; if more
+    /// than 1,024 are kept, the oldest is forgotten. `Empty`: none is queued; nothing changes then. The bytes are copied once.
     #[inline(always)]
     pub fn take(&mut self, out: &mut PacketBuf) -> Result<u16, Refusal>
         ensures takes { Takes self.old self.new result out.old out.new }
@@ -143,7 +143,7 @@ impl OutRing {
         Ok(number)
     }
 
-    /// Replaces the contents of `out` with the kept packet that has this sequence number, byte for byte as its take gave it. `NotKept`: none of the last
+    /// Replaces the contents of `out` with the kept packet that has this sequence number, byte for byte as its take returned it. `NotKept`: none of the last
     /// 1,024 packets taken has this number; nothing changes then. The packet is found in constant time, and its bytes are copied once.
     pub fn resend(&self, seq: u16, out: &mut PacketBuf) -> Result<(), Refusal>
         ensures resends { Resends self.now seq result out.old out.new }

@@ -15,13 +15,13 @@ use sfu_base::{NoMemory, PacketBuf};
 use std::alloc::Global;
 use std::marker::Model;
 
-/// The last 1,536 packets that were put in, each with its marker: either shared, or a copy of the slots' own. Memory for the copies is taken at
-/// the beginning. It is first touched by the first copy, and from then on by one more buffer at each push. Clauses see the packets, the oldest
-/// first. Until 1,536 packets were put in, the places before them have the shortest RTP packet.
+/// The last 1,536 packets that were put in, each with the marker that it is sent with. A slot shares its packet, or has a copy of its own. `new`
+/// allocates the memory for all copies but doesn't touch it: the first copy touches one buffer, and each push after that at most one more. Clauses
+/// see 1,536 packets, the oldest first; a slot that nothing was put into yet has the shortest RTP packet.
 #[derive(Debug, Drop)]
 pub struct Slots {
     heads: Heads,
-    // The copies: that of the oldest slot is at index `first`, the others follow in order and wrap around. There is none until a copy is put in.
+    // The slots' own copies. The oldest slot's copy is at index `first`; the others follow in order and wrap around. Empty until the first copy.
     own: Vec<StoredPacket>,
     first: usize,
 }
@@ -40,7 +40,7 @@ impl Model for Slots {
 }
 
 impl Slots {
-    /// Takes all memory that the slots ever need. `NoMemory`: out of memory.
+    /// Makes 1,536 slots and allocates all memory that they ever need. `NoMemory`: out of memory.
     pub fn new(alloc: Global) -> Result<Slots, NoMemory>
         ensures { IfOk result (λ slots. length slots ≡ 1536) }
     {
@@ -54,8 +54,8 @@ impl Slots {
         })
     }
 
-    /// Puts a copy of a packet in as the newest, with this marker, in place of the oldest. Returns the packet that the oldest slot shared, if
-    /// any.
+    /// Drops the oldest packet, and adds a copy of this packet, with this marker, as the newest. Returns the packet that the oldest slot shared,
+    /// if any.
     pub fn fill(&mut self, packet: &[u8], marker: bool) -> Option<SharedPacket>
         requires reads { first_fault packet.now ≡ None }
         requires fits { length packet.now ≤ 1536 }
@@ -68,7 +68,7 @@ impl Slots {
         self.heads.put_last(None, marker)
     }
 
-    /// Puts a shared packet in as the newest, with this marker, in place of the oldest. Returns the packet that the oldest slot shared, if any.
+    /// Drops the oldest packet, and adds this shared packet, with this marker, as the newest. Returns the packet that the oldest slot shared, if any.
     #[inline(always)]
     pub fn share(&mut self, packet: SharedPacket, marker: bool) -> Option<SharedPacket>
         ensures { self.new ≡ drop 1 self.old ++ record { bytes = packet; marker = marker } ∷ [] }
@@ -78,8 +78,8 @@ impl Slots {
         self.heads.put_last(Some(packet), marker)
     }
 
-    /// Removes and returns the packet that the slot at this place shares, if any; places count from 0 at the oldest. Another packet may be in
-    /// that slot then, and all packets behind it are unchanged.
+    /// Removes and returns the packet that the slot at this place shares, if any; places count from 0 at the oldest. After that, this slot and
+    /// older ones may have other packets, and the packets of all newer slots are unchanged.
     #[inline(always)]
     pub fn evict(&mut self, place: usize) -> Option<SharedPacket>
         ensures size { length self.new ≡ length self.old }
@@ -115,7 +115,7 @@ impl Slots {
     }
 }
 
-// The index of the next copy: 0 if it is the first one, and else `first`.
+// The index of the next copy: 0 for the first copy, else `first`.
 fn place_for(own: &[StoredPacket], first: usize) -> usize
     requires { first < 1536 }
     ensures below { result < 1536 }
@@ -124,7 +124,7 @@ fn place_for(own: &[StoredPacket], first: usize) -> usize
     if own.is_empty() { 0 } else { first }
 }
 
-// Adds shortest packets until there is a copy at this place. The slots' packets stay the same.
+// Appends shortest RTP packets until index `place` has one. The slots' packets stay the same.
 fn make_own(own: &mut Vec<StoredPacket>, place: usize)
     requires place { place < 1536 }
     requires few { vec_len own.old ≤ 1536 }
@@ -139,7 +139,7 @@ fn make_own(own: &mut Vec<StoredPacket>, place: usize)
     }
 }
 
-// The same, but only where there are copies already.
+// As `make_own`, but does nothing while there are no copies.
 #[inline(always)]
 fn go_on(own: &mut Vec<StoredPacket>, place: usize)
     requires place { place < 1536 }

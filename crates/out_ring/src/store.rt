@@ -8,7 +8,7 @@ use std::alloc::Global;
 use std::marker::Model;
 use std::sync::Arc;
 
-/// A counted reference to a packet that rings share. The packet's bytes are stored once, and don't change while a reference is left. Clauses see the
+/// A counted reference to a packet that rings share. The packet's bytes are stored once, and don't change while there is a reference. Clauses see the
 /// reference as the packet's bytes.
 #[derive(Debug, Drop)]
 pub struct SharedPacket {
@@ -26,7 +26,7 @@ impl Model for SharedPacket {
 }
 
 impl SharedPacket {
-    /// One more reference to the same packet, or `None` where there are too many to be counted. It takes no memory.
+    /// One more reference to the same packet, or `None` if the reference count would overflow. It allocates no memory.
     #[inline(always)]
     pub fn another(&self) -> Option<SharedPacket>
         ensures { IfSome result (λ shared. shared ≡ self.now) }

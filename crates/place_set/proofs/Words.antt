@@ -59,14 +59,14 @@ masked word from low = record {
     same : (k : ℕ) → bit_at (bit_and word ((2 ^ 64 - 1) * 2 ^ from % 2 ^ 64)) k ≡ min (bit_at word k) (bit_at (2 ^ 64 - 2 ^ from) k)
     same k = ap (λ m. bit_at (bit_and word m) k) (ones_shl 64 from (omega arith)) ∙ bit_at_and word (2 ^ 64 - 2 ^ from) k
 
--- where no bit of the rest is 1, none of these places is in the set
+-- if no bit of the rest is 1, none of these places is in the set
 none_in_word : (words : List ℕ) (at from rest : ℕ) → IsRest (get_or words at 0) from rest → rest ≡ 0 → HasNone words (64 * at + from) (64 * (at + 1))
 none_in_word words at from rest is zero place le lt =
     let same : place / 64 ≡ at = omega arith in
     ap (λ i. bit_at (get_or words i 0) (place % 64) == 1) same
     ∙ ap (λ b. b == 1) (sym (is.above (place % 64) (omega arith) (omega arith)) ∙ ap (λ w. bit_at w (place % 64)) zero ∙ bit_at-zero (place % 64))
 
--- else the place of its lowest is the least
+-- else the place of the rest's lowest bit is the least
 first_in_word : (words : List ℕ) (at from rest first bit : ℕ) → IsRest (get_or words at 0) from rest → IsLowest rest (Some bit) → first ≡ at * 64 + bit
     → IsFirstFrom words (64 * at + from) (Some first)
 first_in_word words at from rest first bit is low place_is =

@@ -6,7 +6,7 @@ use Rattle.std.specs.Int.{bit_at}
 abbrev pub has_place : List ℕ → ℕ → Bool
 has_place set place = bit_at (slice_index set (place / 64)) (place % 64) == 1
 
--- one place is in the set now or isn't, and each other is as it was
+-- one place is in the set now or isn't, and each other place is as before
 pub record ChangesPlace (old new : List ℕ) (place : ℕ) (value : Bool) : Type 0 where
   pub changed : has_place new place ≡ value
   pub others : (other : ℕ) → other ≢ place → has_place new other ≡ has_place old other

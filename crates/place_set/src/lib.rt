@@ -1,5 +1,5 @@
-//! A set of places of a table, such as those of the entries of one group: 256 places, one bit each. It has a fixed size and takes no
-//! memory.
+//! A set of places (indices) of a table, for example of the entries of one group: a bit for each of 256 places. It has a fixed size and
+//! allocates no memory.
 #![tactic(auto)]
 
 mod set;

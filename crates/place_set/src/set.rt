@@ -12,7 +12,7 @@ const WORDS: usize = 4;
 
 const WORD_BITS: usize = 64;
 
-/// A set of places below 256. A contract sees its four words, and reads them by `has_place`.
+/// A set of places below 256. Clauses see its four words; `has_place` says which places these contain.
 #[derive(Debug, Drop)]
 pub struct PlaceSet {
     words: [u64; WORDS],
@@ -42,7 +42,7 @@ impl PlaceSet {
         self.words[place / WORD_BITS] |= 1 << (place % WORD_BITS);
     }
 
-    /// Takes a place out of the set.
+    /// Removes a place from the set.
     pub fn take(&mut self, place: usize)
         requires { place < 256 }
         ensures { ChangesPlace self.old self.new place false }
@@ -81,7 +81,7 @@ fn first_behind(words: &[u64; WORDS], from: usize) -> Option<usize>
     None
 }
 
-// The lowest bit of a word that is 1.
+// The index of a word's lowest bit that is 1, or `None` if the word is 0.
 #[inline(always)]
 fn lowest(word: u64) -> Option<usize>
     ensures { IsLowest word result }

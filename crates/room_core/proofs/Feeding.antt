@@ -1,4 +1,4 @@
--- What each packet and frame makes of a subscriber's part of the room, and what is told of it.
+-- How each packet and frame changes a subscriber's part of the room, and what is reported of it.
 use Rattle.std.proofs.Common.{◌≡◌, ◌≤◌, ◌<◌, ℕ, Bool, true, false, List, [], ◌∷◌, length, map, refl, sym, ap, subst, ◌∙◌, ◌||◌, arith, Some}
 use Rattle.std.proofs.lemmas.List.{length-map}
 use Rattle.sfu_base.specs.declared.call.Kind.{Kind}

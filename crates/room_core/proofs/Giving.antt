@@ -1,4 +1,4 @@
--- What the takes of a subscriber were answered is what was taken of all that goes out to it.
+-- The answers to a subscriber's takes are what was taken of all that is sent to the subscriber.
 use Rattle.std.proofs.Common.{◌≡◌, ◌≤◌, ◌<◌, ℕ, zero, suc, Bool, true, false, cond, List, [], ◌∷◌, ◌++◌, map, drop, eqb, length, refl, sym, ap, subst, ◌∙◌, arith, Option, Some, None, is_some, true≢false}
 use Rattle.std.specs.Prelude.{fold}
 use Rattle.std.proofs.lemmas.Bool.Decides.{nat_tests}
@@ -115,7 +115,7 @@ stays n j past next h origins higher gives knows same = record {
       (gives ∙ h.gave ∙ ap (map bytes_of) (sym (same (kind_of j.track past))));
 }
 
--- the same where the track's history is as before
+-- the same if the track's history is as before
 asks : (n : ℕ) (j : Joined) (past next : List Call) → IsKnown n j past → origin j.track next ≡ origin j.track past → highest_track past ≤ highest_track next
     → given_to n next ≡ given_to n past → entries_of j.track next ≡ entries_of j.track past → IsKnown n j next
 asks n j past next h origins higher gives entries =

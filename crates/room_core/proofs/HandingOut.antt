@@ -1,4 +1,4 @@
--- What a subscriber takes, what it is sent again, and what it is told.
+-- What a subscriber takes, what it is sent again, and what is reported to it.
 use Rattle.std.proofs.Common.{◌≡◌, ℕ, ◌+◌, Bool, true, false, cond, List, [], ◌∷◌, map, drop, refl, sym, ap, subst, ◌∙◌, Option, Some, None, Result, Err, eqb, is_ok}
 use Rattle.std.specs.List.{find}
 use Rattle.std.specs.Option.{option_map}

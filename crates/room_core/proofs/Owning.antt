@@ -1,4 +1,4 @@
--- What a change of a wish and a take do to a room, whatever calls were accepted before: an event of one subscriber alone.
+-- How a change of a wish, and a take, change a room, whatever calls were accepted before: each is an event of one subscriber only.
 use Rattle.std.proofs.Common.{◌≡◌, ◌≤◌, ℕ, Bool, true, false, cond, List, [], ◌∷◌, ◌++◌, length, map, refl, sym, ap, subst, ◌∙◌, Option, Some, None, Ok, Err, Result, eqb, nat_eq, true≢false}
 use Rattle.std.specs.Prelude.{nat_lt}
 use Rattle.std.proofs.lemmas.Bool.{eq-eqb, lt-ltb}
@@ -197,7 +197,7 @@ own_after old new past next subscriber entry known now r own h found writes trac
       highest_subscriber_is = highest' ∙ h.highest_subscriber_is ∙ sym r.highest_subscriber_is;
     }
 
--- a call that only asks leaves the content where it was
+-- a call that is only a query leaves the content unchanged
 pub asked_after : (content : Content) (past : List Call) (sequence subscriber : ℕ) → IsAfter content past → IsAfter content (call.Resend subscriber sequence ∷ past)
 asked_after content past sequence subscriber h = record {
   tracks = table_same (IsTrackAfter past) (IsTrackAfter (call.Resend subscriber sequence ∷ past)) (get nat_eq content.tracks) (λ n. published n past)

@@ -35,7 +35,7 @@ entry_found es k place v key value =
     e.1 ∙ ap (λ n. Some (n, e.0.1)) (sym same) ∙ ap (λ x. Some (k, x)) e.2
 
 module _ {V S : Type 0} where
-  -- what the table answers to the question for the place
+  -- what the table returns as the place
   pub place_found : (m : IndexMap ℕ V S) (k : ℕ) (result : Option ℕ) → result ≡ index_of_by (nat_eq k) m → is_some result ≡ is_some (get nat_eq m k)
       → IfSome result (λ place. slice_get (values m) place ≡ get nat_eq m k) → IsPlace k m.entries (get nat_eq m k) result
   place_found m k None index some value = none (get nat_eq m k) some

@@ -82,7 +82,7 @@ joined_fits (call.Why subscriber number ∷ past) n j all e = joined_fits past n
 
 -- ---- of a layered track
 
--- no complaint of what goes out on a track with this history, nor of any front of it
+-- no complaint about what is sent on a track with this history, nor about any prefix of it
 pleased : (id n : ℕ) (to : Subscriber) (entries : List Entry) → to.ssrc < 2 ^ 32 → AllByRecursion (ItemHas CameIn) (items_of entries)
     → (sends queued : List (List ℕ)) → sends ++ queued ≡ outgoing_bytes (Layered id) to (timeline_as (Layered id) n entries)
     → complaint (format_of id) (map read_packet sends) ≡ None
@@ -93,14 +93,14 @@ pleased id n to entries fits came sends queued is =
     ap (complaint (format_of id)) (front_read out sends f (outgoing_read (Layered id) to events fits (timeline_came (Layered id) n entries came)))
     ∙ outgoing_never_complains (format_of id) (sent (Layered id)) n entries to f.front f.rest (formats_read id) (sent_keeps_whole id) f.whole
 
--- what was taken is a front of it
+-- what was taken is a prefix of it
 taken_front : (kind : Kind) (to : Subscriber) (events : List Happened)
     → taken_bytes kind to events ++ map bytes_of (drop (takes_of events) (outgoing (sent kind) to events)) ≡ outgoing_bytes kind to events
 taken_front kind to events =
     let out : List Packet = outgoing (sent kind) to events in
     sym (map-append bytes_of (take (takes_of events) out) (drop (takes_of events) out)) ∙ ap (map bytes_of) (take-append-drop (takes_of events) out)
 
--- whatever well-formed calls there were, accepted or not: no complaint of what was taken
+-- whatever well-formed calls there were, accepted or not: no complaint about what was taken
 pub taken_pleases : (past : List Call) → AreWellFormed past → (id n : ℕ) (j : Joined) → joined n past ≡ Some j
     → complaint (format_of id) (map read_packet (taken_bytes (Layered id) (subscriber_by j) (timeline_as (Layered id) n (entries_of j.track past)))) ≡ None
 taken_pleases past well id n j is =

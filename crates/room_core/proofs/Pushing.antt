@@ -76,7 +76,7 @@ push_next bytes packets top from i ring ring' first long le at so_far now =
     ∙ ap (λ (xs : List Packet). pushed_all xs first) (sym (take_next (i - from) ps p (queued_behind from top packets i p le (queued_at top packets i bytes at))))
     ∙ ap (λ (n : ℕ). pushed_all (take n ps) first) one
 
--- there is room for one more
+-- there is capacity for one more
 pub push_room : (packets : List (List ℕ)) (top : Bool) (from i : ℕ) (ring first : Ring) → from ≤ i → i < length packets → length first.queued + length packets ≤ 512 + from
     → ring ≡ pushed_all (take (i - from) (to_queue_from from top packets)) first → length ring.queued < 512
 push_room packets top from i ring first le lt room so_far =

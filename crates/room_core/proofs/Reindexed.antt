@@ -34,7 +34,7 @@ weaker R S (Some a) (Some b) w h = w a b h
 pub same_but : (place : ℕ) (f g : ℕ → Option LiveTrack) → AreSameBut place f g → AreSame f g
 same_but place f g h n = weaker (IsTrackBut place) IsSameTrack (f n) (g n) (λ a b r. r.same) (h n)
 
--- one of them is written, and keeps its places
+-- one of them is written, and its places stay the same
 written_keeps : (k : ℕ) (f g : ℕ → Option LiveTrack) (known now : LiveTrack) → Some known ≡ f k → ((n : ℕ) → g n ≡ cond (nat_eq k n) (Some now) (f n))
     → now.places ≡ known.places → (n : ℕ) (t : LiveTrack) → g n ≡ Some t → (s : LiveTrack) × (f n ≡ Some s) × (t.places ≡ s.places)
 written_keeps k f g known now found is same n t e = go (nat_eq k n) refl (sym (is n) ∙ e)
@@ -68,7 +68,7 @@ track_got m m' k known now on highest found writes same h =
     indexed_by (get nat_eq m) (get nat_eq m') on on highest
     (written_keeps k (get nat_eq m) (get nat_eq m') known now found (written_by_key k m m' known now found writes).found same) refl h
 
--- the same where the table of subscribers got capacity meanwhile
+-- the same if the table of subscribers got capacity meanwhile
 pub track_got_reserved : {S : Type 0} (m m' : IndexMap ℕ LiveTrack S) (k : ℕ) (known now : LiveTrack) (es es' : List (ℕ × LiveSubscriber)) (highest : ℕ)
     → Some known ≡ get nat_eq m k → WritesThrough nat_eq (nat_eq k) m now m' → now.places ≡ known.places → es' ≡ es
     → IsIndexed (get nat_eq m) (tracks_of es) highest → IsIndexed (get nat_eq m') (tracks_of es') highest
@@ -164,7 +164,7 @@ set_at (f ∷ es) (suc i) v (suc q) e at = elim (set_at es i v q e at) [
   | inr h ↦ inr ((λ same. h.0 (omega (arith, same))), h.1)
 ]
 
--- what stands at a place once one was removed stood there before, or last
+-- what is at a place once one was removed was there before, or was last
 removed_at : (k place : ℕ) (es : List (ℕ × LiveSubscriber)) (q n : ℕ) → position (nat_eq k) (keys_of es) ≡ Some place
     → slice_get (tracks_of (swap_remove_entry (nat_eq k) es)) q ≡ Some n → (p : ℕ) × (slice_get (tracks_of es) p ≡ Some n) × (q ≢ place → p ≡ q)
 removed_at k place [] q n pos on = absurd (let none : None ≡ Some n = on in cc)
@@ -219,6 +219,6 @@ moved_all f f' g on number place last moved within taken put has h n t there q a
 pub within_tracks : (es : List (ℕ × LiveSubscriber)) (q n : ℕ) → slice_get (tracks_of es) q ≡ Some n → q < length es
 within_tracks es q n at = let e = entry_at es q n at in slice_get_within es q e.0 e.1
 
--- where no subscriber stands at the place, none has moved
+-- if no subscriber is at the place, none has moved
 pub none_moved : (f : ℕ → Option LiveTrack) (es : List (ℕ × LiveSubscriber)) (place : ℕ) → (place < length es → ⊥) → HaveAllBut place f (tracks_of es) → HaveAll f (tracks_of es)
 none_moved f es place behind h n t there q at = h n t there q (λ same. behind (subst (λ (i : ℕ). i < length es) same (within_tracks es q n at))) at

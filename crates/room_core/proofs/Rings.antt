@@ -1,4 +1,4 @@
--- What goes out to a subscriber, as its ring has it: more goes out, one packet after another is queued, and the oldest is taken.
+-- What is sent to a subscriber, as its ring has it: more is sent, one packet after another is queued, and the oldest is taken.
 use Rattle.std.proofs.Common.{◌≡◌, ◌≤◌, ℕ, suc, ◌+◌, ◌-◌, ◌%◌, Bool, List, [], ◌∷◌, ◌++◌, length, map, take, drop, refl, sym, ap, ◌∙◌, arith, Some, length-append, append_assoc, append-nil, slice_get}
 use Rattle.std.proofs.lemmas.List.{take-append-le, drop-append-le, drop-drop, drop-map, length-drop, length-take-le, length-map, map-append}
 use Rattle.forwarding_model.specs.Lists.{last_part}
@@ -25,7 +25,7 @@ numbered_same n m ssrc (p ∷ ps) e =
 same_number : (first t n size : ℕ) → t ≤ size → n ≡ (first + t) % 65536 → (n + (size - t)) % 65536 ≡ (first + size) % 65536
 same_number first t n size fit e = omega (arith, fit, e)
 
--- these packets are queued behind all that goes out
+-- these packets are queued behind all that is sent so far
 pub ring_grows : (ring : Ring) (to : Subscriber) (t : ℕ) (out ps : List Packet) → t ≤ length out → IsRingOf ring to t out
     → IsRingOf (pushed_all ps ring) to t (out ++ numbered (to.first + length out) to.ssrc ps)
 ring_grows ring to t out ps fit h =

@@ -1,4 +1,4 @@
--- What goes out reads, as bytes, as the packets of the model: sequence number, SSRC and marker are written over a packet that RTP reads.
+-- What is sent is read, as bytes, as the packets of the model: sequence number, SSRC and marker are written over a packet that RTP reads.
 use Rattle.std.proofs.Common.{◌≡◌, ◌≤◌, ◌<◌, ◌+◌, ◌%◌, ◌^◌, ℕ, Bool, true, false, cond, List, [], ◌∷◌, ◌++◌, length, map, drop, refl, sym, ap, ap₂, subst, ◌∙◌, Option, Some, arith}
 use Rattle.std.specs.List.{AllByRecursion}
 use Rattle.sfu_base.specs.declared.call.Kind.{Kind}
@@ -72,7 +72,7 @@ numbered_read : (n ssrc : ℕ) (ps : List Packet) → ssrc < 2 ^ 32 → AllByRec
 numbered_read n ssrc [] fits all = tt
 numbered_read n ssrc (p ∷ ps) fits all = (reads_back (n % 65536) ssrc p.marker p (omega arith) fits all.0, numbered_read (n + 1) ssrc ps fits all.1)
 
--- all that goes out is read back
+-- all that is sent is read back
 pub outgoing_read : (kind : Kind) (to : Subscriber) (events : List Happened) → to.ssrc < 2 ^ 32 → AllByRecursion HasCome events → AllByRecursion ReadsBack (outgoing (sent kind) to events)
 outgoing_read kind to events fits all = numbered_read to.first to.ssrc (forwarded (sent kind) to.wish events) fits (forwarded_sendable kind to.wish events all)
 
@@ -82,7 +82,7 @@ pub all_read : (ps : List Packet) → AllByRecursion ReadsBack ps → map read_p
 all_read [] all = refl
 all_read (p ∷ ps) all = ap₂ (λ (o : Option Packet) (os : List (Option Packet)). o ∷ os) all.0.read (all_read ps all.1)
 
--- a front of the bytes is the bytes of a front
+-- a prefix of the bytes is the bytes of a prefix
 pub record IsFrontOf (ps : List Packet) (sends : List (List ℕ)) : Type 0 where
   pub front : List Packet
   pub rest : List Packet

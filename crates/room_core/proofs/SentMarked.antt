@@ -33,7 +33,7 @@ length-told id frame true mask = go frame.packets
     go [] = refl
     go (p ∷ ps) = refl
 
--- a frame is sent as so many packets as it has
+-- a frame is sent in as many packets as it has
 pub sent_keeps_count : (kind : Kind) → KeepsCount (sent kind)
 unfolding layered_sent
 sent_keeps_count Plain frame target = marked_keeps_count frame target
@@ -42,7 +42,7 @@ sent_keeps_count (Layered id) frame target =
     let mask = mask_for frame.meaning (open_target target) in
     marked_keeps_count (with_told id frame tells mask) target ∙ length-told id frame tells mask
 
--- what is queued of a frame, where the first packet gets another mask or none does
+-- what is queued of a frame, if the first packet gets another mask or if none does
 abbrev pub queued_by : Bool → Option Layers → ℕ → List (List ℕ) → List Packet
 queued_by tells layers mask packets = if tells then remasked_by layers mask (map packet_of packets) else map packet_of packets
 
@@ -127,7 +127,7 @@ marked_by top last (q ∷ r ∷ rest) zero p at end =
 marked_by top last (q ∷ r ∷ rest) (suc i) p at end =
     marked_by top last (r ∷ rest) i p at (record { is = λ e. let h = end.is e in omega arith; not = λ e k. end.not e (omega (arith, k)) })
 
--- the packet at place i is marked where it is the last, and else sent as it was
+-- the packet at place i is marked if it is the last, and else sent as it was
 pub marked_at : (top : Bool) (ps : List Packet) (i : ℕ) (p : Packet) → slice_get ps i ≡ Some p
     → slice_get (marked top ps) i ≡ Some (record p { marker = top && eqb (i + 1) (length ps) || p.marker })
 marked_at top ps i p at = marked_by top (eqb (i + 1) (length ps)) ps i p at (at_end i (length ps))

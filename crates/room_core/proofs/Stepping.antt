@@ -73,7 +73,7 @@ same_after : {X : Type 0} (xs ys zs : List X) → xs ++ ys ≡ xs ++ zs → ys �
 same_after [] ys zs e = e
 same_after (x ∷ xs) ys zs e = same_after xs ys zs (ap (drop 1) e)
 
--- what waits then is what the event adds, where nothing waited before
+-- what waits then is what the event adds, if nothing waited before
 pub brought_waits : (event : Event) (events : List Event) (old new : Seen) (items : List Item) → IsBrought event old new → old.window.waiting ≡ [] → IsAt events old items
     → new.window.waiting ≡ added old.window.hold old.window.order event
 brought_waits event events old new items b idle h =
@@ -86,7 +86,7 @@ brought_waits event events old new items b idle h =
     (after ∙ ap (λ (w : List Piece). w ++ added old.window.hold (order_of old.window.hold events) event) (sym before)
     ∙ ap (λ (o : Order). h.worked ++ added old.window.hold o event) (sym h.stands.window.order))
 
--- where nothing waits, all of the events' pieces were worked off; and so the order after an event is one event on
+-- if nothing waits, all of the events' pieces were processed; and so the order after an event is one event on
 pub brought_order : (event : Event) (events : List Event) (old new : Seen) (items : List Item) → IsBrought event old new → IsAt events old items
     → new.window.order ≡ order_of old.window.hold (event ∷ events)
 brought_order event events old new items b h =

@@ -45,7 +45,7 @@ table_mapped R R' P old new f f' h mapped same step n = subst (λ (o : Option _)
     go (Some a) (Some a') None p r = absurd r
     go (Some a) (Some a') (Some b) p r = step n a a' b p r
 
--- Where nothing of the table changes.
+-- If nothing of the table changes.
 pub table_same : {A B : Type 0} (R R' : ℕ → A → B → Type 0) (old : ℕ → Option A) (f f' : ℕ → Option B)
     → ((n : ℕ) → Both (R n) (old n) (f n)) → ((n : ℕ) → f' n ≡ f n) → ((n : ℕ) (a : A) (b : B) → R n a b → R' n a b)
     → (n : ℕ) → Both (R' n) (old n) (f' n)

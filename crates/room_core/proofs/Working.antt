@@ -47,7 +47,7 @@ both_weaker R S None (Some b) w r = absurd r
 both_weaker R S (Some a) None w r = absurd r
 both_weaker R S (Some a) (Some b) w r = w a b r
 
--- where nothing happens to a part, nothing happens to the table
+-- if nothing happens to a part, nothing happens to the table
 pub passed_none : (R : Feed → Feed → Type 0) (number : ℕ) (f : ℕ → Option LiveSubscriber) → ((feed : Feed) → R feed feed) → PassedTo R number f f
 passed_none R number f r n = both_same (IsPassed R number) (f n) (λ s. record { track = refl; passed = λ same. r s.feed.value; other = λ none. refl })
 

@@ -1,4 +1,4 @@
--- Which accepted calls the tables of a room stand for. Lists of calls have the newest first.
+-- The accepted calls that the tables of a room stand for. Lists of calls have the newest first.
 use Rattle.std.specs.Prelude.{◌≡◌, ◌≤◌, ◌<◌, ℕ, Bool, true, List, Option, None, Some, is_some, nat_eq}
 use Rattle.indexmap.specs.IndexMap.{get, index_map_len, spare}
 use Rattle.sfu_base.specs.Answer.{answer_of}
@@ -28,7 +28,7 @@ use Rattle.room_core.specs.Stepping.{IsAt, IsBegun, kind_by}
 
 -- ---- what the tables stand for
 
--- a live track that was published so, of this kind and hold, which had these events, with these items, and a plea or none
+-- a live track that was published like this, with this kind, hold, events and items, and with or without a pending plea
 pub record IsTrackOf (track : LiveTrack) (p : Published) (kind : Kind) (hold : ℕ) (events : List Event) (items : List Item) (pleaded : Bool) : Type 0 where
   pub kind_is : track.kind ≡ p.kind
   pub published_kind : p.kind ≡ kind
@@ -38,7 +38,7 @@ pub record IsTrackOf (track : LiveTrack) (p : Published) (kind : Kind) (hold : �
   pub at : IsAt events track.pipeline.value items
   pub pleaded_is : track.pleaded ≡ pleaded
 
--- a live subscriber with this number that joined so, on a track of this kind with this history
+-- a live subscriber with this number that joined like this, on a track of this kind with this history
 pub record IsSubscriberOf (subscriber : LiveSubscriber) (number : ℕ) (j : Joined) (kind : Kind) (entries : List Entry) (highest : ℕ) : Type 0 where
   pub track_is : subscriber.track ≡ j.track
   pub known : j.track ≤ highest
@@ -51,7 +51,7 @@ IsTrackAfter past n track p = IsTrackOf track p (kind_of n past) (hold_of n past
 abbrev pub IsSubscriberAfter : List Call → ℕ → LiveSubscriber → Joined → Type 0
 IsSubscriberAfter past n subscriber j = IsSubscriberOf subscriber n j (kind_of j.track past) (entries_of j.track past) (highest_track past)
 
--- the content is where these accepted calls leave it
+-- the content is in the state that these accepted calls leave
 pub record IsAfter (content : Content) (past : List Call) : Type 0 where
   pub tracks : (n : ℕ) → Both (IsTrackAfter past n) (get nat_eq content.tracks n) (published n past)
   pub subscribers : (n : ℕ) → Both (IsSubscriberAfter past n) (get nat_eq content.subscribers n) (joined n past)
@@ -62,16 +62,16 @@ pub record IsAfter (content : Content) (past : List Call) : Type 0 where
 
 -- ---- what a call does
 
--- Whatever calls were accepted before, the reply is the answer after them, and the content is where it leaves them.
+-- Whatever calls were accepted before, the reply is the answer after them, and the content is in the state that the call then leaves.
 pub record Does (old new : Content) (call : Call) (reply : Reply) (bytes numbers : List ℕ) : Type 0 where
   pub answered : (past : List Call) → IsAfter old past → answer_of reply bytes numbers ≡ answer past call
   pub done : (past : List Call) → IsAfter old past → IsAfter new (after (answer past call) call past)
 
--- the same of a call that leaves nothing in the scratch, whatever stands there
+-- the same of a call that leaves nothing in the scratch, whatever the scratch contains
 abbrev pub DoesSilently : Content → Content → Call → Reply → Type 0
 DoesSilently old new call reply = (bytes numbers : List ℕ) → Does old new call reply bytes numbers
 
--- ---- what is ready before a call changes anything
+-- ---- what is prepared before a call changes anything
 
 abbrev pub IsPipelineReady : Option Refusal → Content → Kind → ℕ → ℕ → Ready → Type 0
 IsPipelineReady (Some why) content kind ssrc hold ready = ready ≡ Nothing
@@ -79,7 +79,7 @@ IsPipelineReady None content kind ssrc hold (Pipeline pipeline told) = IsBegun p
 IsPipelineReady None content kind ssrc hold Nothing = ⊥
 IsPipelineReady None content kind ssrc hold (Sent feed) = ⊥
 
--- a feed of a subscriber of this track
+-- the feed of a new subscriber of this track
 abbrev pub IsFreshOn : Option LiveTrack → Feed → ℕ → ℕ → Wish → Type 0
 IsFreshOn None feed ssrc first wish = ⊥
 IsFreshOn (Some track) feed ssrc first wish = IsFresh feed track.kind ssrc first wish
@@ -104,7 +104,7 @@ IsReady content (call.Join subscriber track ssrc first wish) ready =
     IsFeedReady (refusal_to_join content subscriber track) content track ssrc first wish ready
 IsReady content other ready = Unit {0}
 
--- nothing is made ready for any other call
+-- nothing is prepared for any other call
 abbrev pub MayBeReady : Call → Ready → Type 0
 MayBeReady (call.Publish track kind ssrc hold) ready = Unit {0}
 MayBeReady (call.Join subscriber track ssrc first wish) ready = Unit {0}
@@ -112,7 +112,7 @@ MayBeReady other ready = ready ≡ Nothing
 
 -- ---- memory
 
--- whether a call takes memory on a room that keeps nothing
+-- whether a call allocates memory on a room whose recorder stores nothing
 abbrev pub TakesMemory : Call → Type 0
 TakesMemory (call.Publish track kind ssrc hold) = Unit {0}
 TakesMemory (call.Join subscriber track ssrc first wish) = Unit {0}

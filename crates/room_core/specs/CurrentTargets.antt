@@ -17,7 +17,7 @@ use Rattle.room_core.specs.History.{Entry, accepted}
 use Rattle.room_core.specs.Live.{Joined, joined}
 use Rattle.room_core.specs.Views.{events_for, standing_of}
 
--- the newest frame of a timeline, where one came
+-- the newest frame of a timeline, if one came
 abbrev pub newest_frame : List (Event TemplateStructure) → Option FrameMeaning
 newest_frame events = first_of (meanings_of events)
 
@@ -26,14 +26,14 @@ abbrev pub target_in : Option FrameMeaning → CurrentTarget → Option DecodeTa
 target_in newest (Open target opened) = Some (record { index = target; layers = layers_at newest target })
 target_in newest (Closed reason) = None
 
--- what a subscriber that joined so is sent
+-- the target that a subscriber that joined like this is sent
 abbrev pub target_for : ℕ → Joined → List Call → Option DecodeTarget
 target_for number j past = target_in (newest_frame (events_for number j past)) (standing_of number j past).target
 
 abbrev pub reaches_for : ℕ → Joined → List Call → Bool
 reaches_for number j past = reaches (newest_frame (events_for number j past)) (standing_of number j past).wish (standing_of number j past).target
 
--- what is told of a live subscriber, and else the refusal
+-- what is returned for a live subscriber, and else the refusal
 abbrev pub told_of : {X : Type 0} → Option Joined → (Joined → X) → Result X Refusal
 told_of None tell = Err NoSubscriber
 told_of (Some j) tell = Ok (tell j)

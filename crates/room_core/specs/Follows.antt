@@ -1,4 +1,4 @@
--- What of a timeline a subscriber's part of a room stands for, and what each event makes of it. Lists of events have the newest first.
+-- The timeline that a subscriber's part of a room stands for, and how each event changes that part. Lists of events have the newest first.
 use Rattle.std.specs.Prelude.{◌≡◌, ℕ, ◌+◌, ◌%◌, Bool, true, false, List, [], ◌∷◌, ◌++◌, length, map, take, drop, Option, None, Some, Result, Ok, Err}
 use Rattle.sfu_base.specs.Answer.{is_memory}
 use Rattle.sfu_base.specs.declared.call.Kind.{Kind}
@@ -37,14 +37,14 @@ Happened = Event TemplateStructure
 abbrev pub sent_as : Packet → Sent
 sent_as packet = record { number = packet.sequence_number; bytes = bytes_of packet }
 
--- the ring is where this many takes of these packets leave it
+-- the ring is in the state that this many takes of these packets leave
 pub record IsRingOf (ring : Ring) (to : Subscriber) (takes : ℕ) (out : List Packet) : Type 0 where
   pub ssrc : ring.ssrc ≡ to.ssrc
   pub next : ring.next ≡ (to.first + length (take takes out)) % 65536
   pub queued : ring.queued ≡ map bytes_of (drop takes out)
   pub kept : ring.kept ≡ map sent_as (last_part 1024 (take takes out))
 
--- The subscriber of a track of this kind that joined so is where this timeline leaves it. Each take found a packet.
+-- The subscriber of a track of this kind that joined like this is in the state that this timeline leaves. Each take found a packet.
 pub record Follows (kind : Kind) (feed : Feed) (to : Subscriber) (events : List Happened) : Type 0 where
   pub kind_is : feed.kind ≡ kind
   pub selector : StandsFor feed.selector (standing to.wish events)
@@ -75,7 +75,7 @@ FollowsPacket old new bytes = (kind : Kind) (to : Subscriber) (events : List Hap
 abbrev pub frame_by : FrameMeaning → TemplateStructure → List (List ℕ) → Frame TemplateStructure
 frame_by meaning structure packets = record { meaning = meaning; structure = structure; packets = map packet_of packets }
 
--- A frame of the track got whole, whose number is above those of all frames before. It was read by the structure that is in force.
+-- A frame of the track became whole, and its number is above those of all frames before. It was read by the structure that is in force.
 abbrev pub FollowsFrame : Feed → Feed → FrameMeaning → Seen → Type 0
 FollowsFrame old new meaning track = (kind : Kind) (to : Subscriber) (structure : TemplateStructure) (events : List Happened)
     → kind_by track.layers ≡ kind → structure_in track.layers ≡ Some structure
@@ -84,7 +84,7 @@ FollowsFrame old new meaning track = (kind : Kind) (to : Subscriber) (structure 
 
 -- ---- takes and resends
 
--- The next packet is handed out, if there is one; else nothing changes.
+-- The next packet is returned, if there is one; else nothing changes.
 abbrev pub TakesNext : Option Packet → Kind → Feed → Feed → Bool → List ℕ → List ℕ → Subscriber → List Happened → Type 0
 TakesNext None kind old new found before bytes to events = (found ≡ false) × (new ≡ old) × (bytes ≡ before)
 TakesNext (Some packet) kind old new found before bytes to events =
@@ -102,7 +102,7 @@ abbrev pub Resends : Feed → ℕ → Result (Unit {0}) Refusal → List ℕ →
 Resends feed sequence result before bytes = (kind : Kind) (to : Subscriber) (events : List Happened) → Follows kind feed to events
     → ResendsIt (resent (sent kind) to events sequence) result before bytes (oldest_number (sent kind) to events) (next_number (sent kind) to events)
 
--- no refusal is want of memory
+-- no refusal says that memory ran out
 abbrev pub IsFed : {T : Type 0} → Result T Refusal → Type 0
 IsFed (Ok x) = Unit {0}
 IsFed (Err why) = is_memory why ≡ false
@@ -113,7 +113,7 @@ abbrev pub HasNoTarget : Feed → Bool → Type 0
 HasNoTarget feed none = (kind : Kind) (to : Subscriber) (events : List Happened) → Follows kind feed to events
     → none ≡ has_no_target (standing to.wish events).target
 
--- the target that it is sent, and whether that is the best that its wish allows
+-- the target that the subscriber is sent, and whether it is the best that the subscriber's wish allows
 abbrev pub HasTarget : Feed → Option DecodeTarget → Type 0
 HasTarget feed result = (kind : Kind) (to : Subscriber) (events : List Happened) → Follows kind feed to events
     → result ≡ target_in (newest_frame events) (standing to.wish events).target
@@ -128,15 +128,15 @@ Tells feed number result = (kind : Kind) (to : Subscriber) (events : List Happen
 
 -- ---- the packets of a frame
 
--- these packets are queued, numbered
+-- these packets are queued, with their numbers
 abbrev pub pushed_all : List Packet → Ring → Ring
 pushed_all packets ring = record ring { queued = ring.queued ++ map bytes_of (numbered (ring.next + length ring.queued) ring.ssrc packets) }
 
--- they are the packets of a frame, the last one's marker set where the frame ends the target's layer
+-- they are the packets of a frame; the last one's marker is set if the frame ends the target's layer
 abbrev pub PushesFrame : Ring → Ring → List Packet → Bool → Type 0
 PushesFrame old new packets is_top = new ≡ pushed_all (marked is_top packets) old
 
--- the same without the first so many
+-- the same without the first `from` packets
 abbrev pub PushesBehind : ℕ → Ring → Ring → List (List ℕ) → Bool → Type 0
 PushesBehind from old new packets is_top = new ≡ pushed_all (drop from (marked is_top (map packet_of packets))) old
 

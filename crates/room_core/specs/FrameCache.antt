@@ -1,4 +1,4 @@
--- What is kept of the frame in hand for its subscribers.
+-- What is stored of the current frame for its subscribers.
 use Rattle.std.specs.Prelude.{ℕ, List, [], ◌∷◌, Option, None, Some}
 use Rattle.track_core.specs.declared.layers.Layers.{Layers}
 use Rattle.frame_cache.specs.declared.cache.FrameCache.{FrameCache}
@@ -10,7 +10,7 @@ TellsFirst None packets told = Unit {0}
 TellsFirst (Some l) [] told = Unit {0}
 TellsFirst (Some l) (packet ∷ rest) told = CarriesMask l.id l.table.structure packet told.mask told.packet
 
--- what is kept is of the frame with these packets
+-- what is stored is of the frame with these packets
 pub record IsOfFrame (layers : Option Layers) (packets : List (List ℕ)) (cache : FrameCache) : Type 0 where
   pub told : TellsFirst layers packets cache
   pub shared : AreFirst cache.shared.items packets

@@ -1,16 +1,16 @@
--- What a subscriber was given, read off the answers to its takes. Own rule. The code keeps the last 1,024 packets alone.
+-- The packets that a subscriber took, by the answers to its takes. Own rule. The code stores the last 1,024 packets only.
 use Rattle.std.specs.Prelude.{ℕ, ◌==◌, if◌then◌else◌, List, [], ◌∷◌, ◌++◌}
 use Rattle.sfu_base.specs.Answer.{Answer, Sent}
 use Rattle.sfu_base.specs.declared.call.Call.{Call}
 use Rattle.sfu_base.specs.declared.call.Call.TheVariants.{Join, Take}
 use Rattle.room_core.specs.Replies.{answer}
 
--- the packets with that of one answer more, where it sends one
+-- the packets, with that of one more answer if it sends one
 abbrev pub and_sent : List (List ℕ) → Answer → List (List ℕ)
 and_sent packets (Sent bytes) = packets ++ bytes ∷ []
 and_sent packets other = packets
 
--- the bytes that the takes of the subscriber with this number were answered since it joined, the oldest first
+-- the bytes that were returned to the takes of the subscriber with this number since it joined, the oldest first
 abbrev pub given_to : ℕ → List Call → List (List ℕ)
 given_to n [] = []
 given_to n (Join subscriber track ssrc first wish ∷ past) = if subscriber == n then [] else given_to n past

@@ -28,10 +28,10 @@ use Rattle.room_core.specs.Replies.{answer}
 use Rattle.room_core.specs.SentBytes.{AreInOrder, going_out, taken_of}
 use Rattle.room_core.specs.Views.{events_for}
 
--- ---- of the subscriber with the number n, which so joined a layered track
+-- ---- of the subscriber with the number n, which joined a layered track like this
 
--- A strict receiver of the bytes alone has no complaint of what the takes gave, nor of what goes out, taken or queued, nor of any front of
--- it.
+-- A strict receiver that sees only bytes has no complaint about the packets that were taken, nor about all packets, taken or queued, nor about
+-- any prefix of these.
 pub record PleasesReceivers (id n : ℕ) (j : Joined) (past : List Call) : Type 0 where
   pub given : complaint (format_of id) (map read_packet (given_to n past)) ≡ None
   pub fronts : (sends queued : List (List ℕ)) → sends ++ queued ≡ going_out n j past
@@ -41,7 +41,7 @@ pub record PleasesReceivers (id n : ℕ) (j : Joined) (past : List Call) : Type 
 abbrev pub AllDecodable : Wish → List Happened → Type 0
 AllDecodable wish events = AllByRecursion (λ f. IsDecodable (of_epoch f.epoch (standing wish events).passed) f) (standing wish events).passed
 
--- where a chain was found broken at a frame, the next frame that passes is a restart: this one, or a later one
+-- if a chain was found broken at a frame, the next frame that passes is a restart: this one, or a later one
 pub record RestartsAfterBreaks (wish : Wish) (events : List Happened) : Type 0 where
   pub at_once : (since past : List Happened) (frame : Frame TemplateStructure) → events ≡ since ++ WholeFrame frame ∷ past
       → BreaksAt (standing wish past) frame.meaning → passes_at (standing wish past) frame.meaning (length frame.packets) ≡ true
@@ -53,15 +53,15 @@ pub record RestartsAfterBreaks (wish : Wish) (events : List Happened) : Type 0 w
       → passes_at (standing wish (since ++ WholeFrame broken ∷ past)) next.meaning (length next.packets) ≡ true
       → IsRestart (standing wish (since ++ WholeFrame broken ∷ past)) next.meaning
 
--- the cause of this frame number can be asked for: it is at most the newest, and less than 4,096 below it
+-- the cause of this frame number can be requested: the number is at most the newest, and less than 4,096 below it
 pub record CanBeAsked (wish : Wish) (events : List Happened) (number : ℕ) : Type 0 where
   pub newest : ℕ
   pub newest_is : newest_number (verdicts wish events) ≡ Some newest
   pub has_come : number ≤ newest
   pub is_recent : newest < number + 4096
 
--- What the cause of each frame's number says of the frame was so when it came. The path of each withheld frame ends at a root, and each step
--- of a path has the cause of its number. Who asks why is told the cause, if and only if it can be asked for.
+-- What the cause of each frame's number says of the frame was true when it came. The path of each withheld frame ends at a root, and each step
+-- of a path has the cause of its number. A call of `why` returns the cause, if and only if it can be requested.
 pub record ShowsCauses (n : ℕ) (wish : Wish) (events : List Happened) (past : List Call) : Type 0 where
   pub says : (since before : List Happened) (frame : Frame TemplateStructure) → events ≡ since ++ WholeFrame frame ∷ before
       → Says (standing wish before) frame.meaning (length frame.packets) (cause wish events frame.meaning.number)
@@ -78,9 +78,9 @@ pub record IsForwarded (id n : ℕ) (j : Joined) (past : List Call) : Type 0 whe
 
 -- ---- of every subscriber
 
--- What its takes gave is a front of all that goes out, in which sequence numbers are consecutive. The next take gives the next packet of that,
--- and is refused where there is none. A resend gives bytes if and only if they are those that one of the last 1,024 takes gave, and it names
--- their number.
+-- What its takes returned is a prefix of all packets that are sent, which have consecutive sequence numbers. The next take returns the next of
+-- these, and is refused if there is none. A resend returns bytes if and only if they are those that one of the last 1,024 takes returned, and the
+-- resend has their number.
 pub record IsNumbered (n : ℕ) (j : Joined) (past : List Call) : Type 0 where
   pub given : given_to n past ≡ taken_of n j past
   pub consecutive : AreInOrder (going_out n j past)

@@ -1,5 +1,5 @@
--- Where the subscribers of a track are in their table. Each track has a set of places, so that what it makes doesn't look at the subscribers of
--- others.
+-- Where the subscribers of a track are in their table. Each track has a set of places, so that its packets and frames don't go through the
+-- subscribers of other tracks.
 use Rattle.std.specs.Prelude.{◌≡◌, ◌≢◌, ◌≤◌, ℕ, true, List, [], ◌∷◌, Option, Some, slice_get}
 use Rattle.place_set.specs.Places.{has_place}
 use Rattle.room_core.specs.Passing.{Both}
@@ -19,7 +19,7 @@ HasPlaces places number on = (place : ℕ) → slice_get on place ≡ Some numbe
 abbrev pub HaveAll : (ℕ → Option LiveTrack) → List ℕ → Type 0
 HaveAll tracks on = (number : ℕ) (track : LiveTrack) → tracks number ≡ Some track → HasPlaces track.places number on
 
--- and no subscriber, and no live track, has a number above the highest that a track ever had
+-- and no subscriber's track, and no live track, has a number above the highest that a track ever had
 pub record IsIndexed (tracks : ℕ → Option LiveTrack) (on : List ℕ) (highest : ℕ) : Type 0 where
   pub has : HaveAll tracks on
   pub known : (place number : ℕ) → slice_get on place ≡ Some number → number ≤ highest
@@ -27,18 +27,18 @@ pub record IsIndexed (tracks : ℕ → Option LiveTrack) (on : List ℕ) (highes
 
 -- ---- a subscriber comes or goes
 
--- the same of all places but one
+-- the same of all places except one
 abbrev pub HaveAllBut : ℕ → (ℕ → Option LiveTrack) → List ℕ → Type 0
 HaveAllBut place tracks on =
     (number : ℕ) (track : LiveTrack) → tracks number ≡ Some track → (other : ℕ) → other ≢ place → slice_get on other ≡ Some number → has_place track.places other ≡ true
 
--- what a track's history tells of it is as it was
+-- what the track's history determines is as before
 pub record IsSameTrack (old new : LiveTrack) : Type 0 where
   pub kind_is : new.kind ≡ old.kind
   pub pleaded_is : new.pleaded ≡ old.pleaded
   pub pipeline_is : new.pipeline.value ≡ old.pipeline.value
 
--- and so is each of its places but one
+-- and so is each of the track's places except one
 pub record IsTrackBut (place : ℕ) (old new : LiveTrack) : Type 0 where
   pub same : IsSameTrack old new
   pub others : (other : ℕ) → other ≢ place → has_place new.places other ≡ has_place old.places other

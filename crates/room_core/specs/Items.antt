@@ -4,7 +4,7 @@ use Rattle.forwarding_model.specs.frames.Frames.{Item}
 use Rattle.reorder_window.specs.Events.{Piece}
 use Rattle.track_core.specs.Pieces.{item_of}
 
--- items with the newest first, and behind them those of these pieces, which have the oldest first
+-- these items (the newest first), preceded by the items of these pieces (the oldest first)
 abbrev pub and_pieces : List Piece → List Item → List Item
 and_pieces [] items = items
 and_pieces (piece ∷ pieces) items = and_pieces pieces (item_of piece ∷ items)

@@ -1,4 +1,4 @@
--- What is sent and the selection of frames mean the same by a frame that opens its target. Own statement.
+-- The definitions of what is sent and of the selection of frames agree on which frames open their target. Own statement.
 use Rattle.std.specs.Prelude.{◌≡◌, ℕ, true, List, ◌∷◌}
 use Rattle.sfu_base.specs.declared.frame.FrameMeaning.{FrameMeaning}
 use Rattle.sfu_base.specs.declared.frame.Wish.{Wish}
@@ -9,7 +9,7 @@ use Rattle.target_selector.specs.Stands.{is_opening_at}
 use Rattle.room_core.specs.Follows.{Happened}
 use Rattle.room_core.specs.Sent.{opens}
 
--- A frame of a track that passes opens the target after it exactly where the selection has it open one.
+-- A passed frame of a track opens the target after it exactly if the selection says that it opens one.
 abbrev pub FramesOpenTheirTargets : Type 0
 FramesOpenTheirTargets = (wish : Wish) (events : List Happened) (f : FrameMeaning) (packets : ℕ) → IsOneTrack (f ∷ meanings_of events)
     → passes_at (standing wish events) f packets ≡ true

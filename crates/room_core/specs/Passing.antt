@@ -1,4 +1,4 @@
--- What a track makes goes to each of its subscribers, and to nobody else.
+-- What a track makes is offered to each of its subscribers, and to no others.
 use Rattle.std.specs.Prelude.{◌≡◌, ℕ, ◌&&◌, not, Bool, true, false, List, [], ◌∷◌, ◌++◌, Option, None, Some}
 use Rattle.sfu_base.specs.declared.call.Kind.{Kind}
 use Rattle.sfu_base.specs.declared.call.Kind.TheVariants.{Plain, Layered}
@@ -27,53 +27,53 @@ Both R None (Some b) = ⊥
 Both R (Some a) None = ⊥
 Both R (Some a) (Some b) = R a b
 
--- one subscriber: where it is the track's, this happened to its part; else nothing did
+-- one subscriber: if it is the track's, its feed changed like this; else nothing changed
 pub record IsPassed (R : Feed → Feed → Type 0) (number : ℕ) (old new : LiveSubscriber) : Type 0 where
   pub track : new.track ≡ old.track
   pub passed : old.track ≡ number → R old.feed.value new.feed.value
   pub other : (old.track ≡ number → ⊥) → new ≡ old
 
--- a map over the table: what is found under each number is what its own step made of it
+-- a map over the table: the entry under each number is what its own step made of it
 abbrev pub PassedTo : (Feed → Feed → Type 0) → ℕ → (ℕ → Option LiveSubscriber) → (ℕ → Option LiveSubscriber) → Type 0
 PassedTo R number old new = (n : ℕ) → Both (IsPassed R number) (old n) (new n)
 
--- ---- all that a track has to work off
+-- ---- all that a track has to process
 
--- what the newest items, after older ones, are to a subscriber of a track of this kind
+-- the events that the newest items, after older ones, are for a subscriber of a track of this kind
 abbrev pub released_as : Kind → List Item → List Item → List Happened
 released_as Plain older items = packets_released older items
 released_as (Layered id) older items = frames_released (format_of id) older items
 
--- whatever is released next, the frames are one track's
+-- whatever is released next, all frames are of one track
 abbrev pub StayOneTrack : Kind → List Item → List Happened → Type 0
 StayOneTrack Plain older events = Unit {0}
 StayOneTrack (Layered id) older events = (items : List Item) → IsOneTrack (meanings_of (released_as (Layered id) older items ++ events))
 
--- from where the items `done` of this call were worked off to where `all` were
+-- from the state where the items `done` of this call were processed to the state where `all` were
 abbrev pub FollowsOn : Kind → List Item → List Item → List Item → Feed → Feed → Type 0
 FollowsOn kind older done all old new = (to : Subscriber) (events : List Happened) → StayOneTrack kind older events
     → Follows kind old to (released_as kind older done ++ events) → Follows kind new to (released_as kind older all ++ events)
 
--- a plea stands until a key frame is made
+-- a plea is pending until a key frame is made
 abbrev pub PleaGoesOn : Kind → List Item → List Item → List Item → Bool → Bool → Type 0
 PleaGoesOn kind older done all old new =
     (plea : Bool) → old ≡ (plea && not (makes_key kind older done)) → new ≡ (plea && not (makes_key kind older all))
 
--- after older items and those of this call that were done, the rest was worked off
+-- after older items, and those of this call that were done, the rest was processed
 pub record WorksOffFrom (events : List Event) (kind : Kind) (new : Seen) (number : ℕ) (before now : ℕ → Option LiveSubscriber) (plea plea' : Bool)
     (older done all : List Item) : Type 0 where
   pub at : IsAt events new (all ++ older)
   pub passed : PassedTo (FollowsOn kind older done all) number before now
   pub plea_is : PleaGoesOn kind older done all plea plea'
 
--- all pieces were worked off
+-- all pieces were processed
 pub record WorkedOff (old new : Seen) (number : ℕ) (before now : ℕ → Option LiveSubscriber) (plea plea' : Bool) : Type 0 where
   pub stays : Stays old new
   pub idle : new.window.waiting ≡ []
   pub works : (events : List Event) (older done : List Item) → IsAt events old (done ++ older)
       → WorksOffFrom events (kind_by old.layers) new number before now plea plea' older done (and_pieces old.window.waiting done)
 
--- one piece was worked off
+-- one piece was processed
 pub record WorkedOne (old new : Seen) (number : ℕ) (before now : ℕ → Option LiveSubscriber) (plea plea' : Bool) : Type 0 where
   pub stays : Stays old new
   pub piece : Piece
@@ -90,7 +90,7 @@ WorkedIf false old new number before now plea plea' = WorkedOff old new number b
 
 -- ---- who waits for a target
 
--- the subscriber is the track's and has no target; or else it isn't, or it has one
+-- the subscriber is the track's and has no target; or it isn't the track's, or it has one
 abbrev pub WaitsOne : Bool → ℕ → LiveSubscriber → Type 0
 WaitsOne true number s = (s.track ≡ number) × HasNoTarget s.feed.value true
 WaitsOne false number s = s.track ≡ number → HasNoTarget s.feed.value false

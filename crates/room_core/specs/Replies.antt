@@ -1,5 +1,5 @@
--- What a room answers to a call, read off the calls that it accepted before, the newest first. Own rule. Each refusal comes only where
--- none of those above it stands.
+-- What a room answers to a call, by the calls that it accepted before, the newest first. Own rule. Each refusal comes only if none of
+-- those above it applies.
 use Rattle.std.specs.Prelude.{ℕ, ◌==◌, ◌||◌, nat_le, not, Bool, false, if◌then◌else◌, List, Option, None, Some, is_some, Result, Ok, Err}
 use Rattle.sfu_base.specs.Answer.{Answer, Done, Sent, Named, KeyIs, Told, Refused}
 use Rattle.sfu_base.specs.declared.call.Call.{Call}
@@ -21,7 +21,7 @@ use Rattle.room_core.specs.TrackHistory.{order_at}
 use Rattle.room_core.specs.Sent.{sent}
 use Rattle.room_core.specs.Views.{events_for, key_wanted_on, subscriber_by, verdicts_of}
 
--- done, unless a refusal stands
+-- done, unless a refusal applies
 abbrev pub done_or : Option Refusal → Answer
 done_or None = Done
 done_or (Some why) = Refused why

@@ -1,6 +1,6 @@
 -- What is sent of a frame of a track of this kind to a subscriber with a target, before it is numbered. Own rules, over AV1 RTP payload
--- format, Appendix A (active_decode_targets_bitmask). This is the one place that says it: all that is told of a subscriber cites it, and so
--- does the code that queues a frame. On a plain track there are no frames.
+-- format, Appendix A (active_decode_targets_bitmask). This is the one place that defines it: all statements about a subscriber refer to it,
+-- and so does the code that queues a frame. On a plain track there are no frames.
 use Rattle.std.specs.Prelude.{ℕ, ◌==◌, ◌||◌, Bool, false, if◌then◌else◌, List, [], ◌∷◌, Option, Some}
 use Rattle.sfu_base.specs.declared.call.Kind.{Kind}
 use Rattle.sfu_base.specs.declared.call.Kind.TheVariants.{Plain, Layered}
@@ -27,15 +27,15 @@ abbrev pub tells_first : ℕ → List Packet → Bool
 tells_first id [] = false
 tells_first id (packet ∷ rest) = tells id packet.rest
 
--- the first packet alone gets another mask
+-- only the first packet gets another mask
 abbrev pub remasked_first : ℕ → Option TemplateStructure → ℕ → List Packet → List Packet
 remasked_first id force mask [] = []
 remasked_first id force mask (packet ∷ rest) = remasked_packet id force mask packet ∷ rest
 
 -- ---- the frame
 
--- The packets go out with the marker of the frame's end, as every sender of forwarding has it; the first one gets the mask of the targets that
--- the subscriber gets, where the frame opens its target, or where that packet tells which there are.
+-- The packets are sent with the marker at the frame's end, as by every sender of the forwarding model; the first one gets the mask of the
+-- targets that the subscriber gets, if the frame opens its target, or if that packet carries a structure or a mask.
 unfoldable pub layered_sent : ℕ → Sender TemplateStructure
 layered_sent id frame target =
     send_marked (record frame {

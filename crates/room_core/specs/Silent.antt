@@ -1,4 +1,4 @@
--- Which calls leave nothing in a scratch, whatever they are answered.
+-- Which calls leave nothing in a scratch, whatever their reply.
 use Rattle.sfu_base.specs.declared.call.Call.{Call}
 use Rattle.sfu_base.specs.declared.call.Call.TheVariants.{Take, Resend, Missing}
 

@@ -21,7 +21,7 @@ abbrev pub kind_by : Option Layers → Kind
 kind_by None = Plain
 kind_by (Some layers) = Layered layers.id
 
--- The pipeline had these events, and these items were worked off. Both have the newest first.
+-- The pipeline had these events, and these items were processed. Both have the newest first.
 pub record IsAt (events : List Event) (track : Seen) (items : List Item) : Type 0 where
   pub worked : List Piece
   pub stands : StandsFor track events worked
@@ -54,12 +54,12 @@ IsMade Plain items (Gone from to) result new = result ≡ made.Nothing
 IsMade (Layered id) items piece result new =
     IsFrameMade (made_by_item (format_of id) (state_after (format_of id) items) (item_of piece)).frame result new
 
--- a piece was worked off after these items
+-- a piece was processed after these items
 pub record WorksOff (events : List Event) (old new : Seen) (piece : Piece) (result : Made) (items : List Item) : Type 0 where
   pub at : IsAt events new (item_of piece ∷ items)
   pub made : IsMade (kind_by old.layers) items piece result new
 
--- the piece that waits first is worked off, if one does
+-- the first piece that waits is processed, if one does
 abbrev pub StepsOn : List Piece → Seen → Seen → Made → Type 0
 StepsOn [] old new result =
     (result ≡ made.Idle) × (new.window.waiting ≡ []) × ((events : List Event) (items : List Item) → IsAt events old items → IsAt events new items)
@@ -72,7 +72,7 @@ pub record Steps (old new : Seen) (result : Made) : Type 0 where
   pub stays : Stays old new
   pub on : StepsOn old.window.waiting old new result
 
--- one packet, or a frame that means something valid
+-- one packet, or a frame with a valid meaning
 abbrev pub IsMadeValid : Made → List (List ℕ) → Type 0
 IsMadeValid made.Packet packets = length packets ≡ 1
 IsMadeValid (made.Frame meaning) packets = IsValid meaning

@@ -1,4 +1,4 @@
--- The history of one track, as the forwarding model has it, out of the calls that a room accepted. Own rule. Both have the newest first.
+-- The history of one track, as in the forwarding model, from the calls that a room accepted. Own rule. Both have the newest first.
 use Rattle.std.specs.Prelude.{ℕ, ◌==◌, Bool, true, false, if◌then◌else◌, List, [], ◌∷◌}
 use Rattle.sfu_base.specs.declared.call.Call.{Call}
 use Rattle.sfu_base.specs.declared.call.Call.TheVariants as call
@@ -11,7 +11,7 @@ use Rattle.forwarding_model.specs.History.Entry.{Released, Joined, Aimed, Asked}
 use Rattle.room_core.specs.Items.{and_pieces}
 use Rattle.room_core.specs.Live.{hold_of, is_on, joined}
 
--- a list with one more in front, where the test says so
+-- a list with one more item in front, if the test says so
 abbrev pub and_where : {X : Type 0} → Bool → X → List X → List X
 and_where true x xs = x ∷ xs
 and_where false x xs = xs

@@ -1,5 +1,5 @@
--- What one subscriber of a room sees, by the calls that the room accepted, the newest first. Own rule. All of it is told by the definitions of
--- forwarding over the history of the subscriber's track; the code keeps no history.
+-- What one subscriber of a room sees, by the calls that the room accepted, the newest first. Own rule. All of it is defined by the forwarding
+-- model over the history of the subscriber's track; the code stores no history.
 use Rattle.std.specs.Prelude.{ℕ, ◌==◌, ◌&&◌, ◌||◌, not, Bool, false, if◌then◌else◌, List, [], ◌∷◌, Option, None, Some}
 use Rattle.std.specs.List.{list_any}
 use Rattle.sfu_base.specs.declared.call.Call.{Call}
@@ -30,7 +30,7 @@ abbrev pub timeline_as : Kind → ℕ → List Entry → List (Event TemplateStr
 timeline_as Plain number entries = plain_timeline (sent Plain) number entries
 timeline_as (Layered id) number entries = timeline (format_of id) (sent (Layered id)) number entries
 
--- what happened to a subscriber that joined so
+-- what happened to a subscriber that joined like this
 abbrev pub events_for : ℕ → Joined → List Call → List (Event TemplateStructure)
 events_for number j past = timeline_as (kind_of j.track past) number (entries_of j.track past)
 
@@ -47,7 +47,7 @@ abbrev pub makes_key : Kind → List Item → List Item → Bool
 makes_key Plain older items = false
 makes_key (Layered id) older items = list_any (λ frame. frame.meaning.key) (frames_since (format_of id) older items)
 
--- A plea of a subscriber of the track stands until the next whole key frame.
+-- A plea of a subscriber of the track is pending until the next whole key frame.
 abbrev pub plea : ℕ → List Call → Bool
 plea n [] = false
 plea n (call.Publish track kind ssrc hold ∷ past) = if track == n then false else plea n past

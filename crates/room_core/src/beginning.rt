@@ -1,4 +1,4 @@
-// How tracks and subscribers begin. Memory is taken before anything changes.
+// How tracks and subscribers begin. Memory is allocated before anything changes.
 ghost use Rattle.std.specs.Prelude.{◌≡◌, ◌≢◌, [], IfOk, List, OnErr, false, ℕ};
 ghost use Rattle.sfu_base.specs.Answer.{is_starved};
 ghost use Rattle.sfu_base.specs.declared.call.Call.{Call};
@@ -20,7 +20,7 @@ use std::alloc::Global;
 use track_core::Track;
 
 impl Content {
-    /// A content in which nothing is live. Takes no memory.
+    /// The tables of a room without tracks and subscribers. Allocates no memory.
     pub fn new(alloc: Global) -> Content
         ensures { IsAfter result [] }
     {
@@ -34,8 +34,8 @@ impl Content {
         }
     }
 
-    /// Takes the memory that a call needs: for the pipeline and the frame cache of an accepted publish, or the feed of an accepted join,
-    /// and for its entry in the table.
+    /// Allocates the memory that a call needs: the pipeline and the frame cache of an accepted publish, or the feed of an accepted join,
+    /// and its entry in the table. `NoMemory`: out of memory.
     pub fn prepare(&mut self, alloc: Global, call: &Call) -> Result<Ready, NoMemory>
         ensures same { (past : List Call) → IsAfter self.old past → IsAfter self.new past }
         ensures ready { IfOk result (IsReady self.new call.now) }
@@ -112,7 +112,7 @@ impl Content {
         }
         let others = count_on(&self.subscribers, track);
         let Some(known) = self.tracks.get_mut(&track) else {
-            // Can't be: a join of no track was refused.
+            // Can't be: a join to a track that isn't live was refused.
             return Ok(Ready::Nothing);
         };
         known.frame_cache.reserve(alloc, others + 1)?;
@@ -126,7 +126,7 @@ impl Content {
         }
     }
 
-    /// Begins a track, if its pipeline was made ready; else returns why it is refused.
+    /// Begins a track, if its pipeline was made ready; else returns the refusal.
     #[inline(never)]
     pub fn publish(&mut self, track: u32, kind: Kind, ready: Ready) -> Reply
         requires { (ssrc : ℕ) × (hold : ℕ) × IsReady self.old (call.Publish track kind ssrc hold) ready }
@@ -161,7 +161,7 @@ impl Content {
         }
     }
 
-    /// Begins a subscriber, if its feed was made ready; else returns why it is refused.
+    /// Begins a subscriber, if its feed was made ready; else returns the refusal.
     #[inline(never)]
     pub fn join(&mut self, subscriber: u32, track: u32, ready: Ready) -> Reply
         requires { (ssrc : ℕ) × (first : ℕ) × (wish : Wish) × IsReady self.old (call.Join subscriber track ssrc first wish) ready }

@@ -1,4 +1,4 @@
-// Questions about a live subscriber, which are no calls of the history.
+// Queries about a live subscriber, which are no entries of the history.
 ghost use Rattle.std.specs.Prelude.{◌≡◌, List};
 ghost use Rattle.sfu_base.specs.declared.call.Call.{Call};
 ghost use Rattle.room_core.specs.Content.{IsAfter};
@@ -19,15 +19,15 @@ use sfu_base::{Refusal, Wish};
 pub struct DecodeTarget {
     /// The target's index, 0 to 31, in the order of the publisher's structure.
     pub index: u8,
-    /// The target's greatest spatial and temporal layer at the newest frame; none where no template of that frame's structure is present in
+    /// The target's greatest spatial and temporal layer at the newest frame; `None` if no template of that frame's structure is present in
     /// the target.
     pub layers: Option<Wish>,
 }
 
 impl<R: Recorder> Room<R> {
-    /// The decode target that the subscriber is sent: the one that is open after its newest frame. None before the first key frame with
-    /// which the subscriber can begin, after a chain broke, and on a plain track. After the end of the track the target is that of the last
-    /// frame. Asking is no call of the history, changes nothing, and takes no memory. `NoSubscriber`: no live subscriber has the number.
+    /// The decode target that the subscriber is sent: the one that is open after its newest frame. `None` on a plain track, before the first
+    /// key frame with which the subscriber can begin, and after a chain broke. After the end of the track: the target at the last frame. This
+    /// query is no entry of the history, changes nothing, and allocates no memory. `NoSubscriber`: no live subscriber has the number.
     /// Own rule.
     pub fn target_of(&self, subscriber: u32) -> Result<Option<DecodeTarget>, Refusal>
         ensures target { (history : List Entry) → Stands R.noted self.now history → IsTargetOf history subscriber result }
@@ -36,8 +36,8 @@ impl<R: Recorder> Room<R> {
     }
 
     /// Whether the target that the subscriber is sent is the best that its present wish allows at its newest frame. False without a target,
-    /// and so on a plain track. A raised wish is mostly reached only at a key frame, so a caller that gets false pleads. After the end of
-    /// the track the last frame decides. Asking is no call of the history, changes nothing, and takes no memory. `NoSubscriber`: no live
+    /// hence on a plain track. A raised wish is mostly reached only at a key frame, so a caller that gets false calls `plead`. After the end of
+    /// the track the last frame counts. This query is no entry of the history, changes nothing, and allocates no memory. `NoSubscriber`: no live
     /// subscriber has the number. Own rule.
     pub fn reaches_wish(&self, subscriber: u32) -> Result<bool, Refusal>
         ensures reaches { (history : List Entry) → Stands R.noted self.now history → IsReachedBy history subscriber result }

@@ -15,8 +15,8 @@ use std::alloc::Global;
 use target_selector::{FrameOffer, MOST_QUEUED, Selector};
 use track_core::Track;
 
-/// The kind of the subscriber's track, the selection of frames, the packets that wait or are kept, and the verdicts on frames. All memory of a feed
-/// is taken when it is made.
+/// What one subscriber is sent: the kind of its track, the selection of frames, the packets that are queued or kept, and the verdicts on frames. All
+/// memory of a feed is allocated when it is made.
 #[derive(Drop)]
 pub struct Feed {
     pub kind: Kind,
@@ -97,7 +97,7 @@ impl Feed {
         }
     }
 
-    /// Hands out the oldest queued packet, if one is queued, and returns whether one was.
+    /// Takes the oldest queued packet: replaces the contents of `out` with it, and returns true. Returns false if none is queued.
     pub fn take(&mut self, out: &mut PacketBuf) -> bool
         ensures follows { FollowsTake self.old self.new result out.old out.new }
         ensures unchanged { result ≡ false → self.new ≡ self.old }
@@ -107,7 +107,7 @@ impl Feed {
         self.ring.take(out).is_ok()
     }
 
-    /// Ends the subscriber: `cache` gets back what the subscriber shared. `left` subscribers remain on the track.
+    /// Ends the subscriber: the packets that it shared are released to `cache`. `left` subscribers remain on the track.
     pub fn give_back(self, cache: &mut FrameCache, left: usize)
         ensures { cache.new.store.all ≤ cache.old.store.all }
     {
@@ -131,7 +131,7 @@ impl Feed {
         self.causes.verdict(number)
     }
 
-    /// Writes the packet that was taken under this sequence number to `out` again. `NotKept`: none of the last 1,024 packets taken has the number.
+    /// Replaces the contents of `out` with the packet that was taken under this sequence number. `NotKept`: none of the last 1,024 packets taken has it.
     pub fn resend(&self, seq: u16, out: &mut PacketBuf) -> Result<(), Refusal>
         ensures resends { Resends self.now seq result out.old out.new }
         ensures fed { IsFed result }

@@ -50,7 +50,7 @@ impl KeepAll {
         self.notes.is_empty()
     }
 
-    /// The seat of the call at this place, from 0.
+    /// The seat of the call at this place, counted from 0.
     pub fn seat(&self, place: usize) -> u32
         requires { place < length self.now }
         ensures { Some result ≡ option_map seat_by (slice_get self.now place) }
@@ -58,7 +58,7 @@ impl KeepAll {
         self.notes[place].seat
     }
 
-    /// The call at this place, from 0.
+    /// The call at this place, counted from 0.
     pub fn call(&self, place: usize) -> &Call
         requires { place < length self.now }
         ensures { Some result.now ≡ option_map call_by (slice_get self.now place) }

@@ -1,5 +1,5 @@
-//! The room: who publishes and who subscribes, what each subscriber is sent, and the reply to each call. The room's contracts speak of the
-//! history of calls on it; no code keeps that history, except a recorder.
+//! The room: who publishes and who subscribes, what each subscriber is sent, and the reply to each call. The room's contracts are about the
+//! history of all calls on it; only a recorder stores that history.
 #![tactic(auto)]
 
 mod beginning;

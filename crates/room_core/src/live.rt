@@ -10,8 +10,8 @@ use sfu_base::Kind;
 use track_core::Track;
 
 /// A live track: its kind, whether a plea for a key frame is pending, its pipeline, the cache of its current frame, and the places of its
-/// subscribers in their table. No item waits between calls. The large parts are on the heap, so that a room is small: a lock moves the room
-/// that it holds twice a turn.
+/// subscribers in their table. Between calls no item of the pipeline waits. The large parts are on the heap, so that a room is small: its lock
+/// moves the room twice per turn.
 #[derive(Drop)]
 pub struct LiveTrack {
     pub kind: Kind,
@@ -30,7 +30,7 @@ pub struct LiveSubscriber {
     pub feed: Box<Feed>,
 }
 
-/// What is made ready for a call before anything changes: the pipeline and the frame cache of an accepted publish, the feed of an accepted
+/// What is prepared for a call before anything changes: the pipeline and the frame cache of an accepted publish, the feed of an accepted
 /// join, or nothing.
 #[derive(Drop)]
 pub enum Ready {

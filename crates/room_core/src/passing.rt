@@ -1,4 +1,4 @@
-// What a track makes goes to each of its subscribers.
+// Offers what a track makes to each of its subscribers.
 ghost use Rattle.std.specs.Prelude.{◌≡◌, ◌≤◌, ◌&&◌, ◌∷◌, [], None, nat_eq, not, length};
 ghost use Rattle.indexmap.specs.IndexMap.{get, index_map_len};
 ghost use Rattle.rtp_packet.specs.Faults.{first_fault};
@@ -20,7 +20,7 @@ use sfu_base::FrameMeaning;
 use target_selector::FrameOffer;
 use track_core::{Advance, Track};
 
-/// Processes all waiting items of a track. What they make goes to each subscriber of the track; a key frame ends a plea.
+/// Processes all waiting items of a track, and offers what they make to each subscriber of the track. A key frame ends a plea.
 pub fn work_off(
     pipeline: &mut Track,
     pleaded: &mut bool,
@@ -67,7 +67,7 @@ fn work_off_one(
     }
 }
 
-// One step of a track. The contract speaks of the track's items.
+// One step of a track, with a contract about the track's items.
 fn step(pipeline: &mut Track) -> Advance
     ensures steps { Steps pipeline.old pipeline.new (with_meaning pipeline.new.meaning result) }
     ensures valid { IsMadeValid (with_meaning pipeline.new.meaning result) pipeline.new.packets }
@@ -82,7 +82,7 @@ fn still_pleaded(pleaded: bool, key: bool) -> bool
     pleaded && !key
 }
 
-// The packet that a plain track made last goes to each subscriber of the track.
+// Offers the packet that a plain track made last to each subscriber of the track.
 fn pass_packet_to_all(
     subscribers: &mut IndexMap<u32, LiveSubscriber>,
     places: &PlaceSet,
@@ -107,7 +107,7 @@ fn pass_packet_to_all(
     }
 }
 
-// Offers the packet to one subscriber, if that is one of the track's.
+// Offers the packet to this subscriber, if it is one of the track's.
 fn pass_packet(subscriber: &mut LiveSubscriber, number: u32, packet: &[u8], cache: &mut FrameCache)
     requires reads { first_fault packet.now ≡ None }
     requires fits { length packet.now ≤ 1500 }
@@ -120,7 +120,7 @@ fn pass_packet(subscriber: &mut LiveSubscriber, number: u32, packet: &[u8], cach
     }
 }
 
-// The frame that a layered track made last goes to each subscriber of the track. Out of line: the loop has the registers for itself.
+// Offers the frame that a layered track made last to each of its subscribers. Out of line: the loop has the registers for itself.
 #[inline(never)]
 fn pass_frame_to_all(
     subscribers: &mut IndexMap<u32, LiveSubscriber>,
@@ -148,7 +148,7 @@ fn pass_frame_to_all(
     }
 }
 
-// Offers the frame to one subscriber, if that is one of the track's.
+// Offers the frame to this subscriber, if it is one of the track's.
 fn pass_frame(
     subscriber: &mut LiveSubscriber,
     number: u32,
@@ -168,7 +168,7 @@ fn pass_frame(
     }
 }
 
-/// Whether one of the subscribers of a track has no current target.
+/// Whether at least one subscriber of a track has no current target.
 pub fn waits(subscribers: &IndexMap<u32, LiveSubscriber>, places: &PlaceSet, number: u32) -> bool
     requires { HasPlaces places.now number (tracks_of subscribers.now.entries) }
     ensures { WaitsIn result number (get nat_eq subscribers.now) }

@@ -1,10 +1,10 @@
-// What keeps the calls of a room.
+// Recorders of the calls on a room.
 ghost use Rattle.std.specs.Prelude.{◌≡◌, ℕ, Bool, false, IsTrue, IsErr, List, Option, None, OnOk, OnErr};
 ghost use Rattle.room_core.specs.Noted.{Noted, Notes};
 
 use sfu_base::{Call, NoMemory};
 
-/// Keeps the seats and calls of a room, or nothing. Own rule.
+/// Stores the seats and calls of a room, or nothing. Own rule.
 pub trait Recorder: Drop {
     /// Whether [`Recorder::note`] may run out of memory.
     ghost may_refuse: { Self → Bool };
@@ -12,7 +12,7 @@ pub trait Recorder: Drop {
     /// The seats and calls noted so far, the oldest first, or none if the recorder doesn't show them.
     ghost noted: { Self → Option (List Noted) };
 
-    /// Adds a seat and its call behind what is kept. After `NoMemory` what is kept is as before.
+    /// Appends a call with its seat. `NoMemory`: out of memory; what was noted before is unchanged then.
     fn note(&mut self, seat: u32, call: &Call) -> Result<(), NoMemory>
         ensures ok { OnOk result (Notes (noted self.old) (noted self.new) seat call.now) }
         ensures err { OnErr result (noted self.new ≡ noted self.old) }
@@ -20,12 +20,12 @@ pub trait Recorder: Drop {
         ensures same { may_refuse self.new ≡ may_refuse self.old };
 }
 
-/// Keeps nothing, and never refuses.
+/// Stores nothing, and never refuses.
 #[derive(Drop)]
 pub struct KeepNone;
 
 impl KeepNone {
-    /// A recorder that keeps nothing.
+    /// A recorder that stores nothing.
     pub fn new() -> KeepNone
         ensures may_refuse { ⟦<KeepNone as Recorder>⟧.may_refuse result ≡ false }
         ensures noted { ⟦<KeepNone as Recorder>⟧.noted result ≡ None }

@@ -17,7 +17,7 @@ const MOST_SUBSCRIBERS: usize = 256;
 /// The id of a header extension element that is padding (RFC 8285, sections 4.2 and 4.3).
 const PADDING_ID: u8 = 0;
 
-/// The id that ends processing (RFC 8285, section 4.2).
+/// The id at which a reader of the elements stops (RFC 8285, section 4.2).
 const LAST_ID: u8 = 15;
 
 impl Content {

@@ -4,9 +4,9 @@ use crate::recorder::Recorder;
 use sfu_base::{Call, Kind, PacketBuf, Refusal, Reply, Scratch, Wish};
 use std::alloc::Global;
 
-/// A room: tracks, each with one publisher's packets, and subscribers, each of one track. `publish` begins a track, `packet` brings its
-/// packets, `tick` advances its time; `join` begins a subscriber, `take` hands out what waits for it, `resend` what it took before. Moments
-/// and holds are milliseconds.
+/// A room: tracks, each with one publisher's packets, and subscribers, each of one track. `publish` begins a track, `packet` adds a packet to
+/// it, `tick` advances its time; `join` begins a subscriber, `take` returns its next packet to be sent, `resend` one that it took before.
+/// Moments and holds are in milliseconds.
 ///
 /// A layered track's packets become frames (RTP Payload Format For AV1, Appendix A), and each subscriber gets those of the best decode target
 /// that its wish allows. A plain track's packets are forwarded in order.
@@ -29,7 +29,7 @@ impl<R: Recorder> Room<R> {
     ghost use Rattle.room_core.specs.Silent.{IsSilent};
     ghost use Rattle.room_core.specs.Kinds.{IsKindOf};
 
-    /// A room on which no call was made, with a recorder that has kept nothing yet. Takes no memory.
+    /// A room on which no call was made, with a recorder that has recorded nothing yet. Allocates no memory.
     pub fn new(alloc: Global, recorder: R) -> Room<R>
         requires { IfSome (R.noted recorder) (λ notes. notes ≡ []) }
         ensures stands { Stands R.noted result [] }
@@ -42,13 +42,13 @@ impl<R: Recorder> Room<R> {
         }
     }
 
-    /// Serves one call of a seat; the methods from `publish` to `why` do the same with one kind of call each. A `Packet` reply leaves its
-    /// bytes in `scratch.packet`, a `Names` reply its numbers in `scratch.names`; no other reply changes the scratch.
+    /// Serves one call from a seat; the methods from `publish` to `why` do the same for one kind of call each. After the reply `Packet` the bytes
+    /// are in `scratch.packet`, after `Names` the sequence numbers are in `scratch.names`; no other reply changes the scratch.
     pub fn serve(&mut self, seat: u32, call: &Call, scratch: &mut Scratch) -> Reply
         ensures { ServesInto R.noted R.may_refuse self.old self.new seat call.now result scratch.old scratch.new }
     {
         match call {
-            // These three are most calls, and need nothing to be made ready.
+            // Most calls are of these three kinds, for which nothing has to be prepared.
             Call::Take { subscriber } => self.take(seat, *subscriber, scratch),
             Call::Packet {
                 track,
@@ -60,7 +60,7 @@ impl<R: Recorder> Room<R> {
         }
     }
 
-    // The same for a call of any kind.
+    // As `serve`, for a call of any kind.
     fn serve_any(&mut self, seat: u32, call: &Call, scratch: &mut Scratch) -> Reply
         ensures { ServesInto R.noted R.may_refuse self.old self.new seat call.now result scratch.old scratch.new }
     {
@@ -73,7 +73,7 @@ impl<R: Recorder> Room<R> {
         }
     }
 
-    // The same for a call whose reply leaves nothing in a scratch.
+    // As `serve`, for a call whose reply changes no scratch.
     fn serve_silently(&mut self, seat: u32, call: &Call) -> Reply
         requires { IsSilent call.now }
         ensures { DoesAsServe R.noted R.may_refuse self.old self.new seat call.now result }
@@ -88,8 +88,8 @@ impl<R: Recorder> Room<R> {
     }
 
     /// Begins a track, as [`Call::Publish`] does. `NumberUsed`: the number is at most the highest that a track ever had, which is 0 before
-    /// the first. `TooMany`: 64 tracks are live. `BadExtensionId`: the id of a layered track's header extension element is 0 or 15. `NoMemory`
-    /// comes last.
+    /// the first. `TooMany`: 64 tracks are live. `BadExtensionId`: the id of a layered track's header extension element is 0 or 15. `NoMemory`:
+    /// out of memory, and no other refusal applies.
     pub fn publish(&mut self, seat: u32, track: u32, kind: Kind, ssrc: u32, hold: u32) -> Reply
         ensures { DoesAsServe R.noted R.may_refuse self.old self.new seat (call.Publish track kind ssrc hold) result }
     {
@@ -112,7 +112,7 @@ impl<R: Recorder> Room<R> {
         self.serve_silently(seat, &Call::Unpublish { track })
     }
 
-    /// Brings a track a packet that arrives at `moment`, as [`Call::Packet`] does. The recorder is shown a copy. `NoTrack`: no live track has
+    /// Adds a packet that arrives at `moment` to a track, as [`Call::Packet`] does. The recorder gets a copy. `NoTrack`: no live track has
     /// the number. `TooBig`: more than 1,500 bytes. `Unreadable`: the bytes aren't RTP. `WrongSsrc`: the packet's SSRC isn't the track's.
     /// `Spent`, `Late` and `Repeat`: by the packet's unwrapped sequence number.
     pub fn packet(&mut self, seat: u32, track: u32, moment: u64, bytes: &PacketBuf) -> Reply
@@ -128,7 +128,7 @@ impl<R: Recorder> Room<R> {
         self.serve_packet(seat, &call, track, moment, bytes)
     }
 
-    // The same with the call made already, and its bytes beside it.
+    // As `packet`, for a call that is made already, with its fields beside it.
     fn serve_packet(
         &mut self,
         seat: u32,
@@ -158,7 +158,7 @@ impl<R: Recorder> Room<R> {
     }
 
     /// Begins a subscriber, as [`Call::Join`] does. `NoTrack`: no live track has the number. `NumberUsed`: the number is at most the highest
-    /// that a subscriber ever had. `TooMany`: 256 subscribers are live. `NoMemory` comes last.
+    /// that a subscriber ever had. `TooMany`: 256 subscribers are live. `NoMemory`: out of memory, and no other refusal applies.
     pub fn join(
         &mut self,
         seat: u32,
@@ -196,8 +196,8 @@ impl<R: Recorder> Room<R> {
         self.serve_silently(seat, &Call::Aim { subscriber, wish })
     }
 
-    /// Hands out the oldest packet that waits for a subscriber, as [`Call::Take`] does: `Packet`, with its bytes in `scratch.packet`.
-    /// `NoSubscriber`: no live subscriber has the number. `Empty`: no packet waits.
+    /// Takes the oldest packet that is queued for a subscriber, as [`Call::Take`] does: replies `Packet`, with the bytes in `scratch.packet`.
+    /// `NoSubscriber`: no live subscriber has the number. `Empty`: no packet is queued.
     pub fn take(&mut self, seat: u32, subscriber: u32, scratch: &mut Scratch) -> Reply
         ensures { ServesInto R.noted R.may_refuse self.old self.new seat (call.Take subscriber) result scratch.old scratch.new }
     {
@@ -207,7 +207,7 @@ impl<R: Recorder> Room<R> {
         }
     }
 
-    /// Hands out a packet again that was taken under this sequence number, as [`Call::Resend`] does: `Packet`, with its bytes in
+    /// Returns once more the packet that was taken under this sequence number, as [`Call::Resend`] does: replies `Packet`, with the bytes in
     /// `scratch.packet` (RFC 4585, section 6.2.1). `NoSubscriber`: no live subscriber has the number. `NotKept`: none of the last 1,024
     /// packets taken has the sequence number.
     pub fn resend(&mut self, seat: u32, subscriber: u32, seq: u16, scratch: &mut Scratch) -> Reply
@@ -216,7 +216,7 @@ impl<R: Recorder> Room<R> {
         self.serve(seat, &Call::Resend { subscriber, seq }, scratch)
     }
 
-    /// Hands out the sequence numbers that a track waits for, ascending in their unwrapped order, as [`Call::Missing`] does: `Names`, with the
+    /// Returns the sequence numbers that a track waits for, ascending in their unwrapped order, as [`Call::Missing`] does: replies `Names`, with the
     /// numbers in `scratch.names`. `NoTrack`: no live track has the number.
     pub fn missing(&mut self, seat: u32, track: u32, scratch: &mut Scratch) -> Reply
         ensures { ServesInto R.noted R.may_refuse self.old self.new seat (call.Missing track) result scratch.old scratch.new }
@@ -224,7 +224,7 @@ impl<R: Recorder> Room<R> {
         self.serve(seat, &Call::Missing { track }, scratch)
     }
 
-    /// Returns whether a track's publisher is to be asked for a key frame, as [`Call::KeyWanted`] does. It is if the track is layered, and a
+    /// Returns whether a key frame is to be requested from a track's publisher, as [`Call::KeyWanted`] does: true if the track is layered, and a
     /// plea is pending or a live subscriber of the track has no target. `NoTrack`: no live track has the number.
     pub fn key_wanted(&mut self, seat: u32, track: u32) -> Reply
         ensures { DoesAsServe R.noted R.may_refuse self.old self.new seat (call.KeyWanted track) result }
@@ -232,7 +232,7 @@ impl<R: Recorder> Room<R> {
         self.serve_silently(seat, &Call::KeyWanted { track })
     }
 
-    /// Asks for a key frame, as [`Call::Plead`] does (RFC 4585, section 6.3.1): the plea is pending until the track's next whole key frame.
+    /// Requests a key frame, as [`Call::Plead`] does (RFC 4585, section 6.3.1): the plea is pending until the track's next whole key frame.
     /// `NoSubscriber`: no live subscriber has the number. `NoTrack`: the subscriber's track ended. `Plain`: that track is plain.
     pub fn plead(&mut self, seat: u32, subscriber: u32) -> Reply
         ensures { DoesAsServe R.noted R.may_refuse self.old self.new seat (call.Plead subscriber) result }
@@ -248,8 +248,8 @@ impl<R: Recorder> Room<R> {
         self.serve_silently(seat, &Call::Why { subscriber, number })
     }
 
-    /// The kind that the subscriber's track had when the subscriber joined, even if the track has ended. Asking is no call of the history, and
-    /// takes no memory. `NoSubscriber`: no live subscriber has the number.
+    /// The kind that the subscriber's track had when the subscriber joined, even if the track has ended. This query is no entry of the history, and
+    /// allocates no memory. `NoSubscriber`: no live subscriber has the number.
     pub fn kind_of(&self, subscriber: u32) -> Result<Kind, Refusal>
         ensures kind { (history : List Entry) → Stands R.noted self.now history → IsKindOf history subscriber result }
     {
@@ -259,7 +259,7 @@ impl<R: Recorder> Room<R> {
         }
     }
 
-    /// The recorder, with what it kept.
+    /// The recorder, with what it recorded.
     pub fn into_recorder(self) -> R
         ensures kept { (history : List Entry) → Stands R.noted self history → IfSome (R.noted result) (λ notes. notes ≡ kept history) }
         ensures recorder { R.may_refuse result ≡ recorder_may_refuse R.may_refuse self }

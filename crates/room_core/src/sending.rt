@@ -1,4 +1,4 @@
-// What is queued of a frame.
+// Queues the packets of a frame for a subscriber.
 ghost use Rattle.std.specs.Prelude.{◌≡◌, ◌≤◌, ◌+◌, ◌<◌, ◌&&◌, ◌||◌, [], ◌∷◌, None, length, map};
 ghost use Rattle.std.specs.Option.{option_copied};
 ghost use Rattle.rtp_packet.specs.Faults.{first_fault};
@@ -100,7 +100,7 @@ fn push_first(
 {
     match track.id() {
         Some(id) => {
-            // The packets behind it can be shared only if it is.
+            // The frame's other packets can be shared only if the first one is.
             cache.share(0, packet);
             push_told(ring, cache, packet, marker, id, track.force(), mask);
         }
@@ -108,7 +108,7 @@ fn push_first(
     }
 }
 
-// Queues a packet with this mask, or unchanged where it can't be remasked.
+// Queues a packet with this mask, or unchanged if it can't be remasked.
 fn push_told(
     ring: &mut OutRing,
     cache: &mut FrameCache,
@@ -139,7 +139,7 @@ fn sent_marker(packet: &[u8], is_top: bool, is_last: bool) -> bool
     (is_top && is_last) || own_marker(packet)
 }
 
-/// The marker of a packet that RTP reads (RFC 3550, section 5.1): the first bit of its second byte.
+/// The marker of an RTP packet (RFC 3550, section 5.1): the first bit of its second byte.
 pub fn own_marker(packet: &[u8]) -> bool
     requires { first_fault packet.now ≡ None }
     ensures { result ≡ marker_of packet.now }

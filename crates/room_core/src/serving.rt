@@ -1,4 +1,4 @@
-// One call, whichever it is.
+// Serves a call of any kind.
 ghost use Rattle.std.specs.Prelude.{◌≡◌, ◌≢◌, false};
 ghost use Rattle.sfu_base.specs.Answer.{is_starved};
 ghost use Rattle.sfu_base.specs.declared.call.Reply.TheVariants as reply;
@@ -11,7 +11,7 @@ use crate::live::Ready;
 use sfu_base::{Call, Reply, Scratch};
 
 impl Content {
-    /// Does a call, with what was made ready for it, and returns its reply.
+    /// Serves a call, with what was prepared for it, and returns its reply.
     pub fn serve(&mut self, call: &Call, ready: Ready, scratch: &mut Scratch) -> Reply
         requires { IsReady self.old call.now ready }
         ensures does { Does self.old self.new call.now result scratch.new.packet scratch.new.names }
@@ -30,7 +30,7 @@ impl Content {
         }
     }
 
-    /// The same for a call whose reply leaves nothing in a scratch.
+    /// As `serve`, for a call whose reply changes no scratch.
     pub fn serve_silently(&mut self, call: &Call, ready: Ready) -> Reply
         requires silent { IsSilent call.now }
         requires ready { IsReady self.old call.now ready }
@@ -57,7 +57,7 @@ impl Content {
             Call::KeyWanted { track } => self.key_wanted(*track),
             Call::Plead { subscriber } => self.plead(*subscriber),
             Call::Why { subscriber, number } => self.why(*subscriber, *number),
-            // These leave a packet or names in a scratch.
+            // Can't be: the replies to these calls leave a packet or numbers in a scratch.
             Call::Take { .. } | Call::Resend { .. } | Call::Missing { .. } => unreachable!(),
         }
     }

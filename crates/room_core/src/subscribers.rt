@@ -52,7 +52,7 @@ impl Content {
         }
     }
 
-    /// Hands out the oldest packet that waits for the subscriber.
+    /// Takes the oldest packet that is queued for the subscriber.
     #[inline(always)]
     pub fn take(&mut self, subscriber: u32, out: &mut PacketBuf) -> Reply
         ensures does { (numbers : List ℕ) → Does self.old self.new (call.Take subscriber) result out.new numbers }
@@ -77,7 +77,7 @@ impl Content {
         }
     }
 
-    /// Hands out a kept packet of the subscriber again.
+    /// Returns a kept packet of the subscriber once more.
     pub fn resend(&self, subscriber: u32, seq: u16, out: &mut PacketBuf) -> Reply
         ensures does { (numbers : List ℕ) → Does self.now self.now (call.Resend subscriber seq) result out.new numbers }
         ensures fed { is_starved result ≡ false }
@@ -93,7 +93,7 @@ impl Content {
         }
     }
 
-    /// Records that the subscriber asks for a key frame.
+    /// Records that the subscriber requests a key frame.
     pub fn plead(&mut self, subscriber: u32) -> Reply
         ensures does { DoesSilently self.old self.new (call.Plead subscriber) result }
         ensures fed { is_starved result ≡ false }
@@ -130,7 +130,7 @@ impl Content {
         }
     }
 
-    /// The kind that the subscriber's track had when the subscriber joined; none if no live subscriber has the number.
+    /// The kind that the subscriber's track had when the subscriber joined; `None` if no live subscriber has the number.
     pub fn kind_of(&self, subscriber: u32) -> Option<Kind>
         ensures { (past : List Call) → IsAfter self.now past → result ≡ kind_joined (joined subscriber past) past }
     {
@@ -140,8 +140,8 @@ impl Content {
     }
 }
 
-// Ends the feed of the subscriber that left this place: the track's set loses the place, and the track's cache gets back what the feed
-// shared. `left` subscribers remain on the track.
+// Ends the feed of the subscriber that left this place: removes the place from the track's set, and releases the packets that the feed
+// shared to the track's cache. `left` subscribers remain on the track.
 fn end_feed(
     tracks: &mut IndexMap<u32, LiveTrack>,
     track: u32,

@@ -1,5 +1,5 @@
-// Rooms with plain and layered tracks. Rows are calls with the replies that they have to get. The packets are laid as RFC 3550 and RFC 8285
-// lay them, the descriptors as Appendix A of RTP Payload Format For AV1 does.
+// Rooms with plain and layered tracks. A row is calls with their expected replies. The packets are laid out by RFC 3550 and RFC 8285, the
+// descriptors by Appendix A of RTP Payload Format For AV1.
 ghost use Rattle.std.specs.Prelude.{◌≤◌, length};
 
 mod current_target;
@@ -39,7 +39,7 @@ const KEY: [u8; 47] = [
     0x08, 0x64, 0x22, 0x22, 0x26, 0x40, 0, 0x18, 0x30, 0x00,
 ];
 
-// The same as it is sent: the mask of these targets, bit i for target i, follows the structure.
+// `KEY` as it is sent: with the mask of these targets, bit i for target i, behind the structure.
 fn key_telling(mask: u8) -> [u8; 47] {
     let mut key = KEY;
     key[21] = 0xc0;
@@ -47,7 +47,7 @@ fn key_telling(mask: u8) -> [u8; 47] {
     key
 }
 
-// A packet that is a frame by a template; the last of a temporal unit has the marker. Templates 1 and 4 refer to the frame 4 numbers back.
+// A packet that is a whole frame of a template; the last of a temporal unit has the marker. Templates 1 and 4 refer to the frame 4 numbers back.
 fn frame(seq: u16, number: u16, template: u8) -> [u8; 23] {
     let [high, low] = seq.to_be_bytes();
     let [number_high, number_low] = number.to_be_bytes();
@@ -133,7 +133,7 @@ fn scratch() -> Scratch {
     }
 }
 
-// Those bytes as they are sent with this number and marker, under SSRC 22222222.
+// These bytes as they are sent: with this sequence number and marker, and with SSRC 22222222.
 fn outgoing(bytes: &[u8], seq: u16, marker: bool) -> PacketBuf
     requires { length bytes.now ≤ 2048 }
 {
@@ -283,7 +283,7 @@ fn the_kind_is_that_of_the_join(rt: HostRuntime) {
     assert_eq!(rt; room.kind_of(2), Ok(LAYERED));
 }
 
-// Takes one packet, and compares it with these bytes as they have to be sent.
+// Takes one packet, and compares it with these bytes as they are expected to be sent.
 fn expect(
     rt: &impl Abort,
     room: &mut Room<KeepNone>,
@@ -321,8 +321,8 @@ fn each_subscriber_gets_its_own(rt: HostRuntime) {
         ],
     );
     expect(&rt, &mut room, &mut scratch, 3, &outgoing(&PLAIN, 7, false));
-    // The highest target gets both frames, the lowest the first, which ends its layer. The key frame has for each of them the mask of its
-    // targets.
+    // The subscriber of the highest target gets both frames, that of the lowest only the first, which ends its layer. For each of them the key
+    // frame has the mask of its targets.
     expect(
         &rt,
         &mut room,
@@ -401,7 +401,7 @@ fn a_full_queue_withholds_nothing_from_another(rt: HostRuntime) {
         2,
         &outgoing(&key_telling(8), 7, true),
     );
-    // The first subscriber takes none: its queue is full before frame 1024.
+    // The first subscriber takes no packet: its queue is full before frame 1024.
     for unit in 1u16..258 {
         let lower = frame(2 * unit, 4 * unit, 1);
         let higher = frame(2 * unit + 1, 4 * unit + 1, 4);
@@ -439,7 +439,7 @@ fn a_full_queue_withholds_nothing_from_another(rt: HostRuntime) {
     );
 }
 
-// A lock moves the room that it holds twice a turn.
+// The lock of a room moves the room twice per turn.
 #[test]
 fn a_room_is_at_most_256_bytes(rt: HostRuntime) -> Result<(), Fail> {
     assert!(rt; size_of::<Room<KeepNone>>() <= 256);

@@ -8,7 +8,7 @@ ghost use Rattle.room_core.specs.declared.live.LiveTrack.{LiveTrack};
 use crate::live::{LiveSubscriber, LiveTrack};
 use indexmap::IndexMap;
 
-/// Adds a place at which a subscriber of the track is, if the track is live.
+/// If the track is live, adds the place of one of its subscribers.
 pub fn put_place(tracks: &mut IndexMap<u32, LiveTrack>, track: u32, place: usize)
     requires { place < 256 }
     ensures changed { AreSameBut place (get nat_eq tracks.old) (get nat_eq tracks.new) }
@@ -31,7 +31,7 @@ pub fn take_place(tracks: &mut IndexMap<u32, LiveTrack>, track: u32, place: usiz
     }
 }
 
-/// Moves the place of the subscriber that was the last in the table, once another was removed from `place`: it is at `place` now.
+/// After a subscriber was removed from `place`: records in its track's set that the one that was last in the table is at `place` now.
 pub fn move_last(
     tracks: &mut IndexMap<u32, LiveTrack>,
     subscribers: &IndexMap<u32, LiveSubscriber>,

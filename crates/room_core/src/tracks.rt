@@ -27,7 +27,7 @@ impl Content {
         }
     }
 
-    /// Brings the track a packet. What the pipeline makes of it goes to the track's subscribers.
+    /// Adds a packet to the track, and offers what the pipeline makes of it to the track's subscribers.
     pub fn packet(&mut self, track: u32, moment: u64, bytes: &PacketBuf) -> Reply
         ensures does { DoesSilently self.old self.new (call.Packet track moment bytes.now) result }
         ensures fed { is_starved result ≡ false }
@@ -57,7 +57,7 @@ impl Content {
         }
     }
 
-    /// Advances the track's time. What the pipeline makes then goes to the track's subscribers.
+    /// Advances the track's time, and offers what the pipeline makes then to the track's subscribers.
     pub fn tick(&mut self, track: u32, moment: u64) -> Reply
         ensures does { DoesSilently self.old self.new (call.Tick track moment) result }
         ensures fed { is_starved result ≡ false }
@@ -85,7 +85,7 @@ impl Content {
         }
     }
 
-    /// Hands out the missing sequence numbers of the track.
+    /// Writes the missing sequence numbers of the track to `out`.
     pub fn missing(&self, track: u32, out: &mut SeqList) -> Reply
         ensures does { (bytes : List ℕ) → Does self.now self.now (call.Missing track) result bytes out.new }
         ensures fed { is_starved result ≡ false }

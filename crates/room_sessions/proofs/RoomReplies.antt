@@ -1,4 +1,4 @@
--- What a session relies on of a reply is so of each that a room gives, whatever its history.
+-- What a session requires of a reply is true of each reply of a room, whatever its history.
 use Rattle.std.proofs.Common.{◌≡◌, ◌∙◌, ◌<◌, ℕ, List, length, ap, sym, arith, subst, false}
 use Rattle.sfu_base.specs.Answer.{answer_of, is_starved}
 use Rattle.sfu_base.specs.declared.call.Call.{Call}
@@ -33,7 +33,7 @@ module _ (call : Call) (given : Reply) (bytes names : List ℕ) (told : is_starv
       let t = told (ap is_starved named) in
       named_rise t.0 track names (ap (λ (g : Reply). answer_of g bytes names) (sym named) ∙ (t.1 ∙ ap (reply_of t.0) asked)) some
 
-  -- the reply to a call after some history, unless it is want of memory; a packet that it gives can be sent
+  -- the reply to a call after some history, unless it is `NoMemory`; a packet that it returns can be sent
   pub room_replies : (given ≡ reply.Packet → IsSendable bytes) → IsReplyTo call given bytes names
   room_replies sendable = record {
     sendable = λ gave. wrapped bytes (sendable gave);
@@ -53,7 +53,7 @@ short_prop reply.Packet = λ x y. absurd x
 short_prop reply.Names = λ x y. absurd x
 short_prop other = Unit-prop
 
--- the same where the room stands for a history that isn't known
+-- the same if the room stands for a history that isn't known
 pub served_replies : {R : Type 0} (noted : R → Option (List Noted)) (old new : Room R) (seat : ℕ) (call : Call) (given : Reply) (bytes names : List ℕ) → HasHistory noted old → Serves noted old new seat call given bytes names
     → (given ≡ reply.Packet → IsSendable bytes) → IsReplyTo call given bytes names
 served_replies noted old new seat call given bytes names has serves sendable =

@@ -1,4 +1,4 @@
--- What is left to the session of a publisher or of a subscriber.
+-- What the session of a publisher or of a subscriber still has to do.
 use Rattle.std.specs.Prelude.{ℕ}
 use Rattle.session_steps.specs.Publishing.{publishing, publishing_calls}
 use Rattle.session_steps.specs.Sessions.{Doing}

@@ -1,4 +1,4 @@
--- What making a session's calls on a room does. Own rule. The code keeps no history.
+-- The effect of serving a session's calls on a room. Own rule. The code stores no history.
 use Rattle.std.specs.Prelude.{◌≡◌, ◌⊎◌, IsTrue, ℕ, Bool, if◌then◌else◌, List, [], ◌∷◌, ◌++◌, Option}
 use Rattle.sfu_base.specs.Answer.{Answer, Refused}
 use Rattle.sfu_base.specs.declared.call.Refusal.TheVariants.{NoMemory}
@@ -17,17 +17,17 @@ use Rattle.session_steps.specs.declared.session.Output.TheVariants.{Nothing}
 abbrev pub HasHistory : {R : Type 0} → (R → Option (List Noted)) → Room R → Type 0
 HasHistory noted room = ∥ ((history : List Entry) × Stands noted room history) ∥₁
 
--- what the call of an entry is answered after a history: the history's answer or, where the entry found no memory, want of memory
+-- the answer to an entry's call after a history: the history's answer, or `NoMemory` if the entry is starved
 abbrev pub answer_at : List Entry → Entry → Answer
 answer_at history e = if e.starved then Refused NoMemory else reply_of history e.call
 
--- The calls that are to be made next were made by this seat after this history, one for each of these entries: by their answers the rest is left.
+-- The calls that come next were made by this seat after this history, one for each of these entries; by their answers the rest is left.
 abbrev pub AreMade : ℕ → List Entry → Doing → List Entry → Doing → Type 0
 AreMade seat history d [] rest = d ≡ rest
 AreMade seat history (Ask call f) (e ∷ es) rest = (e.seat ≡ seat) × (e.call ≡ call) × AreMade seat (history ++ e ∷ []) (f (answer_at history e)) es rest
 AreMade seat history d (e ∷ es) rest = ⊥
 
--- entries found no memory only where their calls take memory, or the recorder may refuse
+-- entries are starved only if their calls allocate memory, or the recorder may refuse
 abbrev pub HaveCause : Bool → List Entry → Type 0
 HaveCause refuses [] = Unit {0}
 HaveCause refuses (e ∷ es) = (IsTrue e.starved → TakesMemory e.call ⊎ IsTrue refuses) × HaveCause refuses es
@@ -38,13 +38,13 @@ pub record Works {R : Type 0} (noted : R → Option (List Noted)) (may_refuse : 
     (bytes : List ℕ) (output : Output) : Type 0 where
   -- the entries of the calls that were made, in order
   pub made : List Entry
-  -- whatever history the room stood for, it stands for that history with them
+  -- whatever history the room stood for, it then stands for that history with these entries
   pub stands : (history : List Entry) → Stands noted old history → Stands noted new (history ++ made)
-  -- they are the calls that the session had to make next, and by that history's answers it goes on: at once or, where the output is a packet, once
+  -- they are the calls that the session had to make next, and by that history's answers it goes on: at once or, if the output is a packet, once
   -- these bytes were sent, as the datagram that has to be sent first
   pub goes_on : (history : List Entry) → Stands noted old history → (turns : ℕ)
       → (rest : Doing) × AreMade seat history (before turns) made rest × GoesOn rest (after turns) bytes output
-  -- where nothing is to be sent, no call is left
+  -- if nothing is to be sent, no call is left
   pub ends : output ≡ Nothing → (turns : ℕ) → Waits (after turns) turns
   pub memory : HaveCause (recorder_may_refuse may_refuse old) made
   -- each subscriber was sent what it should be, unless no call was made

@@ -13,7 +13,7 @@ use Rattle.rtcp_feedback.specs.Cursors.{LiesIn, left_at}
 use Rattle.rtcp_feedback.proofs.Cutting.{no_feedback, no_packet_fault, still_faultless, with_packet}
 use Rattle.rtcp_feedback.proofs.Marks.{no_pair_names}
 
--- what is left of a list stands at its end
+-- what is left of a list is at its end
 suffix : (xs : List ℕ) (k : ℕ) → drop (length xs - length (drop k xs)) xs ≡ drop k xs
 suffix [] zero = refl
 suffix [] (suc k) = refl
@@ -28,7 +28,7 @@ suffix (x ∷ xs) (suc k) =
 pub rest_some : (bytes : List ℕ) (p : ℕ) → p < length bytes → 0 < length (drop p bytes)
 rest_some bytes p some = let short = length-drop p bytes in omega (arith, short, some)
 
--- the packet at a byte, and what stands behind it
+-- the packet at a byte, and what is behind it
 module _ (bytes : List ℕ) (p : ℕ) (behind : List ℕ) (some : p < length bytes)
     (there : behind ≡ drop (length_of (take (length bytes - p) (drop p bytes))) (take (length bytes - p) (drop p bytes))) where
   behind_is : behind ≡ drop (length_of (drop p bytes)) (drop p bytes)

@@ -7,7 +7,7 @@ use Rattle.rtcp_feedback.specs.Names.{names_in}
 use Rattle.rtcp_feedback.specs.Reading.{nacks, feedback_of}
 use Rattle.rtcp_feedback.specs.Seen.{names_left}
 
--- the names of the current pair, then those of the NACK's other pairs, then the feedback of the packets behind it
+-- the numbers of the current pair, then those of the NACK's other pairs, then the feedback of the packets behind it
 abbrev pub left_at : List ℕ → Cursor → List Feedback
 left_at bytes s = nacks s.media (names_left s.names) ++ (nacks s.media (names_in (slice_range bytes s.pairs s.end)) ++ feedback_of (drop s.packets bytes))
 

@@ -1,4 +1,4 @@
--- What is left to an iterator over a datagram's feedback (own rule, over RFC 4585, sections 6.2.1 and 6.3.1). The code
+-- What an iterator has yet to return of a datagram's feedback (own rule, over RFC 4585, sections 6.2.1 and 6.3.1). The code
 -- keeps the bytes that are left and the bits of one pair.
 use Rattle.std.specs.Prelude.{◌≡◌, ℕ, zero, suc, ◌+◌, ◌/◌, ◌%◌, ◌==◌, ◌≤◌, if◌then◌else◌, List, [], ◌∷◌, length, slice_range}
 use Rattle.rtcp_feedback.specs.declared.feedback.Feedback.{Feedback}
@@ -9,13 +9,13 @@ use Rattle.rtcp_feedback.specs.declared.packet.Body.TheVariants.{Nack as NackBod
 use Rattle.rtcp_feedback.specs.Names.{names_in}
 use Rattle.rtcp_feedback.specs.Reading.{nacks}
 
--- the numbers from `next` on, modulo 65,536, whose bits are set, the lowest bit being that of `next`: so many at most
+-- the numbers from `next` on, modulo 65,536, whose bits are set; the lowest bit is that of `next`, and at most n bits are read
 unfoldable pub marked : ℕ → ℕ → ℕ → List ℕ
 marked zero next bits = []
 marked (suc n) next bits =
     if bits % 2 == 1 then next ∷ marked n ((next + 1) % 65536) (bits / 2) else marked n ((next + 1) % 65536) (bits / 2)
 
--- the names of a pair that are left
+-- the numbers that are left of a pair
 abbrev pub names_left : Names → List ℕ
 names_left names = marked 32 names.next names.bits
 
@@ -25,7 +25,7 @@ body_feedback (NackBody media pairs) = nacks media (names_in pairs.now)
 body_feedback (PliBody media) = Pli media ∷ []
 body_feedback OtherBody = []
 
--- how many bytes of a packet its pairs take
+-- how many bytes the pairs of a packet have
 abbrev pub body_length : Body → ℕ
 body_length (NackBody media pairs) = length pairs.now
 body_length (PliBody media) = 0

@@ -9,8 +9,8 @@ use crate::feedback::Feedback;
 use crate::names::{Names, PAIR, first_name, first_pair};
 use crate::packet::{Body, SOURCES, split_packet};
 
-/// What is left of a datagram: the names of the current pair, then the pairs of the same NACK in the bytes `pairs..end`, then the packets from
-/// byte `packets` on.
+/// What is left of a datagram: the remaining numbers of the current pair, then the pairs of the same NACK in the bytes `pairs..end`, then the
+/// packets from byte `packets` on.
 #[derive(Clone, Copy, Debug)]
 pub(crate) struct Cursor {
     pub(crate) names: Names,
@@ -61,7 +61,7 @@ fn enter_packet(bytes: &[u8], start: usize) -> (Option<Feedback>, Cursor)
     }
 }
 
-/// The first item behind the cursor, and the cursor behind that item; `None` where no item is left.
+/// The first item behind the cursor, and the cursor behind that item; `None` if no item is left.
 pub(crate) fn first_item(bytes: &[u8], cursor: Cursor) -> Option<(Feedback, Cursor)>
     requires { LiesIn bytes.now cursor }
     ensures item { MatchOption result (left_at bytes.now cursor ≡ []) (λ x. left_at bytes.now cursor ≡ x.0 ∷ left_at bytes.now x.1) }

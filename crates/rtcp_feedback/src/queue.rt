@@ -1,4 +1,4 @@
-// A queue that owns one datagram and gives the datagram's feedback.
+// A queue that owns one datagram and returns the datagram's feedback.
 ghost use Rattle.std.specs.Prelude.{◌≡◌, ◌≤◌, ◌∷◌, [], length, MatchOption, IfOk, IfErr, None, Some};
 ghost use Rattle.rtcp_feedback.specs.Faults.{first_fault};
 ghost use Rattle.rtcp_feedback.specs.Reading.{feedback_of};
@@ -49,8 +49,8 @@ impl FeedbackQueue {
         self.cursor = cursor_at(0, end, end, end);
     }
 
-    /// Replaces the items that are left with the feedback of a datagram of at most 2,048 bytes, as [`read`] gives it. The error is that of
-    /// [`read`]; the queue is then empty.
+    /// Replaces the items that are left with the feedback of a datagram of at most 2,048 bytes, as [`read`] returns it. The errors are those of
+    /// [`read`]; after an error the queue is empty.
     pub fn fill(&mut self, datagram: &[u8]) -> Result<(), RtcpFault>
         requires { length datagram.now ≤ 2048 }
         ensures ok { IfOk result (λ done. (first_fault datagram.now ≡ None) × (self.new ≡ feedback_of datagram.now)) }

@@ -1,4 +1,4 @@
--- How the parts of a packet determine where its bytes lie, and the packet without its padding.
+-- How the parts of a packet determine where its bytes are, and the packet without its padding.
 use Rattle.std.proofs.Common.{◌≡◌, ◌<◌, lit<, ℕ, zero, suc, ◌+◌, ◌-◌, ◌*◌, ◌/◌, ◌%◌, ◌==◌, Bool, true, false, List, [], ◌∷◌, ◌++◌, length, take, drop, slice_index, Option, Some, None, is_some, refl, sym, ap, subst, ◌∙◌, arith, append-nil, append_assoc, length-append}
 use Rattle.std.proofs.lemmas.List.{take_at}
 use Rattle.std.proofs.lemmas.Bool.Decides.{nat_tests}
@@ -97,7 +97,7 @@ unpadded_is_bare bytes p is unpadded =
     let rest = is.csrcs ++ extension_bytes p.profile is.block_words p.block ++ p.payload in
     is.laid ∙ rw (none, no_filler is.filler none) (append-nil (bare_bytes is.csrc_words is.csrcs is.block_words p))
 
--- what stands behind the fixed header and before the payload
+-- what is between the fixed header and the payload
 pub tail_laid : (bytes : List ℕ) (p : Packet) (is : IsPacket bytes p) (end : ℕ)
     → end ≡ 12 + length is.csrcs + length (extension_bytes p.profile is.block_words p.block)
     → take (end - 12) (drop 12 bytes) ≡ is.csrcs ++ extension_bytes p.profile is.block_words p.block

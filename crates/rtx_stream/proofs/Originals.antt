@@ -37,7 +37,7 @@ same_packet p q a b c d e f g h =
     ≡ packed q.marker q.payload_type q.sequence q.timestamp q.ssrc q.profile q.block q.payload = rw (a, b, c, d, e, f, g, h) refl in
     same
 
--- the two bytes of a sequence number in front of a payload
+-- the two bytes of a sequence number before a payload
 two_back : (n : ℕ) (rest : List ℕ) → n < 2 ^ 16 → big_number 2 (big_bytes 2 n ++ rest) ≡ n
 two_back n rest h = omega arith
 

@@ -4,7 +4,7 @@ use Rattle.std.specs.Prelude.{◌≡◌, ℕ, false, is_some, List, [], ◌∷�
 use Rattle.byteorder.specs.Endian.{big_bytes}
 use Rattle.rtp_packet.specs.Packet.{IsPacket, Packet, first_byte, second_byte, extension_bytes}
 
--- a header with no padding bit: the fixed header, the CSRC words (so many, and these bytes), and the extension of so many words
+-- a header without padding bit: the fixed header, the CSRC words (their count and bytes), and the header extension of this many words
 abbrev pub header_bytes : ℕ → List ℕ → ℕ → Packet → List ℕ
 header_bytes csrc_words csrcs block_words p =
     (first_byte false (is_some p.profile) csrc_words ∷ second_byte p.marker p.payload_type ∷ [])
@@ -15,7 +15,7 @@ header_bytes csrc_words csrcs block_words p =
 abbrev pub bare_bytes : ℕ → List ℕ → ℕ → Packet → List ℕ
 bare_bytes csrc_words csrcs block_words p = header_bytes csrc_words csrcs block_words p ++ p.payload
 
--- `bare` is the packet that `bytes` are, without its padding
+-- `bare` is the packet `bytes`, without its padding
 pub record IsBare (bytes bare : List ℕ) : Type 0 where
   pub said : Packet
   pub packet : IsPacket bytes said

@@ -16,7 +16,7 @@ with_address payload_type sequence ssrc p = record p { payload_type = payload_ty
 abbrev pub with_payload : List ℕ → Packet → Packet
 with_payload payload p = record p { payload = payload }
 
--- what the retransmission packet with this sequence number says, where the original says p
+-- the parts of the retransmission packet with this sequence number, if the original has the parts p
 abbrev pub retransmitted : ℕ → Rtx → Packet → Packet
 retransmitted sequence rtx p =
     with_payload (big_bytes 2 p.sequence ++ p.payload) (with_address rtx.payload_type sequence rtx.ssrc p)
@@ -28,11 +28,11 @@ pub record IsRetransmission (original : List ℕ) (sequence : ℕ) (rtx : Rtx) (
   pub fits : Fits (retransmitted sequence rtx said)
   pub laid : bytes ≡ bare_bytes packet.csrc_words packet.csrcs packet.block_words (retransmitted sequence rtx said)
 
--- the stream that a packet is of, seen as one of retransmissions
+-- a packet's SSRC and payload type, as those of a retransmission stream
 abbrev pub stream_of : List ℕ → Rtx
 stream_of bytes = record { ssrc = ssrc_of bytes; payload_type = payload_type_of bytes }
 
--- `original` is the packet with this SSRC and payload type, and without padding, whose retransmission packet the bytes are but for
+-- `original` has this SSRC and payload type, and no padding, and the bytes are its retransmission packet, except for
 -- their padding
 pub record IsOriginal (bytes : List ℕ) (ssrc payload_type : ℕ) (original : List ℕ) : Type 0 where
   pub unpadded : is_padded original ≡ false

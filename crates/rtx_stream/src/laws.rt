@@ -7,7 +7,7 @@ ghost use Rattle.rtx_stream.specs.Faults.{unwrap_fault};
 ghost use Rattle.rtx_stream.specs.Retransmission.{IsOriginal, IsRetransmission};
 ghost use Rattle.rtx_stream.specs.declared.retransmission.Rtx.{Rtx};
 
-/// A packet has at most one retransmission packet for a sequence number and a stream.
+/// For a packet, a sequence number and a stream there is at most one retransmission packet.
 pub fn a_packet_has_one_retransmission()
     ensures { (packet bytes others : List ℕ) (seq : ℕ) (rtx : Rtx) → IsRetransmission packet seq rtx bytes
         → IsRetransmission packet seq rtx others → bytes ≡ others }

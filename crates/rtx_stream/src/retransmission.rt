@@ -12,9 +12,9 @@ use sfu_base::PacketBuf;
 /// A stream of retransmission packets, separate from the stream of the originals (RFC 4588, section 5.3).
 #[derive(Clone, Copy, Debug, PartialEq, Eq)]
 pub struct Rtx {
-    /// Its synchronization source.
+    /// The stream's SSRC.
     pub ssrc: u32,
-    /// Its payload type, below 128.
+    /// The stream's payload type, below 128.
     pub payload_type: u8,
 }
 

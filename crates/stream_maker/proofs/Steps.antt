@@ -1,4 +1,4 @@
--- What a state is still to give, before a call and after it.
+-- What a state has yet to return, before a call and after it.
 use Rattle.std.proofs.Common.{◌≡◌, ℕ, ◌+◌, ◌-◌, ◌*◌, ◌<◌, zero, suc, ◌≤◌, Bool, true, false, cond, List, [], ◌∷◌, ◌++◌, map, refl, sym, ap, ◌∙◌, subst, arith, Option, Some, None}
 use Rattle.std.proofs.lemmas.Bool.{eqb-false, eqb-true}
 use Rattle.std.specs.Prelude.{is_none, not, replicate, ◌==◌, ◌&&◌}
@@ -136,7 +136,7 @@ left_of-packet s due p places tick =
     let later = due_events-parts s.counts due (due_places due) (due_tick s.due) refl tick in
     left_of-due s _ now ∙ ap (λ (xs : List Given). sent_event s.counts p ∷ xs) (sym (left_of-due (record s { due = due }) _ later))
 
--- where no packet is due the places tell nothing
+-- if the same packets and the same tick are due, the same is left
 pub left_of-same : (s : State) (due : Due) → due_places s.due ≡ due_places due → due_tick due ≡ due_tick s.due → left_of (record s { due = due }) ≡ left_of s
 left_of-same s due places tick =
     let now = due_events-parts s.counts s.due (due_places due) (due_tick s.due) places refl in
@@ -213,7 +213,7 @@ ended_cases : (b : Bool) (due xs : List Given) → (xs ≡ [] → ⊥) → due +
 ended_cases true due xs some e = refl
 ended_cases false due xs some e = absurd (some (append-empty_second due xs e))
 
--- as long as the last tick wasn't given something is left
+-- as long as the last tick wasn't returned, something is left
 pub ended_of-nothing_left : (s : State) → left_of s ≡ [] → s.ended ≡ true
 ended_of-nothing_left s e =
     let xs = turns_left s.frames s.loss s.generator s.held s.counts (packets_from s.frames s.next) in

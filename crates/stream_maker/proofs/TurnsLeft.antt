@@ -1,4 +1,4 @@
--- What a new maker is to give is the stream: at each turn the state stands for the packets that were made before.
+-- What a new maker has yet to return is the stream: at each turn the state stands for the packets that were made before.
 use Rattle.std.proofs.Common.{◌≡◌, ℕ, zero, suc, ◌+◌, ◌-◌, Bool, false, cond, List, [], ◌∷◌, ◌++◌, length, filter, refl, sym, ap, ◌∙◌, arith, add-one, Option, Some, None}
 use Rattle.std.proofs.Math.Nat.{add_comm}
 use Rattle.std.proofs.lemmas.List.Sums.{sum_by-cons}
@@ -96,7 +96,7 @@ turns_left-turns s before (e ∷ parts) =
     refl (held_after-waiting s p before (fate s p) refl) (counts_after-counts_of s p before)
     (after_word-generator_at s.start (length before)) later
 
--- a new state's turns are all that the stream gives
+-- a new state's turns are all events of the stream
 pub turns_left-events : (s : Stream)
     → turns_left s.frames s.loss (generator_at s.start 0) (waiting s []) (counts_of s []) (packets s.frames) ≡ events s
 turns_left-events s = turns_left-turns s [] (parts_from 0 s.frames)
@@ -118,7 +118,7 @@ unfolding packets_from
 first_packets frames =
     let e : frames - 0 ≡ frames = omega arith in ap (λ (n : ℕ). placed 0 (parts_from 0 n)) e
 
--- a new maker's state is to give the stream
+-- a new maker's state has yet to return the stream
 pub new_left-events : (s : Stream) (g : Lcg) → g ≡ generator_of s.start
     → left_of (record {
       frames = s.frames;

@@ -1,5 +1,5 @@
 -- A packet's bytes: an RTP header (RFC 3550, section 5.1), a header extension (RFC 8285) with a dependency descriptor (RTP Payload Format For
--- AV1, Appendix A), and an AV1 payload (the same format, section 4.4) of one OBU element. What the fields hold is an own rule.
+-- AV1, Appendix A), and an AV1 payload (the same format, section 4.4) of one OBU element. The values of the fields are an own rule.
 use Rattle.std.specs.Prelude.{ℕ, ◌+◌, ◌-◌, ◌*◌, ◌%◌, ◌^◌, ◌==◌, ◌&&◌, not, Bool, if◌then◌else◌, List, [], ◌∷◌, ◌++◌, replicate}
 use Rattle.byteorder.specs.Endian.{big_bytes}
 use Rattle.sfu_base.specs.Bytes.{bit}
@@ -16,8 +16,8 @@ ends_frame p = p.part == packet_count p.frame - 1
 abbrev pub starts_key_frame : Place → Bool
 starts_key_frame p = starts_frame p && is_key_unit p.frame && not (is_upper p.frame)
 
--- version 2 with an extension; the marker on the last packet of an upper frame, payload type 96; the place in the stream; 3,000 ticks of the
--- clock a unit; the source 11111111
+-- version 2 with an extension; the marker on the last packet of an upper frame, payload type 96; the sequence number is the place in the
+-- stream; 3,000 clock ticks per unit; SSRC 11111111
 unfoldable pub header : Place → List ℕ
 header p =
     144 ∷ (128 * bit (is_upper p.frame && ends_frame p) + 96) ∷ [] ++ big_bytes 2 (p.sequence % 2 ^ 16)
@@ -28,7 +28,7 @@ abbrev pub template_of : ℕ → ℕ
 template_of frame = 3 * bit (is_upper frame) + (if is_key_unit frame then 0 else 1 + unit_of frame % 2)
 
 -- The first packet of a key frame has the first packet's flag, template 0, the frame number, and the structure of the whole stream. The
--- descriptor has 25 bytes and stands under id 4 in the two-byte form, with one byte of padding.
+-- descriptor has 25 bytes and is under id 4 in the two-byte form, with one byte of padding.
 unfoldable pub long_extension : ℕ → List ℕ
 long_extension frame =
     0x10 ∷ 0 ∷ 0 ∷ 7 ∷ 4 ∷ 25 ∷ 0x80 ∷ [] ++ big_bytes 2 (frame % 2 ^ 16)
@@ -44,8 +44,8 @@ short_extension p =
 unfoldable pub extension : Place → List ℕ
 extension p = if starts_key_frame p then long_extension p.frame else short_extension p
 
--- Z where it isn't the frame's first, Y where it isn't its last, W = 1, N on a key frame's first; and an element of 200 bytes, of which a
--- frame's first has a header of an OBU of a frame
+-- Z unless the packet is the frame's first, Y unless it is its last, W = 1, N on a key frame's first; and an element of 200 bytes, which
+-- begins with the header of a frame OBU in the frame's first packet
 unfoldable pub payload : Place → List ℕ
 payload p =
     (128 * bit (not (starts_frame p)) + 64 * bit (not (ends_frame p)) + 16 + 8 * bit (starts_key_frame p))

@@ -6,7 +6,7 @@ use Rattle.rand_pcg.specs.Pcg.{multiplier_64, pcg32}
 use Rattle.stream_maker.specs.declared.fate.Fate.{Fate}
 use Rattle.stream_maker.specs.declared.fate.Fate.TheVariants.{Lost, Twice, Held, Once}
 
--- the first of these that fits decides; a loss is so many of a hundred
+-- the first of these that applies decides; `loss` is a percentage
 unfoldable pub fate_of : ℕ → ℕ → Fate
 fate_of loss word =
     if nat_lt (word % 100) loss then Lost
@@ -14,22 +14,22 @@ fate_of loss word =
     else if nat_lt (word / 10000 % 100) loss then Held
     else Once
 
--- the generator of a number
+-- the generator for a seed
 abbrev pub generator_of : ℕ → Lcg
 generator_of start = started 64 multiplier_64 start (increment_of 64 0)
 
--- the word that a generator gives, and the generator behind it
+-- the word that a generator returns, and the generator after it
 unfoldable pub word_of : Lcg → ℕ
 word_of generator = (pcg32 generator).0
 
 unfoldable pub after_word : Lcg → Lcg
 after_word generator = (pcg32 generator).1
 
--- the generator of a number behind so many words
+-- the generator for a seed after this many words
 unfoldable pub generator_at : ℕ → ℕ → Lcg
 generator_at start count = advance 64 multiplier_64 count (generator_of start)
 
--- the word with so many before it
+-- the word with this many before it
 abbrev pub word_at : ℕ → ℕ → ℕ
 word_at start count = word_of (generator_at start count)
 

@@ -1,4 +1,4 @@
--- What a maker is seen as, and what one event does to it.
+-- What clauses see of a maker, and how one event changes it.
 use Rattle.std.specs.Prelude.{◌≡◌, ℕ, List, [], ◌∷◌, Option, Some, None}
 use Rattle.stream_maker.specs.declared.counts.Counts.{Counts}
 use Rattle.stream_maker.specs.declared.event.Event.{Event}
@@ -17,7 +17,7 @@ abbrev pub filled : Option Place → List ℕ → List ℕ
 filled None old = old
 filled (Some p) old = packet_bytes p
 
--- The first event that is left is given, with its counts, and the others are left. Where none is left it is the end, and nothing changes.
+-- The first event that is left is returned, with its counts, and the others are left. If none is left, it is the end, and nothing changes.
 abbrev pub GivesNext : List Given → Making → Making → Event → List ℕ → List ℕ → Type 0
 GivesNext [] old new event out_old out_new = (event ≡ End) × (new ≡ old) × (out_new ≡ out_old)
 GivesNext (g ∷ left) old new event out_old out_new =

@@ -1,5 +1,5 @@
--- What a maker's state stands for: the events that it is still to give. These definitions follow the state, and stand in no public clause; that
--- a new maker is to give the events of the stream is proved of them.
+-- What a maker's state stands for: the events that it has yet to return. These definitions follow the state, and are in no public clause; it
+-- is proved that a new maker has yet to return the events of the stream.
 use Rattle.std.specs.Prelude.{◌≡◌, ◌≤◌, ◌<◌, ℕ, ◌+◌, ◌-◌, ◌*◌, ◌==◌, ◌&&◌, Bool, true, if◌then◌else◌, List, [], ◌∷◌, ◌++◌, map, drop, replicate, not, Option, Some, None, is_some, is_none}
 use Rattle.std.specs.Option.{option_to_list}
 use Rattle.rand_pcg.specs.Lcg.{Lcg}
@@ -17,7 +17,7 @@ use Rattle.stream_maker.specs.Stream.{last_moment}
 use Rattle.stream_maker.specs.Giving.{Making}
 use Rattle.stream_maker.specs.Turn.{Given, sent_event, tick_event, turn}
 
--- the packet that is held back behind a turn
+-- the packet that is held back after a turn
 unfoldable pub held_after : Fate → Option Place → Place → Option Place
 held_after Lost held p = held
 held_after Twice held p = None
@@ -32,7 +32,7 @@ copies Twice held = 2
 copies Once held = 1
 copies Held held = bit (is_some held)
 
--- what is sent behind it: what was held back before it, or at the end of the stream what is then
+-- what is sent behind it: the packet that was held back before, or at the end of the stream the one that is held back then
 unfoldable pub behind : Fate → Option Place → Place → Bool → Option Place
 behind Lost held p ends = if ends then held_after Lost held p else None
 behind Twice held p ends = held
@@ -69,11 +69,11 @@ is_idle due = due.copies == 0 && is_none due.behind && not due.ticks
 unfoldable pub due_events : Counts → Due → List Given
 due_events counts due = map (sent_event counts) (due_places due) ++ map (tick_event counts) (option_to_list (due_tick due))
 
--- the packets from this one on, of a stream of so many frames
+-- the packets from this one on, of a stream of this many frames
 unfoldable pub packets_from : ℕ → Place → List Place
 packets_from frames p = placed p.sequence (drop p.part (parts_from p.frame (frames - p.frame)))
 
--- the turns of packets that are to be made, and the last tick
+-- the turns of the packets that are still to be made, and the last tick
 unfoldable pub turns_left : ℕ → ℕ → Lcg → Option Place → Counts → List Place → List Given
 turns_left frames loss generator held counts [] = tick_event counts (last_moment frames) ∷ []
 turns_left frames loss generator held counts (p ∷ left) =
@@ -89,7 +89,7 @@ left_of s =
 abbrev pub making_of : State → Making
 making_of s = record { left = left_of s; counts = s.counts }
 
--- at most so many packets are still to be made
+-- a bound on how many packets are still to be made
 abbrev pub packets_bound : State → ℕ
 packets_bound s = 3 * (s.frames - s.next.frame) - s.next.part
 

@@ -1,10 +1,10 @@
--- Where a packet stands among the others of its frame, unit and stream (own rule).
+-- Where a packet is among the others of its frame, unit and stream (own rule).
 use Rattle.std.specs.Prelude.{ℕ, ◌-◌, ◌==◌, ◌&&◌, ◌||◌, Bool, if◌then◌else◌, Option, Some, None}
 use Rattle.stream_maker.specs.declared.place.Place.{Place}
 use Rattle.stream_maker.specs.Packets.{is_upper, moment_of}
 use Rattle.stream_maker.specs.Bytes.{ends_frame}
 
--- the last packet of the last frame of so many
+-- the last packet of the last of this many frames
 abbrev pub ends_stream : ℕ → Place → Bool
 ends_stream frames p = p.frame == frames - 1 && ends_frame p
 

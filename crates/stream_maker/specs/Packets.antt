@@ -23,7 +23,7 @@ moment_of frame = 33 * unit_of frame
 abbrev pub packet_count : ℕ → ℕ
 packet_count frame = if is_upper frame then 2 else if is_key_unit frame then 3 else 1
 
--- so many numbers, from the first on
+-- this many numbers, from the first on
 abbrev pub numbers : ℕ → ℕ → List ℕ
 numbers first zero = []
 numbers first (suc count) = first ∷ numbers (first + 1) count
@@ -32,7 +32,7 @@ numbers first (suc count) = first ∷ numbers (first + 1) count
 unfoldable pub parts_of : ℕ → List (ℕ × ℕ)
 parts_of frame = map (λ part. (frame, part)) (numbers 0 (packet_count frame))
 
--- the parts of so many frames
+-- the parts of this many frames
 unfoldable pub parts_from : ℕ → ℕ → List (ℕ × ℕ)
 parts_from frame count = flat_map parts_of (numbers frame count)
 
@@ -41,6 +41,6 @@ unfoldable pub placed : ℕ → List (ℕ × ℕ) → List Place
 placed first parts =
     map (λ e. record { sequence = e.0; frame = e.1.0; part = e.1.1 }) (enumerate_from first parts)
 
--- all packets of a stream of so many frames, in order
+-- all packets of a stream of this many frames, in order
 abbrev pub packets : ℕ → List Place
 packets frames = placed 0 (parts_from 0 frames)

@@ -1,5 +1,5 @@
--- The whole stream of a number (own rule), as what each packet's turn gives. A turn is told by the packets that were made before it, of
--- which those that weren't lost say whether one is held back. The code keeps the packet that is held back, and no other.
+-- The whole stream of a seed (own rule), as the events of each packet's turn. A turn depends on the packets that were made before it: those
+-- that weren't lost determine whether one is held back. The code stores only the packet that is held back.
 use Rattle.std.specs.Prelude.{ℕ, ◌+◌, ◌-◌, ◌&&◌, not, if◌then◌else◌, List, [], ◌∷◌, ◌++◌, length, filter, count_by, Option, Some, None, is_none}
 use Rattle.sfu_base.specs.Bytes.{bit}
 use Rattle.stream_maker.specs.declared.place.Place.{Place}
@@ -10,24 +10,24 @@ use Rattle.stream_maker.specs.Bytes.{starts_frame}
 use Rattle.stream_maker.specs.Fates.{fate_of, word_at, is_lost, is_twice, is_to_be_held}
 use Rattle.stream_maker.specs.Turn.{Given, tick_event, turn}
 
--- how many frames are made, the number that starts the generator, and how many packets of a hundred are lost; as many are sent twice, and
+-- the number of frames, the seed of the generator, and the percentage of packets that are lost; the same percentage is sent twice, and is
 -- held back
 pub record Stream : Type 0 where
   pub frames : ℕ
   pub start : ℕ
   pub loss : ℕ
 
--- by the word that is drawn for its place
+-- a packet's fate, by the word that is drawn for its place
 abbrev pub fate : Stream → Place → Fate
 fate s p = fate_of s.loss (word_at s.start p.sequence)
 
--- Of packets that weren't lost, the newest first: the newest is held back where its draw says so and the one before it isn't, since a
+-- Of packets that weren't lost, the newest first: the newest is held back if its draw says so and the one before it isn't held back, since a
 -- packet that is held back is sent directly behind the next.
 unfoldable pub held_back : Stream → List Place → Option Place
 held_back s [] = None
 held_back s (p ∷ before) = if is_to_be_held (fate s p) && is_none (held_back s before) then Some p else None
 
--- the packet that waits to be sent when these were made, the newest first
+-- the packet that is held back when these were made, the newest first
 unfoldable pub waiting : Stream → List Place → Option Place
 waiting s made = held_back s (filter (λ p. not (is_lost (fate s p))) made)
 
@@ -46,16 +46,16 @@ counts_of s made = record {
   swapped = swapped_count s made;
 }
 
--- one tick comes 1,000 behind the last unit's
+-- the moment of the last tick: 1,000 after that of the last unit
 abbrev pub last_moment : ℕ → ℕ
 last_moment frames = moment_of (frames - 1) + 1000
 
--- the turns of the packets that are to be made, behind those that were, the newest first; behind all the last tick
+-- the turns of the packets that are still to be made, after those that were made, the newest first; behind all turns the last tick
 unfoldable pub turns : Stream → List Place → List Place → List Given
 turns s before [] = tick_event (counts_of s before) (last_moment s.frames) ∷ []
 turns s before (p ∷ left) =
     turn s.frames (fate s p) (waiting s before) (waiting s (p ∷ before)) (counts_of s (p ∷ before)) p ++ turns s (p ∷ before) left
 
--- all that a stream gives, in order
+-- all events of a stream, in order
 abbrev pub events : Stream → List Given
 events s = turns s [] (packets s.frames)

@@ -14,7 +14,7 @@ made_text c =
     codes "made " ++ (decimal c.frames ++ (codes " frames " ++ (decimal c.packets ++ (codes " packets\nlost "
     ++ (decimal c.lost ++ (codes " repeated " ++ (decimal c.repeated ++ (codes " swapped " ++ (decimal c.swapped ++ codes "\n")))))))))
 
--- the line of a subscriber, whose receiver accepted so many frames and packets, and has so many complaints
+-- the line of a subscriber, whose receiver accepted this many frames and packets, and has this many complaints
 abbrev pub counts_text : ℕ → ℕ → ℕ → ℕ → List ℕ
 counts_text n frames packets complaints =
     codes "subscriber " ++ (decimal n ++ (codes " frames " ++ (decimal frames ++ (codes " packets " ++ (decimal packets

@@ -1,4 +1,4 @@
--- What is given at a packet's turn, by its fate and by the packet that waits to be sent (own rule).
+-- The events of a packet's turn, by its fate and by the packet that waits to be sent (own rule).
 use Rattle.std.specs.Prelude.{ℕ, if◌then◌else◌, List, [], ◌∷◌, ◌++◌, map, Option, Some, None}
 use Rattle.std.specs.Option.{option_to_list}
 use Rattle.stream_maker.specs.declared.place.Place.{Place}
@@ -16,8 +16,8 @@ pub record Given : Type 0 where
   pub place : Option Place
   pub counts : Counts
 
--- A packet that is sent goes out once or twice, and directly behind it the one that waits. A lost packet sends nothing, and neither does one
--- that is held back, which happens only where none waits.
+-- A packet is sent once or twice, and directly behind it the one that waits. A lost packet sends nothing, and neither does one
+-- that is held back, which happens only if none waits.
 abbrev pub sent : Fate → Option Place → Place → List Place
 sent Lost waiting p = []
 sent Twice waiting p = p ∷ p ∷ option_to_list waiting
@@ -25,7 +25,7 @@ sent Once waiting p = p ∷ option_to_list waiting
 sent Held None p = []
 sent Held (Some q) p = p ∷ q ∷ []
 
--- a packet keeps the moment of its own unit
+-- a packet is sent with the moment of its own unit
 abbrev pub sent_event : Counts → Place → Given
 sent_event counts p = record { event = Packet (moment_of p.frame); place = Some p; counts = counts }
 

@@ -6,7 +6,7 @@ ghost use Rattle.stream_maker.specs.Left.{counts_after};
 use crate::fate::Fate;
 use crate::place::Place;
 
-/// What was made so far of a stream. A packet is made when its turn comes, whether it is lost or not.
+/// Counts of what was made so far of a stream. A packet is made when its turn comes, whether it is lost or not.
 #[derive(Clone, Copy, Debug, PartialEq, Eq)]
 pub struct Counts {
     /// Frames of which a packet was made.
@@ -17,7 +17,7 @@ pub struct Counts {
     pub lost: u32,
     /// Packets that are sent twice.
     pub repeated: u32,
-    /// Packets that are held back, until the next that isn't lost is sent or the stream ends.
+    /// Packets that are held back until the next packet that isn't lost was sent, or until the stream ends.
     pub swapped: u32,
 }
 

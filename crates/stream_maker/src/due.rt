@@ -7,7 +7,7 @@ ghost use Rattle.stream_maker.specs.Left.{behind, copies, held_after, due_places
 use crate::fate::Fate;
 use crate::place::Place;
 
-/// A packet that is sent, the one after it, and the tick after both.
+/// What is still to be sent in a turn: the packet, another packet behind it, and a tick behind both.
 #[derive(Clone, Copy, Debug)]
 pub(crate) struct Due {
     /// The packet whose turn it is.
@@ -25,13 +25,13 @@ pub(crate) struct Due {
 pub(crate) struct Turn {
     /// How often the packet is sent.
     pub(crate) copies: u8,
-    /// What is sent after the packet: the one that was held back before it. At the end of the stream it may also be the packet that would
-    /// still be held back.
+    /// The packet that is sent behind it: the one that was held back before. At the end of the stream it may also be the packet that would
+    /// otherwise stay held back.
     pub(crate) behind: Option<Place>,
     pub(crate) held: Option<Place>,
 }
 
-// The turn of a packet of this fate; `ends_stream` says whether it is the last.
+// The turn of a packet with this fate; `ends_stream` says whether it is the last packet.
 #[tactic(auto, unfolding(crate::specs::Left::behind, crate::specs::Left::held_after))]
 pub(crate) fn turn_of(fate: Fate, held: Option<Place>, place: Place, ends_stream: bool) -> Turn
     ensures copies { result.copies ≡ copies fate held }

@@ -1,12 +1,12 @@
-// What a maker gives.
+// The events of a stream.
 
 /// What comes next in a stream. Moments are in milliseconds.
 #[derive(Clone, Copy, Debug, PartialEq, Eq)]
 pub enum Event {
     /// A packet is sent: the buffer has its bytes. The moment is that of the packet's own unit, even if it was held back.
     Packet { moment: u64 },
-    /// The clock is to be moved on. A tick comes after each unit, at the unit's moment, and a further one 1,000 milliseconds after the last
-    /// unit's.
+    /// The clock is to be advanced to this moment. A tick comes after each unit, at the unit's moment, and one more 1,000 milliseconds after the
+    /// last unit's moment.
     Tick { moment: u64 },
     /// The stream is over.
     End,

@@ -6,7 +6,7 @@ ghost use Rattle.stream_maker.specs.Fates.{fate_of, word_of, after_word};
 use rand_core::utils::NextWord;
 use rand_pcg::Lcg64Xsh32;
 
-/// What a packet's draw says.
+/// What happens to a packet, by its draw.
 #[derive(Clone, Copy, Debug, PartialEq, Eq)]
 pub(crate) enum Fate {
     Lost,
@@ -25,7 +25,7 @@ pub(crate) fn draw(generator: &mut Lcg64Xsh32) -> u32
     generator.next_word()
 }
 
-// Each of the three lowest pairs of the word's decimal digits is a draw from 0 to 99; the first draw below `loss` decides.
+// Three draws from 0 to 99, the lowest pairs of the word's decimal digits, are for `Lost`, `Twice` and `Held`; the first below `loss` decides.
 #[tactic(auto, unfolding(crate::specs::Fates::fate_of))]
 pub(crate) fn fate_of(loss: u8, word: u32) -> Fate
     ensures { result ≡ fate_of loss word }

@@ -1,5 +1,5 @@
-//! A layered AV1 stream over RTP made from a number, with packets lost, repeated and swapped by a random generator: the same number makes the
-//! same stream. It plays a publisher behind a bad network. Only the texts about it take memory.
+//! Makes a layered AV1 stream over RTP from a seed, with packets lost, repeated and swapped by a random generator: the same seed makes the
+//! same stream. It simulates a publisher behind a bad network. Only the texts about a stream allocate memory.
 #![tactic(auto)]
 
 mod counts;

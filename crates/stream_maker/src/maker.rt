@@ -13,7 +13,7 @@ use rand_pcg::Lcg64Xsh32;
 use sfu_base::PacketBuf;
 use std::marker::Model;
 
-/// A layered stream that is made call by call, seen as the events that are still to come and the counts of what was made.
+/// A layered stream that is made call by call. Clauses see the events that are still to come, and the counts of what was made.
 #[derive(Debug, Drop)]
 pub struct Maker {
     state: State,
@@ -32,8 +32,8 @@ impl Model for Maker {
 }
 
 impl Maker {
-    /// The stream of `frames` frames that the seed `start` makes. About `loss` percent of packets are lost; of the others about as many
-    /// percent are sent twice; and of the rest again about as many percent are held back and sent after the next, unless a packet is held
+    /// The stream of `frames` frames for the seed `start`. About `loss` percent of its packets are lost. Of the others, about `loss` percent
+    /// are sent twice. Of the rest, about `loss` percent are held back and sent after the next packet, unless a packet is held
     /// back already.
     pub fn new(frames: u32, start: u64, loss: u8) -> Maker
         requires some_frames { 1 ≤ frames }
@@ -56,7 +56,7 @@ impl Maker {
         }
     }
 
-    /// The next event. A packet fills the buffer; a tick and the end leave it as it is.
+    /// Returns the next event. For a packet, replaces the contents of `out` with its bytes; a tick and the end leave `out` unchanged.
     pub fn next_event(&mut self, out: &mut PacketBuf) -> Event
         ensures { Gives self.old self.new result out.old out.new }
     {
@@ -64,7 +64,7 @@ impl Maker {
         self.state.give(out)
     }
 
-    /// What was made so far: the packets up to the one whose turn gave the last event.
+    /// What was made so far: the packets up to the one to whose turn the last event belongs.
     pub fn counts(&self) -> Counts
         ensures { result ≡ self.now.counts }
     {

@@ -19,7 +19,7 @@ const SSRC_BYTE: u8 = 0x11;
 // The ticks of the RTP clock from one unit to the next.
 const UNIT_TICKS: u32 = 3000;
 
-// After the frame number: the flag of a structure, the structure, and a byte of padding.
+// The bytes behind the frame number: the flag of a structure, the structure, and a byte of padding.
 const STRUCTURE: [u8; 23] = [
     0x80, 0x03, 0x18, 0x7F, 0xAF, 0xAC, 0x4A, 0x0A, 0x04, 0x04, 0xD1, 0x41, 0x09, 0xA1, 0x15, 0x80,
     0x08, 0x64, 0x22, 0x22, 0x26, 0x40, 0x00,
@@ -134,7 +134,7 @@ fn write_short_descriptor(place: Place, out: &mut PacketBuf)
     ]);
 }
 
-// The first byte of an element. Where the element begins a frame, this byte is the header of an OBU.
+// The first byte of an element: the header of an OBU if the element begins a frame, else 0.
 fn element_byte(starts: bool) -> u8
     ensures { result ≡ (if starts then 0x30 else 0) }
 {

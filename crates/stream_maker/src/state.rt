@@ -1,4 +1,4 @@
-// How far a stream is made.
+// The state of a stream that is being made.
 
 ghost use Rattle.std.specs.Prelude.{◌≡◌, ◌<◌, ℕ, List, [], None, true};
 ghost use Rattle.stream_maker.specs.Left.{left_of, making_of, IsSound, is_idle, due_places, due_tick, packets_bound};
@@ -27,13 +27,13 @@ pub(crate) struct State {
     /// The packet that is held back.
     pub(crate) held: Option<Place>,
     pub(crate) due: Due,
-    /// Whether the last tick was given.
+    /// Whether the last tick was returned.
     pub(crate) ended: bool,
     pub(crate) counts: Counts,
 }
 
 impl State {
-    // Makes the next packet: what its turn sends is due then.
+    // Makes the next packet: what is sent in its turn is due then.
     fn make_packet(&mut self)
         requires sound { IsSound self.old }
         requires nothing_due { is_idle self.old.due ≡ true }
@@ -70,7 +70,7 @@ impl State {
         }
     }
 
-    // Gives what is due, or the last tick, or the end.
+    // Returns what is due, else the last tick, else the end.
     pub(crate) fn give(&mut self, out: &mut PacketBuf) -> Event
         requires sound { IsSound self.old }
         requires ready { due_places self.old.due ≡ [] → due_tick self.old.due ≡ None → self.old.next.frame ≡ self.old.frames }
@@ -88,7 +88,7 @@ impl State {
         }
     }
 
-    // Gives the tick that is due, or the last tick, or the end.
+    // Returns the tick that is due, else the last tick, else the end.
     fn give_tick(&mut self) -> Event
         requires sound { IsSound self.old }
         requires no_packet { due_places self.old.due ≡ [] }
@@ -106,7 +106,7 @@ impl State {
         }
     }
 
-    // Gives the last tick, or the end.
+    // Returns the last tick, or the end if that tick was returned before.
     fn give_last(&mut self) -> Event
         requires sound { IsSound self.old }
         requires no_packet { due_places self.old.due ≡ [] }

@@ -7,7 +7,7 @@ ghost use Rattle.stream_maker.specs.Summary.{counts_text, made_text};
 use crate::counts::Counts;
 use std::alloc::{AllocError, Global};
 
-/// The two lines that say what was made of a stream. Returns an error where there wasn't enough memory.
+/// Two lines of text that say what was made of a stream. `AllocError`: out of memory.
 pub fn made_text(alloc: Global, counts: Counts) -> Result<String, AllocError>
     ensures { IfOk result (λ text. string_bytes text ≡ made_text counts) }
 {
@@ -23,8 +23,8 @@ pub fn made_text(alloc: Global, counts: Counts) -> Result<String, AllocError>
     )
 }
 
-/// The line of the subscriber `number`: it got `frames` frames and `packets` packets, and has `complaints` complaints. Returns an error where
-/// there wasn't enough memory.
+/// A line of text about the subscriber `number`: it got `frames` frames and `packets` packets, and has `complaints` complaints.
+/// `AllocError`: out of memory.
 pub fn counts_text(
     alloc: Global,
     number: u32,

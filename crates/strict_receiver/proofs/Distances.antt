@@ -27,14 +27,14 @@ from_further_up (m ∷ ms) n ahead d le = ap₂ (λ (a b : Bool). a || b) here (
         same_from_decides ((m + d) == (n + ahead)) ((m + (d - ahead)) == n) (Decides-eqb (m + d) (n + ahead))
         (Decides-like ((m + (d - ahead)) == n) (λ e. omega arith) (λ e. omega arith) (Decides-eqb (m + (d - ahead)) n))
 
--- what a window forgets lies too far below
+-- what a window forgets is too far below
 pub held_in_reach : (x n d : ℕ) (numbers : List ℕ) → x ≤ n → d ≤ 4096 → is_received (held_of (x ∷ numbers)) n d ≡ is_received (x ∷ numbers) n d
 held_in_reach x n d numbers le near =
     ap (λ (b : Bool). ((x + d) == n) || b)
     (any-filter_same (λ k. (k + d) == n) (is_in_reach x) true
     (λ k is. let same : k + d ≡ n = eqb-true (k + d) n is in le-leb x (k + 4096) (omega arith)) numbers)
 
--- what holds of all holds of some of them
+-- what is true of all is true of some of them
 pub all_filtered : (P : ℕ → Type 0) (test : ℕ → Bool) (numbers : List ℕ) → AllByRecursion P numbers → AllByRecursion P (filter test numbers)
 all_filtered P test [] all = tt
 all_filtered P test (m ∷ ms) all = go (test m) (all_filtered P test ms all.1)

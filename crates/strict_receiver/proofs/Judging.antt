@@ -1,4 +1,4 @@
--- What is kept judges each frame as all received numbers do.
+-- The stored numbers judge each frame as all received numbers do.
 use Rattle.std.proofs.Common.{◌≡◌, inl, inr, ℕ, ◌+◌, ◌-◌, ◌%◌, ◌<◌, ◌≤◌, Bool, true, false, cond, not, ◌&&◌, ◌||◌, List, [], ◌∷◌, Option, Some, None, refl, sym, ap, ap₂, subst, ◌∙◌, arith}
 use Rattle.std.specs.Prelude.{is_some, nat_lt, pos}
 use Rattle.std.specs.List.{AllByRecursion}

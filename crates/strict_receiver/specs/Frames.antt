@@ -1,4 +1,4 @@
--- What a frame that has begun is to the definition of a strict receiver, and what a packet makes of it.
+-- An open frame in the terms of the definition of a strict receiver, and how a packet changes it.
 use Rattle.std.specs.Prelude.{◌==◌, ◌&&◌, not, nat_lt, Bool, if◌then◌else◌, Option, None, Some, take}
 use Rattle.std.specs.Bool.{beq}
 use Rattle.forwarding_model.specs.frames.Reading.{Descriptor as Said, Joins}
@@ -25,7 +25,7 @@ abbrev pub follows : ModelFrame → Said TemplateStructure → Bool → Bool
 follows frame d continues =
     not d.start && (d.number == frame.header.number && (beq continues frame.carries && nat_lt frame.packets 512))
 
--- the frame with the packet, or none where it isn't whole
+-- the frame with the packet, or none if the frame isn't whole
 abbrev pub joined_as : Option ModelFrame → Said TemplateStructure → Joins → Option ModelFrame
 joined_as None d joins = if d.start && not joins.continues then Some (first_packet d joins) else None
 joined_as (Some frame) d joins = if follows frame d joins.continues then Some (next_packet frame joins) else None

@@ -19,22 +19,22 @@ TellsItsComplaint = (now : Seen) (history : List (List ℕ)) → StandsFor now h
 abbrev pub ComplaintStays : Type 0
 ComplaintStays = (id : ℕ) (history more : List (List ℕ)) (c : Complaint) → complaint_over id history ≡ Some c → complaint_over id (history ++ more) ≡ Some c
 
--- where there is none, there was none of any first part
+-- if there is none, there was none about any prefix
 abbrev pub FirstPartsAreAccepted : Type 0
 FirstPartsAreAccepted = (id : ℕ) (history more : List (List ℕ)) → complaint_over id (history ++ more) ≡ None → complaint_over id history ≡ None
 
 -- ---- what was sent
 
--- the packet's bytes read as the packet
+-- the packet's bytes are read as the packet
 abbrev pub IsSent : Packet → Type 0
 IsSent packet = read_packet (bytes_of packet) ≡ Some packet
 
--- bytes that RTP reads are sent so, under whatever sequence number, SSRC and marker (RFC 3550, section 5.1)
+-- a packet that was read from bytes is read back, with any sequence number, SSRC and marker (RFC 3550, section 5.1)
 abbrev pub ReadBytesAreSent : Type 0
 ReadBytesAreSent = (sequence ssrc : ℕ) (marker : Bool) (bytes : List ℕ) → first_fault bytes ≡ None → sequence < 2 ^ 16 → ssrc < 2 ^ 32
     → IsSent (readdressed sequence ssrc marker (packet_of bytes))
 
--- of the bytes of packets a receiver has the complaint that the definition has of the packets
+-- about the bytes of packets a receiver has the complaint that the definition has about the packets
 abbrev pub JudgesSentPackets : Type 0
 JudgesSentPackets = (id : ℕ) (packets : List Packet) → AllByRecursion IsSent packets
     → complaint_over id (map bytes_of packets) ≡ complaint (format_of id) (map Some packets)

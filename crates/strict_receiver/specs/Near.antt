@@ -5,6 +5,6 @@ use Rattle.std.specs.List.{list_all}
 abbrev pub is_near : ℕ → Bool
 is_near d = nat_le 1 d && nat_le d 4096
 
--- the first so many are 1 to 4,096
+-- the first `count` distances are 1 to 4,096
 abbrev pub are_near : ℕ → List ℕ → Bool
 are_near count distances = list_all is_near (take count distances)

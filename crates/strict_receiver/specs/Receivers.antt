@@ -1,5 +1,5 @@
--- What a strict receiver stands for, and what it answers. Own rules. The definition is `forwarding_model`'s, over packets; here it is over
--- their bytes. The code keeps of the received numbers those that a frame can still refer to, and no packets.
+-- What a strict receiver stands for, and what it returns. Own rules. The definition is `forwarding_model`'s, over packets; here it is over
+-- their bytes. Of the received numbers the code stores those that a frame can still refer to; it stores no packets.
 use Rattle.std.specs.Prelude.{◌≡◌, ◌-◌, ◌^◌, ℕ, List, map, min, Option, None, Some, Result, Ok, Err}
 use Rattle.forwarding_model.specs.declared.complaint.Complaint.{Complaint}
 use Rattle.forwarding_model.specs.Receiver.{Reception, Receiver, complaint, frames_accepted, packets_accepted, receive_all}
@@ -39,7 +39,7 @@ pub record IsReceptionOf (kept r : Reception TemplateStructure) : Type 0 where
   pub frame : kept.frame ≡ r.frame
   pub received : AreKeptOf kept.received r.received
 
--- the same but for received numbers that aren't kept
+-- the same except for received numbers that aren't stored
 abbrev pub IsReceiverOf : Receiver TemplateStructure → Receiver TemplateStructure → Type 0
 IsReceiverOf Waiting Waiting = Unit {0}
 IsReceiverOf Waiting (Receiving r) = ⊥
@@ -62,7 +62,7 @@ pub record StandsFor (now : Seen) (history : List (List ℕ)) : Type 0 where
 
 -- ---- answers
 
--- the complaint that is answered, if one is
+-- the complaint that is returned, if one is
 abbrev pub complaint_in : Result Unit Complaint → Option Complaint
 complaint_in (Ok _) = None
 complaint_in (Err c) = Some c

@@ -1,4 +1,4 @@
--- What the code's parts are to the definition of a strict receiver, step by step.
+-- The code's parts in the terms of the definition of a strict receiver, step by step.
 use Rattle.std.specs.Prelude.{◌≡◌, ◌+◌, ◌%◌, ◌==◌, ℕ, Bool, true, false, if◌then◌else◌, Option, None, Some, Result, Ok, Err}
 use Rattle.std.specs.Option.{option_map}
 use Rattle.forwarding_model.specs.declared.complaint.Complaint.{Complaint}
@@ -25,7 +25,7 @@ reception last frame structure numbers = record {
   received = numbers;
 }
 
--- the receiver of the definition, with the numbers that are kept
+-- the receiver of the definition, with the numbers that are stored
 abbrev pub receiver_by : Stage → Option OpenFrame → Option TemplateStructure → Received → Receiver TemplateStructure
 receiver_by stage.Waiting frame structure numbers = Waiting
 receiver_by (stage.Receiving last) frame structure numbers = Receiving (reception last frame structure numbers)
@@ -50,13 +50,13 @@ IsStageOf (stage.Complaining c) frame structure numbers (Complaining d) = c ≡ 
 abbrev pub IsStateOf : State → Receiver TemplateStructure → Type 0
 IsStateOf s m = IsStageOf s.stage s.frame s.structure s.received m
 
--- it stands for some receiver
+-- the state stands for some receiver
 abbrev pub HasStood : State → Type 0
 HasStood s = (m : Receiver TemplateStructure) × IsStateOf s m
 
 -- ---- a packet
 
--- the answer, and what is stood for then where no complaint is answered
+-- the result, and what the state stands for if there is no complaint
 abbrev pub Answers : State → Result Unit Complaint → Receiver TemplateStructure → Type 0
 Answers s (Ok _) Waiting = ⊥
 Answers s (Ok _) (Receiving r) = IsStateOf s (Receiving r)
@@ -69,7 +69,7 @@ abbrev pub answer_of : Option Complaint → Result Unit Complaint
 answer_of None = Ok tt
 answer_of (Some c) = Err c
 
--- the answer is the complaint, if there is one, and that is what is stood for
+-- the result is the complaint, if there is one, and the state stands for what follows
 pub record Fed (new : State) (result : Result Unit Complaint) (next : Receiver TemplateStructure) : Type 0 where
   pub answer : result ≡ answer_of (complaint_of next)
   pub stands : IsStateOf new next
@@ -95,11 +95,11 @@ Expects s ssrc (Ok _) (Err d) = ⊥
 Expects s ssrc (Err c) (Ok r) = ⊥
 Expects s ssrc (Err c) (Err d) = c ≡ d
 
--- what a part makes of a reception
+-- how a part changes a reception
 abbrev pub part_as : Reception TemplateStructure → ℕ → Said TemplateStructure → Joins → Receiver TemplateStructure
 part_as r sequence d joins = with_part (record r { sequence_number = sequence; structure = structure_after r.structure d }) r.frame d joins
 
--- the open frame with the newest packet, where that makes one
+-- the open frame with the newest packet, if the packet can be added
 abbrev pub Joined : Option OpenFrame → Bool → Option ModelFrame → Type 0
 Joined frame true (Some f) = option_map frame_said frame ≡ Some f
 Joined frame true None = ⊥

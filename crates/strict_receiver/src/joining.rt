@@ -13,14 +13,14 @@ use packet_format::begins_epoch;
 /// The most packets of a frame.
 const MOST_PACKETS: u16 = 512;
 
-/// Whether a packet with this descriptor begins a frame, where none is open: it has the start bit, and continues no element.
+/// Whether a packet with this descriptor begins a frame, if none is open: it has the start bit, and continues no element.
 pub fn begins(first: &Descriptor, continues: bool) -> bool
     ensures { result ≡ (first.now.start && not continues) }
 {
     first.start && !continues
 }
 
-/// The frame that begins with a packet with this descriptor.
+/// The open frame after its first packet, which has this descriptor.
 pub fn begun(first: &Descriptor, carries: bool) -> OpenFrame
     requires { HasDistances first.now }
     ensures { (force : Option TemplateStructure) (continues : Bool)

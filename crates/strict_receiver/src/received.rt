@@ -14,7 +14,7 @@ use std::marker::Model;
 use wrap_number::above;
 
 /// The newest frame's number, and which of the numbers up to it were received. Only the newest number modulo 65,536 and the distances below
-/// it count, so all numbers are lowered by the same multiple of 65,536 before they get too high. Clauses see a `Received` of
+/// it matter, so all numbers are lowered by the same multiple of 65,536 before they get too high. Clauses see a `Received` of
 /// `forwarding_model`.
 #[derive(Debug, Drop)]
 pub struct ReceivedFrames {
@@ -43,7 +43,7 @@ const FARTHEST_AHEAD: u64 = 32767;
 const SPAN: u64 = 4096;
 
 impl ReceivedFrames {
-    /// No frame came yet.
+    /// The state before the first frame.
     pub fn new() -> ReceivedFrames
         ensures { result ≡ nothing_received }
     {
@@ -53,8 +53,8 @@ impl ReceivedFrames {
         }
     }
 
-    /// Judges a whole frame by its first descriptor. Returns the distance of the first reference to a frame that wasn't received. If there
-    /// is none, the frame itself counts as received.
+    /// Judges a whole frame by its first descriptor. If all frames that it refers to were received, counts the frame itself as received, and
+    /// returns `None`. Else returns the distance of the first reference to a frame that wasn't received.
     pub fn judge(&mut self, start: &FrameStart) -> Option<u16>
         ensures { (received : Received) → AreKeptOf self.old received
             → Judges self.new result (judge received (header_said start.now)) }
@@ -68,7 +68,7 @@ impl ReceivedFrames {
         missing
     }
 
-    // The frame's number becomes the newest. A key frame, or a frame whose number isn't above the newest, clears the received numbers.
+    // Makes the frame's number the newest. A key frame, or a frame whose number isn't above the newest, clears the received numbers.
     fn place(&mut self, key: bool, number: u16)
         requires { self.old.newest < 2 ^ 24 }
         ensures { (references : List ℕ) → self.new ≡ placed self.old (record { number = number; key = key; references = references }) }
@@ -82,7 +82,7 @@ impl ReceivedFrames {
         }
     }
 
-    // The first of these distances for which the number so far below the newest wasn't received.
+    // The first of these distances below the newest number at which no frame was received.
     fn first_missing(&self, distances: &[u16]) -> Option<u16>
         ensures { result ≡ first_failing (is_received self.now.numbers self.now.newest) distances.now }
     {
@@ -126,7 +126,7 @@ impl ReceivedFrames {
     }
 }
 
-// Those of the last 4,096 numbers up to `newest` that a window holds, each lowered by `by`.
+// Those of the last 4,096 numbers up to `newest` that a window contains, each lowered by `by`.
 fn lowered(window: &RefWindow, newest: u64, by: u64) -> RefWindow
     requires high { by + 4096 ≤ newest }
     requires small { newest < 2 ^ 63 }

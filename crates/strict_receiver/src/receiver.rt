@@ -19,7 +19,7 @@ use std::marker::Model;
 /// counts of packets and frames.
 #[derive(Drop)]
 pub struct Receiver {
-    // On the heap, since a state has two template structures, and receivers are moved about.
+    // On the heap, since a state is large (it has two template structures), and receivers are moved.
     state: Box<State>,
     packets: u64,
     frames: u64,
@@ -38,7 +38,7 @@ impl Model for Receiver {
 }
 
 impl Receiver {
-    /// A receiver that has seen no packet yet, for descriptors with this header extension id. All memory of the receiver is taken here.
+    /// A receiver before its first packet, for descriptors with this header extension id. All memory of the receiver is allocated here.
     pub fn new(alloc: Global, id: u8) -> Result<Receiver, NoMemory>
         ensures id { IfOk result (λ receiver. receiver.id ≡ id) }
         ensures stands { IfOk result (λ receiver. StandsFor receiver []) }
@@ -50,8 +50,8 @@ impl Receiver {
         })
     }
 
-    /// Takes the next packet's bytes. Returns the first complaint about the packets so far, if there is one. After a complaint each call
-    /// returns it again and changes nothing.
+    /// Processes the next packet, given its bytes. Returns the first complaint about the packets so far, if there is one. After a complaint each
+    /// call returns it again and changes nothing.
     pub fn feed(&mut self, packet: &[u8]) -> Result<(), Complaint>
         ensures id { self.new.id ≡ self.old.id }
         ensures stands { (history : List (List ℕ)) → StandsFor self.old history → StandsFor self.new (history ++ packet.now ∷ []) }
@@ -92,8 +92,8 @@ impl Receiver {
         self.state.has_ended_a_frame()
     }
 
-    /// The template structure in force while all packets are accepted; none before the first packet. After a complaint no clause says
-    /// which.
+    /// The template structure in force, as long as all packets are accepted; `None` before the first packet. After a complaint no clause says
+    /// which structure is returned.
     pub fn structure(&self) -> Option<&Structure>
         ensures { (r : Reception TemplateStructure) → self.now.receiver ≡ Receiving r → option_copied result ≡ r.structure }
     {

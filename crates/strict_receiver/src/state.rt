@@ -1,4 +1,4 @@
-// What a receiver keeps between packets, and what the next one makes of it.
+// The state of a receiver between packets, and how the next packet changes it.
 
 ghost use Rattle.std.specs.Prelude.{◌≡◌, ◌∷◌, ℕ, List, Option, Some, if◌then◌else◌, is_some, true};
 ghost use Rattle.std.specs.Option.{option_map};
@@ -25,22 +25,22 @@ use rtp_packet::Rtp;
 /// The progress of a receiver.
 #[derive(Clone, Copy, Debug)]
 pub enum Stage {
-    /// No packet came.
+    /// No packet came yet.
     Waiting,
     /// All packets so far were accepted.
     Receiving(Last),
-    /// A packet had this complaint, which stays.
+    /// There was this complaint about a packet, and it stays.
     Complaining(Complaint),
 }
 
-/// The last packet's source and sequence number.
+/// The last packet's SSRC and sequence number.
 #[derive(Clone, Copy, Debug)]
 pub struct Last {
     pub ssrc: u32,
     pub sequence: u16,
 }
 
-/// What a receiver keeps. `id` is the header extension id of the descriptors; `newest` is scratch space for the parser.
+/// The state of a receiver. `id` is the header extension id of the descriptors; `newest` is scratch space for the parser.
 #[derive(Drop)]
 pub struct State {
     pub id: u8,
@@ -54,7 +54,7 @@ pub struct State {
 }
 
 impl State {
-    /// No packet came yet.
+    /// The state before the first packet.
     pub fn new(id: u8) -> State
         ensures id { result.id ≡ id }
         ensures stands { IsStateOf result Waiting }
@@ -69,7 +69,7 @@ impl State {
         }
     }
 
-    /// Takes the next packet. A complaint is kept, and returned by every later call.
+    /// Processes the next packet. A complaint is kept, and returned by every later call.
     pub fn next(&mut self, packet: &[u8]) -> Result<(), Complaint>
         ensures id { self.new.id ≡ self.old.id }
         ensures again { (complaint : Complaint) → self.old.stage ≡ Stage.Complaining complaint → result ≡ Err complaint }
@@ -99,7 +99,7 @@ impl State {
         }
     }
 
-    // Takes the next packet of a receiver that has no complaint.
+    // Processes the next packet of a receiver that has no complaint.
     fn accept(&mut self, bytes: &[u8]) -> Result<(), Complaint>
         ensures id { self.new.id ≡ self.old.id }
         ensures accepted { (m : Receiver TemplateStructure) → IsStateOf self.old m → is_content m ≡ true
@@ -114,7 +114,7 @@ impl State {
         }
     }
 
-    // Whether a packet has the last one's SSRC and the next sequence number, or is the first.
+    // Checks that a packet has the last packet's SSRC and the next sequence number, or that it is the first packet.
     fn expect(&self, ssrc: u32, sequence: u16) -> Result<(), Complaint>
         ensures { (m : Receiver TemplateStructure) → IsStateOf self.now m → Expects self.now ssrc result (reception_for m ssrc sequence) }
     {
@@ -139,7 +139,7 @@ impl State {
         }
     }
 
-    // Takes a packet with the expected SSRC and sequence number.
+    // Processes a packet with the expected SSRC and sequence number.
     fn take(&mut self, rtp: &Rtp<'_>) -> Result<(), Complaint>
         ensures id { self.new.id ≡ self.old.id }
         ensures taken { (bytes : List ℕ) (r : Reception TemplateStructure) → IsOf bytes rtp.now → IsExpected self.old rtp.now.ssrc r
@@ -161,7 +161,7 @@ impl State {
         }
     }
 
-    // Takes a packet whose payload was read, and whose descriptor was read into `newest`.
+    // Processes a packet whose payload was read, and whose descriptor was read into `newest`.
     fn part(&mut self, last: Last, continues: bool, carries: bool) -> Result<(), Complaint>
         requires { HasDistances self.old.newest }
         ensures id { self.new.id ≡ self.old.id }
@@ -183,7 +183,7 @@ impl State {
         }
     }
 
-    // A key start puts its structure in force.
+    // At the start of a key frame, puts its structure in force.
     fn keep_structure(&mut self, key: bool)
         ensures structure { self.new.structure ≡ (if key then self.old.newest.structure else self.old.structure) }
         ensures rest { self.new ≡ record self.old { structure = self.new.structure } }
@@ -196,7 +196,7 @@ impl State {
         }
     }
 
-    // Joins the newest packet to the open frame, or begins a frame with it where none is open. Returns false if it can't: the frame isn't
+    // Adds the newest packet to the open frame, or begins a frame with it if none is open. Returns false if it can't do so: the frame isn't
     // whole then.
     fn join(&mut self, continues: bool, carries: bool) -> bool
         requires { HasDistances self.old.newest }

@@ -44,7 +44,7 @@ struct Packet {
     ghost few: { len ≤ 48 },
 }
 
-// The packet with this sequence number, descriptor and payload, none where they are too long for it.
+// The packet with this sequence number, descriptor and payload; `None` if they are too long for it.
 fn packet_with(ssrc: u32, seq: u16, descriptor: &[u8], payload: &[u8]) -> Option<Packet> {
     if descriptor.is_empty() || descriptor.len() > 16 || payload.len() > 8 {
         return None;
@@ -68,14 +68,14 @@ fn packet_with(ssrc: u32, seq: u16, descriptor: &[u8], payload: &[u8]) -> Option
 // A sequence number, a descriptor and a payload.
 type Step<'a> = (u16, &'a [u8], &'a [u8]);
 
-// What is returned for such a packet; none where it is too long.
+// Feeds the packet of this step to the receiver, and returns the result; `None` if the packet is too long.
 fn answer_to(receiver: &mut Receiver, step: Step<'_>) -> Option<Result<(), Complaint>> {
     let (seq, descriptor, payload) = step;
     let Packet { bytes, len } = packet_with(SOURCE, seq, descriptor, payload)?;
     Some(receiver.feed(&bytes[..len]))
 }
 
-// Key descriptors of one target and one chain; template 1 refers to the frame before.
+// Key descriptors of one target and one chain; template 1 refers to the previous frame.
 const KEY_1: [u8; 9] = [0xc0, 0x00, 0x01, 0x80, 0x00, 0x3a, 0x41, 0x01, 0x00];
 
 const KEY_2: [u8; 9] = [0xc0, 0x00, 0x02, 0x80, 0x00, 0x3a, 0x41, 0x01, 0x00];
@@ -91,8 +91,8 @@ const KEY_START: [u8; 9] = [0x80, 0x00, 0x01, 0x80, 0x00, 0x3a, 0x41, 0x01, 0x00
 
 const OTHER: [u8; 9] = [0x41, 0x00, 0x02, 0x80, 0x00, 0x3b, 0x41, 0x01, 0x00];
 
-// Frames of one packet by template 1: frame 2, 3, 4, 6, 7 and 0; frame 4 and 7 that refer two back; frame 3 and 6 without references;
-// frames 4097 and 4098 that refer 4,096 back.
+// Frames of one packet by template 1: frames 2, 3, 4, 6, 7 and 0; frames 4 and 7 that refer two frames back; frames 3 and 6 without
+// references; frames 4097 and 4098 that refer 4,096 frames back.
 const FRAME_2: [u8; 3] = [0xc1, 0x00, 0x02];
 
 const FRAME_3: [u8; 3] = [0xc1, 0x00, 0x03];
@@ -126,8 +126,8 @@ const END_2: [u8; 3] = [0x41, 0x00, 0x02];
 
 const END_3: [u8; 3] = [0x41, 0x00, 0x03];
 
-// One element; one that continues in the next packet; one that continues in the next packet and began in an earlier one; one that only
-// began earlier.
+// Payloads of one element: it is complete; it continues in the next packet; it began in an earlier packet and continues in the next one; it
+// began in an earlier packet and ends here.
 const CLOSED: [u8; 3] = [0x10, 0x30, 0x00];
 
 const CARRIES: [u8; 3] = [0x50, 0x30, 0x00];
@@ -136,13 +136,13 @@ const BOTH: [u8; 2] = [0xd0, 0x00];
 
 const CONTINUES: [u8; 2] = [0x90, 0x00];
 
-// A payload with an element whose length isn't there.
+// A payload whose element lacks its length.
 const BROKEN: [u8; 1] = [0x20];
 
 // ---- rows
 
-// All but the last of these are accepted, and this is returned for the last. The counts are those of what was accepted. After a complaint
-// every further packet gets that complaint, and nothing changes.
+// Checks that all steps but the last are accepted, that `last` is returned for the last, and that `counts` are the accepted packets and frames.
+// After a complaint every further packet gets that complaint, and nothing changes.
 fn answers_last(
     rt: &impl Abort,
     receiver: &mut Receiver,
@@ -253,7 +253,7 @@ fn each_complaint_is_answered_for_good(rt: HostRuntime) -> Result<(), Fail> {
     let numbers = |had: u16, got: u16| Complaint::Sequence { had, got };
     let missing = |frame: u16, fdiff: u16| Complaint::MissingReference { frame, fdiff };
     let rows: [(&[Step<'_>], Complaint, (u64, u64)); 28] = [
-        // a number that is repeated, is left out, or lies behind
+        // a sequence number that is repeated, skips one, or goes back
         (
             &[(65535, &KEY_1, &CLOSED), (65535, &KEY_1, &CLOSED)],
             numbers(65535, 65535),
@@ -272,7 +272,7 @@ fn each_complaint_is_answered_for_good(rt: HostRuntime) -> Result<(), Fail> {
         // no structure came yet, whatever the payload is
         (&[(0, &FRAME_2, &CLOSED)], Complaint::NoStructure, (0, 0)),
         (&[(0, &FRAME_2, &[])], Complaint::NoStructure, (0, 0)),
-        // the payload, the descriptor and the structure don't read
+        // the payload, the descriptor or the structure can't be read
         (&[(0, &KEY_1, &[])], Complaint::Unread, (0, 0)),
         (&[(0, &KEY_1, &BROKEN)], Complaint::Unread, (0, 0)),
         (&[(0, &[0xc1, 0x00], &CLOSED)], Complaint::Unread, (0, 0)),
@@ -350,7 +350,7 @@ fn each_complaint_is_answered_for_good(rt: HostRuntime) -> Result<(), Fail> {
             Complaint::NotWhole,
             (2, 1),
         ),
-        // a reference that wasn't received, or not since the key frame, or not since the number that didn't rise
+        // a reference to a frame that wasn't received, or not since the key frame, or not since the frame number that didn't rise
         (
             &[(0, &KEY_1, &CLOSED), (1, &FRAME_3, &CLOSED)],
             missing(3, 1),
@@ -409,7 +409,7 @@ fn each_complaint_is_answered_for_good(rt: HostRuntime) -> Result<(), Fail> {
             missing(4098, 4096),
             (1, 1),
         ),
-        // a frame that isn't whole: its missing reference isn't complained of
+        // a frame that isn't whole: there is no complaint about its missing reference
         (
             &[(0, &KEY_1, &CLOSED), (1, &FRAME_7, &CARRIES)],
             Complaint::NotWhole,
@@ -434,7 +434,7 @@ fn the_source_and_the_id_are_those_of_the_first_packet(rt: HostRuntime) -> Resul
         answer_to(&mut receiver, (7, &KEY_1, &CLOSED)),
         Some(Ok(()))
     );
-    // the source before the sequence number
+    // the SSRC is checked before the sequence number
     let stranger = packet_with(0x2222_2222, 9, &FRAME_2, &CLOSED).ok_or("too long")?;
     assert_eq!(rt; receiver.feed(&stranger.bytes[..stranger.len]), Err(other));
     assert_eq!(rt;

@@ -1,4 +1,4 @@
--- What holds of each packet that came holds of each that a run, or a frame, brings.
+-- A property of each packet that came is one of each packet that a run, or a frame, has.
 use Rattle.std.proofs.Common.{ℕ, Bool, true, false, cond, not, ◌&&◌, List, [], ◌∷◌, ◌++◌, map, Option, Some, None, sym, subst}
 use Rattle.std.specs.Prelude.{IfSome}
 use Rattle.std.specs.List.{AllByRecursion}
@@ -100,7 +100,7 @@ module _ (P : Packet → Type 0) where
       extended_has (run_of (marks_of id past)) (mark_of id (state_after (format_of id) past).force.structure item)
       (mark_has id (state_after (format_of id) past).force.structure item all.0) (run_has id past all.1)
 
-  -- the whole cut that an item ends has such packets alone
+  -- the whole cut that an item ends has only such packets
   pub item_cut_has : (id : ℕ) (past : List Item) (item : Item) → AllByRecursion (ItemHas P) (item ∷ past)
       → IfSome (cut_by (run_of (marks_of id past)) (mark_of id (state_after (format_of id) past).force.structure item)) (RunHas P)
   item_cut_has id past item all =
@@ -128,7 +128,7 @@ module _ (P : Packet → Type 0) where
       go (Some s) None = tt
       go (Some s) (Some n) = (all.0, packets_have run.more all.1)
 
-  -- the frame that an item makes has such packets alone
+  -- the frame that an item makes has only such packets
   pub frame_has : (id : ℕ) (past : List Item) (item : Item) → AllByRecursion (ItemHas P) (item ∷ past)
       → IfSome (made_by_item (format_of id) (state_after (format_of id) past) item).frame (λ f. AllByRecursion P f.packets)
   frame_has id past item all =

@@ -1,4 +1,4 @@
--- What a packet is looked at as, case by case.
+-- Which mark a packet gets, case by case.
 use Rattle.std.proofs.Common.{◌≡◌, ℕ, Bool, true, false, cond, List, Option, Some, None, Result, Ok, Err, refl, sym, ap, ap₂, subst, ◌∙◌}
 use Rattle.std.specs.Prelude.{is_some}
 use Rattle.std.proofs.lemmas.Bool.{cond-true, cond-false}
@@ -77,7 +77,7 @@ module _ (id : ℕ) (old : Force TemplateStructure) (d : Descriptor) (bytes : Li
       (ap (λ (o : Option (List ℕ)). shown_by (format_of id) old.structure (payload_in packet.payload.now) (descriptor_in old.structure o)) none)
       refl refl (none_starts old d) (λ h. h)
 
-  -- a descriptor that doesn't read
+  -- a descriptor that can't be read
   pub looked_faulty : (element : List ℕ) (fault : DdFault) → is_padding (payload_in packet.payload.now) ≡ false
       → element_in id packet.profile packet.block.now ≡ Some element → descriptor_at element old.structure ≡ Err fault → Looked id old old d code.Unread bytes
   looked_faulty element fault some found reads = go fault reads
@@ -98,7 +98,7 @@ module _ (id : ℕ) (old : Force TemplateStructure) (d : Descriptor) (bytes : Li
       go faults.References e = faulty (at faults.References e)
       go (faults.Bad fault) e = faulty (at (faults.Bad fault) e)
 
-  -- ---- a descriptor that reads
+  -- ---- a descriptor that can be read
 
   shows : (element : List ℕ) (b : Bool) → element_in id packet.profile packet.block.now ≡ Some element → descriptor_at element old.structure ≡ Ok (content_of old.structure d)
       → obeys old d ≡ b
@@ -115,7 +115,7 @@ module _ (id : ℕ) (old : Force TemplateStructure) (d : Descriptor) (bytes : Li
   looked_other element some found reads rule =
       shown_as old code.Unread Unread some (shows element false found reads rule) refl refl (none_starts old d) (λ h. h)
 
-  -- its payload doesn't read
+  -- its payload can't be read
   pub looked_broken : (element : List ℕ) (new : Force TemplateStructure) → payload_in packet.payload.now ≡ Broken → element_in id packet.profile packet.block.now ≡ Some element
       → descriptor_at element old.structure ≡ Ok (content_of old.structure d) → obeys old d ≡ true → new ≡ after_descriptor structures_alone old (said_of old.structure d)
       → (is_some old.structure ≡ true → is_some new.structure ≡ true) → Looked id old new d code.Unread bytes

@@ -15,7 +15,7 @@ use Rattle.track_core.specs.Track.{Seen, StandsFor, frame_by, frame_packets, fra
 use Rattle.track_core.proofs.Brought.{ItemHas, frame_has, items_have}
 use Rattle.track_core.proofs.TakenPieces.{all_behind, all_front, items_taken}
 
--- a packet that its bytes tell whole
+-- a packet that is read back from its bytes
 abbrev IsTold : Packet → Type 0
 IsTold p = packet_of (bytes_of p) ≡ p
 

@@ -80,7 +80,7 @@ accepted_refusal t bytes seq o small reads source same e =
 
 -- ---- one step
 
--- the piece that waits first, and what is told of it
+-- the first piece that waits, and the item that is returned for it
 pub record IsFetched (waiting : List Piece) (item : OrderItem) (before buffer : List ℕ) : Type 0 where
   pub piece : Piece
   pub rest : List Piece
@@ -109,7 +109,7 @@ items_more : (worked : List Piece) (piece : Piece) → items_of (worked ++ piece
 items_more [] piece = refl
 items_more (p ∷ ps) piece = ap (λ (xs : List Item). xs ++ item_of p ∷ []) (items_more ps piece)
 
--- fewer than 2^46 pieces are worked off where one waits
+-- fewer than 2^46 pieces were processed if one waits
 some_room : (o : Option Layers) (n : ℕ) → n + 1 ≤ 2 ^ 46 → IfSome o (λ l. l.table.newest ≤ 131072 * n) → IfSome o (λ l. l.table.newest ≤ 2 ^ 63 - 131072)
 some_room None n few numbers = tt
 some_room (Some l) n few numbers = omega (arith, few, numbers)

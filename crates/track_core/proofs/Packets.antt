@@ -23,7 +23,7 @@ brought (p ∷ ps) = ap (λ (xs : List (List ℕ)). bytes_of p.brings.packet ∷
 run_packets : (run : TheRun) → assembled_packets (run_with sent_of run) ≡ map bytes_of (map packet_in (parts_of run))
 run_packets run = ap (λ (xs : List (List ℕ)). bytes_of run.first.brings.packet ∷ xs) (brought run.more)
 
--- where a frame comes of a cut, the cut's packets are the frame's
+-- if a frame is made of a cut, the cut's packets are the frame's
 cut_packets : (id : ℕ) (force : Force TemplateStructure) (o : Option TheRun) (frame : Frame TemplateStructure) → model_frame (format_of id) force o ≡ Some frame
     → assembled_frame (option_map (run_with sent_of) o) ≡ map bytes_of frame.packets
 cut_packets id force None frame e = absurd (cc)

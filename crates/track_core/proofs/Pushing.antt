@@ -31,7 +31,7 @@ whole_answer IsWhole e = refl
 whole_answer IsPartial e = absurd (cc)
 whole_answer IsTorn e = absurd (cc)
 
--- the outcome that is answered is that of the marks
+-- the outcome that is returned is that of the marks
 pub outcome_is : (mark : CodeMark) (bytes : List ℕ) (marks : List TheMark) (m : TheMark) (result : Outcome) → marked mark bytes ≡ mark_with sent_of m
     → result ≡ answer (outcome (run_of (sent_marks marks)) (marked mark bytes)) → result ≡ answer (outcome (run_of marks) m)
 outcome_is mark bytes marks m result same e =
@@ -49,7 +49,7 @@ some_has : {A : Type 0} (P : A → Type 0) (o : Option A) (x : A) → o ≡ Some
 some_has P (Some y) x e h = let same : y ≡ x = cc in subst P same h
 some_has P None x e h = absurd (cc)
 
--- the head of a frame that got whole
+-- the head of a frame that became whole
 pub head_there : (layers : Layers) (run : Option TheRun) (r : TheRun) → run ≡ Some r → IfSome run (HasHead layers) → HasHead layers r
 head_there layers run r is has = some_has (HasHead layers) run r is has
 
@@ -88,7 +88,7 @@ some_structure : (o : Option TemplateStructure) → is_some o ≡ true → (s : 
 some_structure None e = absurd (cc)
 some_structure (Some s) e = (s, refl)
 
--- a meaning that was written, as the table tells it
+-- a meaning that was written, as the table returns it
 pub written_ok : (is_written : Bool) (meaning : FrameMeaning) (newest : ℕ) → written is_written meaning ≡ result_ok (written_or_stale is_written meaning newest)
 written_ok false meaning newest = refl
 written_ok true meaning newest = refl
@@ -110,7 +110,7 @@ module _ (old new : Layers) (mark : CodeMark) (bytes : List ℕ) (result : Outco
   pub cut_made : result ≡ made.Whole → (r : TheRun) × (extended (run_of marks) m ≡ Some r) × (cut_by (run_of marks) m ≡ Some r)
   cut_made whole = cut_here marks m (sym whole ∙ answered_here)
 
-  -- the head of the whole frame, whatever becomes of the table but for its structure
+  -- the head of the whole frame, whatever changes in the table except its structure
   pub whole_head : new.table.structure ≡ old.table.structure → (whole : result ≡ made.Whole) → HasHead new (cut_made whole).0
   whole_head structure whole =
       head_there new (extended (run_of marks) m) (cut_made whole).0 (cut_made whole).1

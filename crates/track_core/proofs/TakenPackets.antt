@@ -1,4 +1,4 @@
--- The packets of a frame are packets that the track took in.
+-- The packets of a frame are packets that the track accepted.
 use Rattle.std.proofs.Common.{◌≡◌, ℕ, zero, suc, Bool, true, false, cond, List, [], ◌∷◌, map, Option, Some, None, refl, sym, subst}
 use Rattle.std.specs.Prelude.{IfSome, slice_get}
 use Rattle.std.specs.List.{AllByRecursion}
@@ -48,7 +48,7 @@ marks_taken id (item ∷ past) all =
     subst (λ (o : Option (Run (List ℕ))). AllByRecursion IsTaken (assembled_frame o)) (sym (cut_of_with sent_of (marks_of id past) (mark_of id force item)))
     (frame_taken (cut_by (run_of (marks_of id past)) (mark_of id force item)) (item_cut_has IsTakenPacket id past item all))
 
--- after items that were all taken in, the frame that got whole has such packets alone
+-- after items that were all accepted, the frame that became whole has only such packets
 pub assembly_taken : (id : ℕ) (layers : Layers) (past : List Item) → AllByRecursion (ItemHas IsTakenPacket) past → IsAfterAs id layers past → AllByRecursion IsTaken layers.assembly.frame
 assembly_taken id layers past all after = subst (AllByRecursion IsTaken) (sym after.running.assembly.frame) (marks_taken id past all)
 

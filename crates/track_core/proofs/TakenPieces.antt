@@ -1,4 +1,4 @@
--- What came is what a track takes in, and so are the pieces of its order; and there are no more pieces than numbers.
+-- What came is what a track accepts, and so are the pieces of its order; and there are no more pieces than numbers.
 use Rattle.std.proofs.Common.{◌≡◌, ℕ, zero, suc, ◌+◌, ◌-◌, ◌≤◌, Bool, true, false, cond, nat_lt, nat_le, List, [], ◌∷◌, ◌++◌, length, refl, ap, arith, length-append}
 use Rattle.std.specs.Prelude.{Option, None, Some, Result, Ok, Err, filter}
 use Rattle.std.specs.List.{AllByRecursion}

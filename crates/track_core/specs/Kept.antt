@@ -1,4 +1,4 @@
--- What the fields of a track stand for, and what they keep.
+-- What the fields of a track stand for, and what is always true of them.
 use Rattle.std.specs.Prelude.{◌≡◌, ℕ, true, if◌then◌else◌, List, [], ◌∷◌, Option, None, Some}
 use Rattle.reorder_window.specs.Events.{Event, Piece}
 use Rattle.track_core.specs.declared.track.Track.TheInside.{Inside}
@@ -6,7 +6,7 @@ use Rattle.track_core.specs.declared.layers.Layers.{Layers}
 use Rattle.track_core.specs.Pieces.{IsTaken}
 use Rattle.track_core.specs.Track.{Seen, StandsFor}
 
--- the packets of what was made: a plain one in the slot, or those of a whole frame
+-- the packets of what was made: a plain packet in the slot, or those of a whole frame
 abbrev pub packets_in : Option Layers → List ℕ → List (List ℕ)
 packets_in None slot = slot ∷ []
 packets_in (Some l) slot = l.assembly.frame
@@ -20,13 +20,13 @@ seen t = record {
   meaning = t.meaning;
 }
 
--- there are events that it stands for
+-- there are events that the track stands for
 pub record HasStood (track : Seen) : Type 0 where
   pub events : List Event
   pub worked : List Piece
   pub stands : StandsFor track events worked
 
--- and where a plain packet was made, the slot has a packet that was taken in
+-- and if a plain packet was made, the slot has a packet that was accepted
 pub record IsKept (t : Inside) : Type 0 where
   pub stood : HasStood (seen t)
   pub slot : t.given ≡ true → t.layers ≡ None → IsTaken t.slot.value

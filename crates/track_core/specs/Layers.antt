@@ -30,7 +30,7 @@ mark_of id force Missing = Gone
 mark_of id force (Arrived p) =
     if is_padding ((format_of id).payload p.rest) then Padding else showing_mark (shown (format_of id) force p.rest) p
 
--- what is in force after it, before a whole frame is numbered
+-- what is in force after the item, before a whole frame is numbered
 abbrev pub force_of : ℕ → Force TemplateStructure → Item → Force TemplateStructure
 force_of id force Missing = force
 force_of id force (Arrived p) =
@@ -40,7 +40,7 @@ abbrev pub marks_of : ℕ → List Item → List (Mark (ReadPacket TemplateStruc
 marks_of id [] = []
 marks_of id (item ∷ past) = mark_of id (state_after (format_of id) past).force.structure item ∷ marks_of id past
 
--- what an assembly sees of them: each part with its packet's bytes
+-- what an assembly sees of the marks: each part with its packet's bytes
 abbrev pub sent_of : ReadPacket TemplateStructure → List ℕ
 sent_of read = bytes_of read.packet
 
@@ -54,7 +54,7 @@ starts code.Pad = false
 starts code.Unread = false
 starts (code.Part start end number continues carries) = start
 
--- ---- what a layered track keeps
+-- ---- the state of a layered track
 
 -- what is kept of the first descriptor of the run
 pub record HasHead (layers : Layers) (run : Run (ReadPacket TemplateStructure)) : Type 0 where
@@ -80,13 +80,13 @@ pub record IsAfterAs (id : ℕ) (layers : Layers) (past : List Item) : Type 0 wh
 abbrev pub IsAfter : Layers → List Item → Type 0
 IsAfter layers past = IsAfterAs layers.id layers past
 
--- what the frame means that an item makes, if it makes one
+-- the meaning of the frame that an item makes, if it makes one
 abbrev pub meaning_made : ℕ → List Item → Item → Option FrameMeaning
 meaning_made id past item = option_map meaning_of (made_by_item (format_of id) (state_after (format_of id) past) item).frame
 
 -- ---- one packet
 
--- the first descriptor of a frame is what a part that starts one brings
+-- a part that starts a frame comes with the frame's first descriptor
 pub record HasFirst (force : Force TemplateStructure) (d : Descriptor) (part : Part (ReadPacket TemplateStructure)) : Type 0 where
   pub said : said_of force.structure d ≡ part.brings.descriptor
   pub first : IsFirst force d
@@ -101,12 +101,12 @@ pub record Looked (id : ℕ) (old new : Force TemplateStructure) (d : Descriptor
   pub starts : StartsAs new d (mark_of id old.structure (Arrived (packet_of bytes)))
   pub structure : is_some old.structure ≡ true → is_some new.structure ≡ true
 
--- the meaning that was written where it is kept, if one was
+-- the meaning that was written to its place, if one was
 abbrev pub written : Bool → FrameMeaning → Option FrameMeaning
 written false meaning = None
 written true meaning = Some meaning
 
--- what a mark makes of the frame under assembly
+-- what a mark changes in the frame under assembly
 abbrev pub framed_by : Force TemplateStructure → List (Mark (ReadPacket TemplateStructure)) → Mark (ReadPacket TemplateStructure)
     → Option (Frame TemplateStructure)
 framed_by force marks mark = frame_of structures_alone force (cut_by (run_of marks) mark)
@@ -117,7 +117,7 @@ pub record Pushed (old new : Layers) (result : Option FrameMeaning) (marks : Lis
   pub force : new.table ≡ with_frame old.table (framed_by old.table marks mark)
   pub made : result ≡ option_map meaning_of (framed_by old.table marks mark)
 
--- the mark that is pushed is that of some packet, after some marks
+-- the pushed mark is that of some packet, after some marks
 pub record IsPushable (layers : Layers) (mark : CodeMark) (bytes : List ℕ) : Type 0 where
   pub marks : List (Mark (ReadPacket TemplateStructure))
   pub next : Mark (ReadPacket TemplateStructure)

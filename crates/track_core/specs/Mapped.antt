@@ -1,4 +1,4 @@
--- Marks, runs and parts with other things brought with them. Nothing that is said of cuts looks at what a part brings.
+-- Marks, runs and parts that carry other things. No statement about cuts depends on what a part carries.
 use Rattle.std.specs.Prelude.{map}
 use Rattle.forwarding_model.specs.frames.Cuts.{Part, Mark, Run}
 use Rattle.forwarding_model.specs.frames.Cuts.Mark.{Gone, Padding, Unreadable, Read}

@@ -1,4 +1,4 @@
--- The pieces of a track's order as items of forwarding.
+-- The pieces of a track's order, as items of the forwarding model.
 use Rattle.std.specs.Prelude.{◌≡◌, ◌≤◌, ℕ, Bool, if◌then◌else◌, List, [], ◌∷◌, ◌++◌, None, length}
 use Rattle.sfu_base.specs.Bytes.{AreBytes}
 use Rattle.forwarding_model.specs.frames.Frames.{Item}
@@ -20,13 +20,13 @@ abbrev pub items_of : List Piece → List Item
 items_of [] = []
 items_of (piece ∷ more) = items_of more ++ item_of piece ∷ []
 
--- bytes that a track takes in
+-- bytes that a track accepts
 pub record IsTaken (bytes : List ℕ) : Type 0 where
   pub few : length bytes ≤ 1500
   pub are_bytes : AreBytes bytes
   pub reads : first_fault bytes ≡ None
 
--- a packet that came is one that a track takes in
+-- a packet that came is one that a track accepts
 abbrev pub IsTakenIn : Event → Type 0
 IsTakenIn (Arrives sequence moment bytes) = IsTaken bytes
 IsTakenIn (Ticks moment) = Unit {0}

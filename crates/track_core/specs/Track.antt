@@ -31,7 +31,7 @@ use Rattle.std.specs.Option.{option_map}
 use Rattle.track_core.specs.Layers.{IsAfter, meaning_made}
 use Rattle.track_core.specs.Pieces.{IsTakenIn, item_by, item_of, items_of}
 
--- The SSRC, the order with the pieces that wait, what a layered track keeps, the packets of what the last step made, and the meaning of the
+-- The SSRC, the order with the pieces that wait, the state of a layered track, the packets that the last step made, and the meaning of the
 -- last frame that was made.
 pub record Seen : Type 0 where
   pub ssrc : ℕ
@@ -40,7 +40,7 @@ pub record Seen : Type 0 where
   pub packets : List (List ℕ)
   pub meaning : FrameMeaning
 
--- The track stands for these events, the newest first, of whose pieces these, the oldest first, are worked off.
+-- The track stands for these events (the newest first) and these pieces (the oldest first), which were processed.
 pub record StandsFor (track : Seen) (events : List Event) (worked : List Piece) : Type 0 where
   pub window : WindowAfter track.window events
   pub taken : AllByRecursion IsTakenIn events
@@ -59,7 +59,7 @@ abbrev pub order_refusal : Result ℕ Arrival → Option Refusal
 order_refusal (Ok n) = None
 order_refusal (Err why) = Some (refused why)
 
--- of a packet at a track that takes packets of this SSRC and stands in this order
+-- the first refusal of a packet at a track with this SSRC and this order
 abbrev pub source_refusal : ℕ → Order → List ℕ → Option Refusal
 source_refusal ssrc order bytes =
     if ssrc_of bytes == ssrc then order_refusal (judged_sequence order (sequence_of bytes)) else Some (refusal.WrongSsrc (ssrc_of bytes) ssrc)
@@ -68,7 +68,7 @@ abbrev pub read_refusal : ℕ → Order → Option RtpFault → List ℕ → Opt
 read_refusal ssrc order None bytes = source_refusal ssrc order bytes
 read_refusal ssrc order (Some fault) bytes = Some (refusal.Unreadable fault)
 
--- the first refusal that stands, or none
+-- the first refusal that applies, or none
 abbrev pub first_refusal : ℕ → Order → List ℕ → Option Refusal
 first_refusal ssrc order bytes =
     if nat_lt 1500 (length bytes) then Some (refusal.TooBig (length bytes)) else read_refusal ssrc order (first_fault bytes) bytes
@@ -106,7 +106,7 @@ with_meaning meaning advance.Nothing = made.Nothing
 with_meaning meaning advance.Packet = made.Packet
 with_meaning meaning advance.Frame = made.Frame meaning
 
--- what a step makes of the piece that waits first, if one does
+-- what a step makes of the first piece that waits, if one does
 abbrev pub made_of : Option Layers → List Piece → Option Piece → Made
 made_of layers worked None = made.Idle
 made_of None worked (Some piece) = made_plain piece
@@ -117,14 +117,14 @@ packets_of layers worked None = []
 packets_of None worked (Some piece) = plain_packets piece
 packets_of (Some l) worked (Some piece) = frame_packets (frame_by l.id worked piece)
 
--- a frame that was made means something valid
+-- a frame that was made has a valid meaning
 abbrev pub IsMadeValid : Made → Type 0
 IsMadeValid made.Idle = Unit {0}
 IsMadeValid made.Nothing = Unit {0}
 IsMadeValid made.Packet = Unit {0}
 IsMadeValid (made.Frame meaning) = IsValid meaning
 
--- ---- the same packets as forwarding's
+-- ---- the same packets, as packets of the forwarding model
 
 abbrev pub framed_packets : Option (Frame TemplateStructure) → List Packet
 framed_packets None = []
@@ -134,18 +134,18 @@ abbrev pub plain_packet : Piece → List Packet
 plain_packet (Got h) = packet_of h.bytes ∷ []
 plain_packet (Gone from to) = []
 
--- the packets of the frame that the piece makes which waits first, or that packet itself on a plain track
+-- the packets of the frame that the first waiting piece makes, or that packet itself on a plain track
 abbrev pub frames_packets : Option Layers → List Piece → Option Piece → List Packet
 frames_packets layers worked None = []
 frames_packets None worked (Some piece) = plain_packet piece
 frames_packets (Some l) worked (Some piece) = framed_packets (frame_by l.id worked piece)
 
--- the structure in force once these pieces were worked off
+-- the structure in force once these pieces were processed
 abbrev pub structure_after : Option Layers → List Piece → Option TemplateStructure
 structure_after None worked = None
 structure_after (Some l) worked = (state_after (format_of l.id) (items_of worked)).force.structure
 
--- the pieces that are worked off then
+-- the pieces that are processed then
 abbrev pub and_piece : List Piece → Option Piece → List Piece
 and_piece worked None = worked
 and_piece worked (Some piece) = worked ++ piece ∷ []

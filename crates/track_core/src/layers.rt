@@ -23,8 +23,8 @@ use rtp_packet::Rtp;
 use sfu_base::{Dti, FrameMeaning, NoMemory};
 use std::alloc::Global;
 
-/// A layered track between two items: the header extension id (RFC 8285) of its descriptors, what is in force, the frame under assembly, and
-/// what is kept of that frame's first descriptor. `newest` is scratch space for the parser.
+/// The state of a layered track between two items: the header extension id (RFC 8285) of its descriptors, the table of what is in force, the
+/// frame under assembly, and what is kept of that frame's first descriptor. `newest` is scratch space for the parser.
 #[derive(Drop)]
 pub struct Layers {
     pub id: u8,
@@ -46,7 +46,7 @@ const NO_HEAD: FrameHead = FrameHead {
 };
 
 impl Layers {
-    /// A layered track before its first packet, with descriptors under this header extension id. Takes the memory for the frame under assembly.
+    /// A layered track before its first packet, whose descriptors have this header extension id. Allocates the memory for the frame under assembly.
     pub fn new(alloc: Global, id: u8) -> Result<Layers, NoMemory>
         ensures id { IfOk result (λ layers. layers.id ≡ id) }
         ensures stands { IfOk result (λ layers. IsAfter layers []) }
@@ -61,7 +61,7 @@ impl Layers {
         })
     }
 
-    /// Sequence numbers were given up: the frame under assembly is torn.
+    /// Processes sequence numbers that were given up: the frame under assembly is torn, so it won't be whole.
     pub fn give_up(&mut self)
         ensures id { self.new.id ≡ self.old.id }
         ensures near { self.new.table.newest ≤ self.old.table.newest }
@@ -71,7 +71,7 @@ impl Layers {
     }
 
     /// Processes the next packet, which is in `slot`. If the packet belongs to a frame, the assembly keeps that slot and leaves another in its
-    /// place. Returns whether the packet made a frame whole; then the frame's meaning is written to `meaning`.
+    /// place. Returns whether the packet completed a frame; if so, the frame's meaning is written to `meaning`.
     pub fn take(&mut self, slot: &mut Box<PacketSlot>, meaning: &mut FrameMeaning) -> bool
         requires taken { IsTaken slot.old.value }
         requires stood { HasStood self.old }
@@ -87,7 +87,7 @@ impl Layers {
         self.push(&mark, slot, meaning)
     }
 
-    // What an accepted packet is to the frame under assembly.
+    // Returns the mark of an accepted packet: what the packet is to the frame under assembly.
     fn read(&mut self, slot: &Box<PacketSlot>) -> Mark
         requires taken { IsTaken slot.now.value }
         requires bound { self.old.table.newest ≤ 2 ^ 63 - 131072 }
@@ -100,12 +100,12 @@ impl Layers {
         let bytes = slot.bytes();
         match rtp_packet::read(bytes) {
             Ok(packet) => self.look(&packet, bytes),
-            // The packet was accepted, so RTP reads it.
+            // Can't be: the packet was accepted, so it is valid RTP.
             Err(_) => Mark::Unread,
         }
     }
 
-    // What a packet is to the frame under assembly. If the packet has a descriptor that is read, what is in force changes with it.
+    // Returns the mark of a packet. A descriptor that can be read also changes what is in force.
     fn look(&mut self, packet: &Rtp<'_>, bytes: &[u8]) -> Mark
         requires packet { IsOf bytes.now packet.now }
         requires bound { self.old.table.newest ≤ 2 ^ 63 - 131072 }
@@ -141,7 +141,7 @@ impl Layers {
         }
     }
 
-    // Pushes a packet with its mark onto the frame under assembly. Returns whether that made a frame whole.
+    // Pushes a packet with its mark onto the frame under assembly. Returns whether that completed a frame.
     fn push(&mut self, mark: &Mark, slot: &mut Box<PacketSlot>, meaning: &mut FrameMeaning) -> bool
         requires bound { self.old.table.newest < 2 ^ 63 }
         requires pushable { IsPushable self.old mark.now slot.old.value }
@@ -160,7 +160,7 @@ impl Layers {
     }
 }
 
-// At a mark that starts a frame, keeps the head of the newest descriptor.
+// If the mark starts a frame, replaces `head` with the head of the newest descriptor.
 fn keep_head(mark: &Mark, table: &FrameTable, newest: &Descriptor, head: &mut FrameHead)
     requires { starts mark.now ≡ true → IsFirst table.now newest.now }
     ensures started { starts mark.now ≡ true → IsHeadOf table.now newest.now head.new }
@@ -172,7 +172,7 @@ fn keep_head(mark: &Mark, table: &FrameTable, newest: &Descriptor, head: &mut Fr
 }
 
 /// Processes one item of a layered track: if `came`, the packet in `slot`, else sequence numbers that were given up. Returns whether the item
-/// made a frame whole; then the frame's meaning is written to `meaning`.
+/// completed a frame; if so, the frame's meaning is written to `meaning`.
 pub fn work_off(
     layers: &mut Layers,
     came: bool,

@@ -1,5 +1,5 @@
-// Rows of a track: what each arrival and each moment makes. A row is text; its lines are processed one by one, and each ends with what it
-// has to make.
+// Tests of a track by rows of text: the lines of a row are processed one by one, and each ends with the expected result of its arrival or
+// of its tick.
 mod real;
 mod rows;
 mod text;
@@ -20,10 +20,10 @@ const SSRC: u32 = 0x11111111;
 // A key descriptor of one target, in whose structure template 1 has distance 1 and link 1.
 const KEY: [u8; 9] = [0xc0, 0x00, 0x01, 0x80, 0x00, 0x3a, 0x41, 0x01, 0x00];
 
-// One element, all of which is in the packet.
+// One OBU element, the whole of which is in the packet.
 const PAYLOAD: [u8; 3] = [0x10, 0x30, 0x00];
 
-// A packet with one element, the descriptor under id 4: in the one-byte form if the descriptor fits that, else in the two-byte form.
+// A packet with one header extension element, the descriptor under id 4: in the one-byte form if the descriptor fits that, else the two-byte.
 fn packet(seq: u16, descriptor: &[u8], payload: &[u8]) -> PacketBuf {
     let mut out = PacketBuf::new();
     put(&mut out, &[0x90, 0x60]);
@@ -63,7 +63,7 @@ fn say_packets(
     Ok(())
 }
 
-// Processes all that waits, and returns what that made.
+// Processes all waiting items, and returns what they made.
 fn drain(rt: &impl Abort, alloc: Global, track: &mut Track) -> Result<String, Fail>
     ensures { IfOk result (λ said. track.new.window.waiting ≡ []) }
 {
@@ -86,7 +86,7 @@ fn drain(rt: &impl Abort, alloc: Global, track: &mut Track) -> Result<String, Fa
     }
 }
 
-// Returns the refusal of a packet that arrives, or what the packet made.
+// Brings the track a packet, and returns its refusal, or what it made.
 fn arrive(
     rt: &impl Abort,
     alloc: Global,
@@ -229,8 +229,8 @@ fn edge(descriptor: &PacketBuf, bit: u8) -> PacketBuf {
     out
 }
 
-// The descriptors of a key frame and of the frame with the descriptor `own`, which may be the same frame. Adds packets so that each frame
-// is whole. Returns the descriptors, and the place at which the frame begins.
+// Makes the descriptors of a key frame and of the frame with the descriptor `own`, which may be the same frame. Adds packets so that each
+// frame is whole. Returns the descriptors, and the index at which the frame with `own` begins.
 fn frames_with(
     alloc: Global,
     key: &PacketBuf,

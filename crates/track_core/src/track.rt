@@ -48,19 +48,19 @@ pub enum Advance {
     Frame,
 }
 
-/// One publisher's packets, from their arrival to plain packets or whole frames. Clauses see the SSRC, the order with the pieces that wait,
-/// what a layered track keeps, the packets that the last step made, and the meaning of the last frame made.
+/// One publisher's packets, from their arrival to plain packets or whole frames. Clauses see the SSRC, the reorder window with the items that
+/// wait, the state of a layered track, the packets that the last step made, and the meaning of the last frame made.
 #[derive(Drop)]
 pub struct Track {
     ssrc: u32,
     window: Window,
-    // The slot of the packet that is being processed, which came from the window. On a layered track the frame under assembly takes the slot of
-    // a packet that belongs to it, and leaves another; after padding or a torn packet the slot still holds that packet.
+    // The slot with the packet that is being processed, which came from the window. On a layered track the frame under assembly takes the slot of a
+    // packet that belongs to it, and leaves another; any other packet stays in this slot.
     slot: Box<PacketSlot>,
     layers: Option<Layers>,
     // Whether the last step made a packet or a frame.
     given: bool,
-    // The meaning of the last frame made. It is written in place, since it has some 260 bytes.
+    // The meaning of the last frame made. It is written in place, since it has about 260 bytes.
     meaning: FrameMeaning,
 }
 
@@ -78,7 +78,7 @@ impl Model for Track {
 
 impl Track {
     /// A track before its first packet. A packet behind a gap is held until the gap is filled, or is given up after `hold` milliseconds. All
-    /// memory of the track is taken here.
+    /// memory of the track is allocated here. `NoMemory`: out of memory.
     pub fn new(alloc: Global, kind: Kind, ssrc: u32, hold: u32) -> Result<Track, NoMemory>
         ensures stands { IfOk result (λ track. StandsFor track [] []) }
         ensures ssrc { IfOk result (λ track. track.ssrc ≡ ssrc) }
@@ -101,9 +101,9 @@ impl Track {
         })
     }
 
-    /// Accepts a packet that arrives at `moment`, in milliseconds. First call [`Track::advance`] until it returns `Idle`. What the last step
-    /// made can still be read. Returns the first refusal that applies, which changes nothing. `TooBig`: more than 1,500 bytes. `Unreadable`:
-    /// not RTP. `WrongSsrc`: another SSRC than the track's. `Spent`, `Late` and `Repeat`: by the sequence number.
+    /// Accepts a packet that arrives at `moment`, in milliseconds. First call [`Track::advance`] until it returns `Idle`. The packets of the last
+    /// step stay readable. A refused packet changes nothing; the error is the first that applies. `TooBig`: more than 1,500 bytes. `Unreadable`:
+    /// not RTP. `WrongSsrc`: another SSRC than the track's. `Spent`, `Late`, `Repeat`: the unwrapped number is 2^46 or more, passed, or buffered.
     pub fn arrive(&mut self, moment: u64, bytes: &[u8]) -> Result<(), Refusal>
         requires idle { self.old.window.waiting ≡ [] }
         requires length { length bytes.now ≤ 4294967295 }
@@ -135,8 +135,8 @@ impl Track {
         }
     }
 
-    /// Advances the time to `moment`, in milliseconds. First call [`Track::advance`] until it returns `Idle`. What the last step made can still
-    /// be read.
+    /// Advances the time to `moment`, in milliseconds. First call [`Track::advance`] until it returns `Idle`. The packets of the last step stay
+    /// readable.
     pub fn tick(&mut self, moment: u64)
         requires idle { self.old.window.waiting ≡ [] }
         ensures stands { (events : List Event) (worked : List Piece) → StandsFor self.old events worked → StandsFor self.new (Ticks moment ∷ events) worked }
@@ -146,7 +146,7 @@ impl Track {
         self.window.tick(moment);
     }
 
-    /// Writes the missing sequence numbers to `out`, ascending by their unwrapped numbers.
+    /// Replaces the contents of `out` with the missing sequence numbers, in ascending order of their unwrapped numbers.
     pub fn missing(&self, out: &mut SeqList)
         ensures { out.new ≡ missing_sequences self.now.window.order }
     {
@@ -163,7 +163,7 @@ impl Track {
         structure_of(&self.layers)
     }
 
-    /// The id of the header extension element (RFC 8285) with the track's dependency descriptors: none on a plain track.
+    /// The id of the header extension element (RFC 8285) with the track's dependency descriptors: `None` on a plain track.
     pub fn id(&self) -> Option<u8>
         ensures { result ≡ option_map id_of self.now.layers }
     {
@@ -173,7 +173,7 @@ impl Track {
         }
     }
 
-    /// Processes one item. If that makes a frame, [`Track::meaning`] then returns its meaning. `Idle` comes exactly where no item waits.
+    /// Processes one item. After `Frame`, [`Track::meaning`] returns the frame's meaning. Returns `Idle` exactly if no item waited.
     pub fn advance(&mut self) -> Advance
         ensures rest { self.new.window ≡ record self.old.window { waiting = drop 1 self.old.window.waiting } }
         ensures idle { (result ≡ Advance.Idle) ↔ (self.old.window.waiting ≡ []) }
@@ -230,7 +230,7 @@ impl Track {
         &self.meaning
     }
 
-    /// How many packets the last step made: 1 for a plain packet, those of the frame for a frame (at most 512), else 0.
+    /// How many packets the last step made: for a plain packet 1, for a frame the number of its packets (at most 512), else 0.
     pub fn count(&self) -> u16
         ensures count { result ≡ length self.now.packets }
         ensures few { length self.now.packets ≤ 512 }
@@ -244,7 +244,7 @@ impl Track {
         }
     }
 
-    /// The bytes of the packet at `place`, counted from 0, among those that the last step made: at most 1,500 bytes, which RTP reads.
+    /// The bytes of one of the packets that the last step made, which `place` counts from 0: an RTP packet of at most 1,500 bytes.
     pub fn packet(&self, place: u16) -> &[u8]
         requires { place < length self.now.packets }
         ensures at { slice_get self.now.packets place ≡ Some result.now }
@@ -273,7 +273,7 @@ impl Track {
     }
 }
 
-// What a track of this kind keeps before its first item.
+// The state of a layered track before its first item; `None` for a plain track.
 fn layers_of(alloc: Global, kind: Kind) -> Result<Option<Layers>, NoMemory>
     ensures stands { IfOk result (λ o. IfSome o (λ l. IsAfter l [])) }
     ensures newest { IfOk result (λ o. IfSome o (λ l. l.table.newest ≡ 0)) }
@@ -295,7 +295,7 @@ fn structure_of(layers: &Option<Layers>) -> Option<&Structure>
     }
 }
 
-// What an item made, with the meaning that the track keeps.
+// Adds a frame's meaning, which the track keeps, to what an item made.
 fn with_meaning(advance: Advance, meaning: &FrameMeaning) -> Made
     ensures { result ≡ with_meaning meaning.now advance }
 {

@@ -1,6 +1,6 @@
-// What a room says of a subscriber's decode target, and whether the wish is reached. The structure is that of `KEY`: targets 0 to 3 are both
-// spatial layers with both temporal layers, or the first; and the lower one with both, or the first. Templates 0 and 1 are switches for
-// targets 2 and 3, templates 3 and 4 for targets 0 and 1 (Appendix A of RTP Payload Format For AV1).
+// Queries for a subscriber's decode target, and whether the wish is reached. In the structure of `KEY`, targets 0 and 1 have both spatial
+// layers, targets 2 and 3 the lower one; targets 0 and 2 have both temporal layers, targets 1 and 3 the first. Templates 0 and 1 are
+// switches for targets 2 and 3, templates 3 and 4 for targets 0 and 1 (Appendix A of RTP Payload Format For AV1).
 
 use super::{HIGHEST, KEY, LAYERED, LOWEST, PLAIN, frame, join, packet, publish, scratch};
 use crate::{DecodeTarget, KeepNone, Room};
@@ -45,7 +45,7 @@ fn a_raised_wish_is_reached_by_a_key_frame(rt: HostRuntime) {
         (join(1, 1, LOWEST), Ok(None), false),
         (packet(1, &KEY), Ok(Some(LEAST)), true),
         (packet(1, &frame(1, 1, 3)), Ok(Some(LEAST)), true),
-        // Frame 4 is a switch for the lower targets alone. Frame 5 is one for the others, but refers to frame 1, which wasn't passed.
+        // Frame 4 is a switch for targets 2 and 3 only. Frame 5 is a switch for targets 0 and 1, but refers to frame 1, which wasn't passed.
         (aim(HIGHEST), Ok(Some(LEAST)), false),
         (packet(1, &frame(2, 4, 1)), Ok(Some(LOWER)), false),
         (packet(1, &frame(3, 5, 4)), Ok(Some(LOWER)), false),

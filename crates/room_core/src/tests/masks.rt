@@ -9,7 +9,7 @@ use std::process::Abort;
 
 const PAYLOAD: [u8; 3] = [0x10, 0x30, 0x00];
 
-// A packet with this byte for marker and payload type, this number, SSRC and header extension.
+// A packet with this byte for marker and payload type, this sequence number, SSRC and header extension.
 fn laid(marker: u8, seq: u16, ssrc: u8, extension: &[u8]) -> PacketBuf
     requires { length extension.now ≤ 100 }
 {
@@ -21,10 +21,10 @@ fn laid(marker: u8, seq: u16, ssrc: u8, extension: &[u8]) -> PacketBuf
     packet
 }
 
-// A packet that comes in, and the packet that is sent: of each the byte with the marker, and the header extension.
+// A packet that arrives, and the packet that is sent for it: of each, the byte with the marker and the header extension.
 type Row<'a> = (u8, &'a [u8], u8, &'a [u8]);
 
-// Each packet is sent like this to a subscriber with the wish, numbered from 7 on, and resent alike.
+// Checks what a subscriber with this wish is sent for each packet, with sequence numbers from 7 on, and that a resend has the same bytes.
 fn check(rt: &impl Abort, room: &mut Room<KeepNone>, wish: Wish, row: &[Row<'_>]) {
     let mut scratch = scratch();
     assert_eq!(rt;

@@ -36,13 +36,13 @@ fn subscribers_share_a_packet_and_its_room_is_free_when_none_has_it(
         assert_eq!(rt; room.serve(0, &take(subscriber), &mut out), Reply::Packet);
         assert_eq!(rt; out.packet.bytes(), outgoing(&PLAIN, 7, false).bytes());
     }
-    // The other subscriber keeps it, and the store frees all unused buffers: one subscriber shares with nobody.
+    // The other subscriber still has it, and the store deallocates all unused buffers: a single subscriber shares with nobody.
     assert_eq!(rt;
         room.serve(0, &Call::Leave { subscriber: 2 }, &mut out),
         Reply::Done
     );
     assert_eq!(rt; free(&room, 1), 0);
-    // What waits when the track ends is still handed out.
+    // A packet that is queued when the track ends can still be taken.
     assert_eq!(rt; room.serve(0, &packet(1, &next), &mut out), Reply::Done);
     assert_eq!(rt;
         room.serve(0, &Call::Unpublish { track: 1 }, &mut out),

@@ -1,15 +1,15 @@
 //! Rows of tracks with a hold of 100 milliseconds.
 //!
-//! A line is a packet with one element (moment, sequence number, descriptor under id 4, payload), a packet byte by byte (`raw`, moment,
-//! bytes), a moment that comes (`tick`), or the question which numbers are missing. Behind `>` is what the line makes: frames and packets
-//! with the sequence numbers of their packets, the refusal, the missing numbers, or nothing.
+//! A line before `>` is a packet with one OBU element (time in milliseconds, sequence number, descriptor under id 4, payload), a packet as
+//! bytes (`raw`, time, bytes), a time that is reached (`tick`), or a request for the missing numbers (`missing`). Behind `>` is the expected
+//! result: frames and packets with the sequence numbers of their packets, the refusal, the missing numbers, or nothing.
 
-/// What is shown, and the lines, on a layered track.
+/// Rows of a layered track: what the row shows, and its lines.
 ///
-/// Key descriptors begin with `c0`. One of structure A (`c0 NN NN 80003a410100`) has one target and one chain; its template 1 is a switch
-/// with distance 1 and link 1. Structure B (`80003b410100`) is the same with template 1 required. Structure C has two targets, in which
-/// template 1 is spatial layer 0 with distance 2 and links 2 and 1, templates 2 and 3 are spatial layer 1 with links 1 and 1 and with
-/// distance 1, or 1 and 2.
+/// Key descriptors begin with `c0`. Structure A (`c0 NN NN 80003a410100`) has one target and one chain; its template 1 is a switch with frame
+/// distance 1 and chain link 1. Structure B (`80003b410100`) is the same with template 1 required. Structure C has two targets: its template
+/// 1 is in spatial layer 0, with distance 2 and links 2 and 1; its templates 2 and 3 are in spatial layer 1, with links 1 and 1; template 2
+/// has distance 1, template 3 distances 1 and 2.
 pub const LAYERED: [(&str, &str); 10] = [
     (
         "a frame's packets come in any order",
@@ -102,7 +102,7 @@ pub const LAYERED: [(&str, &str); 10] = [
     ),
 ];
 
-/// The same on a plain track.
+/// Rows of a plain track, in the same form.
 pub const PLAIN: [(&str, &str); 2] = [
     (
         "packets come in any order, padding among them",

@@ -1,4 +1,4 @@
-//! Tables as text: words are read, and what a track made is written.
+//! Reads the words of a line, and writes what a track made as text.
 
 ghost use Rattle.std.specs.Prelude.{◌<◌};
 
@@ -6,7 +6,7 @@ use sfu_base::{Dti, FrameMeaning, PacketBuf};
 use std::alloc::{AllocError, Global};
 use std::process::Abort;
 
-/// Takes all before the next such byte, and that byte.
+/// Removes the text up to and including the first byte `at`, and returns what was before that byte.
 pub fn cut<'a>(text: &mut &'a [u8], at: u8) -> &'a [u8] {
     let all = *text;
     for (i, byte) in all.iter().enumerate() {
@@ -19,7 +19,7 @@ pub fn cut<'a>(text: &mut &'a [u8], at: u8) -> &'a [u8] {
     all
 }
 
-/// The number that the next word says.
+/// Removes the next word, and returns the decimal number that it is.
 pub fn number(text: &mut &[u8]) -> u32 {
     let mut n = 0u32;
     for digit in cut(text, b' ') {
@@ -40,7 +40,7 @@ fn hex_digit(digit: u8) -> u8
     }
 }
 
-/// The bytes that the next word says.
+/// Removes the next word, and returns its bytes, which are hex digits in the text.
 pub fn hex(text: &mut &[u8]) -> PacketBuf {
     let mut out = PacketBuf::new();
     let digits = cut(text, b' ');
@@ -51,14 +51,14 @@ pub fn hex(text: &mut &[u8]) -> PacketBuf {
     out
 }
 
-/// Appends bytes, if they fit.
+/// Appends bytes, if there are at most 1,500 in all then.
 pub fn put(out: &mut PacketBuf, bytes: &[u8]) {
     if out.bytes().len() + bytes.len() <= 1500 {
         out.append(bytes);
     }
 }
 
-// The numbers of indications (Appendix A).
+// The codes of decode target indications (Appendix A).
 fn codes(dtis: &[Dti; 32]) -> [u32; 32] {
     let mut out = [0; 32];
     for i in 0..32 {
@@ -67,7 +67,7 @@ fn codes(dtis: &[Dti; 32]) -> [u32; 32] {
     out
 }
 
-/// What a frame means. The mask has target 0 last.
+/// A frame's meaning as text. The mask's last digit is target 0.
 pub fn frame_words(
     rt: &impl Abort,
     alloc: Global,
@@ -95,7 +95,7 @@ pub fn frame_words(
     )
 }
 
-/// Puts a word last.
+/// Appends a word, and a space before it unless it is the first.
 pub fn say(said: &mut String, word: &str) -> Result<(), AllocError> {
     if !said.is_empty() {
         said.push_str(" ")?;
