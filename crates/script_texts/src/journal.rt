@@ -54,7 +54,7 @@ pub struct Actors {
     pub closing: Calls,
 }
 
-/// The calls of all actors, in the order of the history. In contracts it is the list of its entries.
+/// The calls of all actors, in the order of the history. Contracts see the list of its entries.
 #[derive(Debug, Drop)]
 pub struct Journal {
     entries: Vec<Entry>,
