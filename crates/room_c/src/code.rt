@@ -1,7 +1,7 @@
 // The codes of replies and their numbers for C.
 
 /// The kind of a reply, as a number that C reads: 0 to 3 for accepted calls, 4 and 5 for answers to a question, 16 to 23 for verdicts on a frame,
-/// 32 to 48 for refusals of the room, 64 to 71 for errors found before the room is called. `has`, `first`, `second`: fields of the reply. Own rule.
+/// 32 to 48 for refusals of the room, 64 to 71 for errors found before the room is called. `has`, `first`, `second` are its fields. Own rule.
 #[derive(Clone, Copy, Debug, PartialEq, Eq)]
 pub enum Code {
     /// The call was done.

@@ -9,7 +9,7 @@ use std::alloc::Global;
 use std::marker::Model;
 
 /// The pointer of a `Box<Home>`, or a pointer that owns nothing. A type that contains or names a `Box` can't cross to C. So the pointer is a
-/// plain `*mut u8`, and the ghost field `home` says what it owns. The type is linear: a value that owns a room can only be turned into its box again.
+/// plain `*mut u8`, and the ghost field `home` says what it owns. The type is linear: a value that owns a room can only be turned into its box.
 #[repr(C)]
 pub struct Held {
     at: *mut u8,

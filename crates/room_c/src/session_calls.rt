@@ -114,7 +114,7 @@ fn work_on(
     }
 }
 
-// Writes an output's packet, if any, to the start of `out`, of at least 2,048 bytes. Returns the output as a reply.
+// Writes an output's packet, if any, to the start of `out` (2,048 bytes or more). Returns the output as a reply.
 fn give_output(output: Output, packet: &PacketBuf, out: &mut [u8]) -> PlainReply
     requires { 2048 ≤ length out.old }
     ensures tells { result ≡ output_reply output packet.now }

@@ -1,5 +1,5 @@
 // Calls on a subscriber. `seat` names the caller for the room's recorder; this room's recorder ignores it. A call
-// returns `Done` if its comment names no other code. If the handle has no room it returns `NoRoom`, unless `NoSpace` applies.
+// returns `Done` if its comment names no other code. If the handle has no room: `NoRoom`, unless `NoSpace` applies.
 ghost use Rattle.std.specs.Prelude.{◌≡◌, ◌<◌, ◌≤◌, drop, length};
 ghost use Rattle.sfu_base.specs.declared.call.Call.TheVariants as call;
 ghost use Rattle.room_c.specs.declared.code.Code.TheVariants.{NoSpace};

@@ -114,7 +114,7 @@ pub extern "C" fn zoftemar_packet(
     }
 }
 
-/// Brings a track to `moment`, in milliseconds, without a packet, as `Room::tick` does. Refusal: `NoTrack`.
+/// Brings a track to `moment`, in milliseconds, with no packet, as `Room::tick` does. Refusal: `NoTrack`.
 #[unsafe(no_mangle)]
 pub extern "C" fn zoftemar_tick(
     alloc: Global,
