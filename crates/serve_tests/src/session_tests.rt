@@ -135,7 +135,7 @@ fn a_publisher_is_asked_for_what_is_missing(rt: HostRuntime) -> Result<(), Fail>
 // Each receive and each send of a subscriber's link fails in turn.
 #[test]
 fn a_subscriber_is_sent_what_waits_for_it(rt: HostRuntime) -> Result<(), Fail> {
-    // The number of turns, the indices of failing receives and sends, the end, and the numbers sent.
+    // How many turns; the indices of failing receives and sends; the end, and the numbers sent.
     let cases: [(u64, &[u64], &[u64], SessionEnd, &[u16]); 5] = [
         (1, &[], &[], SessionEnd::AllTurns, &[0, 1]),
         (1, &[0], &[], SessionEnd::LinkFault { turn: 0 }, &[]),

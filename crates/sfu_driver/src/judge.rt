@@ -8,7 +8,7 @@ use sfu_base::{Blob, NoMemory};
 
 /// Judges units one after another, each with its number. Each text is appended to `ready`; the judge itself writes nothing out.
 pub trait Judge {
-    /// The states that contracts describe the judge by.
+    /// The states of the judge, as contracts see them.
     ghost State: { Type 0 };
 
     /// Whether the judge is in this state.

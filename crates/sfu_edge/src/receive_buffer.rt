@@ -10,7 +10,7 @@ const LEAST_SIZE: i32 = 1_200_000;
 /// The length of a socket option's number, in bytes.
 const NUMBER_BYTES: u32 = 4;
 
-/// Requests a larger buffer if the system's is smaller. The limit is twice `net.core.rmem_max`; if the system refuses, its default stays.
+/// Requests a larger buffer if the system's is below `LEAST_SIZE`. The limit is twice `net.core.rmem_max`; on refusal the default stays.
 pub fn enlarge(socket: &UdpSocket) {
     let fd = socket.as_raw_fd();
     let mut value = [0u8; 16];

@@ -344,7 +344,7 @@ impl<'a, R: Net + time::Clock> Link for UdpLink<'a, R> {
     }
 }
 
-/// Binds links over UDP sockets. A link that is given back to it is closed.
+/// Binds links over UDP sockets. `back` closes the link that it takes.
 #[derive(Drop)]
 pub struct UdpPorts<'a, R> {
     system: &'a R,

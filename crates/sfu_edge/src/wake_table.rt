@@ -123,7 +123,7 @@ impl WakeTable {
         Some(Duration::from_micros(expected.saturating_add(number % STEPS * STEP)))
     }
 
-    /// Notes that link `number` sent a packet with this tail. It follows the packet's receiver then.
+    /// Notes that link `number` sent a packet with this tail: it follows the packet's receiver.
     pub fn follow(&self, number: u64, tail: u64) {
         let Some(entry) = self.entries.get(number as usize) else {
             return;
@@ -136,7 +136,7 @@ impl WakeTable {
         }
     }
 
-    /// Notes that link `number` is about to sleep. Returns whether none has woken it since `end_sleep`.
+    /// Notes that link `number` is about to sleep. Returns whether none woke it since `end_sleep`.
     pub fn begin_sleep(&self, number: u64) -> bool {
         match self.entries.get(number as usize) {
             Some(entry) => entry.state.swap(SLEEPS, Ordering::SeqCst) != WOKEN,

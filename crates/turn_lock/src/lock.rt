@@ -31,7 +31,7 @@ const SERVED_TICKET: usize = 1;
 /// ticket's gate. While at most `GATES` threads wait, each has a gate of its own.
 const GATES: usize = 64;
 
-/// A thread may spin if its ticket is at most this far behind the served one. A thread further back sleeps.
+/// A thread may spin if its ticket is at most this far behind the served one; other threads sleep at once.
 const NEAR: u64 = 1;
 
 /// Every ticket is below this number.
@@ -134,7 +134,7 @@ impl<H: Held> Turns<H> {
         Ok((Turns { table, gates }, seat))
     }
 
-    /// Makes a seat for one more thread. `seat` must be the first seat, and at most 1,023 seats may exist so far, itself
+    /// Makes a seat for one more thread. `seat` must be the first seat, and at most 1,023 seats may have been made so far, itself
     /// included. The new seat has the next number and has seen the same prefix of the history as the first.
     pub fn split(&self, seat: &mut Seat<H>) -> Seat<H>
         requires lock { seat.old.lock ≡ self.now }
