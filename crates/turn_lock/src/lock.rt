@@ -134,7 +134,7 @@ impl<H: Held> Turns<H> {
         Ok((Turns { table, gates }, seat))
     }
 
-    /// Makes a seat for one more thread. `seat` must be the first seat, and at most 1,023 seats may have been made so far, itself
+    /// Makes a seat for one more thread. `seat` must be the first seat, with at most 1,023 seats made so far, itself
     /// included. The new seat has the next number and has seen the same prefix of the history as the first.
     pub fn split(&self, seat: &mut Seat<H>) -> Seat<H>
         requires lock { seat.old.lock ≡ self.now }
