@@ -13,11 +13,11 @@ use Rattle.sfu_driver.specs.Reads.{BeginsWith, most_bytes}
 
 -- ---- what is written
 
--- A front of this text was written, which may be all of it.
+-- A prefix of this text was written, which may be all of it.
 abbrev pub WritesFront : Option (List ℕ) → Option (List ℕ) → List ℕ → Type 0
 WritesFront written written' all = (text : List ℕ) × (more : List ℕ) × Appends written written' text × (all ≡ text ++ more)
 
--- A front of this text was written, and not all of it.
+-- A prefix of this text was written, and not all of it.
 pub record WritesPart (written written' : Option (List ℕ)) (all : List ℕ) : Type 0 where
   pub text : List ℕ
   pub more : List ℕ
@@ -25,7 +25,7 @@ pub record WritesPart (written written' : Option (List ℕ)) (all : List ℕ) : 
   pub split : all ≡ text ++ more
   pub missing : 0 < length more
 
--- All of this text was written, and then the last text, or a front of it where the sink failed.
+-- All of this text was written, and then the last text, or a prefix of it where the sink failed.
 pub record WritesEnd (written written' : Option (List ℕ)) (faults faults' : ℕ) (text last : List ℕ) : Type 0 where
   pub front : List ℕ
   pub more : List ℕ
@@ -44,8 +44,8 @@ abbrev pub outside_end : (ℕ → List ℕ) → Option ℕ → Option End
 outside_end text None = None
 outside_end text (Some number) = Some (end_by Outside (text number))
 
--- The text that is due was put behind those that are ready, and the object stands for the state that is left. Or the command ends, and its
--- last text alone was put there. Or memory was wanting, and nothing was.
+-- The text that is due was put after those that are ready, and the object stands for the state that is left. Or the command ends, and its
+-- last text alone was put there. Or memory ran out, and nothing was.
 abbrev pub Judges : {U S : Type 0} → (U → S → Type 0) → Outcome S → U → List ℕ → List ℕ → Result (Unit {0}) Halt → Type 0
 Judges {U} {S} stands due new ready ready' (Ok _) = (later : S) × (due.result ≡ Ok later) × stands new later × (ready' ≡ ready ++ due.text)
 Judges {U} {S} stands due new ready ready' (Err (Ended why)) = (last : List ℕ) × (due ≡ ends_with why last) × (ready' ≡ ready ++ last)
@@ -56,7 +56,7 @@ abbrev pub Nexts : {U S : Type 0} → (U → S → Type 0) → (S → ℕ → Ou
 Nexts stands byte state piece new ready ready' (Ok count) = Judges stands (takes byte state (take count piece)) new ready ready' (Ok tt)
 Nexts stands byte state piece new ready ready' (Err halt) = Judges stands (takes byte state piece) new ready ready' (Err halt)
 
--- What was written where a unit lets the command end.
+-- What was written where a unit ends the command.
 abbrev pub Halts : Interruption → Halt → List ℕ → List ℕ → Option (List ℕ) → Option (List ℕ) → ℕ → ℕ → Type 0
 Halts SourceFault halt ready last written written' faults faults' = ⊥
 Halts SinkFault halt ready last written written' faults faults' = Rose faults faults' × WritesPart written written' ready
@@ -65,7 +65,7 @@ Halts (Halted Starved) halt ready last written written' faults faults' = (halt �
 
 -- ---- bytes that are taken
 
--- Bytes were taken: some of the text was written behind what was ready, the rest of it is ready, and the object stands for the state that is left.
+-- Bytes were taken: some of the text was written after what was ready, the rest of it is ready, and the object stands for the state that is left.
 pub record Fed {U S : Type 0} (stands : U → S → Type 0) (byte : S → ℕ → Outcome S) (state : S) (bytes : List ℕ) (new : U) (ready ready' : List ℕ)
     (written written' : Option (List ℕ)) : Type 0 where
   pub later : S
@@ -75,7 +75,7 @@ pub record Fed {U S : Type 0} (stands : U → S → Type 0) (byte : S → ℕ �
   pub wrote : Appends written written' flushed
   pub whole : ready ++ (takes byte state bytes).text ≡ flushed ++ ready'
 
--- All that is due for a front of the bytes was written, and the command would go on.
+-- All that is due for a prefix of the bytes was written, and the command would go on.
 pub record WritesFor {S : Type 0} (byte : S → ℕ → Outcome S) (state : S) (bytes ready : List ℕ) (written written' : Option (List ℕ)) : Type 0 where
   pub front : List ℕ
   pub more : List ℕ
@@ -83,7 +83,7 @@ pub record WritesFor {S : Type 0} (byte : S → ℕ → Outcome S) (state : S) (
   pub goes : IsOk ((takes byte state front).result)
   pub wrote : Appends written written' (ready ++ (takes byte state front).text)
 
--- The same, and the state behind that front is the one in which memory was wanting, or the front is all of the bytes.
+-- The same, and the state after that prefix is the one in which memory ran out, or the prefix is all of the bytes.
 pub record HaltsFor {S : Type 0} (wants : S → Type 0) (byte : S → ℕ → Outcome S) (state : S) (bytes ready : List ℕ)
     (written written' : Option (List ℕ)) : Type 0 where
   pub writes : WritesFor byte state bytes ready written written'
@@ -114,7 +114,7 @@ abbrev pub Feeds : {U S : Type 0} → (U → S → Type 0) → (U → S → Type
 Feeds {U} {S} wants stands byte old bytes new ready ready' written written' faults faults' result =
     (state : S) → stands old state → FeedsBy wants stands byte state bytes new ready ready' written written' faults faults' result
 
--- The command goes on behind these bytes, and all that is due for them was written first.
+-- The command goes on after these bytes, and all that is due for them was written first.
 abbrev pub WritesFirst : {S : Type 0} → (S → ℕ → Outcome S) → S → List ℕ → Option (List ℕ) → Option (List ℕ) → Type 0
 WritesFirst byte state bytes written written' =
     IsOk ((takes byte state bytes).result) × (more : List ℕ) × Appends written written' ((takes byte state bytes).text ++ more)
@@ -130,7 +130,7 @@ pub record Took {U S : Type 0} (wants stands : U → S → Type 0) (byte : S →
   pub first : (state : S) → stands old state → WritesFirst byte state earlier written written'
   pub feeds : Feeds wants stands byte old (earlier ++ piece) new ready ready' written written' faults faults' result
 
--- The same behind a first read.
+-- The same after a first read.
 pub record TookBehind {U S : Type 0} (first : List ℕ) (wants stands : U → S → Type 0) (byte : S → ℕ → Outcome S) (old new : U) (ready ready' : List ℕ)
     (left left' written written' : Option (List ℕ)) (faults faults' : ℕ) (result : Result (Unit {0}) Interruption) : Type 0 where
   pub took : Took wants stands byte old new ready ready' left left' written written' faults faults' result
@@ -205,13 +205,13 @@ pub record Drove {U S T : Type 0} (stands : U → T → Type 0) (byte : S → �
   pub first : WritesFirst byte state earlier written written'
   pub by_result : DroveBy stands byte ends state (earlier ++ piece) new left' written written' faults faults' result
 
--- The same behind a first read.
+-- The same after a first read.
 pub record DroveBehind {U S T : Type 0} (first : List ℕ) (stands : U → T → Type 0) (byte : S → ℕ → Outcome S) (ends : S → Outcome T) (state : S)
     (new : U) (left left' written written' : Option (List ℕ)) (faults faults' : ℕ) (result : Result (Unit {0}) Interruption) : Type 0 where
   pub drove : Drove stands byte ends state new left left' written written' faults faults' result
   pub begins : BeginsWith first (drove.earlier ++ drove.piece)
 
--- Where memory was wanting, all that is due for the bytes before that was written.
+-- Where memory ran out, all that is due for the bytes before that was written.
 abbrev pub Starves : {U S : Type 0} → (U → S → Type 0) → (S → ℕ → Outcome S) → S → U → Option (List ℕ) → Option (List ℕ) → Option (List ℕ)
     → Option (List ℕ) → Result (Unit {0}) Interruption → Type 0
 Starves wants byte state new left left' written written' (Err (Halted Starved)) =

@@ -1,7 +1,7 @@
 -- What a command takes from its source and gives to its sink, as far as both tell it. Own rule.
 use Rattle.std.specs.Prelude.{ℕ, List, Option}
 
--- what is left of the source, what was written to the sink, and how often each failed, before a command and, with a stroke, behind it
+-- what is left of the source, what was written to the sink, and how often each failed, before a command and, with a stroke, after it
 pub record Exchange : Type 0 where
   pub left : Option (List ℕ)
   pub left' : Option (List ℕ)

@@ -1,4 +1,4 @@
--- A whole input as its lines, or as its units however it is cut. The code never has a whole input in its hands: it reads pieces of any size,
+-- A whole input as its lines, or as its units however it is cut. The code never has a whole input at once: it reads pieces of any size,
 -- and puts units together from them.
 use Rattle.std.specs.Prelude.{ℕ, ◌+◌, ◌==◌, ◌||◌, Bool, true, false, nat_lt, if◌then◌else◌, List, [], ◌∷◌, ◌++◌, length}
 use Rattle.sfu_driver.specs.Outcome.{Outcome, goes_on, then_due}
@@ -38,7 +38,7 @@ judged_lines (line ∷ lines) = if is_judged line then line ∷ judged_lines lin
 
 -- ---- units of any cut
 
--- A byte goes on with its unit, or ends it, and others follow. Nothing is said behind one that is outside the grammar.
+-- A byte goes on with its unit, or ends it, and others follow. Nothing is said after one that is outside the grammar.
 abbrev pub with_unit : Scan → List Scan → List Scan → List Scan
 with_unit More same next = same
 with_unit (Whole text) same next = Whole text ∷ next
@@ -49,7 +49,7 @@ abbrev pub last_unit : Scan → List Scan
 last_unit More = []
 last_unit seen = seen ∷ []
 
--- the units of bytes behind those that were kept, of which the first has this number
+-- the units of bytes after those that were kept, of which the first has this number
 abbrev pub units_of : (ℕ → List ℕ → ℕ → Scan) → (ℕ → List ℕ → Scan) → ℕ → List ℕ → List ℕ → List Scan
 units_of scan scan_end number kept [] = last_unit (scan_end number kept)
 units_of scan scan_end number kept (b ∷ bytes) =

@@ -28,7 +28,7 @@ judged rule state number More = goes_on state
 judged rule state number (Whole text) = if nat_le number 4294967295 then rule.step state number text else is_outside (rule.outside number)
 judged rule state number NoUnit = is_outside (rule.outside number)
 
--- the point behind a unit that has ended
+-- the point after a unit that has ended
 abbrev pub behind : {S : Type 0} → ℕ → S → Point S
 behind number state = record { state = state; number = number + 1; kept = [] }
 

@@ -1,6 +1,6 @@
 -- What each status says, for every command that reads its input unit by unit. `whole` is what is due for all bytes of the source, its end
--- included, and `part` what is due for bytes whose end hasn't been seen. A source that tells nothing of its bytes has some too: the clause
--- `every` speaks of it. Where a sink tells nothing of its bytes, nothing is said of what was written.
+-- included, and `part` what is due for bytes whose end hasn't been seen. A source that reports nothing of its bytes has some too: the clause
+-- `every` speaks of it. Where a sink reports nothing of its bytes, nothing is said of what was written.
 use Rattle.std.specs.Prelude.{◌≡◌, ◌⊎◌, ℕ, ◌<◌, ◌≤◌, List, [], ◌++◌, length, Option, Some, None, IfSome, Result, Ok, Err}
 use Rattle.std.specs.Io.KnownBytes.{Appends, Consumes, IsAtEnd}
 use Rattle.sfu_base.specs.Faults.{Rose, raised}
@@ -15,7 +15,7 @@ use Rattle.sfu_driver.specs.Outcome.{End, Outcome}
 use Rattle.sfu_driver.specs.Drive.{WritesEnd, WritesFront, WritesPart, end_by}
 use Rattle.sfu_driver.specs.Reads.{BeginsWith, most_bytes}
 
--- a text, and why the input ends the command behind it, with its last text, if it does
+-- a text, and why the input ends the command after it, with its last text, if it does
 pub record Due : Type 0 where
   pub text : List ℕ
   pub end : Option End
@@ -113,10 +113,10 @@ pub record SaysOf (whole part : List ℕ → Due) (taken : List ℕ) (left' writ
   -- 5, 8 and 10: they end the command, or their end does; all that is due before was written, and then the last text, or a front of it where the sink failed
   pub ended : (why : Ending) → status ≡ status_of why → Decides part why left' taken × (last : List ℕ) × ((whole taken).end ≡ Some (end_by why last))
       × WritesEnd written written' writes writes' (whole taken).text last
-  -- 6: what is due for a front of them was written, which doesn't end the command
+  -- 6: what is due for a prefix of them was written, which doesn't end the command
   pub memory : status ≡ 6 → (front : List ℕ) × (more : List ℕ) × (taken ≡ front ++ more) × ((part front).end ≡ None)
       × Appends written written' (part front).text
-  -- whatever the status, a front of what is due was written
+  -- whatever the status, a prefix of what is due was written
   pub begun : WritesFront written written' (full_text (whole taken))
 
 -- What is said of every source. Units are bounded in length and number: so are the bytes before the last piece.
@@ -139,25 +139,25 @@ pub record Statuses (whole part : List ℕ → Due) (left left' written written'
   -- 4: the sink failed; what was written is a part of what is due before the last text of an ending, and not all of it
   pub sink : status ≡ 4 → Rose writes writes'
   pub unwritten : status ≡ 4 → IfSome left (λ bytes. WritesPart written written' (whole bytes).text)
-  -- 5, 8 and 10: the input ended the command; all that is due before was written, and then the last text, or a front of it where the sink failed
+  -- 5, 8 and 10: the input ended the command; all that is due before was written, and then the last text, or a prefix of it where the sink failed
   pub ended : (why : Ending) → status ≡ status_of why → IfSome left (λ bytes. (last : List ℕ) × ((whole bytes).end ≡ Some (end_by why last))
       × WritesEnd written written' writes writes' (whole bytes).text last)
   -- and that stands in the bytes that were taken, whatever follows them, or in the input's end
   pub decided : (why : Ending) → status ≡ status_of why → IfSome left (λ bytes. (taken : List ℕ) × Consumes left left' taken × Decides part why left' taken)
-  -- 6: memory was wanting; what is due for a front of the bytes that were taken was written, and they don't end the command
+  -- 6: memory ran out; what is due for a prefix of the bytes that were taken was written, and they don't end the command
   pub memory : status ≡ 6 → IfSome left (λ bytes. (front : List ℕ) × (more : List ℕ) × Consumes left left' (front ++ more) × ((part front).end ≡ None)
       × Appends written written' (part front).text)
-  -- whatever the status, no more was read than was judged, and a front of what is due was written
+  -- whatever the status, no more was read than was judged, and a prefix of what is due was written
   pub prompt : IfSome left (λ bytes. IsPrompt part left left' written written')
   pub begun : IfSome left (λ bytes. WritesFront written written' (full_text (whole bytes)))
   -- no other status comes but those of inputs that end the command
   pub only : (status ≡ 0) ⊎ (status ≡ 3) ⊎ (status ≡ 4) ⊎ (status ≡ 6)
       ⊎ ((bytes : List ℕ) × (end : End) × ((whole bytes).end ≡ Some end) × (status ≡ status_of end.why))
   pub complete : ¬ (Rose reads reads') → ¬ (Rose writes writes') → IfSome left (λ bytes. Completes (whole bytes).end status)
-  -- of every source, also of one that tells nothing
+  -- of every source, also of one that reports nothing
   pub every : OfEvery whole part left left' written written' reads reads' writes writes' status
 
--- The same behind a first read, with which the bytes begin that were taken.
+-- The same after a first read, with which the bytes begin that were taken.
 pub record StatusesBehind (first : List ℕ) (whole part : List ℕ → Due) (left left' written written' : Option (List ℕ))
     (reads reads' writes writes' status : ℕ) : Type 0 where
   pub statuses : Statuses whole part left left' written written' reads reads' writes writes' status
