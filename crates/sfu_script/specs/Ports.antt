@@ -21,7 +21,7 @@ role_places Control = Word (codes "control") ∷ []
 role_places (Rtx subscriber ssrc rtx_ssrc payload_type) =
     Word (codes "rtx") ∷ Number 32 subscriber ∷ SsrcPlace ssrc ∷ SsrcPlace rtx_ssrc ∷ Number 8 payload_type ∷ []
 
--- Resent packets can be told from the others: their stream has an SSRC of its own (RFC 4588, section 5.3), and their payload type is 0 to 63
+-- Resent packets can be distinguished from the others: their stream has an SSRC of its own (RFC 4588, section 5.3), and their payload type is 0 to 63
 -- or 96 to 127, so that with or without the marker's bit their second byte is none of RTCP's (RFC 5761, section 4).
 abbrev pub is_apart : PortRole → Bool
 is_apart (Rtx subscriber ssrc rtx_ssrc payload_type) = not (rtx_ssrc == ssrc) && (nat_lt payload_type 64 || (nat_le 96 payload_type && nat_lt payload_type 128))
@@ -61,7 +61,7 @@ publisher_of rest = fields_of (Number32 ∷ Ssrc ∷ []) rest >>= of_two (λ tra
 abbrev pub subscriber_of : List ℕ → Option PortRole
 subscriber_of rest = fields_of (Number32 ∷ Ssrc ∷ []) rest >>= of_two (λ subscriber ssrc. Subscriber subscriber ssrc)
 
--- a role whose resent packets can be told from the others
+-- a role whose resent packets can be distinguished from the others
 abbrev pub if_apart : PortRole → Option PortRole
 if_apart role = if is_apart role then Some role else None
 
@@ -84,7 +84,7 @@ named_role_of word rest =
 unfoldable pub role_of : List ℕ → Option PortRole
 role_of rest = if bytes_eq rest (codes "control") then Some Control else (cut rest >>= (λ parts. named_role_of parts.0 parts.1))
 
--- behind `port`: the port's own address, its peer's, and what it is for
+-- after `port`: the port's own address, its peer's, and what it is for
 unfoldable pub addressed : List ℕ → Option PortLine
 addressed rest = do
   local ← field address_of rest

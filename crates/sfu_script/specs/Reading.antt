@@ -19,16 +19,16 @@ abbrev pub onto_first : ℕ → Option (List ℕ × List ℕ) → Option (List �
 onto_first b None = None
 onto_first b (Some p) = Some (b ∷ p.0, p.1)
 
--- what stands before the first such byte and behind it
+-- what stands before the first such byte and after it
 abbrev pub cut_at : ℕ → List ℕ → Option (List ℕ × List ℕ)
 cut_at mark [] = None
 cut_at mark (b ∷ bs) = if b == mark then Some ([], bs) else onto_first b (cut_at mark bs)
 
--- what stands before the first space and behind it
+-- what stands before the first space and after it
 abbrev pub cut : List ℕ → Option (List ℕ × List ℕ)
 cut text = cut_at 32 text
 
--- what the word before the first space says, and what stands behind the space
+-- what the word before the first space says, and what follows the space
 abbrev pub field : {X : Type 0} → (List ℕ → Option X) → List ℕ → Option (X × List ℕ)
 field read text = do
   parts ← cut text
