@@ -1,4 +1,4 @@
--- The words that a text is written from, as the code hands them on.
+-- The words that a text is written from, as the code passes them on.
 use Rattle.std.specs.Prelude.{ℕ, List, [], ◌∷◌, ◌++◌, decimal}
 use Rattle.std.specs.Int.{to_be_bytes, w32}
 use Rattle.std.specs.List.{flat_map}

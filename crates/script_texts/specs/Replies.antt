@@ -36,7 +36,7 @@ fault_word Csrc = codes "csrc"
 fault_word Extension = codes "extension"
 fault_word Padding = codes "padding"
 
--- behind the word `refused`, save of the two refusals that have a text of their own
+-- after the word `refused`, save of the two refusals that have a text of their own
 abbrev pub refused : List Place → List Place
 refused places = Word (codes "refused") ∷ places
 
