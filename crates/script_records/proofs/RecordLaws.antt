@@ -67,7 +67,7 @@ least count e = grind (arith, nat_tests)
 most : (count : ℕ) → (leb 14 (suc count) && leb (suc count) 2061) ≡ true → count ≤ 2060
 most count e = grind (arith, nat_tests)
 
--- a packet's bytes stand behind its two numbers
+-- a packet's bytes follow its two numbers
 packet_found : (bytes : List ℕ) (said : Call) → 13 ≤ length bytes → length bytes ≤ 2060 → AreBytes bytes → call_at kind.Packet bytes ≡ Some said → IsBody said (4 ∷ bytes)
 packet_found bytes said long short fits e =
     let fs : List Field = Number32 ∷ Number64 ∷ [] in

@@ -38,7 +38,7 @@ place_bytes (Address ip port) = big_bytes 4 ip ++ big_bytes 2 port
 abbrev pub body_of : Call → List ℕ
 body_of call = kind_of call ∷ flat_map place_bytes (places call)
 
--- a body behind its length, which has two bytes
+-- a body after its length, which has two bytes
 abbrev pub framed : List ℕ → List ℕ
 framed body = big_bytes 2 (length body) ++ body
 
