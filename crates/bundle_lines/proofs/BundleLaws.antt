@@ -51,7 +51,7 @@ word_is word named =
 
 -- ---- what is read is spelled
 
--- the line is the word and what stands behind it
+-- the line is the word and what follows it
 abbrev Behind : List ℕ → List ℕ → BundleLine → Type 0
 Behind word rest said = IsBundleLine said (word ++ 32 ∷ rest)
 

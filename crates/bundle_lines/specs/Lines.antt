@@ -15,7 +15,7 @@ line_places (Pump bundle) = Word (codes "pump") ∷ Number 32 bundle ∷ []
 line_places (Draw bundle) = Word (codes "draw") ∷ Number 32 bundle ∷ []
 line_places (Redraw bundle seq) = Word (codes "redraw") ∷ Number 32 bundle ∷ Number 16 seq ∷ []
 
--- Two legs count, and 0 stands behind them, or three count.
+-- Two legs count, and 0 follows them, or three count.
 abbrev pub AreLegs : List ℕ → ℕ → Type 0
 AreLegs (one ∷ two ∷ three ∷ []) count = ((count ≡ 2) × (three ≡ 0)) ⊎ (count ≡ 3)
 AreLegs legs count = ⊥

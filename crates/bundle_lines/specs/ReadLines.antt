@@ -29,7 +29,7 @@ abbrev pub with_three_legs : List ℕ → Option BundleLine
 with_three_legs (bundle ∷ id ∷ ssrc ∷ first ∷ one ∷ two ∷ three ∷ []) = Some (line.Bundle bundle id ssrc first (one ∷ two ∷ three ∷ []) 3)
 with_three_legs numbers = None
 
--- ---- what stands behind the first word
+-- ---- what follows the first word
 
 abbrev pub two_legs_of : List ℕ → Option BundleLine
 two_legs_of rest = fields_of (Number32 ∷ Number8 ∷ Ssrc ∷ Number16 ∷ Number32 ∷ Number32 ∷ []) rest >>= with_two_legs
