@@ -33,7 +33,7 @@ Opens rule None (Some new) told = (told ≡ code_number code.Done) × Begins rul
 
 -- ---- a datagram, or none
 
--- The session was busy, since it had a call to make, and is as it was; or it waited, and what came at this moment was worked off as its rule says.
+-- The session was busy, since it had a call to make, and is as it was; or it waited, and what came at this moment was served as its rule says.
 abbrev pub HearsAs : Attended → Attended → Option (List ℕ) → ℕ → PlainReply → Type 0
 HearsAs old new got moment told =
     ((told ≡ bare_of code.Busy) × (new ≡ old) × (call : Call) × ((turns : ℕ) → Asks (left_of old turns) call))

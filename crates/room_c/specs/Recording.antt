@@ -3,7 +3,7 @@ use Rattle.std.specs.Prelude.{Bool, false, List, Option, None}
 use Rattle.room_core.specs.Noted.{Noted}
 use Rattle.room_core.specs.declared.recorder.KeepNone.{KeepNone}
 
--- the recorder tells nothing, and never refuses
+-- the recorder reports nothing, and never refuses
 abbrev pub untold : KeepNone → Option (List Noted)
 untold recorder = None
 
