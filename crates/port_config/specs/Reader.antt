@@ -17,7 +17,7 @@ abbrev pub judged_said : Setup → ℕ → Option Said → Outcome Setup
 judged_said setup number None = fault_at number
 judged_said setup number (Some x) = if may_follow setup x then goes_on (and_said setup x) else fault_at number
 
--- what is due for the line with this number behind lines that said this: nothing is written before the end
+-- what is due for the line with this number after lines that said this: nothing is written before the end
 abbrev pub judged_line : Setup → ℕ → List ℕ → Outcome Setup
 judged_line setup number line = if is_skipped line then goes_on setup else judged_said setup number (said_by line)
 

@@ -28,9 +28,9 @@ pub record ReadsSetup (left left' written written' : Option (List ℕ)) (served 
   pub setup : IsSetup (configuration_of bytes).setup served
   pub unwritten : Appends written written' []
 
--- The source was not read to an end, or its bytes are no configuration, or memory was wanting.
+-- The source was not read to an end, or its bytes are no configuration, or memory ran out.
 pub record ReadsNoSetup (left left' written written' : Option (List ℕ)) (reads reads' writes writes' status : ℕ) : Type 0 where
   pub statuses : Statuses read_due read_part left left' written written' reads reads' writes writes' status
   pub only : (status ≡ 3) ⊎ (status ≡ 5) ⊎ (status ≡ 6)
-  -- unless a line is outside the grammar, nothing was written, whatever the source tells
+  -- unless a line is outside the grammar, nothing was written, whatever the source reports
   pub unwritten : (status ≡ 3) ⊎ (status ≡ 6) → Appends written written' []

@@ -1,5 +1,5 @@
 -- What the bytes of a configuration for `serve` say: calls that are made before any session starts, and the ports that are served. Own
--- rule. The code never has a whole configuration in its hands: it reads pieces of any size, and puts what lines say into lists.
+-- rule. The code never has a whole configuration at once: it reads pieces of any size, and puts what lines say into lists.
 use Rattle.std.specs.Prelude.{ℕ, ◌+◌, nat_lt, nat_le, if◌then◌else◌, Bool, true, List, [], ◌∷◌, ◌++◌, length, Option, Some, None}
 use Rattle.std.specs.List.{list_all}
 use Rattle.sfu_base.specs.declared.call.Call.{Call}
@@ -43,7 +43,7 @@ pub record Setup : Type 0 where
   pub calls : List Call
   pub ports : List PortLine
 
--- the resent packets of each port can be told from the others
+-- the resent packets of each port can be distinguished from the others
 abbrev pub all_apart : List PortLine → Bool
 all_apart ports = list_all (λ port. is_apart port.role) ports
 
@@ -83,7 +83,7 @@ with_line setup More number next = next setup
 with_line setup (Whole text) number next = if nat_le number 4294967295 then with_text setup text number next else stops_at setup number
 with_line setup NoUnit number next = stops_at setup number
 
--- what lines say behind those that said this, where the first has this number
+-- what lines say after those that said this, where the first has this number
 abbrev pub said_behind : Setup → List Line → ℕ → Configured
 said_behind setup [] number = record { setup = setup; fault = None }
 said_behind setup (line ∷ lines) number = with_line setup (said line) number (λ later. said_behind later lines (number + 1))
