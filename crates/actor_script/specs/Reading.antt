@@ -33,9 +33,9 @@ pub record ReadsActors (left left' written written' : Option (List ℕ)) (reads 
   pub few : count_of actors ≤ 100000
   pub lines : HaveBytes actors
 
--- The source was not read to an end, or its bytes are no script, or memory was wanting.
+-- The source was not read to an end, or its bytes are no script, or memory ran out.
 pub record ReadsNone (left left' written written' : Option (List ℕ)) (reads reads' writes writes' status : ℕ) : Type 0 where
   pub statuses : Statuses read_due read_part left left' written written' reads reads' writes writes' status
   pub only : (status ≡ 3) ⊎ (status ≡ 5) ⊎ (status ≡ 6)
-  -- unless a line is outside the grammar, nothing was written, whatever the source tells
+  -- unless a line is outside the grammar, nothing was written, whatever the source reports
   pub unwritten : (status ≡ 3) ⊎ (status ≡ 6) → Appends written written' []

@@ -1,5 +1,5 @@
 -- What the bytes of a script for `together` say: an opening part of plain lines, then lines of actors, then a closing part of plain lines.
--- Own rule. The code never has a whole script in its hands: it reads pieces of any size, and puts the calls of the lines into lists.
+-- Own rule. The code never has a whole script at once: it reads pieces of any size, and puts the calls of the lines into lists.
 use Rattle.std.specs.Prelude.{◌≡◌, ℕ, ◌+◌, ◌==◌, ◌||◌, nat_le, if◌then◌else◌, Bool, true, false, List, [], ◌∷◌, ◌++◌, map, Option, Some, None}
 use Rattle.sfu_base.specs.declared.call.Call.{Call}
 use Rattle.sfu_driver.specs.Input.{Line, judged_lines, lines_of, said}
@@ -43,7 +43,7 @@ abbrev pub opening_of : List Said → List Call
 opening_of [] = []
 opening_of (x ∷ xs) = if is_plain x then x.call ∷ opening_of xs else []
 
--- the plain lines behind the first line of an actor
+-- the plain lines after the first line of an actor
 abbrev pub closing_of : List Said → List Call
 closing_of [] = []
 closing_of (x ∷ xs) = if is_plain x then closing_of xs else calls_by 0 xs
@@ -64,7 +64,7 @@ abbrev pub is_empty : {A : Type 0} → List A → Bool
 is_empty [] = true
 is_empty (x ∷ xs) = false
 
--- Behind these lines this one may stand: no line of an actor stands behind a line of the closing part.
+-- After these lines this one may stand: no line of an actor follows a line of the closing part.
 abbrev pub may_follow : List Said → Said → Bool
 may_follow past next = is_plain next || is_empty (closing_of past)
 
@@ -91,7 +91,7 @@ with_line past More number next = next past
 with_line past (Whole text) number next = with_text past text number next
 with_line past NoUnit number next = stops_at past number
 
--- what lines say behind those that said this, where the first has this number
+-- what lines say after those that said this, where the first has this number
 abbrev pub said_behind : List Said → List Line → ℕ → Lines
 said_behind past [] number = record { said = past; fault = None }
 said_behind past (line ∷ lines) number = with_line past (said line) number (λ later. said_behind later lines (number + 1))
