@@ -1,4 +1,4 @@
--- The values that a body is written from, as the code passes them on.
+-- The values of a body, as the code passes them to the writer.
 use Rattle.std.specs.Prelude.{ℕ, List}
 use Rattle.std.specs.List.{flat_map}
 use Rattle.byteorder.specs.Endian.{big_bytes}
