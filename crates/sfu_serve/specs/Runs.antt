@@ -22,7 +22,7 @@ deed_of (Subscriber subscriber ssrc) limit = subscriber_deed subscriber ssrc lim
 deed_of Control limit = control_deed limit
 deed_of (Rtx subscriber ssrc rtx) limit = rtx_deed subscriber ssrc rtx limit
 
--- A session of this role is possible: a retransmission stream has an SSRC of its own and a payload type of seven bits.
+-- A session of this role is possible: a retransmission stream has its own SSRC and a payload type of seven bits.
 abbrev pub CanBe : Role → Type 0
 CanBe (Rtx subscriber ssrc rtx) = (rtx.ssrc ≢ ssrc) × (rtx.payload_type < 128)
 CanBe role = Unit {0}
