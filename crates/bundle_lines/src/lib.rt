@@ -1,5 +1,5 @@
-//! The lines of scripts with bundles, and the replies to lines about bundles. A bundle makes one outgoing stream from the packets of
-//! two or three subscribers.
+//! The lines of scripts with bundles, and the replies that only lines about bundles have. A bundle makes one outgoing stream from the
+//! packets of two or three subscribers.
 #![tactic(auto)]
 
 mod command;

@@ -22,7 +22,7 @@ pub enum BundleLine {
         bundle: u32,
         leg: u8,
     },
-    /// Takes all packets queued for the bundle's legs.
+    /// Takes the packets that are queued for the bundle's legs.
     Pump {
         bundle: u32,
     },

@@ -1,4 +1,4 @@
-// The replies to lines about bundles.
+// The replies that only lines about bundles have.
 ghost use Rattle.std.specs.Prelude.{◌≡◌, ◌++◌, ◌∷◌, [], OnErr, OnOk, decimal};
 ghost use Rattle.script_texts.specs.Texts.{GoesOn};
 ghost use Rattle.bundle_lines.specs.Replies.{bundle_reply_text};
