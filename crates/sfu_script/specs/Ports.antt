@@ -21,7 +21,7 @@ role_places Control = Word (codes "control") ∷ []
 role_places (Rtx subscriber ssrc rtx_ssrc payload_type) =
     Word (codes "rtx") ∷ Number 32 subscriber ∷ SsrcPlace ssrc ∷ SsrcPlace rtx_ssrc ∷ Number 8 payload_type ∷ []
 
--- Retransmissions can be distinguished from other packets: their stream has an SSRC of its own (RFC 4588, section 5.3). Their payload type is 0
+-- Retransmissions differ from other packets: their stream has an SSRC of its own (RFC 4588, section 5.3), and their payload type is 0
 -- to 63 or 96 to 127, so that with or without the marker bit their second byte isn't one of RTCP's (RFC 5761, section 4).
 abbrev pub is_apart : PortRole → Bool
 is_apart (Rtx subscriber ssrc rtx_ssrc payload_type) = not (rtx_ssrc == ssrc) && (nat_lt payload_type 64 || (nat_le 96 payload_type && nat_lt payload_type 128))
