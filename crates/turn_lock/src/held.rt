@@ -23,7 +23,7 @@ pub trait Held: Drop {
     /// Whether the reply says that memory ran out.
     ghost starves: { Self.Reply → Bool };
 
-    /// Serves a call by the seat with number `seat`. The value's list then ends with the entry of this call.
+    /// Serves a call by the seat with number `seat`, and appends the call's entry to the value's list.
     fn serve(&mut self, seat: u32, call: &Self::Call, scratch: &mut Self::Scratch) -> Self::Reply
         ensures { (h : List (Entry Self.Call)) → stands self.old h → stands self.new (h ++ entry seat call.now (starves result) ∷ [])
             × gives h seat call.now result scratch.new };
