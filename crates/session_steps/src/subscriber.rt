@@ -31,7 +31,7 @@ enum Next {
 
 /// The session of a subscriber. In each turn it serves the RTCP feedback that came, item by item. For each packet that a NACK names (RFC 4585,
 /// section 6.2.1) it requests a resend and sends the retransmission. For a picture loss indication (section 6.3.1) it requests a key frame.
-/// Items whose media source isn't the subscriber's SSRC are skipped. Then the session takes packets and sends them, until a take has none or
+/// Items whose media source isn't the subscriber's SSRC are skipped. Then it takes packets and sends them, until a take returns none or
 /// 32 were taken.
 ///
 /// The session reuses its calls from turn to turn: a [`Call`] has a buffer for a packet, which a new call would have to clear.
