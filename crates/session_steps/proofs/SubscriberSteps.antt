@@ -53,7 +53,7 @@ sendable s given bytes names is replied gave =
     let r = subst (λ (n : Next). IsReplyIn (subscribing_at n s 0) given bytes names) is replied in
     r.sendable gave
 
--- the rest is told in another way
+-- the rest in other words
 pub rest_as : (d rest other : Doing) (bytes : List ℕ) (output : Output) → rest ≡ other → GoesOn d rest bytes output → GoesOn d other bytes output
 rest_as d rest other bytes output same goes = subst (λ (r : Doing). GoesOn d r bytes output) same goes
 
