@@ -1,4 +1,4 @@
--- What is due for the lines of a script for `together`, one after another, is nothing, and then the fault of the first that is none.
+-- Nothing is due for the lines of a script for `together`, and then the fault of the first line outside the grammar.
 use Rattle.std.proofs.Common.{◌≡◌, ◌⊎◌, inl, inr, ℕ, ◌+◌, ⊎_elim, Bool, true, false, cond, leb, List, [], ◌∷◌, ◌++◌, length, map, refl, sym, ap, ◌∙◌, subst, arith, Option, Some, None, Result, Ok, Err, length-append}
 use Rattle.std.proofs.lemmas.Bool.{false≢true}
 use Rattle.std.proofs.lemmas.Bool.Decides.{nat_tests}
@@ -113,7 +113,7 @@ read_ok stands new left left' w w' f f' (Ok _) is d =
     let whole = read_whole taken b.1.0 b.1.1 in
     (taken, b.1.0, d.consumed, b.0, whole.0, whole.1, b.1.2, subst (λ (text : List ℕ). Appends w w' text) (read_writes_nothing taken) b.1.3)
 
--- ---- a script that wasn't
+-- ---- a script that wasn't read
 
 no_part : (w w' : Option (List ℕ)) (text : List ℕ) → text ≡ [] → WritesPart w w' text → ⊥
 no_part w w' text none part = let missing = part.missing in let more = length-append part.text part.more in omega (arith, ap length (sym none ∙ part.split))

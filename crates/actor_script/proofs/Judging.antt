@@ -1,4 +1,4 @@
--- What is due for a line of a script, by what it says.
+-- What is due for a line of a script, by its meaning.
 use Rattle.std.proofs.Common.{◌≡◌, ℕ, Bool, true, false, cond, leb, List, [], ◌∷◌, ◌++◌, ap, ◌∙◌, Option, Some, None}
 use Rattle.sfu_driver.specs.Outcome.{Outcome, goes_on}
 use Rattle.sfu_script.specs.Skipped.{is_skipped}

@@ -1,4 +1,4 @@
--- What one more line makes of the parts of a script.
+-- How one more line changes the parts of a script.
 use Rattle.std.proofs.Common.{◌≡◌, ℕ, ◌<◌, ◌≤◌, ◌-◌, Bool, true, false, cond, eqb, List, [], ◌∷◌, ◌++◌, map, refl, sym, ap, ◌∙◌, subst, arith, Result, Ok, Err, slice_set, get_or}
 use Rattle.std.specs.Prelude.{OnOk}
 use Rattle.std.proofs.lemmas.Bool.{false≢true}
@@ -81,7 +81,7 @@ pub close_act : (xs : List Said) (x : Said) → eqb x.actor 0 ≡ false → clos
 close_act [] x h = ap (λ (b : Bool). cond b [] []) h
 close_act (y ∷ ys) x h = λ i. cond (eqb y.actor 0) (close_act ys x h i) (calls_same 0 ys x h i)
 
--- ---- whether an actor's line came
+-- ---- whether a line of an actor came
 
 pub acted_plain : (xs : List Said) (c : Call) → some_acted (xs ++ said 0 c ∷ []) ≡ some_acted xs
 acted_plain [] c = refl

@@ -1,4 +1,4 @@
--- Turns in the order of their places are the history's.
+-- Turns in the order of their places are in the history's order.
 use Rattle.std.proofs.Common.{◌≡◌, ◌⊎◌, ℕ, zero, suc, ◌+◌, ◌<◌, ◌≤◌, Bool, cond, List, [], ◌∷◌, ◌++◌, length, get_or, refl, ap, sym, subst, inl, inr, ⊎_elim, arith, eq-eqb, ne_eqb}
 use mathlib.Core.Logic.{dite}
 use native.Mathlib.Decide.{ℕ_discrete}
@@ -74,7 +74,7 @@ in_rest s a ss us n r at has x h =
     let here = at.0 in
     not_first s ss x (let k = from_on (n + 1) us x at.1 h in omega arith) (has x (inr h))
 
--- a rising list that has all of a list without gaps, and is us long, is that list
+-- a rising list that has all of a list without gaps, and is as long, is that list
 same_list : (ss all : List Placed) (n : ℕ) → length ss ≡ length all → Rises ss → AtPlaces n all → ((x : Placed) → Has all x → Has ss x) → ss ≡ all
 same_list [] [] n long r at has = refl
 same_list [] (a ∷ us) n long r at has = absurd (omega arith)

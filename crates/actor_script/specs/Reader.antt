@@ -14,7 +14,7 @@ abbrev pub judged_said : List Said → ℕ → Option Said → Outcome (List Sai
 judged_said past number None = fault_at number
 judged_said past number (Some x) = if may_follow past x then goes_on (past ++ x ∷ []) else fault_at number
 
--- what is due for the line with this number behind lines that said this: nothing is written before the end
+-- what is due for the line with this number after lines that said this: nothing is written before the end
 abbrev pub judged_line : List Said → ℕ → List ℕ → Outcome (List Said)
 judged_line past number line =
     if nat_le number 100000 then (if is_skipped line then goes_on past else judged_said past number (said_by line)) else fault_at number

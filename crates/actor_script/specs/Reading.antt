@@ -1,4 +1,4 @@
--- What the reading of a script for `together` comes to. Nothing is written but the line that says which line is outside the grammar.
+-- The result of reading a script for `together`. Nothing is written except which line is outside the grammar.
 use Rattle.std.specs.Prelude.{◌≡◌, ◌⊎◌, ℕ, ◌≤◌, List, [], Option, None}
 use Rattle.std.specs.Io.KnownBytes.{Appends, Consumes, IsAtEnd}
 use Rattle.sfu_driver.specs.Statuses.{Due, Statuses}
@@ -8,7 +8,7 @@ use Rattle.script_texts.specs.WholeLines.{fault_line}
 use Rattle.actor_script.specs.Counts.{HaveBytes, count_of}
 use Rattle.actor_script.specs.Script.{AreActors, Lines, together_script, together_so_far}
 
--- nothing is due for lines, and then which is outside the grammar
+-- nothing is due for the lines, and then the number of the line outside the grammar, if any
 abbrev pub due_for : Lines → Due
 due_for lines = record { text = []; end = outside_end fault_line lines.fault }
 
@@ -33,9 +33,9 @@ pub record ReadsActors (left left' written written' : Option (List ℕ)) (reads 
   pub few : count_of actors ≤ 100000
   pub lines : HaveBytes actors
 
--- The source was not read to an end, or its bytes are no script, or memory was wanting.
+-- The source was not read to its end, or its bytes aren't a script, or memory ran out.
 pub record ReadsNone (left left' written written' : Option (List ℕ)) (reads reads' writes writes' status : ℕ) : Type 0 where
   pub statuses : Statuses read_due read_part left left' written written' reads reads' writes writes' status
   pub only : (status ≡ 3) ⊎ (status ≡ 5) ⊎ (status ≡ 6)
-  -- unless a line is outside the grammar, nothing was written, whatever the source tells
+  -- unless a line is outside the grammar, nothing was written, for every source
   pub unwritten : (status ≡ 3) ⊎ (status ≡ 6) → Appends written written' []

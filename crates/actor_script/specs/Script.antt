@@ -1,5 +1,5 @@
 -- What the bytes of a script for `together` say: an opening part of plain lines, then lines of actors, then a closing part of plain lines.
--- Own rule. The code never has a whole script in its hands: it reads pieces of any size, and puts the calls of the lines into lists.
+-- Own rule. The code never has a whole script at once: it reads pieces of any size, and collects the calls of the lines in lists.
 use Rattle.std.specs.Prelude.{◌≡◌, ℕ, ◌+◌, ◌==◌, ◌||◌, nat_le, if◌then◌else◌, Bool, true, false, List, [], ◌∷◌, ◌++◌, map, Option, Some, None}
 use Rattle.sfu_base.specs.declared.call.Call.{Call}
 use Rattle.sfu_driver.specs.Input.{Line, judged_lines, lines_of, said}
@@ -11,7 +11,7 @@ use Rattle.sfu_script.specs.Skipped.{is_skipped}
 
 -- ---- a line
 
--- a call, and the actor that makes it, 1 to 8; a plain line has 0
+-- a call and its actor, 1 to 8; the actor of a plain line is 0
 pub record Said : Type 0 where
   pub actor : ℕ
   pub call : Call
@@ -24,7 +24,7 @@ abbrev pub or_actor : Option Call → Option (ℕ × Call) → Option Said
 or_actor None by = of_actor by
 or_actor (Some call) by = Some (record { actor = 0; call = call })
 
--- what a line says, where it is a call's line or an actor's
+-- the meaning of a line, if it is a call's line or an actor's
 abbrev pub said_by : List ℕ → Option Said
 said_by line = or_actor (call_of line) (actor_call_of line)
 
@@ -43,7 +43,7 @@ abbrev pub opening_of : List Said → List Call
 opening_of [] = []
 opening_of (x ∷ xs) = if is_plain x then x.call ∷ opening_of xs else []
 
--- the plain lines behind the first line of an actor
+-- the plain lines after the first line of an actor
 abbrev pub closing_of : List Said → List Call
 closing_of [] = []
 closing_of (x ∷ xs) = if is_plain x then closing_of xs else calls_by 0 xs
@@ -64,7 +64,7 @@ abbrev pub is_empty : {A : Type 0} → List A → Bool
 is_empty [] = true
 is_empty (x ∷ xs) = false
 
--- Behind these lines this one may stand: no line of an actor stands behind a line of the closing part.
+-- This line may follow these lines: no line of an actor follows a line of the closing part.
 abbrev pub may_follow : List Said → Said → Bool
 may_follow past next = is_plain next || is_empty (closing_of past)
 
@@ -91,7 +91,7 @@ with_line past More number next = next past
 with_line past (Whole text) number next = with_text past text number next
 with_line past NoUnit number next = stops_at past number
 
--- what lines say behind those that said this, where the first has this number
+-- the meaning of lines that follow those with this meaning; the first has this number
 abbrev pub said_behind : List Said → List Line → ℕ → Lines
 said_behind past [] number = record { said = past; fault = None }
 said_behind past (line ∷ lines) number = with_line past (said line) number (λ later. said_behind later lines (number + 1))

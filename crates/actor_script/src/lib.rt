@@ -1,4 +1,4 @@
-//! Scripts of actors: who makes which calls, read to the script's end, and the journal that the actors' turns make.
+//! Scripts of actors: the calls of each actor, read to the script's end, and the journal of the actors' turns.
 #![tactic(auto)]
 
 mod lists;

@@ -1,9 +1,9 @@
-// Lists that grow; `NoMemory` where they can't.
+// Appending to lists; `NoMemory` if memory runs out.
 ghost use Rattle.std.specs.Prelude.{◌≡◌, ◌++◌, ◌∷◌, [], OnOk};
 
 use sfu_base::NoMemory;
 
-/// Appends an item.
+/// Appends an item. On `NoMemory` the list may have changed.
 pub fn put_last<T: Drop>(list: &mut Vec<T>, item: T) -> Result<(), NoMemory>
     ensures { OnOk result (list.new.items ≡ list.old.items ++ item ∷ []) }
 {

@@ -1,4 +1,4 @@
-// The script of `together`, read line by line.
+// Reading a script of `together` line by line.
 ghost use Rattle.std.specs.Prelude.{◌≡◌, ◌<◌, ◌≤◌, ◌∷◌, ◌++◌, [], List, MatchResult, IfOk, OnOk, Some, None};
 ghost use Rattle.script_texts.specs.WholeLines.{fault_line};
 ghost use Rattle.sfu_base.specs.declared.call.Call.{Call};
@@ -12,10 +12,10 @@ use sfu_driver::{Ending, Halt, Judge};
 use sfu_script::{NoLine, is_skipped, read_actor_line, read_call};
 use std::alloc::Global;
 
-/// The greatest number of a line.
+/// The greatest line number in a script.
 const MOST_LINES: u32 = 100_000;
 
-/// Puts the calls of lines into the lists of those who make them.
+/// Collects the calls of lines in the lists of their actors.
 #[derive(Drop)]
 pub struct ActorsReader {
     opening: Vec<Call>,
@@ -46,14 +46,14 @@ impl ActorsReader {
         }
     }
 
-    // Whether a line of this actor may follow the lines that were read; for 0, whether a plain line may.
+    // Whether a line of this actor may follow the lines read so far. Actor 0 means a plain line.
     fn may_follow(&self, actor: u8) -> bool
         ensures { (past : List Said) → Holds self.now past → (call : Call) → result ≡ may_follow past (record { actor = actor; call = call }) }
     {
         actor == 0 || self.closing.is_empty()
     }
 
-    // Puts a call of a plain line into its part.
+    // Appends the call of a plain line to the opening or the closing part.
     fn add_plain(&mut self, call: Call) -> Result<(), NoMemory>
         ensures { OnOk result ((past : List Said) → Holds self.old past → Holds self.new (past ++ record { actor = 0; call = call } ∷ [])) }
     {
@@ -64,7 +64,7 @@ impl ActorsReader {
         }
     }
 
-    // Puts a call into the list of its actor.
+    // Appends a call to the list of its actor.
     fn add_act(&mut self, actor: u8, call: Call) -> Result<(), NoMemory>
         requires some { 0 < actor }
         requires within { actor ≤ 8 }
@@ -74,7 +74,7 @@ impl ActorsReader {
         put_last(&mut self.acts[usize::from(actor) - 1], call)
     }
 
-    // Puts a call into the list of who makes it.
+    // Appends a call to the list of its actor or, for actor 0, to its part.
     fn add(&mut self, actor: u8, call: Call) -> Result<(), NoMemory>
         requires { actor ≤ 8 }
         ensures { OnOk result ((past : List Said) → Holds self.old past → Holds self.new (past ++ record { actor = actor; call = call } ∷ [])) }
@@ -86,7 +86,7 @@ impl ActorsReader {
         }
     }
 
-    /// Who makes which calls.
+    /// The calls of each actor and of the opening and closing parts.
     pub fn into_actors(self) -> Actors
         ensures { (past : List Said) → Holds self past → AreActors past result }
     {
@@ -149,7 +149,7 @@ impl Judge for ActorsReader {
     }
 }
 
-// The call that a line says, and the actor that makes it; 0 where the line names none.
+// Reads a line as an actor and its call; the actor is 0 if the line names none.
 fn read_said(line: &[u8]) -> Result<(u8, Call), NoLine>
     ensures value { MatchResult result (λ by. said_by line.now ≡ Some (record { actor = by.0; call = by.1 })) (λ _. said_by line.now ≡ None) }
     ensures within { IfOk result (λ by. by.0 ≤ 8) }

@@ -1,4 +1,4 @@
-// The script of `together`, read to its end.
+// Reading a whole script of `together`.
 ghost use Rattle.std.specs.Prelude.{◌≤◌, IfErr, IfOk};
 ghost use Rattle.actor_script.specs.Reading.{ReadsActors, ReadsNone};
 ghost use Rattle.sfu_driver.specs.Statuses.{number_of};
@@ -9,8 +9,8 @@ use sfu_base::{Sink, Source};
 use sfu_driver::{Lines, Status, Units, drive};
 use std::alloc::Global;
 
-/// Who makes which calls, by the source's lines. Where these are no script or can't be read, or memory runs out, the status of the command:
-/// 5, 3 or 6. Nothing is written but `line N` where line N is outside the grammar.
+/// Reads the calls of each actor from the source's lines. An error is the command's status: 5 if a line is outside the grammar, 3 if the
+/// source can't be read, 6 if memory runs out. It writes nothing but `line N`, if line N is outside the grammar.
 pub fn read_actors<S: Source, K: Sink>(
     alloc: Global,
     source: &mut S,

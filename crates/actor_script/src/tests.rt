@@ -1,4 +1,4 @@
-// Scripts for `together` with the parts that they say, or the line that is outside the grammar.
+// Scripts for `together` with their parts, or with the number of the line outside the grammar.
 use crate::read_actors;
 use script_texts::Actors;
 use sfu_base::{Call, MemSink, MemSource};
@@ -6,7 +6,7 @@ use sfu_driver::Status;
 use std::alloc::{AllocError, Global};
 use std::test::Fail;
 
-// The subscribers of takes; 0 for another call.
+// The subscriber of each take; 0 for another call.
 fn subscribers(alloc: Global, calls: &[Call]) -> Result<Vec<u32>, AllocError> {
     let mut numbers = Vec::new(alloc);
     for call in calls {
@@ -18,7 +18,7 @@ fn subscribers(alloc: Global, calls: &[Call]) -> Result<Vec<u32>, AllocError> {
     Ok(numbers)
 }
 
-// What a script says, or the status, and what was written.
+// The result for a script, and the text written.
 fn read(alloc: Global, script: &[u8]) -> Result<(Result<Actors, Status>, Vec<u8>), AllocError> {
     let mut source = MemSource::new(script.to_vec(alloc)?, Vec::new(alloc));
     let mut sink = MemSink::new(alloc, Vec::new(alloc));
@@ -29,7 +29,7 @@ fn read(alloc: Global, script: &[u8]) -> Result<(Result<Actors, Status>, Vec<u8>
 #[test]
 fn a_script_says_its_parts(rt: HostRuntime) -> Result<(), Fail> {
     let alloc = rt.alloc();
-    // The script, the takes of the opening part, of actors 1, 2 and 8, and of the closing part.
+    // The script, and the takes of the opening part, of actors 1, 2 and 8, and of the closing part.
     let rows: [(&str, [&[u32]; 5]); 6] = [
         ("", [&[], &[], &[], &[], &[]]),
         ("take 1\n# a\ntake 2", [&[1, 2], &[], &[], &[], &[]]),

@@ -1,4 +1,4 @@
-// The turns of actors, and the journal that they make.
+// The turns of actors, and the journal made of them.
 ghost use Rattle.std.specs.Prelude.{◌≡◌, IfOk, List, map, IsPermutation, false};
 ghost use Rattle.sfu_base.specs.Answer.{answer_of, is_starved};
 ghost use Rattle.script_texts.specs.Replies.{answer_text};
@@ -10,14 +10,14 @@ use script_texts::{Entry, Journal, wants_memory, write_reply};
 use sfu_base::{Blob, Call, NoMemory, Reply, Scratch};
 use std::alloc::Global;
 
-/// A turn's place in the history, and what the journal says of it.
+/// A turn's place in the history, and its entry in the journal.
 #[derive(Drop)]
 pub struct Placed {
     pub place: u64,
     pub entry: Entry,
 }
 
-/// The journal's entry for a call with this reply. `NoMemory` where the reply says that memory ran out, or where it runs out here.
+/// The journal's entry for a call with this reply. `NoMemory` if the reply says that memory ran out, or if it runs out here.
 pub fn told(
     alloc: Global,
     actor: u8,
@@ -41,7 +41,7 @@ pub fn told(
     })
 }
 
-// The journal's entries for turns, in their order.
+// The journal's entries of these turns, in the same order.
 fn entries(alloc: Global, kept: Vec<Placed>) -> Result<Vec<Entry>, NoMemory>
     ensures { IfOk result (λ entries. entries.items ≡ map (λ turn. turn.entry) kept.items) }
 {
@@ -53,7 +53,7 @@ fn entries(alloc: Global, kept: Vec<Placed>) -> Result<Vec<Entry>, NoMemory>
     Ok(entries)
 }
 
-/// The journal of turns that were kept, in the order of their places.
+/// The journal of the collected turns, in the order of their places.
 pub fn in_order(alloc: Global, mut kept: Vec<Placed>) -> Result<Journal, NoMemory>
     ensures { IfOk result (λ journal. (all : List Placed) → IsPermutation all kept.items → AtPlaces 0 all → journal ≡ map (λ turn. turn.entry) all) }
 {

@@ -51,7 +51,7 @@ word_is word named =
 
 -- ---- what is read is spelled
 
--- the line is the word and what stands behind it
+-- the line is the word and what follows it
 abbrev Behind : List ℕ → List ℕ → BundleLine → Type 0
 Behind word rest said = IsBundleLine said (word ++ 32 ∷ rest)
 
@@ -106,7 +106,7 @@ three_found rest said e =
     let spelled = subst (λ (ns : List ℕ). Spells (places_of fs ns) rest) p.7 (fields_found fs rest r.0 r.1) in
     subst (Behind (codes "bundle") rest) p.8 (record { legs = inr refl; spelled = (codes "bundle", rest, refl, spelled, refl) })
 
--- one of two readings gave a value
+-- one of two readings has a value
 either : (P : Type 0) (one other : Option BundleLine) (said : BundleLine) → (one ≡ Some said → P) → (other ≡ Some said → P) → or_else one other ≡ Some said → P
 either P (Some x) other said here there e = here e
 either P None other said here there e = there e
@@ -149,14 +149,14 @@ not_true : (b : Bool) → not b ≡ true → b ≡ false
 not_true true h = cc
 not_true false h = refl
 
--- a word without the mark is cut nowhere
+-- a word without the mark isn't cut
 cut_nowhere : (mark : ℕ) (word : List ℕ) → lacks mark word ≡ true → cut_at mark word ≡ None
 cut_nowhere mark [] h = refl
 cut_nowhere mark (b ∷ bs) h =
     let parts = and_parts (not (eqb b mark)) (lacks mark bs) h in
     ap (λ (t : Bool). cond t (Some ([], bs)) (onto_first b (cut_at mark bs))) (not_true (eqb b mark) parts.0) ∙ ap (onto_first b) (cut_nowhere mark bs parts.1)
 
--- a text of so many words has not one more
+-- a text of this many words doesn't have one more
 too_few : (fs : List Field) (more : Field) (ns text : List ℕ) → length ns ≡ length fs → 0 < length fs → Spells (places_of fs ns) text
     → fields_of (fs ++ more ∷ []) text ≡ None
 too_few [] more ns text same long h = absurd (omega arith)
@@ -199,7 +199,7 @@ three_again b i s f x y z rest h =
 pub room_again : (call : Call) (line : List ℕ) → IsLine call line → line_of line ≡ Some (Room call)
 room_again call line h = ap (λ (o : Option Call). or_else (o >>= (λ said. Some (Room said))) (own_of line)) (call_again call line h)
 
--- a bundle's line, by how many legs count
+-- a line about a bundle, by how many legs count
 bundle_again : (b i s f x y z count : ℕ) (line : List ℕ) → AreLegs (x ∷ y ∷ z ∷ []) count → Spells (line_places (Bundle b i s f (x ∷ y ∷ z ∷ []) count)) line
     → line_of line ≡ Some (Bundle b i s f (x ∷ y ∷ z ∷ []) count)
 bundle_again b i s f x y z count line (inl two) spelled =

@@ -1,10 +1,10 @@
--- The commands that first words name.
+-- The commands by their names, which are first words.
 use Rattle.std.specs.Prelude.{ℕ, if◌then◌else◌, List, Option, Some, None, codes}
 use Rattle.std.specs.Str.{bytes_eq}
 use Rattle.bundle_lines.specs.declared.command.BundleCommand.{BundleCommand}
 use Rattle.bundle_lines.specs.declared.command.BundleCommand.TheVariants.{Bundle, Choose, Pump, Draw, Redraw}
 
--- the command that the word names
+-- the command with this name
 abbrev pub command_of : List ℕ → Option BundleCommand
 command_of word =
     if bytes_eq word (codes "bundle") then Some Bundle

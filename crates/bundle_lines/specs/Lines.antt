@@ -1,11 +1,11 @@
--- What lines say where there are bundles: the table of lines. Own rule.
+-- The meaning of lines in scripts with bundles: the table of lines. Own rule.
 use Rattle.std.specs.Prelude.{◌≡◌, ℕ, ◌⊎◌, List, [], ◌∷◌, map, take, codes}
 use Rattle.script_texts.specs.Grammar.{Place, Word, Number, Ssrc, Spells}
 use Rattle.script_texts.specs.Lines.{places}
 use Rattle.bundle_lines.specs.declared.line.BundleLine.{BundleLine}
 use Rattle.bundle_lines.specs.declared.line.BundleLine.TheVariants.{Room, Bundle, Choose, Pump, Draw, Redraw}
 
--- the places of a line; of a bundle's legs those that count
+-- the places of a line; for a bundle, only the legs that count
 abbrev pub line_places : BundleLine → List Place
 line_places (Room call) = places call
 line_places (Bundle bundle id ssrc first legs count) =
@@ -15,7 +15,7 @@ line_places (Pump bundle) = Word (codes "pump") ∷ Number 32 bundle ∷ []
 line_places (Draw bundle) = Word (codes "draw") ∷ Number 32 bundle ∷ []
 line_places (Redraw bundle seq) = Word (codes "redraw") ∷ Number 32 bundle ∷ Number 16 seq ∷ []
 
--- Two legs count, and 0 stands behind them, or three count.
+-- Two legs count and the third is 0, or three count.
 abbrev pub AreLegs : List ℕ → ℕ → Type 0
 AreLegs (one ∷ two ∷ three ∷ []) count = ((count ≡ 2) × (three ≡ 0)) ⊎ (count ≡ 3)
 AreLegs legs count = ⊥
@@ -24,7 +24,7 @@ abbrev pub HasLegs : BundleLine → Type 0
 HasLegs (Bundle bundle id ssrc first legs count) = AreLegs legs count
 HasLegs said = Unit {0}
 
--- The line says this: a call's line, or one of a bundle with two or three legs.
+-- The line has this meaning: a call's line, or one about a bundle with two or three legs.
 pub record IsBundleLine (said : BundleLine) (line : List ℕ) : Type 0 where
   pub legs : HasLegs said
   pub spelled : Spells (line_places said) line

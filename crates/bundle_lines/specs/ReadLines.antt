@@ -1,4 +1,4 @@
--- What a line says, as a function: what whole scripts are computed with.
+-- The meaning of a line, as a function, which computes on whole scripts.
 use Rattle.std.specs.Prelude.{ℕ, List, [], ◌∷◌, Option, Some, None}
 use Rattle.sfu_script.specs.Fields.{fields_of}
 use Rattle.sfu_script.specs.Reading.{◌>>=◌, cut}
@@ -10,7 +10,7 @@ use Rattle.bundle_lines.specs.declared.command.BundleCommand.TheVariants as comm
 use Rattle.bundle_lines.specs.declared.line.BundleLine.{BundleLine}
 use Rattle.bundle_lines.specs.declared.line.BundleLine.TheVariants as line
 
--- the first that gives a value
+-- the first one that has a value
 abbrev pub or_else : Option BundleLine → Option BundleLine → Option BundleLine
 or_else None other = other
 or_else (Some said) other = Some said
@@ -29,7 +29,7 @@ abbrev pub with_three_legs : List ℕ → Option BundleLine
 with_three_legs (bundle ∷ id ∷ ssrc ∷ first ∷ one ∷ two ∷ three ∷ []) = Some (line.Bundle bundle id ssrc first (one ∷ two ∷ three ∷ []) 3)
 with_three_legs numbers = None
 
--- ---- what stands behind the first word
+-- ---- what follows the first word
 
 abbrev pub two_legs_of : List ℕ → Option BundleLine
 two_legs_of rest = fields_of (Number32 ∷ Number8 ∷ Ssrc ∷ Number16 ∷ Number32 ∷ Number32 ∷ []) rest >>= with_two_legs
@@ -49,13 +49,13 @@ said_of command.Redraw rest = fields_of (Number32 ∷ Number16 ∷ []) rest >>= 
 
 -- ---- a line
 
--- what a line says of a bundle
+-- the command about a bundle that a line says
 abbrev pub own_of : List ℕ → Option BundleLine
 own_of text = do
   parts ← cut text
   said ← command_of parts.0
   said_of said parts.1
 
--- what a line says
+-- the meaning of a line
 abbrev pub line_of : List ℕ → Option BundleLine
 line_of text = or_else (call_of text >>= (λ said. Some (line.Room said))) (own_of text)

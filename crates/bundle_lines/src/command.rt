@@ -1,8 +1,8 @@
-// The first words of lines about bundles.
+// The names of commands about bundles, which are the first words of lines.
 ghost use Rattle.std.specs.Prelude.{◌≡◌};
 ghost use Rattle.bundle_lines.specs.Commands.{command_of};
 
-/// What a line says of a bundle.
+/// The commands about a bundle.
 #[derive(Clone, Copy, Debug, PartialEq, Eq)]
 pub enum BundleCommand {
     Bundle,
@@ -12,7 +12,7 @@ pub enum BundleCommand {
     Redraw,
 }
 
-/// The command that a word names.
+/// The command with this name; `None` if there is none.
 pub fn bundle_command(word: &[u8]) -> Option<BundleCommand>
     ensures { result ≡ command_of word.now }
 {

@@ -1,4 +1,4 @@
-// What is true of lines, for every line and all that it may say. The functions have no effect: their contracts are the laws.
+// Theorems about lines, for every line and every meaning. Each is the contract of a function that does nothing.
 ghost use Rattle.std.specs.Prelude.{◌≡◌, ◌↔◌, List, Some, ℕ};
 ghost use Rattle.sfu_base.specs.declared.call.Call.{Call};
 ghost use Rattle.script_texts.specs.Lines.{IsLine};
@@ -6,17 +6,17 @@ ghost use Rattle.bundle_lines.specs.declared.line.BundleLine.{BundleLine};
 ghost use Rattle.bundle_lines.specs.Lines.{IsBundleLine};
 ghost use Rattle.bundle_lines.specs.ReadLines.{line_of};
 
-/// A line is read as something exactly when the grammar says that the line says it.
+/// A line is read as a bundle line exactly when the grammar gives it that meaning.
 pub fn reads_exactly_the_bundle_lines()
     ensures { (said : BundleLine) (line : List ℕ) → (line_of line ≡ Some said) ↔ IsBundleLine said line }
 {}
 
-/// A line says at most one thing.
+/// A line has at most one meaning.
 pub fn bundle_lines_say_one_thing()
     ensures { (one other : BundleLine) (line : List ℕ) → IsBundleLine one line → IsBundleLine other line → one ≡ other }
 {}
 
-/// Every line of a call is read as that call.
+/// Every line of a call is read as that call on the room.
 pub fn every_line_of_a_call_says_it()
     ensures { (call : Call) (line : List ℕ) → IsLine call line → line_of line ≡ Some (BundleLine.Room call) }
 {}

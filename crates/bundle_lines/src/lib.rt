@@ -1,5 +1,5 @@
-//! The lines of scripts that also speak of bundles, and the replies that only lines about bundles have. A bundle makes one stream out of
-//! what two or three subscribers are sent.
+//! The lines of scripts with bundles, and the replies that only lines about bundles have. A bundle makes one outgoing stream from the
+//! packets of two or three subscribers.
 #![tactic(auto)]
 
 mod command;

@@ -1,4 +1,4 @@
-// Lines, read.
+// Readers for lines.
 ghost use Rattle.std.specs.Prelude.{◌≡◌, IfOk, OnErr};
 ghost use Rattle.std.specs.Result.{result_ok};
 ghost use Rattle.bundle_lines.specs.declared.line.BundleLine.{BundleLine};
@@ -10,7 +10,7 @@ use crate::command::{BundleCommand, bundle_command};
 use sfu_script::Field::{Number8, Number16, Number32, Ssrc};
 use sfu_script::{NoLine, read_call, read_fields, split};
 
-// The readers of single lines are inlined: each function that returns a line by value would clear and copy the 2 KB of its call once more.
+// The readers of single lines are inlined: each function that returns a line by value would clear and copy the 2 KB of its call again.
 #[inline(always)]
 fn two_legs(rest: &[u8]) -> Result<BundleLine, NoLine>
     ensures { result_ok result ≡ two_legs_of rest.now }
@@ -55,7 +55,7 @@ fn bundle(rest: &[u8]) -> Result<BundleLine, NoLine>
     }
 }
 
-// What a command says with the words after it.
+// The meaning of a command about a bundle with these words after it.
 #[inline(always)]
 fn behind(command: BundleCommand, rest: &[u8]) -> Result<BundleLine, NoLine>
     ensures { result_ok result ≡ said_of command rest.now }
@@ -91,7 +91,7 @@ fn behind(command: BundleCommand, rest: &[u8]) -> Result<BundleLine, NoLine>
     }
 }
 
-// What a line says about a bundle.
+// Reads a line as a command about a bundle.
 #[inline(always)]
 fn own(line: &[u8]) -> Result<BundleLine, NoLine>
     ensures { result_ok result ≡ own_of line.now }
@@ -113,8 +113,8 @@ fn said(line: &[u8]) -> Result<BundleLine, NoLine>
     }
 }
 
-/// What a line says; the line comes without its line end. `NoLine` exactly when it says nothing: it is neither a call's line nor one of
-/// those about bundles. Takes no memory.
+/// Reads a line, without its line end. `NoLine` exactly when the line has no meaning: it is neither the line of a call nor a command
+/// about a bundle. Takes no memory.
 pub fn read_bundle_line(line: &[u8]) -> Result<BundleLine, NoLine>
     ensures value { result_ok result ≡ line_of line.now }
     ensures ok { IfOk result (λ said. IsBundleLine said line.now) }

@@ -7,18 +7,18 @@ use itoa::Buffer;
 use script_texts::end_line;
 use sfu_base::{Blob, NoMemory};
 
-/// A reply that only lines about bundles have. Own rule.
+/// A reply that only a line about bundles can have. Own rule.
 #[derive(Clone, Copy, Debug, PartialEq, Eq)]
 pub enum BundleReply {
-    /// Of the packets that a pump took, `forwarded` were forwarded and `dropped` were dropped.
+    /// The pump took packets: `forwarded` of them were forwarded, and `dropped` were dropped.
     Pumped { forwarded: u32, dropped: u32 },
-    /// No bundle has the number.
+    /// There is no bundle with this number.
     NoBundle,
-    /// The line named another leg: the bundle's legs are 1 to `legs`.
+    /// The line names a leg that the bundle doesn't have: its legs are 1 to `legs`.
     NoLeg { legs: u8 },
-    /// A leg's track isn't layered with the line's header extension id.
+    /// The track of a leg isn't layered, or has another header extension id than the line.
     WrongKind,
-    /// A subscriber that the line names is a leg of the bundle with this number.
+    /// A subscriber that the line names is a leg of bundle number `bundle`.
     Bound { bundle: u32 },
 }
 
@@ -47,7 +47,7 @@ fn append_bundle_reply(reply: BundleReply, out: &mut Blob) -> Result<(), NoMemor
     }
 }
 
-/// Appends the line of a reply to the texts that are ready. After `NoMemory` all is as before.
+/// Appends the line of a reply to the texts that are ready. On `NoMemory` these are unchanged.
 pub fn add_bundle_reply(reply: BundleReply, ready: &mut Blob) -> Result<(), NoMemory>
     ensures ok { OnOk result (ready.new ≡ ready.old ++ (bundle_reply_text reply ++ 10 ∷ [])) }
     ensures err { OnErr result (ready.new ≡ ready.old) }

@@ -1,4 +1,4 @@
-// Lines as tables.
+// Tables of lines.
 ghost use Rattle.std.specs.Prelude.{◌≡◌, true};
 ghost use Rattle.script_texts.specs.Lines.{HasBytes};
 
@@ -7,7 +7,7 @@ use sfu_base::{Blob, Call};
 use sfu_script::{NoLine, write_call};
 use std::test::Fail;
 
-// A line as numbers: which it is, and its fields.
+// A line as numbers: its kind, and its fields.
 fn numbers(line: &BundleLine) -> [u64; 9] {
     match line {
         BundleLine::Room(_) => [0; 9],
@@ -35,8 +35,8 @@ fn numbers(line: &BundleLine) -> [u64; 9] {
     }
 }
 
-// Lines of bundles, each with what it says. Numbers are 0 and the greatest of their type; two numbers that change places say something
-// else.
+// Lines about bundles, each with its meaning. Numbers are 0 and the greatest of their type. Two numbers that change places change the
+// meaning.
 const LINES: [(&[u8], [u64; 9]); 21] = [
     (
         b"bundle 1 4 55555555 10 1 2",
@@ -98,7 +98,7 @@ const LINES: [(&[u8], [u64; 9]); 21] = [
     ),
 ];
 
-// Lines outside the grammar: words in another place, a leg too few or too many, and numbers above their types.
+// Lines outside the grammar: words in a wrong place, too few or too many legs, and numbers above their types.
 const OUTSIDE: [&[u8]; 56] = [
     b"",
     b"bundle",
@@ -169,7 +169,7 @@ fn lines_of_bundles_say_what_stands_there(rt: HostRuntime) -> Result<(), Fail> {
     Ok(())
 }
 
-// A line of each call.
+// One line for each call.
 const CALLS: [&[u8]; 14] = [
     b"publish 1 plain 11111111 100",
     b"publish 1 layered 11111111 100 4",
@@ -187,7 +187,7 @@ const CALLS: [&[u8]; 14] = [
     b"why 1 7",
 ];
 
-// Whether write_call may be called.
+// Whether `write_call` may be called with this call.
 fn has_bytes(call: &Call) -> bool
     ensures { result ≡ true → HasBytes call.now }
 {

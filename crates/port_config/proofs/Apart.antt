@@ -1,4 +1,4 @@
--- The resent packets of each port of a configuration can be told from the others.
+-- The retransmissions of each port of a configuration can be distinguished from other packets.
 use Rattle.std.proofs.Common.{◌≡◌, ℕ, ◌+◌, Bool, true, false, cond, leb, ltb, List, [], ◌∷◌, ◌++◌, length, refl, ◌∙◌, Option, Some, None}
 use Rattle.std.specs.Prelude.{◌&&◌, IsTrue}
 use Rattle.std.proofs.lemmas.List.Folds.{list_all-append}

@@ -1,4 +1,4 @@
--- What is due for the lines of a configuration, one after another, is nothing, and then the fault of the first that is none.
+-- Nothing is due for the lines of a configuration, and then the fault of the first line outside the grammar.
 use Rattle.std.proofs.Common.{◌≡◌, ◌⊎◌, inl, inr, ℕ, ◌+◌, ⊎_elim, Bool, true, false, cond, leb, List, [], ◌∷◌, ◌++◌, length, map, refl, sym, ap, ◌∙◌, subst, arith, Option, Some, None, Result, Ok, Err, length-append}
 use Rattle.std.proofs.lemmas.Bool.{false≢true}
 use Rattle.std.specs.Io.KnownBytes.{Appends, Consumes, IsAtEnd}
@@ -107,7 +107,7 @@ read_ok stands new left left' w w' f f' (Ok _) is d =
     let whole = read_whole taken b.1.0 b.1.1 in
     (taken, b.1.0, d.consumed, b.0, whole.0, whole.1, b.1.2, subst (λ (text : List ℕ). Appends w w' text) (read_writes_nothing taken) b.1.3)
 
--- ---- a configuration that wasn't
+-- ---- a configuration that wasn't read
 
 no_part : (w w' : Option (List ℕ)) (text : List ℕ) → text ≡ [] → WritesPart w w' text → ⊥
 no_part w w' text none part = let missing = part.missing in let more = length-append part.text part.more in omega (arith, ap length (sym none ∙ part.split))

@@ -1,4 +1,4 @@
--- What is due for a line of a configuration, by what it says.
+-- What is due for a line of a configuration, by its meaning.
 use Rattle.std.proofs.Common.{◌≡◌, ℕ, Bool, true, false, cond, List, ap, ◌∙◌, Option, Some, None}
 use Rattle.sfu_driver.specs.Outcome.{Outcome, goes_on}
 use Rattle.sfu_script.specs.Skipped.{is_skipped}

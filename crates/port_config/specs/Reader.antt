@@ -1,4 +1,4 @@
--- How the lines of a configuration for `serve` are judged, and what its reader holds.
+-- How the lines of a configuration for `serve` are judged, and what its reader has collected.
 use Rattle.std.specs.Prelude.{◌≡◌, ℕ, if◌then◌else◌, List, Option, Some, None}
 use Rattle.sfu_driver.specs.declared.halt.Ending.TheVariants.{Outside}
 use Rattle.sfu_driver.specs.Outcome.{Outcome, ends_with, goes_on}
@@ -17,21 +17,21 @@ abbrev pub judged_said : Setup → ℕ → Option Said → Outcome Setup
 judged_said setup number None = fault_at number
 judged_said setup number (Some x) = if may_follow setup x then goes_on (and_said setup x) else fault_at number
 
--- what is due for the line with this number behind lines that said this: nothing is written before the end
+-- what is due for the line with this number, after lines with this meaning: nothing before the end
 abbrev pub judged_line : Setup → ℕ → List ℕ → Outcome Setup
 judged_line setup number line = if is_skipped line then goes_on setup else judged_said setup number (said_by line)
 
--- what a line that was read says
+-- the meaning of a line that was read
 abbrev pub meaning_of : ServeLine → Said
 meaning_of (CallLine call) = Makes call
 meaning_of (PortOf port) = Serves port
 
--- The reader holds the calls and the ports that lines said.
+-- The reader has collected the calls and the ports of the lines.
 pub record Holds (reader : ServeReader) (setup : Setup) : Type 0 where
   pub calls : reader.calls.items ≡ setup.calls
   pub ports : reader.ports.items ≡ setup.ports
 
--- These are the calls and the ports that lines said.
+-- These are the calls and the ports of the lines.
 pub record IsSetup (setup : Setup) (served : Served) : Type 0 where
   pub calls : served.calls ≡ setup.calls
   pub ports : served.ports.items ≡ setup.ports

@@ -1,4 +1,4 @@
--- What the reading of a configuration for `serve` comes to. Nothing is written but the line that says which line is outside the grammar.
+-- The result of reading a configuration for `serve`. Nothing is written except which line is outside the grammar.
 use Rattle.std.specs.Prelude.{◌≡◌, ◌⊎◌, ℕ, List, [], Option, None}
 use Rattle.std.specs.Io.KnownBytes.{Appends, Consumes, IsAtEnd}
 use Rattle.sfu_driver.specs.Statuses.{Due, Statuses}
@@ -8,7 +8,7 @@ use Rattle.port_config.specs.declared.reader.Served.{Served}
 use Rattle.port_config.specs.Reader.{IsSetup}
 use Rattle.port_config.specs.Script.{Configured, configuration_of, configuration_so_far}
 
--- nothing is due for lines, and then which is outside the grammar
+-- nothing is due for the lines, and then the number of the line outside the grammar, if any
 abbrev pub due_for : Configured → Due
 due_for configured = record { text = []; end = outside_end fault_line configured.fault }
 
@@ -28,9 +28,9 @@ pub record ReadsSetup (left left' written written' : Option (List ℕ)) (served 
   pub setup : IsSetup (configuration_of bytes).setup served
   pub unwritten : Appends written written' []
 
--- The source was not read to an end, or its bytes are no configuration, or memory was wanting.
+-- The source was not read to its end, or its bytes aren't a configuration, or memory ran out.
 pub record ReadsNoSetup (left left' written written' : Option (List ℕ)) (reads reads' writes writes' status : ℕ) : Type 0 where
   pub statuses : Statuses read_due read_part left left' written written' reads reads' writes writes' status
   pub only : (status ≡ 3) ⊎ (status ≡ 5) ⊎ (status ≡ 6)
-  -- unless a line is outside the grammar, nothing was written, whatever the source tells
+  -- unless a line is outside the grammar, nothing was written, for every source
   pub unwritten : (status ≡ 3) ⊎ (status ≡ 6) → Appends written written' []

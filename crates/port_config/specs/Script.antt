@@ -1,5 +1,5 @@
--- What the bytes of a configuration for `serve` say: calls that are made before any session starts, and the ports that are served. Own
--- rule. The code never has a whole configuration in its hands: it reads pieces of any size, and puts what lines say into lists.
+-- What the bytes of a configuration for `serve` say: the calls to make before any session starts, and the ports to serve. Own
+-- rule. The code never has a whole configuration at once: it reads pieces of any size, and collects what lines say in lists.
 use Rattle.std.specs.Prelude.{ℕ, ◌+◌, nat_lt, nat_le, if◌then◌else◌, Bool, true, List, [], ◌∷◌, ◌++◌, length, Option, Some, None}
 use Rattle.std.specs.List.{list_all}
 use Rattle.sfu_base.specs.declared.call.Call.{Call}
@@ -13,7 +13,7 @@ use Rattle.sfu_script.specs.Skipped.{is_skipped}
 
 -- ---- a line
 
--- what a line says: a call that is made first, or a port
+-- the meaning of a line: a call to make first, or a port
 pub data Said : Type 0 where
   Makes : Call → Said
   Serves : PortLine → Said
@@ -32,18 +32,18 @@ abbrev pub or_port : Option Call → Option PortLine → Option Said
 or_port None port = serves port
 or_port (Some call) port = makes_first call
 
--- what a line says, where it is the line of a call with the word `publish` or `join`, or a port's line
+-- the meaning of a line, if it is a call's line with the word `publish` or `join`, or a port's line
 abbrev pub said_by : List ℕ → Option Said
 said_by line = or_port (call_of line) (port_of line)
 
--- ---- what lines say
+-- ---- the meaning of lines
 
--- the calls that are made first, in their order, and the ports in theirs
+-- the calls to make first, in order, and the ports, in order
 pub record Setup : Type 0 where
   pub calls : List Call
   pub ports : List PortLine
 
--- the resent packets of each port can be told from the others
+-- each port's retransmissions can be distinguished from other packets
 abbrev pub all_apart : List PortLine → Bool
 all_apart ports = list_all (λ port. is_apart port.role) ports
 
@@ -60,7 +60,7 @@ abbrev pub may_follow : Setup → Said → Bool
 may_follow setup (Makes call) = true
 may_follow setup (Serves port) = nat_lt (length setup.ports) 64
 
--- what the lines say before the first that is outside the grammar, and that line's number, if there is one
+-- the meaning of the lines before the first one outside the grammar, and that line's number, if any
 pub record Configured : Type 0 where
   pub setup : Setup
   pub fault : Option ℕ
@@ -73,7 +73,7 @@ abbrev pub with_said : Setup → Option Said → ℕ → (Setup → Configured) 
 with_said setup None number next = stops_at setup number
 with_said setup (Some x) number next = if may_follow setup x then next (and_said setup x) else stops_at setup number
 
--- a line with this text, and then the others: a skipped one is counted, and says nothing
+-- a line with this text, and then the others: a skipped line is counted, but has no effect
 abbrev pub with_text : Setup → List ℕ → ℕ → (Setup → Configured) → Configured
 with_text setup text number next = if is_skipped text then next setup else with_said setup (said_by text) number next
 
@@ -83,15 +83,15 @@ with_line setup More number next = next setup
 with_line setup (Whole text) number next = if nat_le number 4294967295 then with_text setup text number next else stops_at setup number
 with_line setup NoUnit number next = stops_at setup number
 
--- what lines say behind those that said this, where the first has this number
+-- the meaning of lines that follow those with this meaning; the first has this number
 abbrev pub said_behind : Setup → List Line → ℕ → Configured
 said_behind setup [] number = record { setup = setup; fault = None }
 said_behind setup (line ∷ lines) number = with_line setup (said line) number (λ later. said_behind later lines (number + 1))
 
--- what a whole configuration says
+-- the meaning of a whole configuration
 abbrev pub configuration_of : List ℕ → Configured
 configuration_of bytes = said_behind nothing_said (lines_of bytes) 1
 
--- what the lines say that are judged before the end of the configuration is seen
+-- the meaning of the lines that are judged before the end of the configuration is seen
 abbrev pub configuration_so_far : List ℕ → Configured
 configuration_so_far bytes = said_behind nothing_said (judged_lines (lines_of bytes)) 1

@@ -1,4 +1,4 @@
-//! Configurations of ports: the calls that are made first, and the ports that are served, read to the configuration's end.
+//! Configurations of ports: the calls to make first and the ports to serve, read to the configuration's end.
 #![tactic(auto)]
 
 mod reader;

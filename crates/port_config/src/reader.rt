@@ -1,4 +1,4 @@
-// The configuration of `serve`, read line by line.
+// Reading a configuration of `serve` line by line.
 ghost use Rattle.std.specs.Prelude.{◌≡◌, ◌≤◌, ◌<◌, ◌∷◌, ◌++◌, [], List, ℕ, MatchResult, OnOk, Some, None, length};
 ghost use Rattle.std.specs.Option.{option_map};
 ghost use Rattle.std.specs.Result.{result_ok};
@@ -14,24 +14,24 @@ use sfu_driver::{Ending, Halt, Judge};
 use sfu_script::{NoLine, PortLine, is_skipped, read_call, read_port};
 use std::alloc::Global;
 
-/// The greatest number of ports.
+/// The most ports that a configuration may have.
 const MOST_PORTS: usize = 64;
 
-/// What a line says: a call that is made before any session starts, or a port.
+/// The meaning of a line: a call to make before any session starts, or a port.
 #[derive(Drop)]
 enum ServeLine {
     Call(Call),
     Port(PortLine),
 }
 
-/// The calls that are made first, and the ports that are served.
+/// The calls to make first, and the ports to serve.
 #[derive(Drop)]
 pub struct Served {
     pub calls: Calls,
     pub ports: Vec<PortLine>,
 }
 
-/// Puts the calls and the ports of lines into their lists.
+/// Collects the calls and the ports of lines in their lists.
 #[derive(Drop)]
 pub struct ServeReader {
     calls: Vec<Call>,
@@ -49,7 +49,7 @@ impl ServeReader {
         }
     }
 
-    // Whether a line may follow those that were read.
+    // Whether this line may follow the lines read so far.
     fn may_follow(&self, line: &ServeLine) -> bool
         ensures { (setup : Setup) → Holds self.now setup → result ≡ may_follow setup (meaning_of line.now) }
     {
@@ -59,7 +59,7 @@ impl ServeReader {
         }
     }
 
-    // Puts what a line says into its list.
+    // Appends the call or port of a line to its list.
     fn add(&mut self, line: ServeLine) -> Result<(), NoMemory>
         ensures { OnOk result ((setup : Setup) → Holds self.old setup → Holds self.new (and_said setup (meaning_of line))) }
     {
@@ -75,7 +75,7 @@ impl ServeReader {
         }
     }
 
-    /// The calls and the ports.
+    /// The calls and the ports collected.
     pub fn into_served(self) -> Served
         ensures { (setup : Setup) → Holds self setup → IsSetup setup result }
     {
@@ -121,7 +121,7 @@ impl Judge for ServeReader {
     }
 }
 
-// What a line with this call says in a configuration; `NoLine` unless the call is a `publish` or a `join`.
+// The meaning in a configuration of a line with this call; `NoLine` unless it is a `publish` or a `join`.
 fn first_call(call: Call) -> Result<ServeLine, NoLine>
     ensures { MatchResult result (λ said. makes_first call ≡ Some (meaning_of said)) (λ _. makes_first call ≡ None) }
 {
@@ -131,7 +131,7 @@ fn first_call(call: Call) -> Result<ServeLine, NoLine>
     }
 }
 
-// What a line says.
+// Reads a line as a call or a port.
 fn read_said(line: &[u8]) -> Result<ServeLine, NoLine>
     ensures { MatchResult result (λ said. said_by line.now ≡ Some (meaning_of said)) (λ _. said_by line.now ≡ None) }
 {

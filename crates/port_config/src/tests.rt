@@ -1,4 +1,4 @@
-// Configurations for `serve` with the calls and ports that they say, or the line that is outside the grammar.
+// Configurations for `serve` with their calls and ports, or with the number of the line outside the grammar.
 use crate::{Served, read_served};
 use sfu_base::{Call, MemSink, MemSource};
 use sfu_driver::Status;
@@ -6,7 +6,7 @@ use sfu_script::{PortLine, PortRole};
 use std::alloc::{AllocError, Global};
 use std::test::Fail;
 
-// What a configuration says, or the status, and what was written.
+// The result for a configuration, and the text written.
 fn read(
     alloc: Global,
     configuration: &[u8],
@@ -17,7 +17,7 @@ fn read(
     Ok((read, sink.written().to_vec(alloc)?))
 }
 
-// The number of each call: a track's number, or a subscriber's plus 100; 0 for another call.
+// For each call its track's number, or its subscriber's number plus 100; 0 for another call.
 fn numbers(alloc: Global, calls: &[Call]) -> Result<Vec<u32>, AllocError> {
     let mut numbers = Vec::new(alloc);
     for call in calls {
@@ -30,7 +30,7 @@ fn numbers(alloc: Global, calls: &[Call]) -> Result<Vec<u32>, AllocError> {
     Ok(numbers)
 }
 
-// Of each port its own UDP port, its peer's, and the number of the track or the subscriber, which is 0 for control.
+// For each port its own UDP port, its peer's, and the number of its track or subscriber, which is 0 for control.
 fn ports(alloc: Global, lines: &[PortLine]) -> Result<Vec<[u32; 3]>, AllocError> {
     let mut ports = Vec::new(alloc);
     for line in lines {

@@ -1,4 +1,4 @@
--- The same of what a session's handle owns.
+-- The same for what a session's handle owns.
 use mir.Syntax.{impl, tnil, dnil}
 use mathlib.Core.List.{[]}
 use denote.Signature.{Slot, plain}

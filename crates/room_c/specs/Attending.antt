@@ -15,17 +15,17 @@ use Rattle.room_c.specs.Codes.{code_number}
 use Rattle.room_c.specs.Recording.{never, untold}
 use Rattle.room_c.specs.Telling.{bare_of, one_of}
 
--- what is left to do of the session behind a handle, where so many turns are left
+-- what the session behind a handle has left to do, with this many turns left
 abbrev pub left_of : Attended → ℕ → Doing
 left_of attended turns = either_left attended.session turns
 
 -- ---- opening
 
--- the session is at the beginning of this rule, and waits for a datagram
+-- the session is at the start of this rule, and waits for a datagram
 abbrev pub Begins : (ℕ → Doing) → Attended → Type 0
 Begins rule attended = (turns : ℕ) → left_of attended turns ≡ rule turns
 
--- A session with this rule was opened behind a handle; or there was one, which stays; or there was no memory.
+-- A session with this rule was opened behind a handle; or there was one, which stays; or memory ran out.
 abbrev pub Opens : (ℕ → Doing) → Option Attended → Option Attended → ℕ → Type 0
 Opens rule (Some old) new told = (told ≡ code_number code.HasSession) × (new ≡ Some old)
 Opens rule None None told = told ≡ code_number code.NoMemory
@@ -33,7 +33,7 @@ Opens rule None (Some new) told = (told ≡ code_number code.Done) × Begins rul
 
 -- ---- a datagram, or none
 
--- The session was busy, since it had a call to make, and is as it was; or it waited, and what came at this moment was worked off as its rule says.
+-- The session was busy, with a call left to make, and is unchanged; or it waited, and handled what came at this moment by its rule.
 abbrev pub HearsAs : Attended → Attended → Option (List ℕ) → ℕ → PlainReply → Type 0
 HearsAs old new got moment told =
     ((told ≡ bare_of code.Busy) × (new ≡ old) × (call : Call) × ((turns : ℕ) → Asks (left_of old turns) call))
@@ -46,19 +46,19 @@ Hears (Some old) (Some new) got moment told = HearsAs old new got moment told
 
 -- ---- work
 
--- what tells an output: a packet's length; or that all is done
+-- the reply for an output: a packet's length; or that all is done
 abbrev pub output_reply : Output → List ℕ → PlainReply
 output_reply Nothing packet = bare_of code.Done
 output_reply Packet packet = one_of code.Packet (length packet)
 
--- The session's calls were made on the room, up to the next datagram that is to be sent, which then stands first in the buffer.
+-- The session's calls were made on the room, up to the next datagram to send, which is then at the start of the buffer.
 pub record WorksAs (old new : Home) (before after : Attended) (seat : ℕ) (told : PlainReply) (out : List ℕ) : Type 0 where
   pub output : Output
   pub works : Works untold never old.room new.room seat (left_of before) (left_of after) after.scratch.packet output
   pub tells : told ≡ output_reply output after.scratch.packet
   pub gives : output ≡ Packet → take told.first out ≡ after.scratch.packet
 
--- The same through the handles of a room and of a session: where one of them has none, both are as they were.
+-- The same through the handles of a room and of a session: if one of them has none, both are unchanged.
 abbrev pub WorksOn : Option Home → Option Home → Attended → Attended → ℕ → PlainReply → List ℕ → Type 0
 WorksOn None new before after seat told out = (told ≡ bare_of code.NoRoom) × (new ≡ None) × (after ≡ before)
 WorksOn (Some old) None before after seat told out = ⊥

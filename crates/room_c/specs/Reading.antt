@@ -1,5 +1,5 @@
--- The reply that a plain reply tells, and the answer to a question. Own rules; each code is that of `code_number`, and `Code` names what stands
--- in its numbers.
+-- The reply that a plain reply means, and the answer to a question. Own rules; each code is that of `code_number`, and `Code` says what
+-- its numbers mean.
 use Rattle.std.specs.Prelude.{ℕ, ◌==◌, Bool, true, false, if◌then◌else◌, nat_lt, Option, Some, None, Result, Ok, Err}
 use Rattle.sfu_base.specs.declared.call.Reply.{Reply}
 use Rattle.sfu_base.specs.declared.call.Reply.TheVariants as reply
@@ -55,7 +55,7 @@ refusal_in r =
     if r.code == 47 then refusal.Plain else
     refusal.NoMemory
 
--- what stands beside a packet or numbers is told apart
+-- the content of a packet or of numbers is separate
 abbrev pub reply_in : PlainReply → Reply
 reply_in r =
     if r.code == 0 then reply.Done else

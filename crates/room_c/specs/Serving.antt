@@ -1,4 +1,4 @@
--- What a call through a handle does.
+-- The effect of a call through a handle.
 use Rattle.std.specs.Prelude.{◌≡◌, ℕ, Bool, List, take, ⊤, Option, Some, None, Result}
 use Rattle.sfu_base.specs.declared.call.Call.{Call}
 use Rattle.sfu_base.specs.declared.call.Refusal.{Refusal}
@@ -16,8 +16,8 @@ use Rattle.room_c.specs.Recording.{never, untold}
 use Rattle.room_c.specs.Reading.{reached_in, reply_in, target_in}
 use Rattle.room_c.specs.Telling.{bare_of, plain_of, reached_reply, target_reply, target_written}
 
--- The room does and answers what `Room::serve` does for this call of this seat, with what the reply leaves in the scratch; and what is told is
--- this reply's numbers, no others.
+-- The room does and returns what `Room::serve` does for this call of this seat, with the reply's content in the scratch. The result is
+-- the numbers of this reply and no others.
 pub record DoesAsRoom (old new : Home) (seat : ℕ) (call : Call) (told : PlainReply) : Type 0 where
   pub serves : Serves untold old.room new.room seat call (reply_in told) new.scratch.packet new.scratch.names
   pub headline : StandsHeadline untold new.room
@@ -25,24 +25,24 @@ pub record DoesAsRoom (old new : Home) (seat : ℕ) (call : Call) (told : PlainR
   pub last : MemoryIsLast untold never old.room call (reply_in told)
   pub exact : told ≡ plain_of new.scratch (reply_in told)
 
--- What a call through a handle does: where no room is behind it, it tells so and changes nothing.
+-- The effect of a call through a handle: without a room, the reply says so and nothing changes.
 abbrev pub Does : Option Home → Option Home → ℕ → Call → PlainReply → Type 0
 Does None new seat call told = (new ≡ None) × (told ≡ bare_of NoRoom)
 Does (Some old) None seat call told = ⊥
 Does (Some old) (Some new) seat call told = DoesAsRoom old new seat call told
 
--- where the reply is a packet, its bytes stand first in the buffer
+-- if the reply is a packet, its bytes are at the start of the buffer
 abbrev pub GivesBytes : Option Home → PlainReply → List ℕ → Type 0
 GivesBytes None told out = ⊤
 GivesBytes (Some home) told out = reply_in told ≡ reply.Packet → take told.first out ≡ home.scratch.packet
 
--- where the reply is sequence numbers, they stand first in the buffer
+-- if the reply is sequence numbers, they are at the start of the buffer
 abbrev pub GivesNumbers : Option Home → PlainReply → List ℕ → Type 0
 GivesNumbers None told out = ⊤
 GivesNumbers (Some home) told out = reply_in told ≡ reply.Names → take told.first out ≡ home.scratch.names
 
--- What a question of a room is told: whatever history it stands for, the answer is that history's, in that answer's numbers and no others; the
--- decode target is written where there is one.
+-- The result of a question: for every history that the room represents, it is the numbers of that history's answer and no others. The
+-- decode target is written if there is one.
 pub record TellsTarget (home : Home) (subscriber : ℕ) (told : PlainReply) (old new : PlainTarget) (answer : Result (Option DecodeTarget) Refusal) : Type 0 where
   pub asks : (history : List Entry) → Stands untold home.room history → IsTargetOf history subscriber answer
   pub exact : told ≡ target_reply answer

@@ -1,4 +1,4 @@
--- The numbers that tell a reply, or the answer to a question: what a code doesn't name is 0. Own rules; `Code` names what stands beside each code.
+-- The numbers of a reply, or of the answer to a question. A number that a code doesn't use is 0. Own rules; `Code` says what the numbers mean.
 use Rattle.std.specs.Prelude.{ℕ, ◌==◌, Bool, true, false, if◌then◌else◌, Option, Some, None, Result, Ok, Err, length}
 use Rattle.sfu_base.specs.declared.call.Reply.{Reply}
 use Rattle.sfu_base.specs.declared.call.Reply.TheVariants as reply
@@ -21,7 +21,7 @@ use Rattle.room_c.specs.Codes.{code_number}
 abbrev pub bare_of : Code → PlainReply
 bare_of c = record { code = code_number c; has = false; first = 0; second = 0 }
 
--- with a yes or no
+-- with a flag, yes or no
 abbrev pub flag_of : Code → Bool → PlainReply
 flag_of c has = record { code = code_number c; has = has; first = 0; second = 0 }
 
@@ -81,7 +81,7 @@ plain_refusal (refusal.TooOld oldest) = one_of coded.TooOld oldest
 plain_refusal refusal.Plain = bare_of coded.Plain
 plain_refusal refusal.NoMemory = bare_of coded.NoMemory
 
--- The numbers of a reply, with what it leaves in the scratch: of a packet or of sequence numbers, how many there are.
+-- The numbers of a reply, with the content of the scratch: for a packet or for sequence numbers, how many there are.
 unfoldable pub plain_of : Scratch → Reply → PlainReply
 plain_of scratch reply.Done = bare_of coded.Done
 plain_of scratch reply.Packet = one_of coded.Packet (length scratch.packet)
@@ -92,7 +92,7 @@ plain_of scratch (reply.Refused why) = plain_refusal why
 
 -- ---- buffers
 
--- how many bytes, or sequence numbers, a reply says were written
+-- how many bytes, or sequence numbers, were written according to the reply
 abbrev pub bytes_written : PlainReply → ℕ
 bytes_written r = if r.code == 1 then r.first else 0
 
@@ -114,7 +114,7 @@ target_reply (Ok None) = flag_of coded.Target false
 target_reply (Ok (Some target)) = flag_of coded.Target true
 target_reply (Err why) = plain_refusal why
 
--- the target is written where there is one; else nothing is
+-- the target is written if there is one; else `out` is unchanged
 unfoldable pub target_written : Result (Option DecodeTarget) Refusal → PlainTarget → PlainTarget
 target_written (Ok None) out = out
 target_written (Ok (Some target)) out = plain_target target

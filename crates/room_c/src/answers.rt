@@ -1,4 +1,4 @@
-// Replies with bytes or sequence numbers, which are written into C's buffer.
+// Writing a reply's bytes or sequence numbers to C's buffer.
 ghost use Rattle.std.specs.Prelude.{◌≡◌, ◌≤◌, drop, length, take};
 ghost use Rattle.sfu_base.specs.declared.call.Reply.TheVariants as reply;
 ghost use Rattle.room_c.specs.Reading.{reply_in};
@@ -9,13 +9,13 @@ use crate::code::Code;
 use crate::plain_reply::PlainReply;
 use sfu_base::{PacketBuf, Reply, Scratch};
 
-/// The least size of a buffer for a packet, in bytes.
+/// The least length of a buffer for a packet, in bytes.
 pub const PACKET_ROOM: usize = 2048;
 
-/// The least size of a buffer for sequence numbers, in numbers.
+/// The least length of a buffer for sequence numbers, in numbers.
 pub const NAMES_ROOM: usize = 1024;
 
-/// Writes a packet at the start of a buffer that fits any packet.
+/// Writes a packet to the start of `out`, of at least 2,048 bytes.
 pub fn give_packet(packet: &PacketBuf, out: &mut [u8]) -> PlainReply
     requires { 2048 ≤ length out.old }
     ensures tells { result ≡ one_of code.Packet (length packet.now) }
@@ -27,7 +27,7 @@ pub fn give_packet(packet: &PacketBuf, out: &mut [u8]) -> PlainReply
     PlainReply::with(Code::Packet, bytes.len() as u64)
 }
 
-/// Writes a reply's packet, if it has one, at the start of a buffer that fits any packet. Returns the reply's numbers.
+/// Writes a reply's packet, if any, to the start of `out`, of at least 2,048 bytes. Returns the reply as numbers.
 #[tactic(auto, unfolding(crate::specs::Telling::plain_of))]
 pub fn give_bytes(answer: &Reply, scratch: &Scratch, out: &mut [u8]) -> PlainReply
     requires { 2048 ≤ length out.old }
@@ -43,7 +43,7 @@ pub fn give_bytes(answer: &Reply, scratch: &Scratch, out: &mut [u8]) -> PlainRep
     }
 }
 
-/// Writes a reply's sequence numbers, if it has any, at the start of a buffer that fits all. Returns the reply's numbers.
+/// Writes a reply's sequence numbers, if any, to the start of `out`, of at least 1,024. Returns the reply as numbers.
 #[tactic(auto, unfolding(crate::specs::Telling::plain_of))]
 pub fn give_numbers(answer: &Reply, scratch: &Scratch, out: &mut [u16]) -> PlainReply
     requires { 1024 ≤ length out.old }

@@ -1,11 +1,11 @@
-// What is on the heap behind a session's handle.
+// The heap value behind a session's handle.
 use crate::code::Code;
 use crate::plain_reply::PlainReply;
 use room_sessions::EitherSession;
 use session_steps::{Output, Session};
 use sfu_base::{PacketBuf, Scratch, SeqList};
 
-/// A session with the buffers of the datagrams that it receives and sends.
+/// A session with the buffers for its datagrams.
 #[derive(Drop)]
 pub struct Attended {
     pub session: EitherSession,
@@ -30,7 +30,7 @@ impl Attended {
         }
     }
 
-    /// Begins a turn of the session: with this datagram or, where `came` is false, with none. `Busy`: the session has a call left to make, and
+    /// Begins a turn of the session with this datagram or, if `came` is false, with none. `Busy`: the session still has a call to make;
     /// nothing changes.
     pub fn hear(&mut self, came: bool, moment: u64, bytes: &[u8]) -> PlainReply
         requires { length bytes.now ≤ 2048 }

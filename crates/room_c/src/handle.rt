@@ -12,7 +12,7 @@ use sfu_base::Call;
 use std::alloc::Global;
 use std::mem::replace;
 
-/// The handle of a room, or of none. C keeps its 16 bytes, all 0 at first, and may pass it from thread to thread.
+/// A handle that has a room or none. C keeps its 16 bytes, at first all 0, and may pass it from thread to thread.
 #[repr(C)]
 pub struct Handle {
     made: bool,
@@ -21,7 +21,7 @@ pub struct Handle {
 }
 
 impl Handle {
-    /// The handle of no room.
+    /// A handle that has no room.
     pub fn empty(alloc: Global) -> Handle
         ensures { result.held.home ≡ None }
     {
@@ -31,7 +31,7 @@ impl Handle {
         }
     }
 
-    /// The handle of a room.
+    /// A handle that has this room.
     pub fn of(home: Box<Home>) -> Handle
         ensures { result.held.home ≡ Some home.value }
     {
@@ -41,7 +41,7 @@ impl Handle {
         }
     }
 
-    /// The room behind the handle, if there is one.
+    /// The handle's room, or `None` if it has none.
     pub fn into_home(self) -> Option<Box<Home>>
         ensures { self.held.home ≡ option_map (λ home. home.value) result }
     {
@@ -54,7 +54,7 @@ impl Handle {
         }
     }
 
-    /// Takes the room out of the handle, which is then one of no room.
+    /// Takes the room out of the handle, which then has no room.
     pub fn take(&mut self, alloc: Global) -> Option<Box<Home>>
         ensures taken { self.old.held.home ≡ option_map (λ home. home.value) result }
         ensures empty { self.new.held.home ≡ None }
@@ -62,14 +62,14 @@ impl Handle {
         replace(self, Handle::empty(alloc)).into_home()
     }
 
-    /// Puts a room into the handle. A room that was there is dropped.
+    /// Puts a room into the handle. Drops the room that the handle had before, if any.
     pub fn put(&mut self, home: Box<Home>)
         ensures { self.new.held.home ≡ Some home.value }
     {
         drop(replace(self, Handle::of(home)).into_home());
     }
 
-    /// Serves one call of a seat on the room. `NoRoom`: there is none, and nothing changes.
+    /// Serves one call of a seat on the room. `NoRoom`: the handle has no room; nothing changes.
     pub fn serve(&mut self, alloc: Global, seat: u32, call: &Call) -> PlainReply
         ensures does { Does self.old.held.home self.new.held.home seat call.now result }
     {

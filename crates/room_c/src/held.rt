@@ -1,4 +1,4 @@
-// What a handle owns, behind a pointer whose type names no other type.
+// The pointer in a room's handle. Its type names no other type.
 ghost use Rattle.std.specs.Prelude.{◌≡◌, Option, Some, None, is_some, false, true};
 ghost use Rattle.room_c.specs.declared.home.Home.{Home};
 ghost use Rattle.room_c.specs.Owned.{home_coded, home_owned};
@@ -8,8 +8,8 @@ use crate::parts::Parts;
 use std::alloc::Global;
 use std::marker::Model;
 
-/// The pointer of a `Box<Home>`, or a pointer that owns nothing. No type that holds or names a `Box` may cross to C. So the pointer is a plain
-/// `*mut u8`, and the ghost field `home` says what it owns. This type is linear: a value that owns a room can only be turned into its box again.
+/// The pointer of a `Box<Home>`, or a pointer that owns nothing. A type that contains or names a `Box` can't cross to C. So the pointer is a
+/// plain `*mut u8`, and the ghost field `home` says what it owns. The type is linear: a value that owns a room can only be turned into its box.
 #[repr(C)]
 pub struct Held {
     at: *mut u8,
@@ -21,11 +21,11 @@ impl Model for Held {
     ghost also_owns = { λ h. home_owned h.alloc h.at h.home };
 }
 
-// The pointer may go to another thread, as the box may.
+// The pointer may move to another thread, as its box may.
 unsafe impl Send for Held {}
 
 impl Held {
-    /// A value that owns the box of these parts.
+    /// A value that owns the box with these parts.
     pub fn of_parts(parts: Parts<Home, Global>) -> Held
         ensures { result.home ≡ Some parts.value }
     {
@@ -58,7 +58,7 @@ impl Held {
         }
     }
 
-    /// Ends a value that owns nothing. Returns its allocator.
+    /// Ends a value that owns nothing, and returns its allocator.
     pub fn end(self) -> Global
         requires { is_some self.home ≡ false }
         ensures { result ≡ self.alloc }

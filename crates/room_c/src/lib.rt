@@ -1,5 +1,5 @@
-//! The room for callers in C. C keeps a handle for each room, and one for each session of a publisher or a subscriber, whose calls are made on a
-//! room. Whatever numbers C passes, a call is served or returns a code. The header is `libzoftemar/zoftemar.h`.
+//! The room for callers in C. C keeps a handle for each room, and one for each session of a publisher or a subscriber. Sessions make calls on a
+//! room. Whatever numbers C passes, each call is served or returns a code. The header is `libzoftemar/zoftemar.h`.
 #![tactic(auto)]
 
 mod answers;

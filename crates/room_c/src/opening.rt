@@ -1,4 +1,4 @@
-// A room begins and ends.
+// Opening and closing a room.
 ghost use Rattle.std.specs.Prelude.{◌≡◌, ◌≢◌, [], IfSome, IsSome, None};
 ghost use Rattle.room_core.specs.Serves.{Stands};
 ghost use Rattle.room_c.specs.declared.code.Code.TheVariants.{Done, HasRoom, NoMemory};
@@ -10,8 +10,8 @@ use crate::handle::Handle;
 use crate::home::Home;
 use std::alloc::Global;
 
-/// Opens a room behind a handle of none: `Done`. `HasRoom`: the handle has a room already, and nothing changes. `NoMemory`: the handle still has
-/// none.
+/// Opens a room behind a handle that has none. Returns `Done`. `HasRoom`: the handle already has a room; nothing changes. `NoMemory`: the handle
+/// still has no room.
 #[unsafe(no_mangle)]
 pub extern "C" fn zoftemar_open(alloc: Global, room: &mut Handle) -> u32
     ensures opened { result ≡ code_number Done → IfSome room.new.held.home (λ home. Stands untold home.room []) × IsSome room.new.held.home }
@@ -34,7 +34,7 @@ pub extern "C" fn zoftemar_open(alloc: Global, room: &mut Handle) -> u32
     }
 }
 
-/// Closes a room, with all its tracks and subscribers. The handle is then one of no room, and a room may be opened behind it again.
+/// Closes a room, with all its tracks and subscribers. The handle then has no room, and a room may be opened behind it again.
 #[unsafe(no_mangle)]
 pub extern "C" fn zoftemar_close(alloc: Global, room: &mut Handle)
     ensures { room.new.held.home ≡ None }

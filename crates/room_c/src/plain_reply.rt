@@ -1,4 +1,4 @@
-// A reply as C reads it.
+// A reply in the form that C reads.
 ghost use Rattle.std.specs.Prelude.{◌≡◌, ◌≤◌, false, true};
 ghost use Rattle.sfu_base.specs.declared.call.Reply.TheVariants as reply;
 ghost use Rattle.room_c.specs.Reading.{fault_in, refusal_in, reply_in};
@@ -7,8 +7,8 @@ ghost use Rattle.room_c.specs.Telling.{bare_of, flag_of, number_of_fault, one_of
 use crate::code::Code;
 use sfu_base::{Refusal, Reply, RtpFault, Scratch, Verdict};
 
-/// A reply as numbers: its code, a flag, and two numbers. [`Code`] says what they mean with each code; a number without a meaning is 0. The flag is
-/// a yes or no, or says whether an optional number is there.
+/// A reply as numbers: its code, a flag, and two numbers. [`Code`] gives their meaning for each code; a number without a meaning is 0. The flag is
+/// a yes or no, or says whether an optional number is present.
 #[repr(C)]
 #[derive(Clone, Copy, Debug)]
 pub struct PlainReply {
@@ -19,7 +19,7 @@ pub struct PlainReply {
 }
 
 impl PlainReply {
-    /// The code alone, with zeros beside it.
+    /// The code alone; the flag is false and the numbers are 0.
     pub fn bare(code: Code) -> PlainReply
         ensures { result ≡ bare_of code }
     {
@@ -31,7 +31,7 @@ impl PlainReply {
         }
     }
 
-    /// A code with a yes or no, and zeros beside them.
+    /// A code with a flag; the numbers are 0.
     pub fn telling(code: Code, has: bool) -> PlainReply
         ensures { result ≡ flag_of code has }
     {
@@ -67,7 +67,7 @@ impl PlainReply {
         }
     }
 
-    /// The numbers of a reply. If the reply left bytes or sequence numbers in the scratch, `first` is how many.
+    /// A reply as numbers. If the reply has bytes or sequence numbers in the scratch, `first` is how many.
     #[tactic(auto, unfolding(crate::specs::Telling::plain_of))]
     pub fn of(reply: &Reply, scratch: &Scratch) -> PlainReply
         ensures told { reply_in result ≡ reply.now }
@@ -83,7 +83,7 @@ impl PlainReply {
         }
     }
 
-    /// The numbers of a refusal.
+    /// A refusal as numbers.
     pub fn of_refusal(why: Refusal) -> PlainReply
         ensures told { reply_in result ≡ reply.Refused why }
         ensures refusal { refusal_in result ≡ why }
@@ -126,7 +126,7 @@ impl PlainReply {
     }
 }
 
-// The numbers of a verdict on a frame.
+// A verdict on a frame as numbers.
 fn of_verdict(verdict: Verdict) -> PlainReply
     ensures told { reply_in result ≡ reply.Cause verdict }
     ensures exact { result ≡ plain_verdict verdict }

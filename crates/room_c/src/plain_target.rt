@@ -1,4 +1,4 @@
-// A decode target as C reads it.
+// A decode target in the form that C reads.
 ghost use Rattle.std.specs.Prelude.{◌≡◌};
 ghost use Rattle.room_c.specs.Reading.{layers_in};
 ghost use Rattle.room_c.specs.Telling.{plain_target};
@@ -6,7 +6,7 @@ ghost use Rattle.room_c.specs.Telling.{plain_target};
 use room_core::DecodeTarget;
 use sfu_base::Wish;
 
-/// A decode target as numbers: its index and, where they are known, its greatest spatial and temporal layers.
+/// A decode target as numbers: its index and, if they are known, its greatest spatial and temporal layers.
 #[repr(C)]
 #[derive(Clone, Copy, Debug)]
 pub struct PlainTarget {
@@ -14,14 +14,14 @@ pub struct PlainTarget {
     pub index: u8,
     /// Whether the layers are known.
     pub known: bool,
-    /// The greatest spatial layer, 0 to 3. 0 where the layers aren't known.
+    /// The greatest spatial layer, 0 to 3. 0 if the layers aren't known.
     pub spatial: u8,
-    /// The greatest temporal layer, 0 to 7. 0 where the layers aren't known.
+    /// The greatest temporal layer, 0 to 7. 0 if the layers aren't known.
     pub temporal: u8,
 }
 
 impl PlainTarget {
-    /// The numbers of a decode target, which determine it.
+    /// The numbers of a decode target. Different targets have different numbers.
     pub fn of(target: &DecodeTarget) -> PlainTarget
         ensures index { result.index ≡ target.now.index }
         ensures layers { layers_in result ≡ target.now.layers }

@@ -1,4 +1,4 @@
-// Questions about a subscriber. A question is no call: the room doesn't change. `NoRoom`: the handle is one of no room.
+// Questions about a subscriber. A question isn't a call: the room doesn't change. `NoRoom`: the handle has no room.
 ghost use Rattle.std.specs.Prelude.{◌≡◌};
 ghost use Rattle.room_c.specs.Reading.{reached_in, target_in};
 ghost use Rattle.room_c.specs.Serving.{AsksReached, AsksTarget};
@@ -12,8 +12,8 @@ use room_core::DecodeTarget;
 use sfu_base::Refusal;
 use std::alloc::Global;
 
-/// Returns the decode target that a subscriber is sent, as `Room::target_of` does: `Target`. If there is one, `has` is true and the target is
-/// written to `out`; else `out` doesn't change. Refusal: `NoSubscriber`.
+/// Returns whether a subscriber is sent a decode target, as `Room::target_of` does: `Target`. If so, `has` is true and the target is
+/// written to `out`; else `out` is unchanged. Refusal: `NoSubscriber`.
 #[unsafe(no_mangle)]
 pub extern "C" fn zoftemar_target_of(
     alloc: Global,
@@ -34,7 +34,7 @@ pub extern "C" fn zoftemar_target_of(
     }
 }
 
-/// Returns whether a subscriber is sent the best decode target that its wish allows, as `Room::reaches_wish` does: `Reached`, in `has`. Refusal:
+/// Returns in `has` whether a subscriber is sent the best decode target that its wish allows, as `Room::reaches_wish` does: `Reached`. Refusal:
 /// `NoSubscriber`.
 #[unsafe(no_mangle)]
 pub extern "C" fn zoftemar_reaches_wish(

@@ -1,4 +1,4 @@
-// Retransmission packets without a session (RFC 4588, section 4). No room takes part.
+// Retransmission packets without a session or a room (RFC 4588, section 4).
 ghost use Rattle.std.specs.Prelude.{◌≡◌, IfSome, None, drop, length, take};
 ghost use Rattle.rtx_stream.specs.Retransmission.{IsOriginal, IsRetransmission};
 ghost use Rattle.room_c.specs.declared.code.Code.TheVariants.{Packet};
@@ -12,17 +12,17 @@ use rtp_packet::read;
 use rtx_stream::{Rtx, RtxFault, unwrap, wrap};
 use sfu_base::{PacketBuf, Refusal};
 
-/// The most bytes of a packet that can be wrapped.
+/// The greatest length of a packet that can be wrapped, in bytes.
 const MOST_WRAPPED: usize = 2046;
 
-/// The number beside `Unreadable` for a retransmission without an original sequence number, whose payload has fewer than two bytes.
+/// The fault's number with `Unreadable`, if a retransmission's payload has no original sequence number (fewer than two bytes).
 const NO_ORIGINAL: u64 = 5;
 
-/// Payload types are below this number.
+/// Every payload type is below this number.
 const PAYLOAD_TYPES: u8 = 128;
 
-/// Wraps a packet for a retransmission stream, with the sequence number `number` there, as `wrap` of `rtx_stream` does. `Packet`: the wrapped packet
-/// is at the start of `out`. Else nothing is written, and the code is the first of these that applies. `NoSpace`: `out` has fewer than 2,048 bytes.
+/// Wraps a packet for a retransmission stream, with its sequence number `number` there, as `wrap` of `rtx_stream` does. `Packet`: the wrapped packet
+/// is at the start of `out`. Else nothing is written, and the code is the first that applies. `NoSpace`: `out` has fewer than 2,048 bytes.
 /// `TooLong`: the packet has more than 2,046 bytes. `BadStream`: the payload type is 128 or more. `Unreadable`: the packet isn't RTP.
 #[unsafe(no_mangle)]
 pub extern "C" fn zoftemar_wrap(
@@ -61,9 +61,9 @@ pub extern "C" fn zoftemar_wrap(
     }
 }
 
-/// Unwraps a retransmission packet, as `unwrap` of `rtx_stream` does. `Packet`: the packet that it carries, with this SSRC and payload type, is at
-/// the start of `out`. Else nothing is written, and the code is the first of these that applies. `NoSpace`: `out` has fewer than 2,048 bytes.
-/// `TooLong`: `bytes` are more than 2,048. `BadStream`: the payload type is 128 or more. `Unreadable`: `bytes` aren't RTP, or have no original
+/// Unwraps a retransmission packet, as `unwrap` of `rtx_stream` does. `Packet`: the original packet, with this SSRC and payload type, is at
+/// the start of `out`. Else nothing is written, and the code is the first that applies. `NoSpace`: `out` has fewer than 2,048 bytes.
+/// `TooLong`: `bytes` has more than 2,048 bytes. `BadStream`: the payload type is 128 or more. `Unreadable`: `bytes` isn't RTP, or has no original
 /// sequence number.
 #[unsafe(no_mangle)]
 pub extern "C" fn zoftemar_unwrap(

@@ -1,4 +1,4 @@
-// A session at work: what comes to it, and what has to be sent.
+// Running a session: the datagrams it receives, the calls it makes, and the datagrams it sends.
 ghost use Rattle.std.specs.Prelude.{◌≡◌, ◌<◌, ◌≤◌, None, Some, drop, length, take};
 ghost use Rattle.session_steps.specs.declared.session.Output.TheVariants as sends;
 ghost use Rattle.room_c.specs.declared.code.Code.TheVariants.{NoSpace, TooLong};
@@ -17,8 +17,8 @@ use session_steps::Output;
 use sfu_base::PacketBuf;
 use std::alloc::Global;
 
-/// Begins a turn of a session with a datagram that came at a moment in milliseconds, as `received` of `Session` does: `Done`. `TooLong`: the
-/// datagram has more than 2,048 bytes. `NoSession`. `Busy`: the session has a call left to make. With each code but `Done` nothing changes.
+/// Begins a turn of a session with a datagram received at `moment`, in milliseconds, as `received` of `Session` does: `Done`. `TooLong`: the
+/// datagram has more than 2,048 bytes. `NoSession`. `Busy`: the session still has a call to make. With each code but `Done` nothing changes.
 #[unsafe(no_mangle)]
 pub extern "C" fn zoftemar_session_received(
     alloc: Global,
@@ -42,8 +42,8 @@ pub extern "C" fn zoftemar_session_received(
     }
 }
 
-/// Begins a turn of a session at a moment in milliseconds, where no datagram came: `Done`. `NoSession`. `Busy`: the session has a call left to
-/// make. With each code but `Done` nothing changes.
+/// Begins a turn of a session at `moment`, in milliseconds, if no datagram came: `Done`. `NoSession`. `Busy`: the session still has a
+/// call to make. With each code but `Done` nothing changes.
 #[unsafe(no_mangle)]
 pub extern "C" fn zoftemar_session_waited(
     alloc: Global,
@@ -62,9 +62,9 @@ pub extern "C" fn zoftemar_session_waited(
     }
 }
 
-/// Makes a session's calls on a room, up to the next datagram that has to be sent. `Packet`: that datagram is at the start of `out`. `Done`: no
-/// call is left, and the session waits for the next datagram. `NoSpace`: `out` has fewer than 2,048 bytes. `NoSession`, `NoRoom`. With these three
-/// nothing changes.
+/// Makes a session's calls on a room, up to the next datagram to send. `Packet`: that datagram is at the start of `out`. `Done`: no call
+/// is left, and the session waits for the next datagram. `NoSpace`: `out` has fewer than 2,048 bytes. `NoSession`, `NoRoom`. With the last three
+/// codes nothing changes.
 #[unsafe(no_mangle)]
 pub extern "C" fn zoftemar_session_work(
     alloc: Global,
@@ -91,7 +91,7 @@ pub extern "C" fn zoftemar_session_work(
     }
 }
 
-// The same for a session that is there, and a buffer that fits any packet.
+// As `zoftemar_session_work`, for a session that exists and a buffer of at least 2,048 bytes.
 fn work_on(
     alloc: Global,
     room: &mut Handle,
@@ -114,7 +114,7 @@ fn work_on(
     }
 }
 
-// Writes an output's packet, if there is one, into a buffer that fits any packet. Returns the output as a reply.
+// Writes an output's packet, if any, to the start of `out` (2,048 bytes or more). Returns the output as a reply.
 fn give_output(output: Output, packet: &PacketBuf, out: &mut [u8]) -> PlainReply
     requires { 2048 ≤ length out.old }
     ensures tells { result ≡ output_reply output packet.now }

@@ -8,7 +8,7 @@ use crate::parts::Parts;
 use std::alloc::Global;
 use std::mem::replace;
 
-/// The handle of a session, or of none. C keeps its 16 bytes, all 0 at first, and may pass it from thread to thread.
+/// A handle that has a session or none. C keeps its 16 bytes, at first all 0, and may pass it from thread to thread.
 #[repr(C)]
 pub struct SessionHandle {
     made: bool,
@@ -17,7 +17,7 @@ pub struct SessionHandle {
 }
 
 impl SessionHandle {
-    /// The handle of no session.
+    /// A handle that has no session.
     pub fn empty(alloc: Global) -> SessionHandle
         ensures { result.held.attended ≡ None }
     {
@@ -27,7 +27,7 @@ impl SessionHandle {
         }
     }
 
-    /// The handle of a session.
+    /// A handle that has this session.
     pub fn of(attended: Box<Attended>) -> SessionHandle
         ensures { result.held.attended ≡ Some attended.value }
     {
@@ -37,7 +37,7 @@ impl SessionHandle {
         }
     }
 
-    /// The session behind the handle, if there is one.
+    /// The handle's session, or `None` if it has none.
     pub fn into_attended(self) -> Option<Box<Attended>>
         ensures { self.held.attended ≡ option_map (λ attended. attended.value) result }
     {
@@ -50,7 +50,7 @@ impl SessionHandle {
         }
     }
 
-    /// Takes the session out of the handle, which is then one of no session.
+    /// Takes the session out of the handle, which then has no session.
     pub fn take(&mut self, alloc: Global) -> Option<Box<Attended>>
         ensures taken { self.old.held.attended ≡ option_map (λ attended. attended.value) result }
         ensures empty { self.new.held.attended ≡ None }
@@ -58,7 +58,7 @@ impl SessionHandle {
         replace(self, SessionHandle::empty(alloc)).into_attended()
     }
 
-    /// Puts a session into the handle. A session that was there is dropped.
+    /// Puts a session into the handle. Drops the session that the handle had before, if any.
     pub fn put(&mut self, attended: Box<Attended>)
         ensures { self.new.held.attended ≡ Some attended.value }
     {

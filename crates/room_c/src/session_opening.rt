@@ -1,4 +1,4 @@
-// A session begins and ends.
+// Opening and closing a session.
 ghost use Rattle.std.specs.Prelude.{◌≡◌, ◌≢◌, ◌<◌, ◌≤◌, ◌⊎◌, ℕ, None};
 ghost use Rattle.session_steps.specs.Sessions.{Doing, publisher_deed, outgoing_deed};
 ghost use Rattle.room_sessions.specs.Either.{either_left};
@@ -15,8 +15,8 @@ use rtx_stream::Rtx;
 use session_steps::{PublisherSession, SubscriberSession};
 use std::alloc::Global;
 
-/// Opens the session of a track's publisher behind a handle of none, as `PublisherSession::new` does: `Done`. `HasSession`: the handle has a
-/// session already, and nothing changes. `NoMemory`: the handle still has none. `ssrc` is the SSRC of the packets that the publisher sends.
+/// Opens a session of a track's publisher behind a handle that has none, as `PublisherSession::new` does: `Done`. `HasSession`: the handle
+/// already has a session; nothing changes. `NoMemory`: the handle still has none. `ssrc` is the SSRC of the publisher's packets.
 #[unsafe(no_mangle)]
 pub extern "C" fn zoftemar_open_publisher(
     alloc: Global,
@@ -33,8 +33,8 @@ pub extern "C" fn zoftemar_open_publisher(
     )
 }
 
-/// Opens the session of a subscriber, with retransmissions sent as the packets were first sent. `ssrc` is the SSRC of the media that are sent to the
-/// subscriber. The codes are those of `zoftemar_open_publisher`.
+/// Opens a session of a subscriber whose retransmissions are sent as the packets were first sent. `ssrc` is the SSRC of the media sent to
+/// the subscriber. The codes are those of `zoftemar_open_publisher`.
 #[unsafe(no_mangle)]
 pub extern "C" fn zoftemar_open_subscriber(
     alloc: Global,
@@ -51,8 +51,8 @@ pub extern "C" fn zoftemar_open_subscriber(
     )
 }
 
-/// Opens the session of a subscriber, as `zoftemar_open_subscriber` does, but with retransmissions sent on a stream of their own (RFC 4588), numbered
-/// from 0. `BadStream`: the stream's payload type is 128 or more, or its SSRC is that of the media, and nothing changes.
+/// Opens a session of a subscriber, as `zoftemar_open_subscriber` does, but sends retransmissions in a separate stream (RFC 4588), numbered
+/// from 0. `BadStream`: the stream's payload type is 128 or more, or the stream has the SSRC of the media; nothing changes.
 #[unsafe(no_mangle)]
 pub extern "C" fn zoftemar_open_rtx_subscriber(
     alloc: Global,
@@ -83,7 +83,7 @@ pub extern "C" fn zoftemar_open_rtx_subscriber(
     )
 }
 
-/// Closes a session. The handle is then one of no session, and a session may be opened behind it again.
+/// Closes a session. The handle then has no session, and a session may be opened behind it again.
 #[unsafe(no_mangle)]
 pub extern "C" fn zoftemar_close_session(alloc: Global, session: &mut SessionHandle)
     ensures { session.new.held.attended ≡ None }

@@ -1,5 +1,5 @@
-// Calls on a subscriber. `seat` says who calls, for the room's recorder; that of this room keeps nothing. A call returns
-// `Done` where its comment names no other code. On a handle of no room it returns `NoRoom`, unless `NoSpace` applies.
+// Calls on a subscriber. `seat` names the caller for the room's recorder; this room's recorder ignores it. A call
+// returns `Done` if its comment names no other code. If the handle has no room: `NoRoom`, unless `NoSpace` applies.
 ghost use Rattle.std.specs.Prelude.{◌≡◌, ◌<◌, ◌≤◌, drop, length};
 ghost use Rattle.sfu_base.specs.declared.call.Call.TheVariants as call;
 ghost use Rattle.room_c.specs.declared.code.Code.TheVariants.{NoSpace};
@@ -14,7 +14,7 @@ use crate::plain_reply::PlainReply;
 use sfu_base::{Call, Wish};
 use std::alloc::Global;
 
-/// Begins a subscriber of a track, as `Room::join` does. The packets that are sent to the subscriber have this SSRC and sequence numbers from
+/// Makes a subscriber join a track, as `Room::join` does. The packets sent to the subscriber have this SSRC and sequence numbers from
 /// `first` on. `spatial` and `temporal` are the wish. Refusals: `NoTrack`, `NumberUsed`, `TooMany`, `NoMemory`.
 #[unsafe(no_mangle)]
 pub extern "C" fn zoftemar_join(
@@ -45,7 +45,7 @@ pub extern "C" fn zoftemar_join(
     )
 }
 
-/// Ends a subscriber, as `Room::leave` does. Refusal: `NoSubscriber`.
+/// Removes a subscriber, as `Room::leave` does. Refusal: `NoSubscriber`.
 #[unsafe(no_mangle)]
 pub extern "C" fn zoftemar_leave(
     alloc: Global,
@@ -74,8 +74,8 @@ pub extern "C" fn zoftemar_aim(
     room.serve(alloc, seat, &Call::Aim { subscriber, wish })
 }
 
-/// Takes the oldest packet that waits for a subscriber, as `Room::take` does, and writes it at the start of `out`: `Packet`. Refusals:
-/// `NoSubscriber`, `Empty`. `NoSpace`: `out` has fewer than 2,048 bytes, and nothing changes.
+/// Takes the oldest packet queued for a subscriber, as `Room::take` does, and writes it to the start of `out`: `Packet`. Refusals:
+/// `NoSubscriber`, `Empty`. `NoSpace`: `out` has fewer than 2,048 bytes; nothing changes.
 #[unsafe(no_mangle)]
 pub extern "C" fn zoftemar_take(
     alloc: Global,
@@ -108,8 +108,8 @@ pub extern "C" fn zoftemar_take(
     }
 }
 
-/// Writes the packet that was taken with this sequence number again, at the start of `out`, as `Room::resend` does for a NACK (RFC 4585, section
-/// 6.2.1): `Packet`. Refusals: `NoSubscriber`, `NotKept`. `NoSpace`: `out` has fewer than 2,048 bytes, and nothing changes.
+/// Writes to the start of `out` a packet that was taken before, with this sequence number, as `Room::resend` does for a NACK (RFC 4585, section
+/// 6.2.1): `Packet`. Refusals: `NoSubscriber`, `NotKept`. `NoSpace`: `out` has fewer than 2,048 bytes; nothing changes.
 #[unsafe(no_mangle)]
 pub extern "C" fn zoftemar_resend(
     alloc: Global,
@@ -143,7 +143,7 @@ pub extern "C" fn zoftemar_resend(
     }
 }
 
-/// Asks for a key frame, as `Room::plead` does for a picture loss indication (RFC 4585, section 6.3.1). Refusals: `NoSubscriber`, `NoTrack`,
+/// Requests a key frame, as `Room::plead` does for a picture loss indication (RFC 4585, section 6.3.1). Refusals: `NoSubscriber`, `NoTrack`,
 /// `Plain`.
 #[unsafe(no_mangle)]
 pub extern "C" fn zoftemar_plead(

@@ -1,5 +1,5 @@
-// Calls on a track. `seat` says who calls, for the room's recorder; that of this room keeps nothing. A call returns
-// `Done` where its comment names no other code. On a handle of no room it returns `NoRoom`, unless `TooLong` or `NoSpace` applies.
+// Calls on a track. `seat` names the caller for the room's recorder; this room's recorder ignores it. A call returns
+// `Done` if its comment names no other code. If the handle has no room it returns `NoRoom`, unless `TooLong` or `NoSpace` applies.
 ghost use Rattle.std.specs.Prelude.{◌≡◌, ◌<◌, ◌≤◌, drop, length};
 ghost use Rattle.sfu_base.specs.declared.call.Call.TheVariants as call;
 ghost use Rattle.sfu_base.specs.declared.call.Kind.TheVariants.{Layered, Plain};
@@ -15,7 +15,7 @@ use crate::plain_reply::PlainReply;
 use sfu_base::{Call, Kind};
 use std::alloc::Global;
 
-/// Begins a plain track, as `Room::publish` does. At a gap in its sequence numbers the track waits for `hold` milliseconds. Refusals:
+/// Publishes a plain track, as `Room::publish` does. At a gap in sequence numbers the track waits for `hold` milliseconds. Refusals:
 /// `NumberUsed`, `TooMany`, `NoMemory`.
 #[unsafe(no_mangle)]
 pub extern "C" fn zoftemar_publish_plain(
@@ -41,7 +41,7 @@ pub extern "C" fn zoftemar_publish_plain(
     )
 }
 
-/// Begins a layered track, as `Room::publish` does. The track's Dependency Descriptors are in the header extension element with this id (RFC
+/// Publishes a layered track, as `Room::publish` does. Its Dependency Descriptors are in the header extension element with this id (RFC
 /// 8285). Refusals: `NumberUsed`, `TooMany`, `BadExtensionId`, `NoMemory`.
 #[unsafe(no_mangle)]
 pub extern "C" fn zoftemar_publish_layered(
@@ -81,8 +81,8 @@ pub extern "C" fn zoftemar_unpublish(
     room.serve(alloc, seat, &Call::Unpublish { track })
 }
 
-/// Brings a packet to a track at a moment in milliseconds, as `Room::packet` does. Refusals: `NoTrack`, `TooBig`, `Unreadable`, `WrongSsrc`,
-/// `Spent`, `Late`, `Repeat`. `TooLong`: the packet has more than 2,048 bytes, and nothing changes.
+/// Brings a packet to a track at `moment`, in milliseconds, as `Room::packet` does. Refusals: `NoTrack`, `TooBig`, `Unreadable`,
+/// `WrongSsrc`, `Spent`, `Late`, `Repeat`. `TooLong`: the packet has more than 2,048 bytes; nothing changes.
 #[unsafe(no_mangle)]
 pub extern "C" fn zoftemar_packet(
     alloc: Global,
@@ -114,7 +114,7 @@ pub extern "C" fn zoftemar_packet(
     }
 }
 
-/// Brings a track to a moment in milliseconds without a packet, as `Room::tick` does. Refusal: `NoTrack`.
+/// Brings a track to `moment`, in milliseconds, with no packet, as `Room::tick` does. Refusal: `NoTrack`.
 #[unsafe(no_mangle)]
 pub extern "C" fn zoftemar_tick(
     alloc: Global,
@@ -136,8 +136,8 @@ pub extern "C" fn zoftemar_tick(
     }
 }
 
-/// Writes the sequence numbers that a track waits for at the start of `out`, as `Room::missing` has them: `Names`. Refusal: `NoTrack`. `NoSpace`:
-/// `out` has fewer than 1,024 places, and nothing changes.
+/// Writes to the start of `out` the sequence numbers that a track waits for, as `Room::missing` does: `Names`. Refusal: `NoTrack`. `NoSpace`:
+/// `out` has fewer than 1,024 items; nothing changes.
 #[unsafe(no_mangle)]
 pub extern "C" fn zoftemar_missing(
     alloc: Global,
@@ -170,7 +170,7 @@ pub extern "C" fn zoftemar_missing(
     }
 }
 
-/// Returns whether a track's publisher is to be asked for a key frame, as `Room::key_wanted` does: `Key`, in `has`. Refusal: `NoTrack`.
+/// Returns in `has` whether to ask a track's publisher for a key frame, as `Room::key_wanted` does: `Key`. Refusal: `NoTrack`.
 #[unsafe(no_mangle)]
 pub extern "C" fn zoftemar_key_wanted(
     alloc: Global,

@@ -1,4 +1,4 @@
--- Numbers in bytes: what is read stands there, and what stands there is read.
+-- Numbers in bytes: what is read is there, and what is there is read.
 use Rattle.std.proofs.Common.{◌≡◌, ◌<◌, ◌≤◌, ℕ, zero, suc, ◌+◌, ◌^◌, ◌/◌, ◌%◌, List, [], ◌∷◌, ◌++◌, length, take, drop, refl, sym, ap, ◌∙◌, arith, append_assoc, append-nil, length-drop}
 use Rattle.std.specs.Int.{from_be_bytes, w64}
 use Rattle.std.specs.List.{flat_map}
@@ -70,7 +70,7 @@ one_within kind.Number32 bytes fits = big_from-lt 0 4 bytes fits
 one_within kind.Number64 bytes fits = big_from-lt 0 8 bytes fits
 one_within kind.Ssrc bytes fits = big_from-lt 0 4 bytes fits
 
--- a number's own bytes are read as that number, whatever stands behind them
+-- a number's own bytes are read as that number, whatever follows them
 one_back : (f : Field) (n : ℕ) (rest : List ℕ) → n < 2 ^ bits_of f → big_number (width_of f) (place_bytes (place_of f n) ++ rest) ≡ n
 one_back kind.Number8 n rest lt = big_number-reads_back 1 n rest lt
 one_back kind.Number16 n rest lt = big_number-reads_back 2 n rest lt
@@ -104,7 +104,7 @@ all_within (f ∷ fs) bytes fits =
     place_within f (big_number (width_of f) bytes) fs (numbers_at fs (drop (width_of f) bytes)) (one_within f bytes fits)
     (all_within fs (drop (width_of f) bytes) (drop_bytes (width_of f) bytes fits))
 
--- what was read, laid again, and what stands behind it
+-- the numbers that were read, written again, and what follows them
 pub numbers_laid : (fs : List Field) (bytes : List ℕ) → size_of fs ≤ length bytes → AreBytes bytes
     → flat_map place_bytes (places_of fs (numbers_at fs bytes)) ++ drop (size_of fs) bytes ≡ bytes
 numbers_laid [] bytes room fits = refl
@@ -116,7 +116,7 @@ numbers_laid (f ∷ fs) bytes room fits =
     ∙ ap (λ (x : List ℕ). place_bytes (place_of f (big_number w bytes)) ++ x) others
     ∙ one_laid f bytes (omega arith) fits
 
--- the same where nothing stands behind it
+-- the same where nothing follows it
 pub whole_laid : (fs : List Field) (bytes : List ℕ) → length bytes ≡ size_of fs → AreBytes bytes → bytes ≡ flat_map place_bytes (places_of fs (numbers_at fs bytes))
 whole_laid fs bytes same fits =
     let laid = numbers_laid fs bytes (omega arith) fits in
@@ -124,7 +124,7 @@ whole_laid fs bytes same fits =
     sym (sym (append-nil (flat_map place_bytes (places_of fs (numbers_at fs bytes))))
     ∙ ap (λ (x : List ℕ). flat_map place_bytes (places_of fs (numbers_at fs bytes)) ++ x) (sym none) ∙ laid)
 
--- what was laid is read, whatever stands behind it
+-- what was written is read, whatever follows it
 pub numbers_back : (fs : List Field) (ns rest : List ℕ) → length ns ≡ length fs → AreWithin fs ns
     → numbers_at fs (flat_map place_bytes (places_of fs ns) ++ rest) ≡ ns
 numbers_back [] [] rest same h = refl

@@ -1,4 +1,4 @@
--- A body is read as a call exactly where it is the call's.
+-- A body is read as a call exactly if it is the call's body.
 use Rattle.std.proofs.Common.{◌≡◌, ◌≤◌, ℕ, suc, ◌+◌, Bool, true, false, cond, leb, ◌&&◌, eqb, List, [], ◌∷◌, ◌++◌, length, drop, refl, sym, ap, ◌∙◌, subst, arith, Option, Some, None, append-nil, length-drop}
 use Rattle.std.specs.List.{flat_map}
 use Rattle.std.specs.Option.{option_map_or}
@@ -56,7 +56,7 @@ kind_is code k =
     (pick code 14 kind.Why k _ _ refl refl
     (no_kind code k))))))))))))))
 
--- ---- what is read stands there
+-- ---- what is read is in the body
 
 exactly : (count n : ℕ) → eqb (suc count) (suc n) ≡ true → count ≡ n
 exactly count n e = grind (arith, nat_tests)
@@ -67,7 +67,7 @@ least count e = grind (arith, nat_tests)
 most : (count : ℕ) → (leb 14 (suc count) && leb (suc count) 2061) ≡ true → count ≤ 2060
 most count e = grind (arith, nat_tests)
 
--- a packet's bytes stand behind its two numbers
+-- a packet's bytes follow its two numbers
 packet_found : (bytes : List ℕ) (said : Call) → 13 ≤ length bytes → length bytes ≤ 2060 → AreBytes bytes → call_at kind.Packet bytes ≡ Some said → IsBody said (4 ∷ bytes)
 packet_found bytes said long short fits e =
     let fs : List Field = Number32 ∷ Number64 ∷ [] in
@@ -154,7 +154,7 @@ call_found (code ∷ bytes) said fits e =
     let h = chosen (is_in_table (code ∷ bytes)) (call_behind code bytes) said e in
     behind_found code bytes said _ refl h.0 (λ i. fits (suc i)) h.1
 
--- ---- what stands there is read
+-- ---- what is in the body is read
 
 packet_fits : (count all : ℕ) → 1 ≤ count → count ≤ 2048 → all ≡ 13 + count → (leb 14 all && leb all 2061) ≡ true
 packet_fits count all some few is = grind (arith, nat_tests)

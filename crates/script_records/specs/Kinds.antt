@@ -40,7 +40,7 @@ kind_named code =
     else if code == 14 then Some Why
     else None
 
--- whether a body of the kind may have so many bytes, the kind's own counted
+-- whether a body of the kind may have this many bytes, including the kind's own
 abbrev pub has_length : RecordKind → ℕ → Bool
 has_length PublishPlain count = count == 13
 has_length PublishLayered count = count == 14
@@ -57,7 +57,7 @@ has_length KeyWanted count = count == 5
 has_length Plead count = count == 5
 has_length Why count = count == 13
 
--- whether a body may begin with the number and have so many bytes
+-- whether a body may begin with this number and have this many bytes
 abbrev pub may_have : ℕ → ℕ → Bool
 may_have code count = option_map_or (λ kind. has_length kind count) (kind_named code) false
 

@@ -1,4 +1,4 @@
--- The call that a body says, as a function: what whole scripts are computed with. The code goes over an array of fields with an index.
+-- The call that a body says, as a function, which computes on whole scripts. The code goes over an array of fields with an index.
 use Rattle.std.specs.Prelude.{ℕ, ◌+◌, ◌/◌, if◌then◌else◌, List, [], ◌∷◌, drop, Option, Some, None}
 use Rattle.byteorder.specs.Endian.{big_number}
 use Rattle.sfu_base.specs.declared.call.Call.{Call}
@@ -13,16 +13,16 @@ use Rattle.script_records.specs.Kinds.{kind_named, is_in_table}
 use Rattle.script_records.specs.declared.kind.RecordKind.{RecordKind}
 use Rattle.script_records.specs.declared.kind.RecordKind.TheVariants as kind
 
--- how many bytes a field has
+-- the number of bytes of a field
 abbrev pub width_of : Field → ℕ
 width_of field = bits_of field / 8
 
--- how many bytes the fields have
+-- the number of bytes of the fields
 abbrev pub size_of : List Field → ℕ
 size_of [] = 0
 size_of (field ∷ fields) = width_of field + size_of fields
 
--- the numbers of the fields, one behind the other from the front of the bytes, the highest byte of each first
+-- the numbers of the fields, one after the other from the start of the bytes, in network byte order
 abbrev pub numbers_at : List Field → List ℕ → List ℕ
 numbers_at [] bytes = []
 numbers_at (field ∷ fields) bytes = big_number (width_of field) bytes ∷ numbers_at fields (drop (width_of field) bytes)
@@ -32,7 +32,7 @@ abbrev pub of_four : (ℕ → ℕ → ℕ → ℕ → Call) → List ℕ → Opt
 of_four make (a ∷ b ∷ c ∷ d ∷ []) = Some (make a b c d)
 of_four make numbers = None
 
--- the call of a kind and of the bytes behind it, which are as many as the kind has
+-- the call of a kind and of the bytes after it, exactly as many as the kind has
 abbrev pub call_at : RecordKind → List ℕ → Option Call
 call_at kind.PublishPlain bytes =
     of_three (λ track ssrc hold. call.Publish track Plain ssrc hold) (numbers_at (Number32 ∷ Ssrc ∷ Number32 ∷ []) bytes)
@@ -55,7 +55,7 @@ call_at kind.KeyWanted bytes = of_one (λ track. call.KeyWanted track) (numbers_
 call_at kind.Plead bytes = of_one (λ subscriber. call.Plead subscriber) (numbers_at (Number32 ∷ []) bytes)
 call_at kind.Why bytes = of_two (λ subscriber number. call.Why subscriber number) (numbers_at (Number32 ∷ Number64 ∷ []) bytes)
 
--- the call of a first byte and the bytes behind it
+-- the call of a first byte and the bytes after it
 abbrev pub call_behind : ℕ → List ℕ → Option Call
 call_behind code bytes = kind_named code >>= (λ kind. call_at kind bytes)
 

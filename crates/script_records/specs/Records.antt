@@ -1,4 +1,4 @@
--- What a record is: its length and its body, and of which call a body is. Own rule.
+-- A record: its length and its body, and which body a call has. Own rule.
 use Rattle.std.specs.Prelude.{◌≡◌, ℕ, ◌/◌, List, [], ◌∷◌, ◌++◌, length}
 use Rattle.std.specs.List.{flat_map}
 use Rattle.byteorder.specs.Endian.{big_bytes}
@@ -8,7 +8,7 @@ use Rattle.sfu_base.specs.declared.call.Kind.TheVariants.{Plain, Layered}
 use Rattle.script_texts.specs.Grammar.{Place, Word, Number, Ssrc, Hex, Address}
 use Rattle.script_texts.specs.Lines.{HasLine, places}
 
--- the number that a call's body begins with
+-- the first number of a call's body
 abbrev pub kind_of : Call → ℕ
 kind_of (Publish track Plain ssrc hold) = 1
 kind_of (Publish track (Layered id) ssrc hold) = 2
@@ -25,8 +25,8 @@ kind_of (KeyWanted track) = 12
 kind_of (Plead subscriber) = 13
 kind_of (Why subscriber number) = 14
 
--- What stands in a body for a place of the call's line: a number in as many bytes as its type has, the highest first; a packet's bytes as
--- they are. For a word nothing stands there: the kind says it.
+-- The bytes in a body for a place of the call's line: a number in as many bytes as its type has, in network byte order; a packet's bytes
+-- unchanged. A word has no bytes: the kind says it.
 abbrev pub place_bytes : Place → List ℕ
 place_bytes (Word text) = []
 place_bytes (Number bits n) = big_bytes (bits / 8) n
@@ -34,11 +34,11 @@ place_bytes (Ssrc ssrc) = big_bytes 4 ssrc
 place_bytes (Hex bytes) = bytes
 place_bytes (Address ip port) = big_bytes 4 ip ++ big_bytes 2 port
 
--- the body of a call's record: its kind, and what stands for each place of its line
+-- the body of a call's record: its kind, and the bytes for each place of its line
 abbrev pub body_of : Call → List ℕ
 body_of call = kind_of call ∷ flat_map place_bytes (places call)
 
--- a body behind its length, which has two bytes
+-- a body after its length in two bytes
 abbrev pub framed : List ℕ → List ℕ
 framed body = big_bytes 2 (length body) ++ body
 

@@ -1,4 +1,4 @@
--- The values that a body is written from, as the code hands them on.
+-- The values of a body, as the code passes them to the writer.
 use Rattle.std.specs.Prelude.{ℕ, List}
 use Rattle.std.specs.List.{flat_map}
 use Rattle.byteorder.specs.Endian.{big_bytes}
@@ -13,6 +13,6 @@ value_bytes (Of32 n) = big_bytes 4 n
 value_bytes (Of64 n) = big_bytes 8 n
 value_bytes (Bytes bytes) = bytes.now
 
--- the bytes of values, one behind the other
+-- the bytes of values, one after the other
 abbrev pub values_bytes : List Value → List ℕ
 values_bytes values = flat_map value_bytes values

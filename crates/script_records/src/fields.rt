@@ -1,4 +1,4 @@
-// The numbers of a body: a list of typed places, and the one reader over such lists.
+// The numbers of a body: the type of each field, and one reader for all lists of fields.
 ghost use Rattle.std.specs.Prelude.{◌≡◌, ◌≤◌, length};
 ghost use Rattle.sfu_script.specs.Fields.{AreWithin};
 ghost use Rattle.script_records.specs.ReadRecords.{numbers_at, size_of, width_of};
@@ -17,7 +17,7 @@ fn width(field: Field) -> usize
     }
 }
 
-/// The numbers that the bytes begin with, one for each field, each with its highest byte first.
+/// Reads the numbers at the start of `bytes`, one for each field, each in network byte order.
 pub fn read_numbers<const N: usize>(fields: &[Field; N], bytes: &[u8]) -> [u64; N]
     requires { size_of fields.now ≤ length bytes.now }
     ensures value { result ≡ numbers_at fields.now bytes.now }

@@ -2,7 +2,7 @@
 ghost use Rattle.std.specs.Prelude.{◌≡◌};
 ghost use Rattle.script_records.specs.Kinds.{code_of, has_length, kind_named, may_have};
 
-/// What a record says, by the number that its body begins with.
+/// The kind of a record: the number of the kind is the first byte of its body.
 #[derive(Clone, Copy, Debug, PartialEq, Eq)]
 pub enum RecordKind {
     PublishPlain = 1,
@@ -22,7 +22,7 @@ pub enum RecordKind {
 }
 
 impl RecordKind {
-    /// The kind with this number, or `None`.
+    /// The kind with this number, or `None` if there is none.
     pub fn named(code: u8) -> Option<RecordKind>
         ensures { result ≡ kind_named code }
     {
@@ -45,14 +45,14 @@ impl RecordKind {
         }
     }
 
-    /// The number of the kind.
+    /// The number of this kind.
     pub fn code(self) -> u8
         ensures { result ≡ code_of self }
     {
         self as u8
     }
 
-    /// Whether a body of this kind may have `length` bytes, the byte of the kind included.
+    /// Whether a body of this kind may have `length` bytes, including the byte of the kind.
     pub fn has_length(self, length: usize) -> bool
         ensures { result ≡ has_length self length }
     {

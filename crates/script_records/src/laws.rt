@@ -1,4 +1,4 @@
-// What is true of records and their calls, for every call and all bytes. The functions have no effect: their contracts are the laws.
+// Theorems about records and their calls, for every call and all bytes. Each is the contract of a function that does nothing.
 ghost use Rattle.std.specs.Prelude.{◌≡◌, ◌↔◌, List, Some, true, length, ℕ};
 ghost use Rattle.byteorder.specs.Endian.{big_number};
 ghost use Rattle.sfu_base.specs.Bytes.{AreBytes};
@@ -18,7 +18,7 @@ pub fn records_say_one_call()
     ensures { (one other : Call) (body : List ℕ) → IsBody one body → IsBody other body → one ≡ other }
 {}
 
-/// What is written for a call is read back as that call.
+/// The body written for a call is read back as the same call.
 pub fn records_read_back()
     ensures { (call : Call) → HasLine call → call_of (body_of call) ≡ Some call }
 {}
@@ -28,12 +28,12 @@ pub fn records_are_in_the_table()
     ensures { (call : Call) (body : List ℕ) → IsBody call body → is_in_table body ≡ true }
 {}
 
-/// A record's first two bytes say how many bytes its body has.
+/// A record's first two bytes are the length of its body, in network byte order.
 pub fn lengths_read_back()
     ensures { (call : Call) → HasLine call → big_number 2 (record_of call) ≡ length (body_of call) }
 {}
 
-/// If a line says a call, that call's record says the same call.
+/// If a line says a call, the record written for that call says the same call.
 pub fn converted_lines_say_the_same()
     ensures { (call : Call) (line : List ℕ) → IsLine call line → IsBody call (body_of call) × (call_of (body_of call) ≡ Some call) }
 {}

@@ -1,4 +1,4 @@
-//! The second form of scripts: records of bytes, each of which says a call of the room.
+//! The binary form of scripts: records of bytes, each of which is a call on the room.
 #![tactic(auto)]
 
 mod fields;

@@ -1,4 +1,4 @@
-// Records, read.
+// Readers for records.
 ghost use Rattle.std.specs.Prelude.{◌≡◌, ◌+◌, ◌<◌, ◌≤◌, [], ◌∷◌, IfOk, OnErr, Some, is_ok, length, true};
 ghost use Rattle.std.specs.Result.{result_ok};
 ghost use Rattle.sfu_base.specs.declared.call.Call.{Call};
@@ -18,10 +18,10 @@ use thiserror::Error;
 #[error("the record is outside the grammar")]
 pub struct NoRecord;
 
-/// How many bytes there are between a record's kind and its packet.
+/// The number of bytes between a record's kind and its packet.
 pub const PACKET_HEAD: usize = 12;
 
-// The readers of single kinds are inlined: each function that returns a call by value would clear and copy its 2 KB once more.
+// The readers of single kinds are inlined: each function that returns a call by value would clear and copy its 2 KB again.
 #[inline(always)]
 fn publish_plain(bytes: &[u8]) -> Call
     requires { length bytes.now ≡ 12 }
@@ -137,7 +137,7 @@ fn why(bytes: &[u8]) -> Call
     }
 }
 
-/// The track or the subscriber of a kind that has no other number.
+/// The number of the track or subscriber, for a kind with no other number.
 pub fn number(bytes: &[u8]) -> u32
     requires { length bytes.now ≡ 4 }
     ensures { numbers_at (Field.Number32 ∷ []) bytes.now ≡ result ∷ [] }
@@ -146,7 +146,7 @@ pub fn number(bytes: &[u8]) -> u32
     number as u32
 }
 
-// The call of a kind and the bytes after it.
+// The call of this kind with these bytes after the kind.
 #[inline(always)]
 fn call(kind: RecordKind, bytes: &[u8]) -> Call
     requires { has_length kind (1 + length bytes.now) ≡ true }
@@ -182,7 +182,7 @@ fn call(kind: RecordKind, bytes: &[u8]) -> Call
     }
 }
 
-// The call that a body says.
+// Reads a body as a call.
 #[inline(always)]
 fn said(body: &[u8]) -> Result<Call, NoRecord>
     ensures value { result_ok result ≡ call_of body.now }
@@ -197,7 +197,7 @@ fn said(body: &[u8]) -> Result<Call, NoRecord>
     }
 }
 
-/// The call that the body of a record says; the body is the bytes after the length. `NoRecord` exactly when the body says none. Takes no
+/// Reads the body of a record, which is the bytes after the length, as a call. `NoRecord` exactly when the body says no call. Takes no
 /// memory.
 pub fn read_record(body: &[u8]) -> Result<Call, NoRecord>
     ensures value { result_ok result ≡ call_of body.now }

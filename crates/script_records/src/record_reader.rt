@@ -1,4 +1,4 @@
-// Records read one after another.
+// A reader that reuses its buffers from record to record.
 ghost use Rattle.std.specs.Prelude.{◌≡◌, ◌+◌, ◌<◌, ◌≤◌, IfOk, IsTrue, MatchResult, None, OnErr, Some, is_ok, length, true};
 ghost use Rattle.sfu_base.specs.declared.call.Call.{Call};
 ghost use Rattle.sfu_script.specs.Kept.{is_packet, is_take, is_tick};
@@ -12,8 +12,8 @@ use crate::reader::{NoRecord, PACKET_HEAD, number, read_record};
 use sfu_base::{Call, PacketBuf};
 use sfu_script::Field::{Number32, Number64};
 
-/// Reads records one after another, as [`read_record`] does, and lends each call. The calls are kept: a packet, a take or a tick overwrites
-/// only the fields of the kept call of its kind.
+/// Reads records one after another, as [`read_record`] does, and lends each call. It keeps one packet, one take and one tick; the next
+/// record of that kind overwrites only the fields of the kept call.
 #[derive(Debug, Drop)]
 pub struct RecordReader {
     packet: Call,
@@ -87,7 +87,7 @@ impl RecordReader {
         }
     }
 
-    // Out of line: the other records need no stack space for a call that is returned by value.
+    // Out of line: other records then need no stack space for a call that is returned by value.
     #[inline(never)]
     fn read_other(&mut self, body: &[u8]) -> Result<(), NoRecord>
         ensures value { MatchResult result (λ _. call_of body.now ≡ Some self.new.other) (λ _. call_of body.now ≡ None) }
@@ -125,8 +125,8 @@ impl RecordReader {
         }
     }
 
-    /// The call that the body of a record says; the call is kept until the next record is read. `NoRecord` exactly where it says none.
-    /// Takes no memory.
+    /// Reads the body of a record as a call, which is kept until the next record is read. `NoRecord` exactly when the body says no
+    /// call. Takes no memory.
     pub fn read(&mut self, body: &[u8]) -> Result<&Call, NoRecord>
         ensures value { MatchResult result (λ said. call_of body.now ≡ Some said.now) (λ _. call_of body.now ≡ None) }
         ensures ok { IfOk result (λ said. IsBody said.now body.now) }

@@ -1,4 +1,4 @@
-// Records and lines as tables. The records are the format's table, written by hand.
+// Tables of records and lines. The records are the format's table, written by hand.
 ghost use Rattle.std.specs.Prelude.{◌≡◌, true};
 ghost use Rattle.script_texts.specs.Lines.{HasBytes};
 
@@ -93,7 +93,7 @@ const RECORDS: [(&[u8], &[u8]); 31] = [
     ),
 ];
 
-// Whether write_call and write_record may be called.
+// Whether `write_call` and `write_record` may be called with this call.
 fn has_bytes(call: &Call) -> bool
     ensures { result ≡ true → HasBytes call.now }
 {
@@ -122,7 +122,7 @@ fn lines_are_converted_to_records_and_back(rt: HostRuntime) -> Result<(), Fail> 
     Ok(())
 }
 
-// The table in another order, and before each record the longest packet and a body that says no call.
+// The table in another order; the longest packet and a body that says no call precede each record.
 #[test]
 fn a_reader_keeps_nothing_of_the_record_before(rt: HostRuntime) -> Result<(), Fail> {
     let mut longest = [0xa5; 2061];
@@ -145,7 +145,7 @@ fn a_reader_keeps_nothing_of_the_record_before(rt: HostRuntime) -> Result<(), Fa
     Ok(())
 }
 
-// Each kind with the least and the most bytes that its body has.
+// Each kind with the least and the greatest length of its body.
 const LENGTHS: [(u8, usize, usize); 14] = [
     (1, 13, 13),
     (2, 14, 14),

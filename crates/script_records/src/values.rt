@@ -1,27 +1,27 @@
-// The values of a body that is written, and the one writer of lists of values.
+// The values of a body to write, and one writer for all lists of values.
 ghost use Rattle.std.specs.Prelude.{◌≡◌, ◌<◌, ◌^◌, ◌++◌, length, OnOk};
 ghost use Rattle.script_texts.specs.Texts.{GoesOn};
 ghost use Rattle.script_records.specs.Values.{value_bytes, values_bytes};
 
 use sfu_base::{Blob, NoMemory};
 
-/// A value of a body, after the kind.
+/// A value in a body, after the kind.
 #[derive(Clone, Copy, Debug, PartialEq, Eq)]
 pub enum Value<'a> {
     /// A number of 8 bits.
     Of8(u8),
-    /// One of 16 bits.
+    /// A number of 16 bits.
     Of16(u16),
-    /// One of 32 bits.
+    /// A number of 32 bits.
     Of32(u32),
-    /// One of 64 bits.
+    /// A number of 64 bits.
     Of64(u64),
     /// The bytes of a packet.
     Bytes(&'a [u8]),
 }
 
 impl Value<'_> {
-    // How many bytes the value has.
+    // The number of bytes of the value.
     fn size(&self) -> usize
         ensures { result ≡ length (value_bytes self.now) }
     {
@@ -35,7 +35,7 @@ impl Value<'_> {
     }
 }
 
-/// How many bytes the values have.
+/// The number of bytes of all values.
 pub fn size(values: &[Value]) -> usize
     requires { length (values_bytes values.now) < 2 ^ 16 }
     ensures { result ≡ length (values_bytes values.now) }
@@ -60,7 +60,7 @@ fn append_value(value: &Value, out: &mut Blob) -> Result<(), NoMemory>
     }
 }
 
-/// Appends values one after another. After `NoMemory` a prefix of their bytes may have been appended.
+/// Appends values one after another. On `NoMemory` a prefix of their bytes may have been appended.
 pub fn append_values(values: &[Value], out: &mut Blob) -> Result<(), NoMemory>
     ensures ok { OnOk result (out.new ≡ out.old ++ values_bytes values.now) }
     ensures begun { GoesOn out.old out.new }

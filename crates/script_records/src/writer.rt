@@ -1,4 +1,4 @@
-// Records, written.
+// Writers for records.
 ghost use Rattle.std.specs.Prelude.{◌≡◌, ◌<◌, ◌≤◌, ◌++◌, ◌∷◌, length, OnErr, OnOk};
 ghost use Rattle.sfu_base.specs.declared.call.Call.{Call};
 ghost use Rattle.script_texts.specs.Lines.{HasBytes, HasLine};
@@ -12,7 +12,7 @@ use crate::values::Value::{Bytes, Of8, Of16, Of32, Of64};
 use crate::values::{Value, append_values, size};
 use sfu_base::{Blob, Call, Kind, NoMemory, Wish};
 
-// Appends the record of a kind with these values. After `NoMemory` a prefix of it may have been appended.
+// Appends the record of a kind with these values. On `NoMemory` a prefix of it may have been appended.
 fn append(kind: RecordKind, values: &[Value], out: &mut Blob) -> Result<(), NoMemory>
     requires { length (values_bytes values.now) ≤ 2060 }
     ensures ok { OnOk result (out.new ≡ out.old ++ framed (code_of kind ∷ values_bytes values.now)) }
@@ -91,7 +91,7 @@ fn append_aim(subscriber: u32, wish: Wish, out: &mut Blob) -> Result<(), NoMemor
     append(RecordKind::Aim, &values, out)
 }
 
-// Appends the record that says a call. After `NoMemory` a prefix of it may have been appended.
+// Appends the record of a call. On `NoMemory` a prefix of the record may have been appended.
 fn append_call(call: &Call, out: &mut Blob) -> Result<(), NoMemory>
     requires { HasBytes call.now }
     ensures ok { OnOk result (out.new ≡ out.old ++ record_of call.now) }
@@ -136,7 +136,7 @@ fn append_call(call: &Call, out: &mut Blob) -> Result<(), NoMemory>
     }
 }
 
-/// Appends the record that says a call: its length, then its body. A packet must have at least one byte. After `NoMemory` all is as before.
+/// Appends a call's record: the body's length in two bytes, then the body. A packet must have bytes. On `NoMemory`, `out` is unchanged.
 pub fn write_record(call: &Call, out: &mut Blob) -> Result<(), NoMemory>
     requires { HasBytes call.now }
     ensures ok { OnOk result (out.new ≡ out.old ++ record_of call.now) }

@@ -7,7 +7,7 @@ use Rattle.std.specs.Prelude.{bit_and, codes}
 use Rattle.std.proofs.lemmas.List.{length-append}
 use Rattle.hex.specs.Hex.{encode_with, encode_lower, lower_digits}
 
--- how long the line of a packet is
+-- the length of a packet's line
 pub length_line : (bytes : List ℕ) → length (codes "packet " ++ (encode_lower bytes ++ 10 ∷ [])) ≡ 2 * length bytes + 8
 length_line bytes = omega (arith, length-append (encode_lower bytes) (10 ∷ []), length-encode_with lower_digits bytes)
 
@@ -23,7 +23,7 @@ has_digits b =
     let word : ℕ = word_of (b / 16) (bit_and b 15) in
     word % 256 == slice_index lower_digits (b / 16) && word / 256 % 256 == slice_index lower_digits (b % 16)
 
--- so it is for each byte
+-- the same for each byte
 pub digits_in_word : (b high low : ℕ) → b < 256 → high ≡ b / 16 → low ≡ bit_and b 15
     → word_of high low % 256 ∷ word_of high low / 256 % 256 ∷ [] ≡ encode_lower (b ∷ [])
 unfolding encode_with

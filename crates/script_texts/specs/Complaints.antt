@@ -1,4 +1,4 @@
--- The text of what a strict receiver complains of, at the number of a line. Own rule.
+-- The text of a complaint of the strict receiver, with the number of a line. Own rule.
 use Rattle.std.specs.Prelude.{ℕ, List, [], ◌∷◌, codes}
 use Rattle.forwarding_model.specs.declared.complaint.Complaint.{Complaint}
 use Rattle.forwarding_model.specs.declared.complaint.Complaint.TheVariants.{Unread, OtherSource, Sequence, NoStructure, NotWhole, MissingReference}

@@ -1,4 +1,4 @@
--- The text of how a session ended. Own rule.
+-- The text about how a session ended. Own rule.
 use Rattle.std.specs.Prelude.{ℕ, List, [], ◌∷◌, Option, Some, None, codes}
 use Rattle.script_texts.specs.Grammar.{Word, Number, text_of}
 

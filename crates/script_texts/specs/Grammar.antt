@@ -1,11 +1,11 @@
--- What a line of text is made of: words with one space between them, each as its place says. Own rule.
+-- The parts of a line of text: words with one space between them, each as its place says. Own rule.
 -- The code cuts a line at each space in turn and reads the words one by one.
 use Rattle.std.specs.Prelude.{◌≡◌, ℕ, ◌^◌, ◌/◌, ◌%◌, ◌<◌, ◌≤◌, List, [], ◌∷◌, ◌++◌, length, Ok, decimal}
 use Rattle.std.specs.Int.{to_be_bytes, w32}
 use Rattle.std.specs.List.{flat_map}
 use Rattle.hex.specs.Hex.{decode_of, encode_lower, IsBytes}
 
--- a place in a line, with what stands there
+-- a place in a line, with its content
 pub data Place : Type 0 where
   Word : (text : List ℕ) → Place
   Number : (bits n : ℕ) → Place
@@ -22,7 +22,7 @@ address_text ip port =
 abbrev pub IsHex : List ℕ → List ℕ → Type 0
 IsHex bytes text = decode_of text ≡ Ok bytes
 
--- The value is one that its place can say: a number is within its type, and there are 1 to 2,048 bytes.
+-- The value is possible at its place: a number is within its type, and there are 1 to 2,048 bytes.
 abbrev pub IsWithin : Place → Type 0
 IsWithin (Word text) = Unit {0}
 IsWithin (Number bits n) = n < 2 ^ bits
@@ -59,7 +59,7 @@ abbrev pub text_of : List Place → List ℕ
 text_of [] = []
 text_of (place ∷ places) = word_of place ++ flat_map (λ next. 32 ∷ word_of next) places
 
--- every value is one that its place can say
+-- every value is possible at its place
 abbrev pub AllWithin : List Place → Type 0
 AllWithin [] = Unit {0}
 AllWithin (place ∷ places) = IsWithin place × AllWithin places

@@ -33,11 +33,11 @@ IsLine call line = Spells (places call) line
 abbrev pub line_of : Call → List ℕ
 line_of call = text_of (places call)
 
--- A line can say the call: each number is within its type, and a packet has 1 to 2,048 bytes.
+-- The call has a line: each number is within its type, and a packet has 1 to 2,048 bytes.
 abbrev pub HasLine : Call → Type 0
 HasLine call = AllWithin (places call)
 
--- A packet has at least one byte: what a call needs to be written.
+-- A packet has at least one byte, as a call must to be written.
 abbrev pub HasBytes : Call → Type 0
 HasBytes (Packet track moment bytes) = 0 < length bytes
 HasBytes call = Unit {0}

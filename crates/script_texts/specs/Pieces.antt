@@ -1,4 +1,4 @@
--- The words that a text is written from, as the code hands them on.
+-- The words of a text, as the code passes them to the writer.
 use Rattle.std.specs.Prelude.{ℕ, List, [], ◌∷◌, ◌++◌, decimal}
 use Rattle.std.specs.Int.{to_be_bytes, w32}
 use Rattle.std.specs.List.{flat_map}
@@ -6,7 +6,7 @@ use Rattle.hex.specs.Hex.{encode_lower}
 use Rattle.script_texts.specs.declared.pieces.Piece.{Piece}
 use Rattle.script_texts.specs.declared.pieces.Piece.TheVariants.{Text, Number, Ssrc}
 
--- the word that is written for a piece
+-- the text of a word
 abbrev pub piece_word : Piece → List ℕ
 piece_word (Text text) = text.now
 piece_word (Number n) = decimal n

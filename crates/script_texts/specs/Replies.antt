@@ -17,7 +17,7 @@ abbrev pub or_none : ℕ → Option ℕ → Place
 or_none bits None = Word (codes "none")
 or_none bits (Some n) = Number bits n
 
--- why a frame was or wasn't passed on
+-- why a frame was or wasn't forwarded
 abbrev pub verdict_places : Verdict → List Place
 verdict_places Passed = Word (codes "passed") ∷ []
 verdict_places (NotOfTarget target) = Word (codes "notoftarget") ∷ or_none 8 target ∷ []
@@ -28,7 +28,7 @@ verdict_places (Link at number) = Word (codes "link") ∷ Number 64 at ∷ Numbe
 verdict_places (Unopened since) = Word (codes "unopened") ∷ Number 64 since ∷ []
 verdict_places (Hole below above) = Word (codes "hole") ∷ or_none 64 below ∷ Number 64 above ∷ []
 
--- the word of a fault of RTP
+-- the word for a fault of RTP
 abbrev pub fault_word : RtpFault → List ℕ
 fault_word Short = codes "short"
 fault_word Version = codes "version"
@@ -36,7 +36,7 @@ fault_word Csrc = codes "csrc"
 fault_word Extension = codes "extension"
 fault_word Padding = codes "padding"
 
--- behind the word `refused`, save of the two refusals that have a text of their own
+-- after the word `refused`, except for the two refusals that have a text of their own
 abbrev pub refused : List Place → List Place
 refused places = Word (codes "refused") ∷ places
 
@@ -77,7 +77,7 @@ answer_places (Refused why) = refusal_places why
 abbrev pub answer_text : Answer → List ℕ
 answer_text answer = text_of (answer_places answer)
 
--- An answer is one that a room can give: each number is within its type, and a packet is bytes.
+-- An answer that a room can return: each number is within its type, and a packet is bytes.
 abbrev pub HasText : Answer → Type 0
 HasText (Sent bytes) = IsBytes bytes
 HasText answer = AllWithin (answer_places answer)
@@ -96,6 +96,6 @@ line_fault_text line = codes "line " ++ decimal line
 abbrev pub record_fault_text : ℕ → List ℕ
 record_fault_text record_number = codes "record " ++ decimal record_number
 
--- the text of a packet at a line whose frame has an OBU that isn't one
+-- the text about the line of a packet that completes a frame with an element that isn't an OBU
 abbrev pub obu_text : ℕ → List ℕ
 obu_text line = text_of (Word (codes "line") ∷ Number 32 line ∷ Word (codes "obu") ∷ [])

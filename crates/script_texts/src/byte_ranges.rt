@@ -1,7 +1,7 @@
-// What the type of a slice of bytes says of each byte.
+// The range of bytes, for contracts.
 ghost use Rattle.hex.specs.Hex.{IsBytes};
 
-/// Each byte is below 256. A contract knows this only of a byte that was read, so the function reads each byte. It has no other effect.
+/// Shows that each byte is below 256. A contract knows this only of a byte that was read, so this reads each byte. No other effect.
 #[inline(always)]
 pub fn are_bytes(bytes: &[u8])
     ensures { IsBytes bytes.now }

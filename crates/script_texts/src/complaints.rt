@@ -1,4 +1,4 @@
-// What a strict receiver complains of, in a line.
+// The line for a complaint of the strict receiver.
 ghost use Rattle.std.specs.Prelude.{◌≡◌, ◌++◌, OnErr, OnOk};
 ghost use Rattle.script_texts.specs.Complaints.{complaint_text};
 ghost use Rattle.script_texts.specs.Texts.{GoesOn};
@@ -46,7 +46,7 @@ fn append_complaint(line: u32, complaint: &Complaint, out: &mut Blob) -> Result<
     }
 }
 
-/// Appends `line N`, a space and the complaint, without a line end; N is the number `line`. After `NoMemory` all is as before.
+/// Appends `line N`, a space and the complaint, without a line end; N is `line`. On `NoMemory`, `out` is unchanged.
 pub fn write_complaint(line: u32, complaint: &Complaint, out: &mut Blob) -> Result<(), NoMemory>
     ensures ok { OnOk result (out.new ≡ out.old ++ complaint_text line complaint.now) }
     ensures err { OnErr result (out.new ≡ out.old) }

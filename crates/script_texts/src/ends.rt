@@ -1,4 +1,4 @@
-// How a session ended, in a line.
+// The line that says how a session ended.
 ghost use Rattle.std.specs.Prelude.{◌≡◌, ◌++◌, OnErr, OnOk};
 ghost use Rattle.script_texts.specs.Ends.{end_text};
 ghost use Rattle.script_texts.specs.Texts.{GoesOn};
@@ -20,8 +20,8 @@ fn append_end(session: u32, fault: Option<u64>, out: &mut Blob) -> Result<(), No
     }
 }
 
-/// Appends `session K all`, or `session K fault TURN` where the session's link failed in the turn TURN, without a line end. K is the
-/// session's number. After `NoMemory` all is as before.
+/// Appends `session K all`, or `session K fault TURN` if the session's link failed in the turn TURN, without a line end. K is the
+/// session's number. On `NoMemory`, `out` is unchanged.
 pub fn write_end(session: u32, fault: Option<u64>, out: &mut Blob) -> Result<(), NoMemory>
     ensures ok { OnOk result (out.new ≡ out.old ++ end_text session fault) }
     ensures err { OnErr result (out.new ≡ out.old) }

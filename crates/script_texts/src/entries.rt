@@ -25,7 +25,7 @@ fn append_entry(entry: &Entry, out: &mut Blob) -> Result<(), NoMemory>
 }
 
 /// Appends the two lines of an entry, each with its line end. The first is `@K`, a space and the call's line, the second the reply. A
-/// packet must have at least one byte. After `NoMemory` all is as before.
+/// packet must have at least one byte. On `NoMemory`, `out` is unchanged.
 pub fn write_entry(entry: &Entry, out: &mut Blob) -> Result<(), NoMemory>
     requires { HasBytes entry.now.call }
     ensures ok { OnOk result (out.new ≡ out.old ++ entry_text entry.now) }

@@ -1,4 +1,4 @@
-// Bytes in hex digits, and the line of a packet: each is written in place.
+// Bytes in hex digits, and the line of a packet. Both are written in place.
 ghost use Rattle.std.specs.Prelude.{◌≡◌, ◌+◌, ◌++◌, ◌∷◌, ◌*◌, ◌≤◌, [], codes, length, OnErr, OnOk};
 ghost use Rattle.hex.specs.Hex.{encode_lower};
 ghost use Rattle.sfu_base.specs.Answer.{Sent};
@@ -17,7 +17,7 @@ fn digits_of(byte: u8) -> [u8; 2]
     (nibbles + 0x3030 + 39 * letters).to_le_bytes()
 }
 
-// Overwrites a slice with the bytes in hex digits; the slice has twice as many bytes.
+// Overwrites `digits` with the bytes in hex digits; `digits` is twice as long as `bytes`.
 fn write_hex(bytes: &[u8], digits: &mut [u8])
     requires { length digits.old ≡ 2 * length bytes.now }
     ensures { digits.new ≡ encode_lower bytes.now }
@@ -29,12 +29,12 @@ fn write_hex(bytes: &[u8], digits: &mut [u8])
     }
 }
 
-// What a packet's line has before the digits, and after them.
+// The text before the digits in a packet's line, and the text after them.
 const HEAD: &[u8; 7] = b"packet ";
 
 const END: &[u8; 1] = b"\n";
 
-// Overwrites a slice with the line of a packet; both have the same length.
+// Overwrites `line` with the line of a packet, which has exactly this length.
 fn write_line(bytes: &[u8], line: &mut [u8])
     requires { length line.old ≡ 2 * length bytes.now + 8 }
     ensures { line.new ≡ codes "packet " ++ (encode_lower bytes.now ++ 10 ∷ []) }
@@ -46,7 +46,7 @@ fn write_line(bytes: &[u8], line: &mut [u8])
     end.copy_from_slice(END);
 }
 
-// Bytes in hex digits. There are at most 2,048 bytes, as in a packet, so that the count of digits doesn't overflow.
+// Bytes in hex digits. There are at most 2,048 bytes, as in a packet, so the number of digits doesn't overflow.
 #[derive(Drop)]
 struct HexDigits<'a> {
     bytes: &'a [u8],
@@ -65,7 +65,7 @@ impl<'a> Text for HexDigits<'a> {
     }
 }
 
-// The line of a packet with its line end.
+// The line of a packet, with its line end.
 #[derive(Drop)]
 struct PacketLine<'a> {
     bytes: &'a [u8],
@@ -84,7 +84,7 @@ impl<'a> Text for PacketLine<'a> {
     }
 }
 
-/// Appends the bytes, at most 2,048, in lower-case hex digits. After `NoMemory` all is as before.
+/// Appends the bytes, at most 2,048, in lower-case hex digits. On `NoMemory`, `out` is unchanged.
 pub fn append_hex(bytes: &[u8], out: &mut Blob) -> Result<(), NoMemory>
     requires { length bytes.now ≤ 2048 }
     ensures ok { OnOk result (out.new ≡ out.old ++ encode_lower bytes.now) }
@@ -93,7 +93,7 @@ pub fn append_hex(bytes: &[u8], out: &mut Blob) -> Result<(), NoMemory>
     out.write(&HexDigits { bytes })
 }
 
-/// Appends the line `packet HEX` of a packet, with its line end. After `NoMemory` all is as before.
+/// Appends the line `packet HEX` of a packet, with its line end. On `NoMemory`, `out` is unchanged.
 pub fn append_line(packet: &PacketBuf, out: &mut Blob) -> Result<(), NoMemory>
     ensures ok { OnOk result (out.new ≡ out.old ++ (answer_text (Sent packet.now) ++ 10 ∷ [])) }
     ensures err { OnErr result (out.new ≡ out.old) }

@@ -1,20 +1,20 @@
-// What actors on threads do, and the journal of what they did.
+// The calls that actors on threads make, and the journal of these calls.
 ghost use Rattle.std.specs.Prelude.{◌≡◌};
 
 use sfu_base::{Blob, Call};
 use std::marker::Model;
 
-/// One call of a journal: who made it, the call, and the text of its reply.
+/// One call of a journal: the actor that made it, the call, and the text of its reply.
 #[derive(Debug, Drop)]
 pub struct Entry {
-    /// Who made the call: 1 to 8, or 0 for the calls of the opening and the closing part.
+    /// The actor that made the call, 1 to 8; 0 for a call of the opening or the closing part.
     pub actor: u8,
     pub call: Call,
     /// The text of the reply, without a line end.
     pub reply: Blob,
 }
 
-/// Calls in their order, seen as their list.
+/// Calls in order. In contracts a `Calls` is their list.
 #[derive(Debug, Drop)]
 pub struct Calls {
     calls: Vec<Call>,
@@ -30,7 +30,7 @@ impl Model for Calls {
 }
 
 impl Calls {
-    /// These calls.
+    /// Makes the list of these calls.
     pub fn of(calls: Vec<Call>) -> Calls
         ensures { result ≡ calls.items }
     {
@@ -45,7 +45,7 @@ impl Calls {
     }
 }
 
-/// The calls before the actors start, those of each of up to eight actors, and those after all actors have ended.
+/// The calls before the actors start, the calls of up to eight actors, and the calls after all actors have ended.
 #[derive(Debug, Drop)]
 pub struct Actors {
     pub opening: Calls,
@@ -54,7 +54,7 @@ pub struct Actors {
     pub closing: Calls,
 }
 
-/// What actors did, in the order of the history, seen as its list of entries.
+/// The calls of all actors, in the order of the history. Contracts see the list of its entries.
 #[derive(Debug, Drop)]
 pub struct Journal {
     entries: Vec<Entry>,
@@ -70,7 +70,7 @@ impl Model for Journal {
 }
 
 impl Journal {
-    /// These entries.
+    /// Makes the journal with these entries.
     pub fn of(entries: Vec<Entry>) -> Journal
         ensures { result ≡ entries.items }
     {

@@ -1,5 +1,5 @@
 //! The texts that scripts and commands write: lines of calls, replies, journals, complaints, ends of sessions, and faults (the line or
-//! record outside the grammar).
+//! record that is outside the grammar).
 #![tactic(auto)]
 
 mod byte_ranges;

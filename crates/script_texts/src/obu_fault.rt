@@ -1,4 +1,4 @@
-// The text for a packet that ends a frame one of whose elements isn't an OBU.
+// The text for a packet that completes a frame that has an element that isn't an OBU.
 ghost use Rattle.std.specs.Prelude.{◌≡◌, ◌++◌, OnErr, OnOk};
 ghost use Rattle.script_texts.specs.Replies.{obu_text};
 ghost use Rattle.script_texts.specs.Texts.{GoesOn};
@@ -15,7 +15,7 @@ fn append_obu(line: u32, out: &mut Blob) -> Result<(), NoMemory>
     append_pieces(&[Text(b"line"), Number(u64::from(line)), Text(b"obu")], out)
 }
 
-/// Appends `line N obu` for the line with the number N, without a line end. After `NoMemory` all is as before.
+/// Appends `line N obu` for the line with the number N, without a line end. On `NoMemory`, `out` is unchanged.
 pub fn write_obu(line: u32, out: &mut Blob) -> Result<(), NoMemory>
     ensures ok { OnOk result (out.new ≡ out.old ++ obu_text line) }
     ensures err { OnErr result (out.new ≡ out.old) }

@@ -1,4 +1,4 @@
-// The words of a text that is written, and the one writer of lists of words.
+// The words of a text, and one writer for all lists of words.
 ghost use Rattle.std.specs.Prelude.{◌≡◌, ◌≤◌, ◌++◌, length, OnOk, take};
 ghost use Rattle.script_texts.specs.Pieces.{piece_word, pieces_text};
 ghost use Rattle.script_texts.specs.Texts.{GoesOn};
@@ -11,7 +11,7 @@ use std::marker::Model;
 /// A word of a text.
 #[derive(Clone, Copy, Debug, PartialEq, Eq)]
 pub enum Piece<'a> {
-    /// This text as it is.
+    /// This text, unchanged.
     Text(&'a [u8]),
     /// A number in decimal digits.
     Number(u64),
@@ -19,10 +19,10 @@ pub enum Piece<'a> {
     Ssrc(u32),
 }
 
-// The most words that the line of a call has.
+// The greatest number of words in the line of a call.
 const MOST_PIECES: usize = 7;
 
-/// Up to seven words, seen as their list.
+/// Up to seven words. In contracts a `Pieces` is their list.
 #[derive(Debug, Drop)]
 pub struct Pieces<'a> {
     items: [Piece<'a>; MOST_PIECES],
@@ -42,7 +42,7 @@ impl<'a> Model for Pieces<'a> {
 }
 
 impl<'a> Pieces<'a> {
-    /// These words.
+    /// Makes the list of these words.
     pub fn of(words: &[Piece<'a>]) -> Pieces<'a>
         requires { length words.now ≤ MOST_PIECES }
         ensures { result ≡ words.now }
@@ -72,7 +72,7 @@ fn append_piece(piece: &Piece, out: &mut Blob) -> Result<(), NoMemory>
     }
 }
 
-/// Appends words with one space between them. After `NoMemory` a prefix of the text may have been appended.
+/// Appends words with one space between them. On `NoMemory` a prefix of the text may have been appended.
 pub fn append_pieces(pieces: &[Piece], out: &mut Blob) -> Result<(), NoMemory>
     ensures ok { OnOk result (out.new ≡ out.old ++ pieces_text pieces.now) }
     ensures begun { GoesOn out.old out.new }

@@ -1,4 +1,4 @@
-// Why a call was refused, in words.
+// The words for the reason of a refusal.
 ghost use Rattle.std.specs.Prelude.{◌≡◌, ◌≤◌, ◌+◌, [], ◌∷◌, length};
 ghost use Rattle.script_texts.specs.Grammar.{text_of, AllWithin, Word};
 ghost use Rattle.script_texts.specs.Pieces.{piece_word, pieces_text};
@@ -23,7 +23,7 @@ fn fault_text(fault: RtpFault) -> &'static [u8]
     }
 }
 
-// The word `refused` and this word.
+// The word `refused`, followed by this word.
 fn refused_as<'a>(word: &'a [u8]) -> Pieces<'a>
     ensures text { pieces_text result ≡ text_of (refused (Word word.now ∷ [])) }
     ensures size { pieces_size result ≡ 9 + length word.now }
@@ -38,7 +38,7 @@ fn refused_with<'a>(word: &'a [u8], what: Piece<'a>) -> Pieces<'a>
     Pieces::of(&[Text(b"refused"), Text(word), what])
 }
 
-/// The words of a refusal.
+/// The words for a refusal and its reason.
 pub fn refusal_pieces(why: &Refusal) -> Pieces<'static>
     ensures text { pieces_text result ≡ text_of (refusal_places why.now) }
     ensures within { AllWithin (refusal_places why.now) }

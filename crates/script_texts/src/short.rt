@@ -1,4 +1,4 @@
-// The texts of replies that fit into a packet's buffer.
+// The texts of replies that are short enough for a packet's buffer.
 ghost use Rattle.std.specs.Prelude.{◌≡◌, ◌+◌, ◌≤◌, ◌++◌, ℕ, List, length, decimal};
 ghost use Rattle.std.specs.Int.{to_be_bytes, w32};
 ghost use Rattle.hex.specs.Hex.{encode_lower};
@@ -58,7 +58,7 @@ fn put_pieces(pieces: &[Piece], out: &mut PacketBuf)
     }
 }
 
-/// Replaces the buffer's bytes with the text of a reply, without a line end. The reply is neither a packet nor numbers. Takes no memory.
+/// Replaces the bytes of `out` with the text of a reply other than a packet or numbers, without a line end. Takes no memory.
 pub fn write_short(reply: &Reply, out: &mut PacketBuf)
     requires { IsShort reply.now }
     ensures text { (bytes numbers : List ℕ) → out.new ≡ answer_text (answer_of reply.now bytes numbers) }

@@ -1,4 +1,4 @@
-// Why a frame was or wasn't forwarded, in words.
+// The words for a verdict: why a frame was or wasn't forwarded.
 ghost use Rattle.std.specs.Prelude.{◌≡◌, ◌≤◌};
 ghost use Rattle.script_texts.specs.Grammar.{text_of, word_of, AllWithin, IsWithin};
 ghost use Rattle.script_texts.specs.Pieces.{piece_word, pieces_text};
@@ -9,7 +9,7 @@ use crate::pieces::Piece::{self, Number, Text};
 use crate::pieces::Pieces;
 use sfu_base::Verdict;
 
-/// The number, or the word `none`.
+/// The number in decimal digits, or the word `none`.
 pub fn number_or_none(number: Option<u64>) -> Piece<'static>
     ensures word { piece_word result ≡ word_of (or_none 64 number) }
     ensures within { IsWithin (or_none 64 number) }

@@ -1,4 +1,4 @@
-// Texts with their line ends, appended to the texts that are ready.
+// Texts with line ends, appended to the texts that are ready.
 ghost use Rattle.std.specs.Prelude.{◌≡◌, ◌++◌, ◌∷◌, [], OnOk, OnErr, take};
 ghost use Rattle.sfu_base.specs.Answer.{answer_of, is_starved};
 ghost use Rattle.script_texts.specs.Replies.{answer_text};
@@ -15,7 +15,7 @@ pub fn wants_memory(reply: &Reply) -> bool
     matches!(reply, Reply::Refused(Refusal::NoMemory))
 }
 
-/// Appends a line end to the text that begins at byte `start`. After `NoMemory` the text is removed.
+/// Appends a line end to the text that begins at byte `start`. On `NoMemory` the text is removed.
 pub fn end_line(start: usize, ready: &mut Blob) -> Result<(), NoMemory>
     ensures ok { OnOk result (ready.new ≡ ready.old ++ 10 ∷ []) }
     ensures err { OnErr result (ready.new ≡ take start ready.old) }
@@ -27,20 +27,20 @@ pub fn end_line(start: usize, ready: &mut Blob) -> Result<(), NoMemory>
     Ok(())
 }
 
-/// Appends the line of a reply to the texts that are ready. After `NoMemory` all is as before.
+/// Appends the line of a reply to the texts that are ready. On `NoMemory` these are unchanged.
 pub fn add_reply(reply: &Reply, scratch: &Scratch, ready: &mut Blob) -> Result<(), NoMemory>
     ensures ok { OnOk result (ready.new ≡ ready.old ++ (answer_text (answer_of reply.now scratch.now.packet scratch.now.names) ++ 10 ∷ [])) }
     ensures err { OnErr result (ready.new ≡ ready.old) }
 {
     match reply {
-        // Most replies of a script are packets, and most of the others say only that the call was done.
+        // Most replies of a script are packets, and most of the others only say that the call was done.
         Reply::Packet => append_line(&scratch.packet, ready),
         Reply::Done => ready.append(b"ok\n"),
         _ => add_other_reply(reply, scratch, ready),
     }
 }
 
-// The same for a reply of any kind.
+// The same as `add_reply`, for a reply of any kind.
 #[inline(never)]
 fn add_other_reply(reply: &Reply, scratch: &Scratch, ready: &mut Blob) -> Result<(), NoMemory>
     ensures ok { OnOk result (ready.new ≡ ready.old ++ (answer_text (answer_of reply.now scratch.now.packet scratch.now.names) ++ 10 ∷ [])) }
@@ -51,8 +51,8 @@ fn add_other_reply(reply: &Reply, scratch: &Scratch, ready: &mut Blob) -> Result
     end_line(start, ready)
 }
 
-/// Appends the line `line N` to the texts that are ready: line N of the input, with N = `number`, is outside the grammar. After `NoMemory`
-/// all is as before.
+/// Appends the line `line N` to the texts that are ready: line N of the input, with N = `number`, is outside the grammar. On `NoMemory`
+/// these are unchanged.
 pub fn add_fault(number: u64, ready: &mut Blob) -> Result<(), NoMemory>
     ensures ok { OnOk result (ready.new ≡ ready.old ++ fault_line number) }
     ensures err { OnErr result (ready.new ≡ ready.old) }
@@ -62,8 +62,8 @@ pub fn add_fault(number: u64, ready: &mut Blob) -> Result<(), NoMemory>
     end_line(start, ready)
 }
 
-/// Appends the line `record N` to the texts that are ready: record N of the input, with N = `number`, is outside the grammar. After
-/// `NoMemory` all is as before.
+/// Appends the line `record N` to the texts that are ready: record N of the input, with N = `number`, is outside the grammar. On
+/// `NoMemory` these are unchanged.
 pub fn add_record_fault(number: u64, ready: &mut Blob) -> Result<(), NoMemory>
     ensures ok { OnOk result (ready.new ≡ ready.old ++ record_fault_line number) }
     ensures err { OnErr result (ready.new ≡ ready.old) }

@@ -1,4 +1,4 @@
-// The lines of calls, written.
+// Writers for the lines of calls.
 ghost use Rattle.std.specs.Prelude.{◌≡◌, ◌<◌, ◌++◌, [], ◌∷◌, length, OnErr, OnOk};
 ghost use Rattle.script_texts.specs.Grammar.{Number, text_of, Word};
 ghost use Rattle.script_texts.specs.Lines.{HasBytes, HasLine, IsLine, line_of};
@@ -11,7 +11,7 @@ use crate::pieces::append_pieces;
 use crate::undo::whole_or_nothing;
 use sfu_base::{Blob, Call, Kind, NoMemory, PacketBuf, Wish};
 
-// Appends a command's word, and the number of a track or a subscriber.
+// Appends a command's word, a space, and the number of a track or a subscriber.
 fn append_numbered(word: &[u8], number: u32, out: &mut Blob) -> Result<(), NoMemory>
     ensures ok { OnOk result (out.new ≡ out.old ++ text_of (Word word.now ∷ Number 32 number ∷ [])) }
     ensures begun { GoesOn out.old out.new }
@@ -19,7 +19,7 @@ fn append_numbered(word: &[u8], number: u32, out: &mut Blob) -> Result<(), NoMem
     append_pieces(&[Text(word), Number(u64::from(number))], out)
 }
 
-// Appends the same, and a second number.
+// Appends a command's word and two numbers, with spaces between.
 fn append_numbers(word: &[u8], number: u32, second: u64, out: &mut Blob) -> Result<(), NoMemory>
     ensures ok { OnOk result (out.new ≡ out.old ++ text_of (Word word.now ∷ Number 32 number ∷ Number 64 second ∷ [])) }
     ensures begun { GoesOn out.old out.new }
@@ -110,7 +110,7 @@ fn append_aim(subscriber: u32, wish: Wish, out: &mut Blob) -> Result<(), NoMemor
     )
 }
 
-/// Appends the line that says a call. After `NoMemory` a prefix of it may have been appended.
+/// Appends the line of a call. On `NoMemory` a prefix of the line may have been appended.
 pub fn append_call(call: &Call, out: &mut Blob) -> Result<(), NoMemory>
     requires { HasBytes call.now }
     ensures ok { OnOk result (out.new ≡ out.old ++ line_of call.now) }
@@ -151,8 +151,8 @@ pub fn append_call(call: &Call, out: &mut Blob) -> Result<(), NoMemory>
     }
 }
 
-/// Appends the line that says a call, without a line end. A packet is written in lower-case hex digits, and must have at least one byte.
-/// After `NoMemory` all is as before.
+/// Appends the line of a call, without a line end. A packet is written in lower-case hex digits, and must have at least one byte.
+/// On `NoMemory`, `out` is unchanged.
 pub fn write_call(call: &Call, out: &mut Blob) -> Result<(), NoMemory>
     requires { HasBytes call.now }
     ensures ok { OnOk result (out.new ≡ out.old ++ line_of call.now) }

@@ -1,4 +1,4 @@
-//! Sessions whose retransmissions are sent on a stream of their own, over links in memory.
+//! Tests of sessions with a retransmission stream, over links in memory.
 
 use crate::session_tests::{has_sent, link, room_after, rtp};
 use crate::shared_room_tests::{empty_scratch, join, packet, publish};
@@ -13,22 +13,22 @@ const RTX: Rtx = Rtx {
     payload_type: 97,
 };
 
-// A NACK of the packets 1 and 0, in this order, for the SSRC of the media that are sent (RFC 4585, section 6.2.1).
+// A NACK for the packets 1 and 0, in this order, with the SSRC of the sent media (RFC 4585, section 6.2.1).
 const BOTH: [u8; 20] = [
     0x81, 0xcd, 0, 4, 0, 0, 0, 9, 0x22, 0x22, 0x22, 0x22, 0, 1, 0, 0, 0, 0, 0, 0,
 ];
 
-// A NACK of the packet 0 for the SSRC of the retransmission stream.
+// A NACK for packet 0 with the SSRC of the retransmission stream.
 const OTHER: [u8; 16] = [
     0x81, 0xcd, 0, 3, 0, 0, 0, 9, 0x33, 0x33, 0x33, 0x33, 0, 0, 0, 0,
 ];
 
-// A NACK of the packet 5, which was never sent, and of the packet 1.
+// A NACK for packet 5, which was never sent, and for packet 1.
 const NEVER_SENT: [u8; 20] = [
     0x81, 0xcd, 0, 4, 0, 0, 0, 9, 0x22, 0x22, 0x22, 0x22, 0, 5, 0, 0, 0, 1, 0, 0,
 ];
 
-// The packets 0 and 1 as they are sent first (RFC 3550, section 5.1).
+// The packets 0 and 1 as they are first sent (RFC 3550, section 5.1).
 const TAKEN: [[u8; 14]; 2] = [
     [
         0x80, 0x60, 0, 0, 0, 0, 0, 0, 0x22, 0x22, 0x22, 0x22, 0xaa, 0xbb,
@@ -38,7 +38,7 @@ const TAKEN: [[u8; 14]; 2] = [
     ],
 ];
 
-// The packets 1, 0 and 1 as they are resent, with the numbers 0, 1 and 2 on the retransmission stream (RFC 4588, section 4).
+// The retransmissions of packets 1, 0 and 1, with sequence numbers 0, 1 and 2 on their stream (RFC 4588, section 4).
 const RESENT: [[u8; 16]; 3] = [
     [
         0x80, 0x61, 0, 0, 0, 0, 0, 0, 0x33, 0x33, 0x33, 0x33, 0, 1, 0xaa, 0xbb,
@@ -51,14 +51,14 @@ const RESENT: [[u8; 16]; 3] = [
     ],
 ];
 
-// Two packets are taken, and both are asked for again. Then one NACK has the wrong SSRC, and one names a packet that was never sent: neither uses
-// up a number. Each send fails in turn.
+// Two packets are taken, and both are requested again. Then one NACK has the wrong SSRC, and one names a packet that was never sent: neither uses
+// a sequence number. Each send fails in turn.
 #[test]
 fn resent_packets_have_numbers_of_their_own(rt: HostRuntime) -> Result<(), Fail> {
     let [first, second] = &TAKEN;
     let [once, twice, again] = &RESENT;
     let all: [&[u8]; 5] = [first, second, once, twice, again];
-    // The places of failing sends, the end, and how many datagrams were sent.
+    // The indices of failing sends, the end, and the number of datagrams sent.
     let cases: [(&[u64], SessionEnd, usize); 6] = [
         (&[], SessionEnd::AllTurns, 5),
         (&[0], SessionEnd::LinkFault { turn: 0 }, 0),

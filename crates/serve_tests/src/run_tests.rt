@@ -1,4 +1,4 @@
-//! Sessions at once, over links in memory and over calm ones.
+//! Tests of concurrent sessions, over links in memory and over calm links.
 
 use crate::session_tests::{NACK, SSRC, has_sent, link, room_after, rtp};
 use crate::shared_room_tests::publish;
@@ -7,8 +7,8 @@ use sfu_base::{CalmLink, Clock, StepClock};
 use sfu_serve::{Job, Role, SessionEnd, run_sessions};
 use std::test::Fail;
 
-// A controller and a publisher at once. Whichever turns come first, the controller's call is refused, and the publisher, whose second packet
-// comes too early, is asked for the packet between. Each link fails in turn.
+// A controller and a publisher at the same time. In every order of turns, the controller's call is refused. The publisher's second packet
+// comes too early, so it is asked for the packet between. Each link fails in turn.
 #[test]
 fn a_controller_and_a_publisher_have_sessions_at_once(rt: HostRuntime) -> Result<(), Fail> {
     let (all, lost) = (SessionEnd::AllTurns, SessionEnd::LinkFault { turn: 1 });
@@ -76,7 +76,7 @@ fn calm_links_have_all_their_turns(rt: HostRuntime) -> Result<(), Fail> {
     for one in &ended {
         assert_eq!(rt; one.end, SessionEnd::AllTurns);
     }
-    // each turn of each session asks the clock once
+    // each turn of each session reads the clock once
     assert_eq!(rt; clock.now(), 12);
     Ok(())
 }

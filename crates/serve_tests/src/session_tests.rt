@@ -1,4 +1,4 @@
-//! Sessions over links in memory.
+//! Tests of sessions over links in memory.
 ghost use Rattle.std.specs.Prelude.{◌≡◌, ◌≤◌, length, IfOk};
 ghost use Rattle.turn_lock.specs.Known.{Fits};
 
@@ -14,7 +14,7 @@ pub const SSRC: u32 = 0x1111_1111;
 
 pub const OUT_SSRC: u32 = 0x2222_2222;
 
-/// The lock of a room on which these calls were made, with the lock's first seat.
+/// The lock of a room on which these calls were made, and the lock's first seat.
 pub fn room_after<W: Wait + Sync>(
     rt: &W,
     alloc: Global,
@@ -32,7 +32,7 @@ pub fn room_after<W: Wait + Sync>(
     Ok((turns, seat))
 }
 
-/// A link that brings these datagrams. Its receives and sends with these indices, counted from 0, fail.
+/// A link that receives these datagrams. The receives and sends with these indices, from 0, fail.
 pub fn link(
     alloc: Global,
     datagrams: &[&[u8]],
@@ -63,7 +63,7 @@ pub fn rtp(number: u16) -> [u8; 14] {
     ]
 }
 
-/// The same packet as it is sent to subscriber 1.
+/// The packet of `rtp` as it is sent to subscriber 1.
 pub fn outgoing(number: u16) -> [u8; 14] {
     let [high, low] = number.to_be_bytes();
     [
@@ -84,18 +84,18 @@ pub fn has_sent(link: &MemLink, wanted: &[&[u8]]) -> bool {
     true
 }
 
-/// One generic NACK of 1001 (RFC 4585, section 6.2.1).
+/// A generic NACK for packet 1001 (RFC 4585, section 6.2.1).
 pub const NACK: [u8; 16] = [
     0x81, 0xcd, 0, 3, 0, 0, 0, 1, 0x11, 0x11, 0x11, 0x11, 0x03, 0xe9, 0, 0,
 ];
 
-/// One picture loss indication (RFC 4585, section 6.3.1).
+/// A picture loss indication (RFC 4585, section 6.3.1).
 pub const PLI: [u8; 12] = [0x81, 0xce, 0, 2, 0, 0, 0, 1, 0x11, 0x11, 0x11, 0x11];
 
 // Each receive and each send of a publisher's link fails in turn.
 #[test]
 fn a_publisher_is_asked_for_what_is_missing(rt: HostRuntime) -> Result<(), Fail> {
-    // The places of failing receives and sends, the end, and how many NACKs were sent.
+    // The indices of failing receives and sends, the end, and the number of NACKs sent.
     let cases: [(&[u64], &[u64], SessionEnd, usize); 4] = [
         (&[], &[], SessionEnd::AllTurns, 1),
         (&[0], &[], SessionEnd::LinkFault { turn: 0 }, 0),
@@ -135,7 +135,7 @@ fn a_publisher_is_asked_for_what_is_missing(rt: HostRuntime) -> Result<(), Fail>
 // Each receive and each send of a subscriber's link fails in turn.
 #[test]
 fn a_subscriber_is_sent_what_waits_for_it(rt: HostRuntime) -> Result<(), Fail> {
-    // Turns; the places of failing receives and sends; the end, and the numbers sent.
+    // How many turns; the indices of failing receives and sends; the end, and the numbers sent.
     let cases: [(u64, &[u64], &[u64], SessionEnd, &[u16]); 5] = [
         (1, &[], &[], SessionEnd::AllTurns, &[0, 1]),
         (1, &[0], &[], SessionEnd::LinkFault { turn: 0 }, &[]),
@@ -175,7 +175,7 @@ fn a_subscriber_is_sent_what_waits_for_it(rt: HostRuntime) -> Result<(), Fail> {
 // Each receive and the send of a controller's link fails in turn.
 #[test]
 fn a_controllers_link_fails(rt: HostRuntime) -> Result<(), Fail> {
-    // The places of failing receives and sends, the end, and how many answers were sent.
+    // The indices of failing receives and sends, the end, and the number of answers sent.
     let cases: [(&[u64], &[u64], SessionEnd, usize); 4] = [
         (&[], &[], SessionEnd::AllTurns, 1),
         (&[0], &[], SessionEnd::LinkFault { turn: 0 }, 0),
@@ -197,7 +197,7 @@ fn a_controllers_link_fails(rt: HostRuntime) -> Result<(), Fail> {
     Ok(())
 }
 
-// A link whose receives, except the first, move the clock on.
+// A link whose receives, except the first, advance the clock.
 #[derive(Drop)]
 struct MovingLink<'a> {
     inner: MemLink,
@@ -225,8 +225,8 @@ impl<'a> Link for MovingLink<'a> {
     }
 }
 
-// The clock is read after each receive. So the moments of the two turns are 20 milliseconds apart, and the second turn sends a NACK. If the clock
-// were read before, they would be 10 apart.
+// The clock is read after each receive. So the two turns are 20 milliseconds apart, and the second turn sends a NACK. If the clock were
+// read before each receive, they would be 10 apart.
 #[test]
 fn the_clock_is_looked_at_behind_the_receive(rt: HostRuntime) -> Result<(), Fail> {
     let (turns, mut seat) = room_after(&rt, rt.alloc(), &[publish()])?;

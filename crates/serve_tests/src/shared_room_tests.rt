@@ -1,4 +1,4 @@
-//! A room behind the lock, used by seats of one thread and of two.
+//! Tests of a room behind the lock, used by the seats of one thread and of two threads.
 ghost use Rattle.std.specs.Prelude.{◌≡◌, []};
 
 use room_core::{KeepNone, Room};
@@ -16,7 +16,7 @@ const SSRC: u32 = 0x1111_1111;
 
 const PACKETS: u16 = 500;
 
-// A room on which no call was made.
+// A room on which no call was made yet.
 pub(crate) fn empty_room(alloc: Global) -> Shared
     ensures { ⟦<SharedRoom<KeepNone> as Held>⟧.stands result [] }
 {
@@ -41,7 +41,7 @@ pub(crate) fn publish() -> Call {
     }
 }
 
-// The packets that are sent to subscriber 1 are numbered from 0 on.
+// The packets sent to subscriber 1 are numbered from 0 on.
 pub(crate) fn join() -> Call {
     Call::Join {
         subscriber: 1,
@@ -99,7 +99,7 @@ fn a_packet_of_one_seat_is_taken_by_another(rt: HostRuntime) -> Result<(), Fail>
     Ok(())
 }
 
-// Brings all packets, in order. Returns whether each was accepted.
+// Brings all packets to the track, in order. Returns whether each was accepted.
 fn bring<W: Wait + Sync>(rt: &W, turns: &Turns<Shared>, mut seat: Seat<Shared>) -> bool
     requires { seat.lock ≡ turns.now }
 {
@@ -115,7 +115,7 @@ fn bring<W: Wait + Sync>(rt: &W, turns: &Turns<Shared>, mut seat: Seat<Shared>) 
     true
 }
 
-// Makes `PACKETS` takes. Each packet must have the number after the one before, from `first` on. Returns the number after the last packet. `None`: a
+// Makes `PACKETS` takes. Each packet must have the next sequence number, from `first` on. Returns the number after the last packet. `None`: a
 // turn failed, a take was refused for another reason than `Empty`, or a packet had another number.
 fn take_in_order<W: Wait + Sync>(
     rt: &W,

@@ -13,7 +13,7 @@ use sfu_base::{Call, Kind, PacketBuf, Wish};
 use std::alloc::{AllocError, Global};
 use std::test::Fail;
 
-// A socket's receive. It brings this datagram or, if the datagram has no bytes or too many, nothing.
+// A socket's receive. It returns this datagram or, if that has no bytes or too many, nothing.
 fn receive(datagram: &[u8], into: &mut PacketBuf) -> bool {
     if datagram.is_empty() {
         return false;
@@ -25,7 +25,7 @@ fn receive(datagram: &[u8], into: &mut PacketBuf) -> bool {
     true
 }
 
-// Keeps the datagram that is to be sent, if there is one.
+// Appends the datagram to send, if there is one, to `sent`.
 fn send(sent: &mut Vec<PacketBuf>, output: Output, packet: &PacketBuf) -> Result<(), AllocError> {
     if output == Output::Packet {
         let mut datagram = PacketBuf::new();
@@ -35,7 +35,7 @@ fn send(sent: &mut Vec<PacketBuf>, output: Output, packet: &PacketBuf) -> Result
     Ok(())
 }
 
-// A server's loop: runs a session on a room, with one turn for each receive and its moment. Appends what the session sends to `sent`.
+// A server's loop: runs a session on a room, one turn for each receive and its moment. Appends what the session sends to `sent`.
 fn serve_alone<R: Recorder, S: Session>(
     room: &mut Room<R>,
     session: &mut S,
@@ -105,7 +105,7 @@ const THIRD: [u8; 14] = [
     0x80, 0x60, 0x03, 0xea, 0, 0, 0, 0, 0x11, 0x11, 0x11, 0x11, 0xaa, 0xbb,
 ];
 
-// Missing packets are asked for at the first turn and then at least 20 milliseconds apart.
+// Missing packets are requested in the first turn and then at least 20 milliseconds apart.
 #[test]
 fn a_publisher_is_asked_for_what_is_missing_step_by_step(rt: HostRuntime) -> Result<(), Fail> {
     let cases: [(&[(u64, &[u8])], &[&[u8]]); 4] = [
@@ -126,7 +126,7 @@ fn a_publisher_is_asked_for_what_is_missing_step_by_step(rt: HostRuntime) -> Res
     Ok(())
 }
 
-// Before any packet of a layered track, the publisher is asked for a key frame at least 500 milliseconds apart.
+// Before any packet of a layered track, its publisher is asked for a key frame at least 500 milliseconds apart.
 #[test]
 fn a_publisher_is_asked_for_a_key_frame(rt: HostRuntime) -> Result<(), Fail> {
     let cases: [(&[(u64, &[u8])], &[&[u8]]); 4] = [
@@ -164,7 +164,7 @@ const ONE: [u8; 14] = [
     0x80, 0x60, 0, 1, 0, 0, 0, 0, 0x22, 0x22, 0x22, 0x22, 0xaa, 0xbb,
 ];
 
-// A NACK of the packet 0 for the SSRC of the media that are sent, and one for another SSRC (RFC 4585, section 6.2.1).
+// A NACK for packet 0 with the SSRC of the sent media, and one with another SSRC (RFC 4585, section 6.2.1).
 const RESEND: [u8; 16] = [
     0x81, 0xcd, 0, 3, 0, 0, 0, 9, 0x22, 0x22, 0x22, 0x22, 0, 0, 0, 0,
 ];
@@ -173,12 +173,12 @@ const OTHER: [u8; 16] = [
     0x81, 0xcd, 0, 3, 0, 0, 0, 9, 0x33, 0x33, 0x33, 0x33, 0, 0, 0, 0,
 ];
 
-// The packet 0 as it is resent on a retransmission stream, with the number 0 there (RFC 4588, section 4).
+// The retransmission of packet 0, with sequence number 0 on its stream (RFC 4588, section 4).
 const RESENT: [u8; 16] = [
     0x80, 0x61, 0, 0, 0, 0, 0, 0, 0x33, 0x33, 0x33, 0x33, 0, 0, 0xaa, 0xbb,
 ];
 
-// In each turn the feedback that came is served, and then the waiting packets are taken.
+// In each turn the received feedback is served, and then the queued packets are taken.
 #[test]
 fn a_subscriber_is_answered_its_feedback(rt: HostRuntime) -> Result<(), Fail> {
     let rtx = Rtx {
@@ -207,7 +207,7 @@ fn a_subscriber_is_answered_its_feedback(rt: HostRuntime) -> Result<(), Fail> {
     Ok(())
 }
 
-// A line is a call, whose reply is sent. Where no datagram came, nothing is sent.
+// A line is a call, and its reply is sent. If no datagram came, nothing is sent.
 #[test]
 fn a_controller_is_answered(rt: HostRuntime) -> Result<(), Fail> {
     let cases: [(&[u8], &[u8]); 6] = [
@@ -232,7 +232,7 @@ fn a_controller_is_answered(rt: HostRuntime) -> Result<(), Fail> {
     Ok(())
 }
 
-// A key frame and a frame that refers to it, as they come to a layered track and as they are sent to a subscriber, numbered from 65535 on.
+// A key frame and a frame that refers to it, as a layered track receives them and as a subscriber is sent them, numbered from 65535 on.
 const CAME: [&[u8]; 2] = [
     b"\x90\xe0\x03\xe8\0\0\0\0\x11\x11\x11\x11\xbe\xde\0\x03\x48\xc0\0\x01\x80\0\x3a\x41\x01\0\0\0\x18\x30\0",
     b"\x90\xe0\x03\xe9\0\0\0\0\x11\x11\x11\x11\xbe\xde\0\x01\x42\xc1\0\x02\x10\x30\0",
@@ -243,7 +243,7 @@ const GOES: [&[u8]; 2] = [
     b"\x90\xe0\0\0\0\0\0\0\x22\x22\x22\x22\xbe\xde\0\x01\x42\xc1\0\x02\x10\x30\0",
 ];
 
-// What a publisher's session brings to the room, a subscriber's session sends.
+// A subscriber's session sends what a publisher's session brought to the room.
 #[test]
 fn a_subscriber_of_a_layered_track_is_sent_its_frames(rt: HostRuntime) -> Result<(), Fail> {
     let calls = [

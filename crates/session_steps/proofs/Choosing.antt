@@ -1,4 +1,4 @@
--- How a deed goes on by what a call replied, and by what is due.
+-- How a deed continues after a call's reply, and by what is due.
 use Rattle.std.proofs.Common.{◌≡◌, ◌≢◌, ℕ, ◌+◌, ◌%◌, Bool, true, if◌then◌else◌, ◌&&◌, List, [], ◌∷◌, length, Option, refl, ap}
 use Rattle.std.specs.Prelude.{Some}
 use Rattle.sfu_base.specs.Answer.{Named, KeyIs, answer_of}
@@ -9,7 +9,7 @@ use Rattle.session_steps.specs.Deeds.{Post}
 use Rattle.session_steps.specs.Datagrams.{Bytes, NackFor, PliFor}
 use Rattle.session_steps.specs.Sessions.{Doing, sends_on, resends, resent, nacks, is_due, pleads}
 
--- ---- a packet was given, or not
+-- ---- a packet was returned, or not
 
 pub sends_packet : (given : Reply) (bytes numbers : List ℕ) (more next : Doing) → given ≡ reply.Packet → sends_on (answer_of given bytes numbers) more next ≡ Post (Bytes bytes) more
 sends_packet given bytes numbers more next is = ap (λ (r : Reply). sends_on (answer_of r bytes numbers) more next) is

@@ -16,7 +16,7 @@ pub waits : (turns : ℕ) → Waits (control_deed turns) turns
 waits zero = tt
 waits (suc turns) = tt
 
--- a datagram that is no line is answered
+-- a datagram that isn't a line is answered
 pub faults : (said read : Option Call) (turns : ℕ) (came : Bool) (bytes out : List ℕ) (moment : ℕ) → Waits (controlling said 0) 0 → came ≡ true → read ≡ control_call bytes → is_some read ≡ false → out ≡ codes "fault line"
     → GoesOn (heard (controlling said (suc turns)) (datagram came bytes) moment) (controlling read turns) out Packet
 faults None None turns true bytes out moment waits did has none is = (fault_line, ap (λ (o : Option Call). answers o (control_deed turns)) (sym has), is)
@@ -33,7 +33,7 @@ pub controls_only : (o : Option Call) (said : Call) → if_control o ≡ Some sa
 controls_only None said is = absurd (cc is)
 controls_only (Some other) said is = only_control (is_control other) other said refl is
 
--- the call of a line is answered by a text
+-- the answer to a line's call is a text
 pub short : (said : Option Call) (given : Reply) (bytes names : List ℕ) → if_control said ≡ said → IsReplyIn (controlling said 0) given bytes names → IsShort given
 short None given bytes names is replied = absurd replied
 short (Some said) given bytes names is replied = replied.text (controls_only (Some said) said is)

@@ -32,7 +32,7 @@ heard_items : (s : session.SubscriberSession) (came : Bool) (bytes : List ℕ) (
 heard_items s true bytes next = refl
 heard_items s false bytes next = refl
 
--- what came is worked off
+-- what came is served
 pub hears : (s : session.SubscriberSession) (turns moment : ℕ) (came : Bool) (bytes : List ℕ) (items : List Feedback) → s.next ≡ Datagram → items ≡ (if came then feedback_in bytes else [])
     → heard (subscribing_at s.next s (suc turns)) (datagram came bytes) moment ≡ serves s.subscriber s.ssrc s.rtx items s.number (then_takes s turns)
 hears s turns moment came bytes items is are =
@@ -53,11 +53,11 @@ sendable s given bytes names is replied gave =
     let r = subst (λ (n : Next). IsReplyIn (subscribing_at n s 0) given bytes names) is replied in
     r.sendable gave
 
--- the rest is told in another way
+-- the rest in other words
 pub rest_as : (d rest other : Doing) (bytes : List ℕ) (output : Output) → rest ≡ other → GoesOn d rest bytes output → GoesOn d other bytes output
 rest_as d rest other bytes output same goes = subst (λ (r : Doing). GoesOn d r bytes output) same goes
 
--- a take gave a packet
+-- a take returned a packet
 pub gave : (s : session.SubscriberSession) (turns behind : ℕ) (given : Reply) (bytes names : List ℕ) (rest : Doing) → s.next ≡ Take behind → given ≡ reply.Packet
     → rest ≡ takes s.subscriber behind (outgoing_deed s.subscriber s.ssrc s.rtx turns s.number) → GoesOn (answered (subscribing_at s.next s turns) (answer_of given bytes names)) rest bytes Packet
 gave s turns behind given bytes names rest is packet are =

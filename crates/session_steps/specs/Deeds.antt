@@ -1,15 +1,15 @@
--- What is to be done over a link and a room, as a tree, and what was done, as a list of steps. Own rule. The code keeps neither.
+-- What has to be done over a link and a room, as a tree, and what was done, as a list of steps. Own rule. The code has neither.
 use Rattle.std.specs.Prelude.{◌≡◌, ℕ, List, [], ◌∷◌, Option}
 
--- The next thing that is to be done, and how it goes on: by what a receive brought and the moment behind it, or by a call's answer. C are
--- the calls, A their answers, and D says what a datagram is to be.
+-- The next thing to do, and what follows: by what a receive brought and the moment after it, or by a call's answer. C are
+-- the calls, A their answers, and D describes a datagram.
 pub data Deed (C A D : Type 0) : Type 0 where
   Listen : (Option (List ℕ) → ℕ → Deed C A D) → Deed C A D
   Ask : C → (A → Deed C A D) → Deed C A D
   Post : D → Deed C A D → Deed C A D
   Over : Deed C A D
 
--- One thing that was done: a receive, with the moment behind it; a call, with its answer; a datagram that was sent.
+-- One thing that was done: a receive, with the moment after it; a call, with its answer; a datagram that was sent.
 pub data Step (C A : Type 0) : Type 0 where
   Heard : Option (List ℕ) → ℕ → Step C A
   Said : C → A → Step C A
@@ -21,14 +21,14 @@ pub record Word (C A : Type 0) : Type 0 where
   pub answer : A
 
 module _ {C A D : Type 0} where
-  -- The step is the next thing of the deed, which then goes on as the rest. `IsOne` says which bytes are such a datagram.
+  -- The step is the next thing of the deed, whose rest is then `rest`. `IsOne` says which bytes are a given datagram.
   abbrev pub Does : (D → List ℕ → Type 0) → Deed C A D → Step C A → Deed C A D → Type 0
   Does IsOne (Listen f) (Heard got moment) rest = f got moment ≡ rest
   Does IsOne (Ask call f) (Said said answer) rest = (said ≡ call) × (f answer ≡ rest)
   Does IsOne (Post what next) (Posted sent) rest = IsOne what sent × (next ≡ rest)
   Does IsOne _ _ rest = ⊥
 
-  -- the steps are the first ones of the deed, and leave the rest
+  -- the steps are the first ones of the deed, and `rest` is left
   abbrev pub Leads : (D → List ℕ → Type 0) → Deed C A D → List (Step C A) → Deed C A D → Type 0
   Leads IsOne d [] rest = d ≡ rest
   Leads IsOne d (s ∷ ss) rest = (e : Deed C A D) × Does IsOne d s e × Leads IsOne e ss rest

@@ -1,4 +1,4 @@
--- How a session goes on by one step: by what a receive brought, or by the reply to a call. Own rule.
+-- How one step changes what is left of a session: by what a receive or a reply brought. Own rule.
 use Rattle.std.specs.Prelude.{◌≡◌, ◌<◌, ◌≤◌, ℕ, zero, suc, true, List, length, Option, None}
 use Rattle.sfu_base.specs.Answer.{Answer}
 use Rattle.sfu_base.specs.declared.call.Call.{Call}
@@ -14,13 +14,13 @@ use Rattle.session_steps.specs.declared.session.Output.TheVariants.{Nothing, Pac
 use Rattle.session_steps.specs.Datagrams.{Datagram, IsOne, is_control}
 use Rattle.session_steps.specs.Sessions.{Doing}
 
--- No call is left in this turn: the next datagram is awaited or, where no turn is left, it is over.
+-- No call is left in this turn: the session waits for a datagram or, if no turn is left, is over.
 abbrev pub Waits : Doing → ℕ → Type 0
 Waits Over zero = Unit {0}
 Waits (Listen f) (suc turns) = Unit {0}
 Waits d turns = ⊥
 
--- this call has to be made next
+-- this call is the next to make
 abbrev pub Asks : Doing → Call → Type 0
 Asks (Ask call f) next = next ≡ call
 Asks d next = ⊥
@@ -30,31 +30,31 @@ pub record CanBeWrapped (bytes : List ℕ) : Type 0 where
   pub reads : first_fault bytes ≡ None
   pub fits : length bytes ≤ 2046
 
--- What a session relies on of the reply to its call, with what it leaves in the scratch. A room replies so after any history.
+-- What a session relies on in the reply to its call, with the content of the scratch. A room replies so after any history.
 pub record IsReplyTo (call : Call) (given : Reply) (bytes names : List ℕ) : Type 0 where
   -- a packet can be wrapped
   pub sendable : given ≡ reply.Packet → CanBeWrapped bytes
-  -- the missing packets can be named by one NACK
+  -- one NACK can name the missing packets
   pub rises : (track : ℕ) → call ≡ Missing track → given ≡ reply.Names → 0 < length names → Rise 1023 names
-  -- the call of a control line is replied to by a text
+  -- the reply to a control line's call is a text
   pub text : is_control call ≡ true → IsShort given
 
--- the reply is one to the call that has to be made next
+-- the reply is one to the call that is next
 abbrev pub IsReplyIn : Doing → Reply → List ℕ → List ℕ → Type 0
 IsReplyIn (Ask call f) given bytes names = IsReplyTo call given bytes names
 IsReplyIn d given bytes names = ⊥
 
--- what is left once a receive brought this at this moment
+-- what is left after a receive brought this at this moment
 abbrev pub heard : Doing → Option (List ℕ) → ℕ → Doing
 heard (Listen f) got moment = f got moment
 heard d got moment = d
 
--- what is left once the call was answered
+-- what is left after this answer to the call
 abbrev pub answered : Doing → Answer → Doing
 answered (Ask call f) answer = f answer
 answered d answer = d
 
--- Of what is left, the rest comes next: at once, or once these bytes were sent as the datagram that has to be sent first.
+-- Of what is left, the rest comes next: at once, or after these bytes were sent as the datagram that comes first.
 abbrev pub GoesOn : Doing → Doing → List ℕ → Output → Type 0
 GoesOn d rest bytes Nothing = d ≡ rest
 GoesOn d rest bytes Packet = (what : Datagram) × (d ≡ Post what rest) × IsOne what bytes

@@ -1,4 +1,4 @@
--- What is left to a subscriber's session.
+-- What a subscriber's session has left to do.
 use Rattle.std.specs.Prelude.{ℕ, suc, ◌+◌, length}
 use Rattle.session_steps.specs.Deeds.{Ask}
 use Rattle.session_steps.specs.declared.subscriber.Next.{Next}
@@ -6,7 +6,7 @@ use Rattle.session_steps.specs.declared.subscriber.Next.TheVariants.{Datagram, F
 use Rattle.session_steps.specs.declared.subscriber.SubscriberSession as session
 use Rattle.session_steps.specs.Sessions.{Doing, outgoing_deed, resends, serves, takes}
 
--- the takes of this turn, and the turns behind it
+-- the takes of this turn, and the turns after it
 abbrev pub then_takes : session.SubscriberSession → ℕ → ℕ → Doing
 then_takes s turns number = takes s.subscriber 32 (outgoing_deed s.subscriber s.ssrc s.rtx turns number)
 

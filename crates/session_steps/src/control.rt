@@ -7,19 +7,19 @@ use crate::session::{Output, Session};
 use sfu_base::{Call, Reply, Scratch};
 use sfu_script::{read_call, write_short};
 
-/// The reply to a datagram that is no control line.
+/// The reply to a datagram that isn't a control line.
 const FAULT_LINE: &[u8] = b"fault line";
 
 /// The session of a controller. A datagram that is one line of publish, unpublish, join, leave, aim, key, plead or why, without a line end, is a
-/// call. The text of the call's reply is sent, also without a line end. Any other datagram is answered `fault line`.
+/// call. The text of the call's reply is sent, also without a line end. The reply to any other datagram is `fault line`.
 #[derive(Debug, Drop)]
 pub struct ControlSession {
-    /// The call of the line that came, until its reply is sent.
+    /// The call of the last line, until its reply is sent.
     said: Option<Call>,
     ghost control: { if_control said ≡ said },
 }
 
-/// Whether a control line may ask for the call.
+/// Whether a control line may have this call.
 fn is_control(call: &Call) -> bool
     ensures { result ≡ is_control call.now }
 {
@@ -33,7 +33,7 @@ fn is_control(call: &Call) -> bool
     }
 }
 
-/// The call of a control line. `None`: the datagram is no control line.
+/// Reads a control line as a call. `None`: the datagram isn't a control line.
 fn read_control(line: &[u8]) -> Option<Call>
     ensures { result ≡ control_call line.now }
 {

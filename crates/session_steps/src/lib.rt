@@ -1,8 +1,8 @@
 //! The sessions that publishers, subscribers and controllers have with a room, as state machines without input and output.
 //!
-//! A session knows no lock, no socket and no clock. Its caller passes each datagram and the moment, makes the calls that the session asks for,
-//! and sends what the session puts into the scratch. So a server with sockets of its own runs a session in one loop, on its own room or a shared
-//! one:
+//! A session has no lock, no socket and no clock. Its caller passes each datagram and its time, makes the calls that the session returns,
+//! and sends the datagrams that the session puts into the scratch. So a server with sockets of its own runs a session in one loop, on a room
+//! that is its own or shared:
 //!
 //! ```text
 //! loop {

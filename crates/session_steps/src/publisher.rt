@@ -12,43 +12,43 @@ use crate::session::{Output, Session};
 use rtcp_feedback::{write_nack, write_pli};
 use sfu_base::{Call, PacketBuf, Reply, Scratch};
 
-/// The sender's SSRC in the feedback.
+/// The sender's SSRC in the RTCP feedback.
 const SENDER: u32 = 1;
 
-/// The least time between two turns that ask for missing packets, in milliseconds.
+/// The least time between two turns that request missing packets, in milliseconds.
 const ASKING_APART: u64 = 20;
 
 /// The least time between two picture loss indications, in milliseconds.
 const PLIS_APART: u64 = 500;
 
-/// What comes next in a publisher's session.
+/// The next step of a publisher's session.
 #[derive(Clone, Copy, Debug)]
 enum Next {
-    /// The next datagram.
+    /// Wait for the next datagram.
     Datagram,
-    /// The call with the packet that came.
+    /// Make the call with the packet that came.
     Packet,
-    /// The tick at this turn's moment.
+    /// Make the tick at this turn's moment.
     Tick,
-    /// The call that asks for missing packets, before the one that asks whether a key frame is wanted.
+    /// Make the call for the list of missing packets; the call about a key frame follows.
     Missing,
-    /// The call that asks whether a key frame is wanted.
+    /// Make the call about whether a key frame is wanted.
     KeyWanted,
 }
 
-/// The session of a publisher of one track. In each turn it brings the RTP packet that came, if one did, to the track, and then ticks the track.
-/// At the first turn, and then at least 20 milliseconds apart, it asks the room which packets are missing and whether a key frame is wanted. All
-/// missing packets are named by one NACK (RFC 4585, section 6.2.1). For a wanted key frame it sends a picture loss indication (section 6.3.1), at
+/// The session of a publisher of one track. In each turn it brings the received RTP packet, if any, to the track, and then ticks the track.
+/// In the first turn, and then at least 20 milliseconds apart, it asks the room which packets are missing and whether a key frame is wanted.
+/// One NACK names all missing packets (RFC 4585, section 6.2.1). For a wanted key frame it sends a picture loss indication (section 6.3.1), at
 /// least 500 milliseconds after the last one.
 ///
-/// The session keeps its calls from turn to turn: a [`Call`] has a buffer for a packet, and to make a new call would clear it.
+/// The session reuses its calls from turn to turn: a [`Call`] has a buffer for a packet, which a new call would have to clear.
 #[derive(Debug, Drop)]
 pub struct PublisherSession {
     track: u32,
     ssrc: u32,
-    /// The moment of the last turn that asked.
+    /// The moment of the last turn with the calls about missing packets and a key frame.
     asked: Option<u64>,
-    /// The moment of the last picture loss indication.
+    /// The moment of the last picture loss indication sent.
     pleaded: Option<u64>,
     /// The moment of this turn.
     moment: u64,
@@ -63,7 +63,7 @@ pub struct PublisherSession {
     ghost key_wanted_is: { key_wanted ≡ call.KeyWanted track },
 }
 
-/// Whether `moment` is at least `apart` milliseconds after `last`, or `last` is none.
+/// Whether `last` is `None`, or `moment` is at least `apart` milliseconds after it.
 fn is_due(apart: u64, moment: u64, last: Option<u64>) -> bool
     ensures { result ≡ is_due apart moment last }
 {
@@ -73,14 +73,14 @@ fn is_due(apart: u64, moment: u64, last: Option<u64>) -> bool
     }
 }
 
-/// Whether a receive brought an RTP packet: a datagram that isn't RTCP.
+/// Whether an RTP packet was received: a datagram that isn't RTCP.
 fn is_packet(came: bool, datagram: &PacketBuf) -> bool
     ensures { result ≡ (came && not (is_rtcp datagram.now)) }
 {
     came && !is_rtcp(datagram.bytes())
 }
 
-/// Writes a packet and its moment into the kept call that brings packets.
+/// Writes a packet and its moment into the kept call.
 fn set_packet(kept: &mut Call, now: u64, packet: &PacketBuf)
     ensures { (track before : ℕ) (old : List ℕ) → kept.old ≡ call.Packet track before old → kept.new ≡ call.Packet track now packet.now }
 {
@@ -90,7 +90,7 @@ fn set_packet(kept: &mut Call, now: u64, packet: &PacketBuf)
     }
 }
 
-/// Writes a moment into the kept call of a tick.
+/// Writes a moment into the kept tick.
 fn set_moment(kept: &mut Call, now: u64)
     ensures { (track before : ℕ) → kept.old ≡ call.Tick track before → kept.new ≡ call.Tick track now }
 {
@@ -99,7 +99,7 @@ fn set_moment(kept: &mut Call, now: u64)
     }
 }
 
-/// Writes one NACK that names the missing packets of the reply, if there are any.
+/// Writes one NACK for all missing packets in the reply, if there are any.
 fn nack(ssrc: u32, reply: Reply, scratch: &mut Scratch) -> Output
     requires rise { reply ≡ Reply.Names → 0 < length scratch.old.names → Rise 1023 scratch.old.names }
     ensures { (rest : Doing) → GoesOn (nacks ssrc (answer_of reply scratch.old.packet scratch.old.names) rest) rest scratch.new.packet result }
@@ -114,7 +114,7 @@ fn nack(ssrc: u32, reply: Reply, scratch: &mut Scratch) -> Output
     Output::Packet
 }
 
-/// Writes a picture loss indication and notes its moment, if a key frame is wanted and an indication is due.
+/// If a key frame is wanted and a picture loss indication is due, writes one and notes its moment.
 fn plead(
     ssrc: u32,
     moment: u64,

@@ -15,35 +15,35 @@ use rtcp_feedback::{Feedback, FeedbackQueue};
 use rtx_stream::Rtx;
 use sfu_base::{Call, PacketBuf, Reply, Scratch};
 
-/// How many packets a turn takes at most.
+/// The most packets that a turn takes.
 const MOST_TAKES: u32 = 32;
 
-/// What comes next in a subscriber's session.
+/// The next step of a subscriber's session.
 #[derive(Clone, Copy, Debug)]
 enum Next {
-    /// The next datagram.
+    /// Wait for the next datagram.
     Datagram,
-    /// The call of an item of feedback.
+    /// Make the call for an item of feedback.
     Feedback,
-    /// A take, with at most `behind` more after it in this turn.
+    /// Make a take, with at most `behind` more after it in this turn.
     Take { behind: u32 },
 }
 
 /// The session of a subscriber. In each turn it serves the RTCP feedback that came, item by item. For each packet that a NACK names (RFC 4585,
-/// section 6.2.1) it asks for a resend and sends the retransmission. For a picture loss indication (section 6.3.1) it pleads for a key frame.
-/// Items whose media source isn't the subscriber's SSRC are skipped. Then the session takes packets and sends them, until a take gives none or
+/// section 6.2.1) it requests a resend and sends the retransmission. For a picture loss indication (section 6.3.1) it requests a key frame.
+/// Items whose media source isn't the subscriber's SSRC are skipped. Then it takes packets and sends them, until a take returns none or
 /// 32 were taken.
 ///
-/// The session keeps its calls from turn to turn: a [`Call`] has a buffer for a packet, and to make a new call would clear it.
+/// The session reuses its calls from turn to turn: a [`Call`] has a buffer for a packet, which a new call would have to clear.
 #[derive(Debug, Drop)]
 pub struct SubscriberSession {
     subscriber: u32,
     ssrc: u32,
-    /// The stream of the retransmissions. `None`: they are sent as the packets were first sent.
+    /// The retransmission stream. `None`: retransmissions are sent as the packets were first sent.
     rtx: Option<Rtx>,
     /// The sequence number of the next retransmission on that stream.
     number: u16,
-    /// The items of this turn's feedback that are left.
+    /// The items of this turn's feedback that remain.
     feedback: FeedbackQueue,
     next: Next,
     asked: Call,
@@ -52,7 +52,7 @@ pub struct SubscriberSession {
     ghost payload_type: { IfSome rtx (λ stream. stream.payload_type < 128) } by { Prim.hlevel props },
 }
 
-/// The call that an item of feedback asks for.
+/// The call for an item of feedback.
 fn call_of(subscriber: u32, item: Feedback) -> Call
     ensures { result ≡ call_for subscriber item }
 {
@@ -72,7 +72,7 @@ fn media(item: Feedback) -> u32
     }
 }
 
-/// Fills the queue with the feedback that a receive brought: none if nothing came, the datagram isn't RTCP, or the RTCP has a fault.
+/// Fills the queue with the feedback that was received: no items if nothing came, the datagram isn't RTCP, or the RTCP has a fault.
 fn read_feedback(feedback: &mut FeedbackQueue, came: bool, datagram: &PacketBuf)
     ensures { feedback.new ≡ (if came then feedback_in datagram.now else []) }
 {
@@ -106,8 +106,8 @@ impl SubscriberSession {
     ghost use Rattle.session_steps.specs.declared.subscriber.SubscriberSession.{SubscriberSession as SubscriberData};
     ghost use Rattle.session_steps.specs.Subscribing.{calls_at, subscribing, subscribing_at, subscribing_calls, then_takes};
 
-    /// The session of a subscriber before its first datagram. `ssrc` is the SSRC of the media that are sent to the subscriber. Retransmissions are
-    /// sent on the stream `rtx` (RFC 4588), whose payload type is below 128, numbered 0, 1 and so on modulo 65,536. Without `rtx` they are sent as
+    /// The session of a subscriber before its first datagram. `ssrc` is the SSRC of the media sent to the subscriber. Retransmissions are sent
+    /// on the stream `rtx` (RFC 4588), whose payload type is below 128, numbered 0, 1 and so on modulo 65,536. Without `rtx` they are sent as
     /// the packets were first sent.
     pub fn new(subscriber: u32, ssrc: u32, rtx: Option<Rtx>) -> SubscriberSession
         requires payload_type { IfSome rtx (λ stream. stream.payload_type < 128) }
@@ -126,7 +126,7 @@ impl SubscriberSession {
         }
     }
 
-    /// What comes next where `left` takes are left in this turn.
+    /// The next step if `left` takes remain in this turn.
     fn next_take(left: u32) -> Next
         ensures left { (s : SubscriberData) (turns : ℕ) → subscribing_at result s turns ≡ takes s.subscriber left (outgoing_deed s.subscriber s.ssrc s.rtx turns s.number) }
         ensures calls { (items : ℕ) → calls_at result items ≡ left }

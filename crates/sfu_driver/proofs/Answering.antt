@@ -79,7 +79,7 @@ same_why ending.Obu ending.Obu is = refl
 pub cause_since : (g0 g g' f f' : ℕ) (result : Result (Unit {0}) Interruption) → g ≡ g0 → CauseOf g g' f f' result → CauseOf g0 g' f f' result
 cause_since g0 g g' f f' result same cause = subst (λ (n : ℕ). CauseOf n g' f f' result) same cause
 
--- the told facts, whatever the source tells
+-- the told facts, whatever the source reports
 told_if : {U S T : Type 0} (stands : U → T → Type 0) (byte : S → ℕ → Outcome S) (ends : S → Outcome T) (s : S) (new : U) (left left' w w' : Option (List ℕ)) (f f' : ℕ) (result : Result (Unit {0}) Interruption)
     → Drove stands byte ends s new left left' w w' f f' result → IfSome left (λ b. ToldBy byte ends s b left' w w' f f' result)
 told_if stands byte ends s new None left' w w' f f' result d = tt
@@ -337,7 +337,7 @@ statuses {U} {S} {T} stands byte ends s new left left' w w' g g' f f' (Err (Halt
       every = every_of stands byte ends s new left left' w w' g g' f f' (Err (Halted (Ended why))) cause d;
     }
 
--- the same behind a first read
+-- the same after a first read
 pub statuses_behind : {U S T : Type 0} (first : List ℕ) (stands : U → T → Type 0) (byte : S → ℕ → Outcome S) (ends : S → Outcome T) (s : S) (new : U) (left left' w w' : Option (List ℕ)) (g g' f f' : ℕ) (result : Result (Unit {0}) Interruption)
     → CauseOf g g' f f' result → DroveBehind first stands byte ends s new left left' w w' f f' result
     → StatusesBehind first (λ bytes. due_of (then_due (takes byte s bytes) ends)) (λ taken. due_of (takes byte s taken)) left left' w w' g g' f f' (status_for result)

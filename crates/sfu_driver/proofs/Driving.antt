@@ -76,7 +76,7 @@ ToldBy {S} {T} byte ends s all left' w w' f f' (Err (Halted (Ended why))) =
     (last : List ℕ) × ((then_due (takes byte s all) ends).result ≡ Err (end_by why last)) × WritesEnd w w' f f' (then_due (takes byte s all) ends).text last
 ToldBy {S} {T} byte ends s all left' w w' f f' (Err (Halted Starved)) = WritesFor byte s all [] w w'
 
--- the text of a front of the input is a front of the whole text
+-- the text of a prefix of the input is a prefix of the whole text
 whole_front : {S T : Type 0} (byte : S → ℕ → Outcome S) (ends : S → Outcome T) (s : S) (xs ys : List ℕ) → (more : List ℕ) × ((then_due (takes byte s (xs ++ ys)) ends).text ≡ (takes byte s xs).text ++ more)
 whole_front byte ends s xs ys =
     let more = takes_front byte s xs ys in
@@ -122,13 +122,13 @@ told stands byte ends s b new None w w' f f' result d = absurd d.consumed
 told {U} {S} {T} stands byte ends s b new (Some r) w w' f f' result d =
     subst (λ (bytes : List ℕ). ToldBy byte ends s bytes (Some r) w w' f f' result) (sym d.consumed) (told_of stands byte ends s (d.earlier ++ d.piece) r new w w' f f' result d.by_result)
 
--- the text of a front of the input was written
+-- the text of a prefix of the input was written
 front_of_all : {S T : Type 0} (byte : S → ℕ → Outcome S) (ends : S → Outcome T) (s : S) (all : List ℕ) (w w' : Option (List ℕ)) → WritesFor byte s all [] w w' → WritesFront w w' (then_due (takes byte s all) ends).text
 front_of_all byte ends s all w w' b =
     let more = whole_front byte ends s b.front b.more in
     subst (WritesFront w w') (sym (ap (λ (bytes : List ℕ). (then_due (takes byte s bytes) ends).text) b.split ∙ more.1)) (front_longer w w' (takes byte s b.front).text more.0 (front_all w w' (takes byte s b.front).text b.wrote))
 
--- a front of what is due was written, whatever stopped the command
+-- a prefix of what is due was written, whatever stopped the command
 pub told_begun : {S T : Type 0} (byte : S → ℕ → Outcome S) (ends : S → Outcome T) (s : S) (all : List ℕ) (left' w w' : Option (List ℕ)) (f f' : ℕ) (result : Result (Unit {0}) Interruption)
     → ToldBy byte ends s all left' w w' f f' result → WritesFront w w' ((then_due (takes byte s all) ends).text ++ last_text (end_of (then_due (takes byte s all) ends).result))
 told_begun {S} {T} byte ends s all left' w w' f f' result b =
@@ -209,7 +209,7 @@ drove_ended {U} {V} {S} {T} wants at stands byte ends u u1 new r r1 left left' w
 
 -- ---- out of memory
 
--- memory was wanting for the bytes
+-- memory ran out for the bytes
 pub starves_took : {U S : Type 0} (wants at : U → S → Type 0) (byte : S → ℕ → Outcome S) (u u1 : U) (r r1 : List ℕ) (left left' w w' : Option (List ℕ)) (f f' : ℕ) (stop : Interruption)
     → r ≡ [] → Took wants at byte u u1 r r1 left left' w w' f f' (Err stop) → (s : S) → at u s → Starves wants byte s u1 left left' w w' (Err stop)
 starves_took wants at byte u u1 r r1 left left' w w' f f' SourceFault none took s stand = tt
@@ -219,7 +219,7 @@ starves_took wants at byte u u1 r r1 left left' w w' f f' (Halted Starved) none 
     let bytes = took.earlier ++ took.piece in
     (bytes, took.consumed, subst (λ (xs : List ℕ). HaltsFor (wants u1) byte s bytes xs w w') none (took.feeds s stand))
 
--- memory was wanting for the end
+-- memory ran out for the end
 pub starves_ended : {U S T : Type 0} (wants at : U → S → Type 0) (stands : U → T → Type 0) (byte : S → ℕ → Outcome S) (ends : S → Outcome T) (u u1 new : U) (r r1 : List ℕ) (left left' w0 w1 w2 : Option (List ℕ)) (f0 f1 f2 : ℕ)
     (result : Result (Unit {0}) Interruption) → r ≡ [] → Took wants at byte u u1 r r1 left left' w0 w1 f0 f1 (Ok tt) → r1 ≡ []
     → ((p : S) → at u1 p → EndsBy stands (ends p) new w1 w2 f1 f2 result) → (s : S) → at u s → Starves wants byte s new left left' w0 w2 result

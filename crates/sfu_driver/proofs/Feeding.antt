@@ -80,7 +80,7 @@ feeds_on wants stands byte u0 u1 u2 xs ys r0 r1 r2 w0 w1 w2 f0 f1 f2 (Ok _) le f
 feeds_on wants stands byte u0 u1 u2 xs ys r0 r1 r2 w0 w1 w2 f0 f1 f2 (Err stop) le first second s stand =
     let a = first s stand in stopped_on (wants u2) stands byte s u1 xs ys r0 r1 w0 w1 w2 f0 f1 f2 stop le a (second a.later a.at)
 
--- ---- more bytes behind those for which the sink failed
+-- ---- more bytes after those for which the sink failed
 
 pub feeds_longer : {U S : Type 0} (wants stands : U → S → Type 0) (byte : S → ℕ → Outcome S) (u u' : U) (xs ys r r' : List ℕ) (w w' : Option (List ℕ)) (f f' : ℕ)
     → Feeds wants stands byte u xs u' r r' w w' f f' (Err SinkFault) → Feeds wants stands byte u (xs ++ ys) u' r r' w w' f f' (Err SinkFault)
@@ -108,7 +108,7 @@ flush_does {U} {S} wants stands byte u r r' w w' f f' (Err stop) wrote empty fau
     let same : SinkFault ≡ stop = cc in
     let P : Interruption → Type 0 = λ x. Feeds wants stands byte u [] u r r' w w' f f' (Err x) in subst P same (flush_fails wants stands byte u u r r' w w' f f' part rose)
 
--- the same behind other bytes
+-- the same after other bytes
 pub feeds_then : {U S : Type 0} (wants stands : U → S → Type 0) (byte : S → ℕ → Outcome S) (u0 u1 u2 : U) (xs r0 r1 r2 : List ℕ) (w0 w1 w2 : Option (List ℕ)) (f0 f1 f2 : ℕ) (result : Result (Unit {0}) Interruption) → f0 ≤ f1
     → Feeds wants stands byte u0 xs u1 r0 r1 w0 w1 f0 f1 (Ok tt) → Feeds wants stands byte u1 [] u2 r1 r2 w1 w2 f1 f2 result → Feeds wants stands byte u0 xs u2 r0 r2 w0 w2 f0 f2 result
 feeds_then {U} {S} wants stands byte u0 u1 u2 xs r0 r1 r2 w0 w1 w2 f0 f1 f2 result le first second =
@@ -122,7 +122,7 @@ pub next_feeds : {U S : Type 0} (wants stands : U → S → Type 0) (byte : S �
 next_feeds wants stands byte u u' piece r r' count w f f' nexts s stand =
     let j = nexts s stand in record { later = j.0; goes = j.1; at = j.2; flushed = []; wrote = Appends-nil w; whole = sym j.3 }
 
--- a text that was ready, and one behind it
+-- a text that was ready, and one after it
 behind_mark : (r r' text : List ℕ) (mark : ℕ) → mark ≡ length r → r' ≡ r ++ text → (take mark r' ≡ r) × (drop mark r' ≡ text)
 behind_mark r r' text mark at is = (
   ap (λ (n : ℕ). take n r') at ∙ ap (λ (xs : List ℕ). take (length r) xs) is ∙ take-append_seam r text,
@@ -193,7 +193,7 @@ took_none wants stands byte u r left w f f' = record {
   feeds = feeds_none wants stands byte u r w f f';
 }
 
--- a further piece was taken, behind bytes all of whose texts were written
+-- a further piece was taken, after bytes all of whose texts were written
 abbrev pub took_on : {U S : Type 0} (wants stands : U → S → Type 0) (byte : S → ℕ → Outcome S) (u0 u1 u2 : U) (r0 r1 r2 : List ℕ) (left0 left1 left2 w0 w1 w2 : Option (List ℕ)) (f0 f1 f2 : ℕ) (piece : List ℕ) (result : Result (Unit {0}) Interruption) → f0 ≤ f1
     → r0 ≡ [] → r1 ≡ [] → length piece ≤ 65536
     → (took : Took wants stands byte u0 u1 r0 r1 left0 left1 w0 w1 f0 f1 (Ok tt)) → length (took.earlier ++ took.piece) < most_bytes → Consumes left1 left2 piece → Feeds wants stands byte u1 piece u2 r1 r2 w1 w2 f1 f2 result
@@ -212,7 +212,7 @@ took_on wants stands byte u0 u1 u2 r0 r1 r2 left0 left1 left2 w0 w1 w2 f0 f1 f2 
   feeds = feeds_on wants stands byte u0 u1 u2 (took.earlier ++ took.piece) piece r0 r1 r2 w0 w1 w2 f0 f1 f2 result le took.feeds feeds;
 }
 
--- bytes were taken, no more than units have so far, and a piece was read behind them; the first read gave these
+-- bytes were taken, no more than units have so far, and a piece was read after them; the first read returned these
 pub record HasRead {U S : Type 0} (wants stands : U → S → Type 0) (byte : S → ℕ → Outcome S) (old new : U) (ready ready' : List ℕ) (left left' written written' : Option (List ℕ)) (faults faults' : ℕ) (piece first : List ℕ) (most : ℕ) : Type 0 where
   pub before : Option (List ℕ)
   pub took : Took wants stands byte old new ready ready' left before written written' faults faults' (Ok tt)
@@ -220,7 +220,7 @@ pub record HasRead {U S : Type 0} (wants stands : U → S → Type 0) (byte : S 
   pub far : length (took.earlier ++ took.piece) ≤ most
   pub begins : BeginsWith first ((took.earlier ++ took.piece) ++ piece)
 
--- nothing was read behind the bytes that were taken
+-- nothing was read after the bytes that were taken
 abbrev pub took_all : {U S : Type 0} (wants stands : U → S → Type 0) (byte : S → ℕ → Outcome S) (u0 u1 : U) (r0 r1 : List ℕ) (left left1 left2 w0 w1 : Option (List ℕ)) (f0 f1 : ℕ) (result : Result (Unit {0}) Interruption)
     → Took wants stands byte u0 u1 r0 r1 left left1 w0 w1 f0 f1 result → Consumes left1 left2 [] → Took wants stands byte u0 u1 r0 r1 left left2 w0 w1 f0 f1 result
 took_all wants stands byte u0 u1 r0 r1 left left1 left2 w0 w1 f0 f1 result took none = record {
@@ -233,7 +233,7 @@ took_all wants stands byte u0 u1 r0 r1 left left1 left2 w0 w1 f0 f1 result took 
   feeds = took.feeds;
 }
 
--- the source failed behind bytes all of whose texts were written
+-- the source failed after bytes all of whose texts were written
 abbrev pub took_fails : {U S : Type 0} (wants stands : U → S → Type 0) (byte : S → ℕ → Outcome S) (u0 u1 : U) (r0 r1 : List ℕ) (left left1 left2 w0 w1 : Option (List ℕ)) (f0 f1 : ℕ)
     → r1 ≡ [] → Took wants stands byte u0 u1 r0 r1 left left1 w0 w1 f0 f1 (Ok tt) → Keeps left1 left2 → Took wants stands byte u0 u1 r0 r1 left left2 w0 w1 f0 f1 (Err SourceFault)
 took_fails wants stands byte u0 u1 r0 r1 left left1 left2 w0 w1 f0 f1 empty took keeps = record {

@@ -1,4 +1,4 @@
--- What was written is a front of a longer text.
+-- What was written is a prefix of a longer text.
 use Rattle.std.proofs.Common.{◌≡◌, ◌≤◌, ℕ, ◌⊎◌, inl, inr, refl, List, [], ◌++◌, sym, ap, ◌∙◌, subst, arith, Option, Result, Ok, Err, append_assoc, append-nil, length-append}
 use Rattle.std.specs.Prelude.{OnErr, OnOk}
 use Rattle.std.specs.Io.KnownBytes.{Appends}
@@ -9,7 +9,7 @@ use Rattle.sfu_driver.specs.Drive.{WritesEnd, WritesFront, WritesPart}
 pub front_longer : (w w' : Option (List ℕ)) (xs ys : List ℕ) → WritesFront w w' xs → WritesFront w w' (xs ++ ys)
 front_longer w w' xs ys part = (part.0, part.1 ++ ys, part.2, ap (λ (zs : List ℕ). zs ++ ys) part.3 ∙ append_assoc part.0 part.1 ys)
 
--- all of a text is a front of it
+-- all of a text is a prefix of it
 pub front_all : (w w' : Option (List ℕ)) (xs : List ℕ) → Appends w w' xs → WritesFront w w' xs
 front_all w w' xs wrote = (xs, [], wrote, sym (append-nil xs))
 

@@ -25,7 +25,7 @@ pub cr_joined : (kept came : List ℕ) → 0 < length came → ends_in_cr (kept 
 cr_joined kept [] some = absurd (omega arith)
 cr_joined kept (c ∷ came) some = cr_behind kept c came
 
--- the text is a front of the line
+-- the text is a prefix of the line
 front_of : (line more : List ℕ) (c : Bool) → take (length (cond c (take (length line - 1) line) line)) (line ++ more) ≡ cond c (take (length line - 1) line) line
 front_of line more true =
     let size : length (take (length line - 1) line) ≡ length line - 1 = length-take-le (length line - 1) line (omega arith) in

@@ -11,7 +11,7 @@ if_some : (left : Option (List ℕ)) (P Q : List ℕ → Type 0) → ((b : List 
 if_some None P Q f p = tt
 if_some (Some b) P Q f p = f b p
 
--- What is due of these bytes, and of each front of them, may be said in other words.
+-- What is due of these bytes, and of each prefix of them, may be said in other words.
 pub says_alike : (whole part whole' part' : List ℕ → Due) (taken : List ℕ) (left' w w' : Option (List ℕ)) (f f' status : ℕ) → whole taken ≡ whole' taken
     → ((front more : List ℕ) → taken ≡ front ++ more → part front ≡ part' front)
     → SaysOf whole part taken left' w w' f f' status → SaysOf whole' part' taken left' w w' f f' status
@@ -93,7 +93,7 @@ statuses_same whole part whole' part' left left' w w' g g' f f' status same same
     only_also (inr (inr (inr (inl is)))) = inr (inr (inr (inl is)))
     only_also (inr (inr (inr (inr x)))) = inr (inr (inr (inr (x.0, x.1, sym (ap (λ (d : Due). d.end) (same x.0)) ∙ x.2, x.3))))
 
--- the same behind a first read
+-- the same after a first read
 pub behind_same : (first : List ℕ) (whole part whole' part' : List ℕ → Due) (left left' w w' : Option (List ℕ)) (g g' f f' status : ℕ) → ((b : List ℕ) → whole b ≡ whole' b) → ((b : List ℕ) → part b ≡ part' b)
     → StatusesBehind first whole part left left' w w' g g' f f' status → StatusesBehind first whole' part' left left' w w' g g' f f' status
 behind_same first whole part whole' part' left left' w w' g g' f f' status same same_part s = record {

@@ -1,4 +1,4 @@
--- What one call does with the front of a piece.
+-- What one call does with the start of a piece.
 use Rattle.std.proofs.Common.{◌≡◌, ◌≤◌, ℕ, ◌+◌, Bool, true, cond, leb, List, [], ◌++◌, length, take, drop, refl, sym, ap, ◌∙◌, subst, arith, Ok, Err, append-nil}
 use Rattle.std.proofs.lemmas.Bool.Decides.{nat_tests}
 use Rattle.std.proofs.lemmas.List.{take-append-drop}

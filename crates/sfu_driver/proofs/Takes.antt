@@ -47,7 +47,7 @@ more_of : {S T : Type 0} (o : Outcome S) (r : Result S End) (g : S → Outcome T
 more_of o (Ok q) g = ((g q).text, refl)
 more_of o (Err end) g = ([], sym (append-nil o.text))
 
--- the text of the first is a front of the whole text
+-- the text of the first is a prefix of the whole text
 pub then_front : {S T : Type 0} (o : Outcome S) (g : S → Outcome T) → (more : List ℕ) × ((then_due o g).text ≡ o.text ++ more)
 then_front o g = more_of o o.result g
 

@@ -1,4 +1,4 @@
--- What a command takes of its source and writes to its sink.
+-- What a command takes from its source and writes to its sink.
 use Rattle.std.specs.Prelude.{◌≡◌, ◌⊎◌, ℕ, ◌<◌, ◌≤◌, List, [], ◌++◌, length, take, Option, Some, None, IsOk, MatchResult, Result, Ok, Err}
 use Rattle.std.specs.Io.KnownBytes.{Appends, Consumes, IsAtEnd}
 use Rattle.sfu_base.specs.Faults.{Rose, raised}
@@ -13,11 +13,11 @@ use Rattle.sfu_driver.specs.Reads.{BeginsWith, most_bytes}
 
 -- ---- what is written
 
--- A front of this text was written, which may be all of it.
+-- A prefix of this text was written, which may be all of it.
 abbrev pub WritesFront : Option (List ℕ) → Option (List ℕ) → List ℕ → Type 0
 WritesFront written written' all = (text : List ℕ) × (more : List ℕ) × Appends written written' text × (all ≡ text ++ more)
 
--- A front of this text was written, and not all of it.
+-- A prefix of this text was written, and not all of it.
 pub record WritesPart (written written' : Option (List ℕ)) (all : List ℕ) : Type 0 where
   pub text : List ℕ
   pub more : List ℕ
@@ -25,7 +25,7 @@ pub record WritesPart (written written' : Option (List ℕ)) (all : List ℕ) : 
   pub split : all ≡ text ++ more
   pub missing : 0 < length more
 
--- All of this text was written, and then the last text, or a front of it where the sink failed.
+-- All of this text was written, and then the last text, or only a prefix of it if the sink failed.
 pub record WritesEnd (written written' : Option (List ℕ)) (faults faults' : ℕ) (text last : List ℕ) : Type 0 where
   pub front : List ℕ
   pub more : List ℕ
@@ -39,33 +39,33 @@ pub record WritesEnd (written written' : Option (List ℕ)) (faults faults' : �
 abbrev pub end_by : Ending → List ℕ → End
 end_by why text = record { why = why; text = text }
 
--- the end at the unit outside the grammar, if there is one: its number says the last text
+-- the end at a unit outside the grammar, if there is one: the last text names its number
 abbrev pub outside_end : (ℕ → List ℕ) → Option ℕ → Option End
 outside_end text None = None
 outside_end text (Some number) = Some (end_by Outside (text number))
 
--- The text that is due was put behind those that are ready, and the object stands for the state that is left. Or the command ends, and its
--- last text alone was put there. Or memory was wanting, and nothing was.
+-- The due text was appended to the ready ones, and the object is in the next state. Or the command ends, and only its last text was
+-- appended. Or memory ran out, and nothing was appended.
 abbrev pub Judges : {U S : Type 0} → (U → S → Type 0) → Outcome S → U → List ℕ → List ℕ → Result (Unit {0}) Halt → Type 0
 Judges {U} {S} stands due new ready ready' (Ok _) = (later : S) × (due.result ≡ Ok later) × stands new later × (ready' ≡ ready ++ due.text)
 Judges {U} {S} stands due new ready ready' (Err (Ended why)) = (last : List ℕ) × (due ≡ ends_with why last) × (ready' ≡ ready ++ last)
 Judges {U} {S} stands due new ready ready' (Err Starved) = ready' ≡ ready
 
--- The same for the bytes of a piece: so many of them, or all where the command ends.
+-- The same for the bytes of a piece: for `count` of them, or for all if the command ends.
 abbrev pub Nexts : {U S : Type 0} → (U → S → Type 0) → (S → ℕ → Outcome S) → S → List ℕ → U → List ℕ → List ℕ → Result ℕ Halt → Type 0
 Nexts stands byte state piece new ready ready' (Ok count) = Judges stands (takes byte state (take count piece)) new ready ready' (Ok tt)
 Nexts stands byte state piece new ready ready' (Err halt) = Judges stands (takes byte state piece) new ready ready' (Err halt)
 
--- What was written where a unit lets the command end.
+-- What was written if a unit ends the command.
 abbrev pub Halts : Interruption → Halt → List ℕ → List ℕ → Option (List ℕ) → Option (List ℕ) → ℕ → ℕ → Type 0
 Halts SourceFault halt ready last written written' faults faults' = ⊥
 Halts SinkFault halt ready last written written' faults faults' = Rose faults faults' × WritesPart written written' ready
 Halts (Halted (Ended why)) halt ready last written written' faults faults' = (halt ≡ Ended why) × WritesEnd written written' faults faults' ready last
 Halts (Halted Starved) halt ready last written written' faults faults' = (halt ≡ Starved) × Appends written written' ready
 
--- ---- bytes that are taken
+-- ---- bytes taken
 
--- Bytes were taken: some of the text was written behind what was ready, the rest of it is ready, and the object stands for the state that is left.
+-- Bytes were taken: a part of the text was written after the ready ones, the rest of it is ready, and the object is in the next state.
 pub record Fed {U S : Type 0} (stands : U → S → Type 0) (byte : S → ℕ → Outcome S) (state : S) (bytes : List ℕ) (new : U) (ready ready' : List ℕ)
     (written written' : Option (List ℕ)) : Type 0 where
   pub later : S
@@ -75,7 +75,7 @@ pub record Fed {U S : Type 0} (stands : U → S → Type 0) (byte : S → ℕ �
   pub wrote : Appends written written' flushed
   pub whole : ready ++ (takes byte state bytes).text ≡ flushed ++ ready'
 
--- All that is due for a front of the bytes was written, and the command would go on.
+-- All that is due for a prefix of the bytes was written, and the command would continue.
 pub record WritesFor {S : Type 0} (byte : S → ℕ → Outcome S) (state : S) (bytes ready : List ℕ) (written written' : Option (List ℕ)) : Type 0 where
   pub front : List ℕ
   pub more : List ℕ
@@ -83,7 +83,7 @@ pub record WritesFor {S : Type 0} (byte : S → ℕ → Outcome S) (state : S) (
   pub goes : IsOk ((takes byte state front).result)
   pub wrote : Appends written written' (ready ++ (takes byte state front).text)
 
--- The same, and the state behind that front is the one in which memory was wanting, or the front is all of the bytes.
+-- The same, and either memory ran out in the state after that prefix, or the prefix is all of the bytes.
 pub record HaltsFor {S : Type 0} (wants : S → Type 0) (byte : S → ℕ → Outcome S) (state : S) (bytes ready : List ℕ)
     (written written' : Option (List ℕ)) : Type 0 where
   pub writes : WritesFor byte state bytes ready written written'
@@ -91,7 +91,7 @@ pub record HaltsFor {S : Type 0} (wants : S → Type 0) (byte : S → ℕ → Ou
   pub goes : (takes byte state writes.front).result ≡ Ok later
   pub at : wants later ⊎ (writes.more ≡ [])
 
--- What was written where the command stopped at these bytes, by why it stopped.
+-- What was written when the command stopped at these bytes, by the reason.
 abbrev pub Stopped : {S : Type 0} → (S → Type 0) → Interruption → (S → ℕ → Outcome S) → S → List ℕ → List ℕ → Option (List ℕ) → Option (List ℕ) → ℕ → ℕ → Type 0
 Stopped wants SourceFault byte state bytes ready written written' faults faults' =
     IsOk ((takes byte state bytes).result) × Appends written written' (ready ++ (takes byte state bytes).text)
@@ -108,18 +108,18 @@ FeedsBy wants stands byte state bytes new ready ready' written written' faults f
 FeedsBy wants stands byte state bytes new ready ready' written written' faults faults' (Err stop) = Stopped
     (wants new) stop byte state bytes ready written written' faults faults'
 
--- The bytes did this, whatever state the object stood for.
+-- The bytes did this, for each state that the object may have been in.
 abbrev pub Feeds : {U S : Type 0} → (U → S → Type 0) → (U → S → Type 0) → (S → ℕ → Outcome S) → U → List ℕ → U → List ℕ → List ℕ → Option (List ℕ)
     → Option (List ℕ) → ℕ → ℕ → Result (Unit {0}) Interruption → Type 0
 Feeds {U} {S} wants stands byte old bytes new ready ready' written written' faults faults' result =
     (state : S) → stands old state → FeedsBy wants stands byte state bytes new ready ready' written written' faults faults' result
 
--- The command goes on behind these bytes, and all that is due for them was written first.
+-- The command continues after these bytes, and all that is due for them was written first.
 abbrev pub WritesFirst : {S : Type 0} → (S → ℕ → Outcome S) → S → List ℕ → Option (List ℕ) → Option (List ℕ) → Type 0
 WritesFirst byte state bytes written written' =
     IsOk ((takes byte state bytes).result) × (more : List ℕ) × Appends written written' ((takes byte state bytes).text ++ more)
 
--- Bytes were taken from the source, of which those before the last piece did the first, and all did the second.
+-- Bytes were taken from the source. `WritesFirst` is true of those before the last piece, and `Feeds` of all.
 pub record Took {U S : Type 0} (wants stands : U → S → Type 0) (byte : S → ℕ → Outcome S) (old new : U) (ready ready' : List ℕ)
     (left left' written written' : Option (List ℕ)) (faults faults' : ℕ) (result : Result (Unit {0}) Interruption) : Type 0 where
   pub earlier : List ℕ
@@ -130,7 +130,7 @@ pub record Took {U S : Type 0} (wants stands : U → S → Type 0) (byte : S →
   pub first : (state : S) → stands old state → WritesFirst byte state earlier written written'
   pub feeds : Feeds wants stands byte old (earlier ++ piece) new ready ready' written written' faults faults' result
 
--- The same behind a first read.
+-- The same after a first read.
 pub record TookBehind {U S : Type 0} (first : List ℕ) (wants stands : U → S → Type 0) (byte : S → ℕ → Outcome S) (old new : U) (ready ready' : List ℕ)
     (left left' written written' : Option (List ℕ)) (faults faults' : ℕ) (result : Result (Unit {0}) Interruption) : Type 0 where
   pub took : Took wants stands byte old new ready ready' left left' written written' faults faults' result
@@ -138,35 +138,35 @@ pub record TookBehind {U S : Type 0} (first : List ℕ) (wants stands : U → S 
 
 -- ---- the first fault
 
--- the count of failed writes where a command stopped: none failed but the one that stopped it, or the one that cut a last text short
+-- the count of failed writes when a command stopped: one if a write stopped it, at most one if the input ended it, else none
 abbrev pub StopWrites : ℕ → ℕ → Interruption → Type 0
 StopWrites writes writes' SinkFault = writes' ≡ raised writes
 StopWrites writes writes' (Halted (Ended why)) = (writes' ≡ writes) ⊎ (writes' ≡ raised writes)
 StopWrites writes writes' (Halted Starved) = writes' ≡ writes
 StopWrites writes writes' SourceFault = writes' ≡ writes
 
--- the count of failed reads where a command stopped: none failed but the one that stopped it
+-- the count of failed reads when a command stopped: one if a read stopped it, else none
 abbrev pub StopReads : ℕ → ℕ → Interruption → Type 0
 StopReads reads reads' SourceFault = reads' ≡ raised reads
 StopReads reads reads' SinkFault = reads' ≡ reads
 StopReads reads reads' (Halted why) = reads' ≡ reads
 
--- the count of failed writes, by what came of a command
+-- the count of failed writes, by the command's result
 abbrev pub CountsWrites : {T : Type 0} → ℕ → ℕ → Result T Interruption → Type 0
 CountsWrites writes writes' result = MatchResult result (λ _. writes' ≡ writes) (λ stop. StopWrites writes writes' stop)
 
--- the count of failed reads, by what came of a command
+-- the count of failed reads, by the command's result
 abbrev pub CountsReads : {T : Type 0} → ℕ → ℕ → Result T Interruption → Type 0
 CountsReads reads reads' result = MatchResult result (λ _. reads' ≡ reads) (λ stop. StopReads reads reads' stop)
 
--- The first call that fails ends a command, and the result says which object's it was.
+-- The first call that fails ends a command, and the result says whether it was a read or a write.
 pub record CauseOf (reads reads' writes writes' : ℕ) (result : Result (Unit {0}) Interruption) : Type 0 where
   pub reading : CountsReads reads reads' result
   pub writing : CountsWrites writes writes' result
 
 -- ---- the end of the input
 
--- What was written at the end of the input, by why the command stopped there.
+-- What was written at the end of the input, by the reason why the command stopped there.
 abbrev pub EndsBy : {U T : Type 0} → (U → T → Type 0) → Outcome T → U → Option (List ℕ) → Option (List ℕ) → ℕ → ℕ → Result (Unit {0}) Interruption → Type 0
 EndsBy {U} {T} stands due new written written' faults faults' (Ok _) = (later : T) × (due.result ≡ Ok later) × stands new later
     × Appends written written' due.text
@@ -178,8 +178,8 @@ EndsBy {U} {T} stands due new written written' faults faults' (Err (Halted Starv
 
 -- ---- the whole input
 
--- What is known of a command that took these bytes, by why it stopped: all that is due for them was written, and at the end of the input
--- also what is due then. Where it ended by what its input says, that stands in these bytes, or in their end.
+-- What is known of a command that took these bytes, by the reason why it stopped: all that is due for them was written and, at the end
+-- of the input, also what is due then. If the input ended the command, these bytes or their end did.
 abbrev pub DroveBy : {U S T : Type 0} → (U → T → Type 0) → (S → ℕ → Outcome S) → (S → Outcome T) → S → List ℕ → U → Option (List ℕ) → Option (List ℕ)
     → Option (List ℕ) → ℕ → ℕ → Result (Unit {0}) Interruption → Type 0
 DroveBy {U} {S} {T} stands byte ends state taken new left' written written' faults faults' (Ok _) =
@@ -194,7 +194,7 @@ DroveBy {U} {S} {T} stands byte ends state taken new left' written written' faul
 DroveBy {U} {S} {T} stands byte ends state taken new left' written written' faults faults'
     (Err (Halted Starved)) = WritesFor byte state taken [] written written'
 
--- Bytes were taken from the source, of which those before the last piece did the first, and all did the second.
+-- Bytes were taken from the source. `WritesFirst` is true of those before the last piece, and `DroveBy` of all.
 pub record Drove {U S T : Type 0} (stands : U → T → Type 0) (byte : S → ℕ → Outcome S) (ends : S → Outcome T) (state : S) (new : U)
     (left left' written written' : Option (List ℕ)) (faults faults' : ℕ) (result : Result (Unit {0}) Interruption) : Type 0 where
   pub earlier : List ℕ
@@ -205,13 +205,13 @@ pub record Drove {U S T : Type 0} (stands : U → T → Type 0) (byte : S → �
   pub first : WritesFirst byte state earlier written written'
   pub by_result : DroveBy stands byte ends state (earlier ++ piece) new left' written written' faults faults' result
 
--- The same behind a first read.
+-- The same after a first read.
 pub record DroveBehind {U S T : Type 0} (first : List ℕ) (stands : U → T → Type 0) (byte : S → ℕ → Outcome S) (ends : S → Outcome T) (state : S)
     (new : U) (left left' written written' : Option (List ℕ)) (faults faults' : ℕ) (result : Result (Unit {0}) Interruption) : Type 0 where
   pub drove : Drove stands byte ends state new left left' written written' faults faults' result
   pub begins : BeginsWith first (drove.earlier ++ drove.piece)
 
--- Where memory was wanting, all that is due for the bytes before that was written.
+-- If memory ran out, all that is due for the bytes before that was written.
 abbrev pub Starves : {U S : Type 0} → (U → S → Type 0) → (S → ℕ → Outcome S) → S → U → Option (List ℕ) → Option (List ℕ) → Option (List ℕ)
     → Option (List ℕ) → Result (Unit {0}) Interruption → Type 0
 Starves wants byte state new left left' written written' (Err (Halted Starved)) =

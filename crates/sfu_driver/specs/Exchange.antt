@@ -1,7 +1,7 @@
--- What a command takes from its source and gives to its sink, as far as both tell it. Own rule.
+-- What a command takes from its source and writes to its sink, as far as contracts know. Own rule.
 use Rattle.std.specs.Prelude.{ℕ, List, Option}
 
--- what is left of the source, what was written to the sink, and how often each failed, before a command and, with a stroke, behind it
+-- what is left of the source, what was written to the sink, and how often each failed; before a command and, with a prime, after it
 pub record Exchange : Type 0 where
   pub left : Option (List ℕ)
   pub left' : Option (List ℕ)
@@ -16,7 +16,7 @@ abbrev pub exchange_by : (left left' written written' : Option (List ℕ)) (read
 exchange_by left left' written written' reads reads' writes writes' =
     record { left = left; left' = left'; written = written; written' = written'; reads = reads; reads' = reads'; writes = writes; writes' = writes' }
 
--- the same of a source and a sink, by what they tell and count
+-- the exchange of a source and a sink, by their bytes and counts of faults
 abbrev pub exchange_of : {S K : Type 0} → (S → Option (List ℕ)) → (S → ℕ) → (K → Option (List ℕ)) → (K → ℕ) → S → S → K → K → Exchange
 exchange_of left reads written writes source source' sink sink' =
     exchange_by (left source) (left source') (written sink) (written sink') (reads source) (reads source') (writes sink) (writes sink')

@@ -1,5 +1,5 @@
--- A whole input as its lines, or as its units however it is cut. The code never has a whole input in its hands: it reads pieces of any size,
--- and puts units together from them.
+-- A whole input as its lines, or as its units for any way to cut. The code never has a whole input at once: it reads pieces of any size,
+-- and assembles units from them.
 use Rattle.std.specs.Prelude.{ℕ, ◌+◌, ◌==◌, ◌||◌, Bool, true, false, nat_lt, if◌then◌else◌, List, [], ◌∷◌, ◌++◌, length}
 use Rattle.sfu_driver.specs.Outcome.{Outcome, goes_on, then_due}
 use Rattle.sfu_driver.specs.Scan.{Scan, More, Whole, NoUnit}
@@ -13,17 +13,17 @@ pub record Line : Type 0 where
   pub bytes : List ℕ
   pub ended : Bool
 
--- the byte before the others of the first line
+-- the lines with this byte before the others of the first line
 abbrev pub onto_line : ℕ → List Line → List Line
 onto_line b [] = record { bytes = b ∷ []; ended = false } ∷ []
 onto_line b (line ∷ lines) = record { bytes = b ∷ line.bytes; ended = line.ended } ∷ lines
 
--- the lines of some bytes: each ends by an LF, which the last may lack
+-- the lines of some bytes: each ends with an LF, which the last may lack
 abbrev pub lines_of : List ℕ → List Line
 lines_of [] = []
 lines_of (b ∷ bytes) = if b == 10 then record { bytes = []; ended = true } ∷ lines_of bytes else onto_line b (lines_of bytes)
 
--- what a line says: the CR directly before its LF is dropped
+-- the text of a line: the CR directly before its LF is removed
 abbrev pub said : Line → Scan
 said line = short_line line.bytes (if line.ended then without_cr line.bytes else line.bytes)
 
@@ -36,32 +36,32 @@ abbrev pub judged_lines : List Line → List Line
 judged_lines [] = []
 judged_lines (line ∷ lines) = if is_judged line then line ∷ judged_lines lines else []
 
--- ---- units of any cut
+-- ---- units of any way to cut
 
--- A byte goes on with its unit, or ends it, and others follow. Nothing is said behind one that is outside the grammar.
+-- A byte continues its unit, or ends it, and others follow. There are no units after one that is outside the grammar.
 abbrev pub with_unit : Scan → List Scan → List Scan → List Scan
 with_unit More same next = same
 with_unit (Whole text) same next = Whole text ∷ next
 with_unit NoUnit same next = NoUnit ∷ []
 
--- what the end of the input makes of a unit: none, or the last
+-- the result of the end of the input for a unit: no unit, or the last one
 abbrev pub last_unit : Scan → List Scan
 last_unit More = []
 last_unit seen = seen ∷ []
 
--- the units of bytes behind those that were kept, of which the first has this number
+-- the units of bytes that follow the kept ones; the first unit has this number
 abbrev pub units_of : (ℕ → List ℕ → ℕ → Scan) → (ℕ → List ℕ → Scan) → ℕ → List ℕ → List ℕ → List Scan
 units_of scan scan_end number kept [] = last_unit (scan_end number kept)
 units_of scan scan_end number kept (b ∷ bytes) =
     with_unit (scan number kept b) (units_of scan scan_end number (kept ++ b ∷ []) bytes) (units_of scan scan_end (number + 1) [] bytes)
 
--- those that are judged before the end of the input is seen
+-- the units that are judged before the end of the input is seen
 abbrev pub judged_units : (ℕ → List ℕ → ℕ → Scan) → ℕ → List ℕ → List ℕ → List Scan
 judged_units scan number kept bytes = units_of scan (λ _ _. More) number kept bytes
 
 -- ---- what is due
 
--- what is due for units of which the first has this number
+-- what is due for units, the first of which has this number
 abbrev pub judged_all : {S : Type 0} → Rule S → List Scan → ℕ → S → Outcome S
 judged_all rule [] number state = goes_on state
 judged_all rule (unit ∷ units) number state = then_due (judged rule state number unit) (λ later. judged_all rule units (number + 1) later)

@@ -1,4 +1,4 @@
--- Where lines end, and what they say.
+-- Where lines end, and their texts.
 use Rattle.std.specs.Prelude.{ℕ, ◌-◌, ◌==◌, ◌&&◌, not, Bool, true, false, nat_le, if◌then◌else◌, List, [], ◌∷◌, length, take}
 use Rattle.sfu_driver.specs.Scan.{Scan, More, Whole, NoUnit}
 
@@ -16,7 +16,7 @@ without_cr line = if ends_in_cr line then take (length line - 1) line else line
 abbrev pub short_line : List ℕ → List ℕ → Scan
 short_line line text = if nat_le (length line) 4200 then Whole text else NoUnit
 
--- what a byte makes of a line: an LF ends it, and a CR directly before it isn't said
+-- the result of a byte for a line: an LF ends it, without the CR directly before the LF
 abbrev pub line_scan : ℕ → List ℕ → ℕ → Scan
 line_scan number line b = if b == 10 then short_line line (without_cr line) else if nat_le 4200 (length line) then NoUnit else More
 

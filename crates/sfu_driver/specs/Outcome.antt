@@ -1,22 +1,22 @@
--- What is due: a text, and then a state in which the command goes on, or why it ends. Own rule.
+-- What is due: a text, and then a state in which the command continues, or why it ends. Own rule.
 use Rattle.std.specs.Prelude.{ℕ, List, [], ◌∷◌, ◌++◌, Result, Ok, Err}
 use Rattle.sfu_driver.specs.declared.halt.Ending.{Ending}
 
--- why a command ends by what its input says, and the text that says so
+-- why the input ends a command, and the text that says so
 pub record End : Type 0 where
   pub why : Ending
   pub text : List ℕ
 
--- a text, and then a state in which the command goes on, or why it ends
+-- a text, and then a state in which the command continues, or why it ends
 pub record Outcome (S : Type 0) : Type 0 where
   pub text : List ℕ
   pub result : Result S End
 
--- this text is due, and the command goes on
+-- this text is due, and the command continues
 abbrev pub writes : {S : Type 0} → List ℕ → S → Outcome S
 writes text state = record { text = text; result = Ok state }
 
--- nothing is due, and the command goes on
+-- nothing is due, and the command continues
 abbrev pub goes_on : {S : Type 0} → S → Outcome S
 goes_on state = writes [] state
 
@@ -28,12 +28,12 @@ ends_with why text = record { text = []; result = Err (record { why = why; text 
 abbrev pub before : {S : Type 0} → List ℕ → Outcome S → Outcome S
 before text due = record { text = text ++ due.text; result = due.result }
 
--- what is due after this text, if the command goes on
+-- what is due after this text, if the command continues
 abbrev pub after : {S T : Type 0} → List ℕ → Result S End → (S → Outcome T) → Outcome T
 after text (Ok state) next = before text (next state)
 after text (Err end) next = record { text = text; result = Err end }
 
--- what is due at first, and then what is due in the state that it leaves
+-- what is due first, and then what is due in the next state
 abbrev pub then_due : {S T : Type 0} → Outcome S → (S → Outcome T) → Outcome T
 then_due first next = after first.text first.result next
 

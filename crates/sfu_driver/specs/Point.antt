@@ -1,16 +1,16 @@
--- How far a command has come in its input, and what a byte and the end of the input make of that. Own rule.
+-- A command's position in its input, and how a byte and the end of the input change it. Own rule.
 use Rattle.std.specs.Prelude.{ℕ, ◌+◌, nat_le, if◌then◌else◌, List, [], ◌∷◌, ◌++◌}
 use Rattle.sfu_driver.specs.declared.halt.Ending.TheVariants as ending
 use Rattle.sfu_driver.specs.Outcome.{Outcome, ends_with, goes_on, takes, then_due, writes}
 use Rattle.sfu_driver.specs.Scan.{Scan, More, Whole, NoUnit}
 
--- a state, the number of the unit that is being put together, and its bytes so far
+-- a state, the number of the unit being assembled, and its bytes so far
 pub record Point (S : Type 0) : Type 0 where
   pub state : S
   pub number : ℕ
   pub kept : List ℕ
 
--- What a command makes of units: where they end, what each is due, what is due where one is outside the grammar, and what at the end.
+-- How a command treats units: where they end, and what is due for a unit, for one outside the grammar and at the end of the input.
 pub record Rule (S : Type 0) : Type 0 where
   pub scan : ℕ → List ℕ → ℕ → Scan
   pub scan_end : ℕ → List ℕ → Scan
@@ -28,11 +28,11 @@ judged rule state number More = goes_on state
 judged rule state number (Whole text) = if nat_le number 4294967295 then rule.step state number text else is_outside (rule.outside number)
 judged rule state number NoUnit = is_outside (rule.outside number)
 
--- the point behind a unit that has ended
+-- the point after a unit that has ended
 abbrev pub behind : {S : Type 0} → ℕ → S → Point S
 behind number state = record { state = state; number = number + 1; kept = [] }
 
--- where the next unit begins, if this one has ended
+-- the next unit begins, if this one has ended
 abbrev pub moved : {S : Type 0} → Point S → ℕ → Scan → S → Point S
 moved point b More state = record { state = state; number = point.number; kept = point.kept ++ b ∷ [] }
 moved point b other state = behind point.number state
@@ -51,10 +51,10 @@ byte rule point b =
 abbrev pub closed : {S : Type 0} → Rule S → S → Outcome S
 closed rule state = writes (rule.closing state) state
 
--- what is due at the end of the input, where it may be the end of a unit too
+-- what is due at the end of the input, which may also be the end of a unit
 abbrev pub ends : {S : Type 0} → Rule S → Point S → Outcome S
 ends rule point = then_due (judged rule point.state point.number (rule.scan_end point.number point.kept)) (λ later. closed rule later)
 
--- what is due for all bytes that are still to come
+-- what is due for all remaining bytes
 abbrev pub due : {S : Type 0} → Rule S → Point S → List ℕ → Outcome S
 due rule point bytes = then_due (takes (byte rule) point bytes) (λ later. ends rule later)

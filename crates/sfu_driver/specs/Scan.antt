@@ -5,18 +5,18 @@ use Rattle.sfu_driver.specs.declared.cut.Found.TheVariants as found
 use Rattle.sfu_driver.specs.declared.cut.Last.{Last}
 use Rattle.sfu_driver.specs.declared.cut.Last.TheVariants as last
 
--- what the newest byte makes of a unit: it goes on, or it has ended and says this, or it is outside the grammar
+-- what the newest byte makes of a unit: it continues, it has ended with this text, or it is outside the grammar
 pub data Scan : Type 0 where
   More : Scan
   Whole : (text : List ℕ) → Scan
   NoUnit : Scan
 
--- The bytes go on with the unit, and none of them ends it.
+-- The unit continues with these bytes, and none of them ends it.
 abbrev pub AllMore : (List ℕ → ℕ → Scan) → List ℕ → List ℕ → Type 0
 AllMore scan kept [] = Unit {0}
 AllMore scan kept (b ∷ bytes) = (scan kept b ≡ More) × AllMore scan (kept ++ b ∷ []) bytes
 
--- So many bytes of the piece go on with the unit, and the last of them makes this of it.
+-- The unit continues with this many bytes of the piece, and this is the result of the last of them.
 pub record EndsAt (scan : List ℕ → ℕ → Scan) (kept piece : List ℕ) (count : ℕ) (seen : Scan) : Type 0 where
   pub front : List ℕ
   pub byte : ℕ
@@ -29,7 +29,7 @@ pub record EndsAt (scan : List ℕ → ℕ → Scan) (kept piece : List ℕ) (co
 abbrev pub between : ℕ → ℕ → List ℕ → List ℕ
 between start end bytes = take (end - start) (drop start bytes)
 
--- What was found of a unit in a piece. A unit has at most 4,201 bytes, its end counted.
+-- What was found of a unit in a piece. A unit has at most 4,201 bytes, including its end.
 abbrev pub Finds : (List ℕ → ℕ → Scan) → List ℕ → List ℕ → Found → Type 0
 Finds scan kept piece found.More = AllMore scan kept piece × (length kept + length piece ≤ 4200)
 Finds scan kept piece (found.Whole count start end) =
@@ -37,7 +37,7 @@ Finds scan kept piece (found.Whole count start end) =
     × (end ≤ length kept + count)
 Finds scan kept piece (found.Outside count) = EndsAt scan kept piece count NoUnit
 
--- What the bytes of a unit make of it at the end of the input.
+-- The result of the end of the input for a unit with these bytes.
 abbrev pub FindsLast : Scan → List ℕ → Last → Type 0
 FindsLast seen kept last.Nothing = seen ≡ More
 FindsLast seen kept (last.Whole start) = (seen ≡ Whole (drop start kept)) × (start ≤ length kept)

@@ -1,6 +1,6 @@
--- What each status says, for every command that reads its input unit by unit. `whole` is what is due for all bytes of the source, its end
--- included, and `part` what is due for bytes whose end hasn't been seen. A source that tells nothing of its bytes has some too: the clause
--- `every` speaks of it. Where a sink tells nothing of its bytes, nothing is said of what was written.
+-- What each status means, for every command that reads its input unit by unit. `whole` is what is due for all bytes of the source and its
+-- end, and `part` what is due for bytes whose end hasn't been seen. A source whose bytes contracts don't know has bytes too: the clause
+-- `every` is about them. If contracts don't know a sink's bytes, nothing is known of what was written.
 use Rattle.std.specs.Prelude.{◌≡◌, ◌⊎◌, ℕ, ◌<◌, ◌≤◌, List, [], ◌++◌, length, Option, Some, None, IfSome, Result, Ok, Err}
 use Rattle.std.specs.Io.KnownBytes.{Appends, Consumes, IsAtEnd}
 use Rattle.sfu_base.specs.Faults.{Rose, raised}
@@ -15,7 +15,7 @@ use Rattle.sfu_driver.specs.Outcome.{End, Outcome}
 use Rattle.sfu_driver.specs.Drive.{WritesEnd, WritesFront, WritesPart, end_by}
 use Rattle.sfu_driver.specs.Reads.{BeginsWith, most_bytes}
 
--- a text, and why the input ends the command behind it, with its last text, if it does
+-- a text and, if the input ends the command after it, why it does, with its last text
 pub record Due : Type 0 where
   pub text : List ℕ
   pub end : Option End
@@ -41,7 +41,7 @@ last_text (Some end) = end.text
 abbrev pub full_text : Due → List ℕ
 full_text due = due.text ++ last_text due.end
 
--- the status that says why the input ends the command
+-- the status for the reason why the input ends the command
 abbrev pub status_of : Ending → ℕ
 status_of ending.Outside = 5
 status_of ending.Complaint = 8
@@ -55,7 +55,7 @@ status_for (Err SinkFault) = 4
 status_for (Err (Halted Starved)) = 6
 status_for (Err (Halted (Ended why))) = status_of why
 
--- the number that the program answers
+-- the program's exit status
 abbrev pub number_of : Status → ℕ
 number_of status.Done = 0
 number_of status.NoCommand = 2
@@ -65,35 +65,35 @@ number_of status.NoMemory = 6
 number_of status.PortFault = 7
 number_of (status.Ended why) = status_of why
 
--- Where nothing of the outside fails, the status is the one of the input, or out of memory.
+-- If nothing outside fails, the status is the one of the input, or out of memory.
 abbrev pub Completes : Option End → ℕ → Type 0
 Completes None status = (status ≡ 0) ⊎ (status ≡ 6)
 Completes (Some end) status = (status ≡ status_of end.why) ⊎ (status ≡ 6)
 
--- no write failed but the one that cut a last text short
+-- no write failed, except one that cut a last text short
 abbrev pub KeptOrCut : ℕ → ℕ → Type 0
 KeptOrCut writes writes' = (writes' ≡ writes) ⊎ (writes' ≡ raised writes)
 
--- The first read or write that fails ends a command.
+-- The first failing read or write ends a command.
 pub record FirstFault (reads reads' writes writes' status : ℕ) : Type 0 where
   -- 0 and 6: none failed
   pub none : (status ≡ 0) ⊎ (status ≡ 6) → (reads' ≡ reads) × (writes' ≡ writes)
-  -- 3: one read alone
+  -- 3: exactly one read failed
   pub source : status ≡ 3 → (reads' ≡ raised reads) × (writes' ≡ writes)
-  -- 4: one write alone
+  -- 4: exactly one write failed
   pub sink : status ≡ 4 → (reads' ≡ reads) × (writes' ≡ raised writes)
-  -- 2, 5, 8 and 10: no read, and no write but the one that cut the last text short
+  -- 2, 5, 8 and 10: no read failed, and no write except one that cut the last text short
   pub ended : (why : Ending) → status ≡ status_of why → (reads' ≡ reads) × KeptOrCut writes writes'
   pub refused : status ≡ 2 → (reads' ≡ reads) × KeptOrCut writes writes'
-  -- 7: none failed, but a port did
+  -- 7: no read or write failed, but a port did
   pub ports : status ≡ 7 → (reads' ≡ reads) × (writes' ≡ writes)
 
--- The bytes that were taken end the command, or the end of the input does.
+-- The bytes taken end the command, or the end of the input does.
 abbrev pub Decides : (List ℕ → Due) → Ending → Option (List ℕ) → List ℕ → Type 0
 Decides part why left' taken = ((last : List ℕ) × ((part taken).end ≡ Some (end_by why last))) ⊎ IsAtEnd left'
 
--- No more is read than is judged: the bytes before the last piece, which has at most 65,536, don't end the command, and where there are
--- some, all that is due for them was written.
+-- No more is read than is judged: the bytes before the last piece, which has at most 65,536, don't end the command. If there are
+-- any, all that is due for them was written.
 pub record IsPrompt (part : List ℕ → Due) (left left' written written' : Option (List ℕ)) : Type 0 where
   pub earlier : List ℕ
   pub piece : List ℕ
@@ -102,33 +102,33 @@ pub record IsPrompt (part : List ℕ → Due) (left left' written written' : Opt
   pub goes : (part earlier).end ≡ None
   pub wrote : 0 < length earlier → (more : List ℕ) × Appends written written' ((part earlier).text ++ more)
 
--- What a status says of the bytes that were taken.
+-- What a status says about the bytes that were taken.
 pub record SaysOf (whole part : List ℕ → Due) (taken : List ℕ) (left' written written' : Option (List ℕ)) (writes writes' status : ℕ) : Type 0 where
   -- 0: the source is at its end, and all that is due was written
   pub done : status ≡ 0 → IsAtEnd left' × ((whole taken).end ≡ None) × Appends written written' (whole taken).text
   -- 3: they don't end the command, and what is due for them was written
   pub judged : status ≡ 3 → ((part taken).end ≡ None) × Appends written written' (part taken).text
-  -- 4: a part of what is due for them was written, and not all of it; at the source's end, of what is due there too
+  -- 4: a part of what is due for them was written, and not all of it; at the source's end, with what is due there
   pub unwritten : status ≡ 4 → WritesPart written written' (part taken).text ⊎ (IsAtEnd left' × WritesPart written written' (whole taken).text)
   -- 5, 8 and 10: they end the command, or their end does; all that is due before was written, and then the last text, or a front of it where the sink failed
   pub ended : (why : Ending) → status ≡ status_of why → Decides part why left' taken × (last : List ℕ) × ((whole taken).end ≡ Some (end_by why last))
       × WritesEnd written written' writes writes' (whole taken).text last
-  -- 6: what is due for a front of them was written, which doesn't end the command
+  -- 6: what is due for a prefix of them was written, which doesn't end the command
   pub memory : status ≡ 6 → (front : List ℕ) × (more : List ℕ) × (taken ≡ front ++ more) × ((part front).end ≡ None)
       × Appends written written' (part front).text
-  -- whatever the status, a front of what is due was written
+  -- for every status, a prefix of what is due was written
   pub begun : WritesFront written written' (full_text (whole taken))
 
--- What is said of every source. Units are bounded in length and number: so are the bytes before the last piece.
+-- What is true of every source. Units are bounded in length and number: so are the bytes before the last piece.
 pub record OfEvery (whole part : List ℕ → Due) (left left' written written' : Option (List ℕ)) (reads reads' writes writes' status : ℕ) : Type 0 where
   pub prompt : IsPrompt part left left' written written'
   pub bounded : length prompt.earlier < most_bytes
   pub says : SaysOf whole part (prompt.earlier ++ prompt.piece) left' written written' writes writes' status
-  -- where nothing outside fails, the status is the one of the bytes that were taken, or 6
+  -- if nothing outside fails, the status is the one of the bytes that were taken, or 6
   pub complete : ¬ (Rose reads reads') → ¬ (Rose writes writes') → Completes (whole (prompt.earlier ++ prompt.piece)).end status
   pub first_fault : FirstFault reads reads' writes writes' status
 
--- What a status says. The first that is met ends the command.
+-- What a status means. The first failure or end that occurs ends the command.
 pub record Statuses (whole part : List ℕ → Due) (left left' written written' : Option (List ℕ)) (reads reads' writes writes' status : ℕ) : Type 0 where
   -- 0: the source was read to its end, and all that is due was written
   pub done : status ≡ 0 → IfSome left (λ bytes. IsAtEnd left' × ((whole bytes).end ≡ None) × Appends written written' (whole bytes).text)
@@ -139,25 +139,25 @@ pub record Statuses (whole part : List ℕ → Due) (left left' written written'
   -- 4: the sink failed; what was written is a part of what is due before the last text of an ending, and not all of it
   pub sink : status ≡ 4 → Rose writes writes'
   pub unwritten : status ≡ 4 → IfSome left (λ bytes. WritesPart written written' (whole bytes).text)
-  -- 5, 8 and 10: the input ended the command; all that is due before was written, and then the last text, or a front of it where the sink failed
+  -- 5, 8 and 10: the input ended the command; all that is due before was written, and then the last text, or a prefix of it if the sink failed
   pub ended : (why : Ending) → status ≡ status_of why → IfSome left (λ bytes. (last : List ℕ) × ((whole bytes).end ≡ Some (end_by why last))
       × WritesEnd written written' writes writes' (whole bytes).text last)
-  -- and that stands in the bytes that were taken, whatever follows them, or in the input's end
+  -- the reason is in the bytes that were taken, whatever follows them, or in the input's end
   pub decided : (why : Ending) → status ≡ status_of why → IfSome left (λ bytes. (taken : List ℕ) × Consumes left left' taken × Decides part why left' taken)
-  -- 6: memory was wanting; what is due for a front of the bytes that were taken was written, and they don't end the command
+  -- 6: memory ran out; what is due for a prefix of the bytes that were taken was written, and they don't end the command
   pub memory : status ≡ 6 → IfSome left (λ bytes. (front : List ℕ) × (more : List ℕ) × Consumes left left' (front ++ more) × ((part front).end ≡ None)
       × Appends written written' (part front).text)
-  -- whatever the status, no more was read than was judged, and a front of what is due was written
+  -- for every status, no more was read than was judged, and a prefix of what is due was written
   pub prompt : IfSome left (λ bytes. IsPrompt part left left' written written')
   pub begun : IfSome left (λ bytes. WritesFront written written' (full_text (whole bytes)))
-  -- no other status comes but those of inputs that end the command
+  -- the only other statuses are those of inputs that end the command
   pub only : (status ≡ 0) ⊎ (status ≡ 3) ⊎ (status ≡ 4) ⊎ (status ≡ 6)
       ⊎ ((bytes : List ℕ) × (end : End) × ((whole bytes).end ≡ Some end) × (status ≡ status_of end.why))
   pub complete : ¬ (Rose reads reads') → ¬ (Rose writes writes') → IfSome left (λ bytes. Completes (whole bytes).end status)
-  -- of every source, also of one that tells nothing
+  -- for every source, including one whose bytes contracts don't know
   pub every : OfEvery whole part left left' written written' reads reads' writes writes' status
 
--- The same behind a first read, with which the bytes begin that were taken.
+-- The same after a first read, whose bytes are the first ones taken.
 pub record StatusesBehind (first : List ℕ) (whole part : List ℕ → Due) (left left' written written' : Option (List ℕ))
     (reads reads' writes writes' status : ℕ) : Type 0 where
   pub statuses : Statuses whole part left left' written written' reads reads' writes writes' status

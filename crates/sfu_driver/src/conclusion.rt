@@ -26,8 +26,8 @@ pub fn answer<C: Cut, J: Judge, S: Source, K: Sink>(
     Status::of(drive(alloc, units, source, sink))
 }
 
-/// Takes a command's input, of which the first `first` bytes of `piece` were already read, writes what is due, and returns the status.
-/// `first` is 0 only where the input has ended.
+/// Takes a command's input, writes what is due, and returns the status. The first `first` bytes of the input were read before and
+/// are at the start of `piece`; `first` is 0 only if the input has ended.
 pub fn answer_behind<C: Cut, J: Judge, S: Source, K: Sink>(
     alloc: Global,
     units: &mut Units<C, J>,

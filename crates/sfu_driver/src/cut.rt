@@ -1,52 +1,52 @@
-// Where units of the input end.
+// Cutting the input into units.
 ghost use Rattle.std.specs.Prelude.{◌≤◌, ℕ, List, length};
 ghost use Rattle.sfu_driver.specs.Scan.{Finds, FindsLast, Scan};
 
-/// The most bytes that a unit has, without the byte that ends it.
+/// The most bytes that a unit may have, without the byte that ends it.
 pub const MOST_UNIT: usize = 4200;
 
-/// What a piece of the input does to a unit.
+/// The result of looking for the end of a unit in a piece of the input.
 #[derive(Clone, Copy, Debug, PartialEq, Eq)]
 pub enum Found {
     /// The unit continues after the piece.
     More,
-    /// It ends with the first `count` bytes of the piece, and says its bytes from `start` to `end`.
+    /// The unit ends with the first `count` bytes of the piece. Its text is bytes `start` to `end`.
     Whole {
         count: usize,
         start: usize,
         end: usize,
     },
-    /// With the first `count` bytes of the piece it is outside the grammar.
+    /// The first `count` bytes of the piece put the unit outside the grammar.
     Outside {
         count: usize,
     },
 }
 
-/// What the end of the input does to a unit.
+/// The result of ending the input within a unit.
 #[derive(Clone, Copy, Debug, PartialEq, Eq)]
 pub enum Last {
-    /// There is no unit.
+    /// No unit was begun.
     Nothing,
-    /// It says its bytes from this place on.
+    /// The unit's text is its bytes from `start` on.
     Whole { start: usize },
-    /// It is outside the grammar.
+    /// The unit is outside the grammar.
     Outside,
 }
 
 /// A way to cut input into units.
 pub trait Cut {
-    /// What a byte makes of the unit with this number, of which these bytes came before.
+    /// The result of a byte for the unit with this number, after these earlier bytes of the unit.
     ghost scan: { ℕ → List ℕ → ℕ → Scan };
 
-    /// What the end of the input makes of the unit with this number, of which these bytes came before.
+    /// The result of the end of the input for the unit with this number, after these bytes of it.
     ghost scan_end: { ℕ → List ℕ → Scan };
 
-    /// Finds in a piece the end of the unit with this number, of which the bytes `kept` came before.
+    /// Looks in a piece for the end of the unit with this number, whose earlier bytes are `kept`.
     fn find(&self, number: u64, kept: &[u8], piece: &[u8]) -> Found
         requires { length kept.now ≤ MOST_UNIT }
         ensures { Finds (scan number) kept.now piece.now result };
 
-    /// Finds what the end of the input makes of the unit with this number, of which the bytes `kept` came before.
+    /// Returns the result of the end of the input for the unit with this number, whose bytes are `kept`.
     fn find_last(&self, number: u64, kept: &[u8]) -> Last
         ensures { FindsLast (scan_end number kept.now) kept.now result };
 }

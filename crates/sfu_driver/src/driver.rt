@@ -1,4 +1,4 @@
-// Drives input from the source through the units to the sink.
+// Passes input from the source through the units, and writes the texts to the sink.
 ghost use Rattle.std.specs.Prelude.{◌≡◌, ◌≢◌, ◌≤◌, ◌<◌, ◌+◌, ℕ, List, Option, [], Ok, Err, OnOk, OnErr, IfOk, take, drop, length};
 ghost use Rattle.std.specs.Io.KnownBytes.{Appends, Consumes, IsAtEnd};
 ghost use Rattle.sfu_base.specs.Faults.{Rose};
@@ -11,13 +11,13 @@ use crate::{Cut, Halt, Interruption, Judge, Units};
 use sfu_base::{Blob, Sink, Source};
 use std::alloc::Global;
 
-/// The most bytes of a source that are read at once.
+/// The most bytes that are read from a source at once.
 pub const MOST_PIECE: usize = 65_536;
 
-/// Once the texts have this many bytes they are written, even in the middle of a piece of the input.
+/// Texts are written once they have this many bytes, even in the middle of a piece of the input.
 const MOST_READY: usize = 65_536;
 
-// Writes all that is ready.
+// Writes all texts that are ready, and empties `ready`.
 fn flush<K: Sink>(ready: &mut Blob, sink: &mut K) -> Result<(), Interruption>
     ensures ok { OnOk result (Appends (K.written sink.old) (K.written sink.new) ready.old) }
     ensures empty { OnOk result (ready.new ≡ []) }
@@ -36,7 +36,7 @@ fn flush<K: Sink>(ready: &mut Blob, sink: &mut K) -> Result<(), Interruption>
     }
 }
 
-// Writes what was ready before the command ended, and then its last text. A fault of the sink in the last text doesn't change the result.
+// Writes the texts from before the command ended, and then its last text. If the sink fails in the last text, the result is the same.
 fn halt<K: Sink>(ready: &Blob, mark: usize, why: Halt, sink: &mut K) -> Interruption
     requires { mark ≤ length ready.now }
     ensures halts { Halts result why (take mark ready.now) (drop mark ready.now) (K.written sink.old) (K.written sink.new) (K.faults sink.old)
@@ -53,7 +53,7 @@ fn halt<K: Sink>(ready: &Blob, mark: usize, why: Halt, sink: &mut K) -> Interrup
     Interruption::Halted(why)
 }
 
-// Judges at most one unit at the start of a piece, and returns how many bytes were taken.
+// Judges at most one unit at the start of a piece, and returns the number of bytes taken.
 #[inline(always)]
 fn take_unit<C: Cut, J: Judge, K: Sink>(
     units: &mut Units<C, J>,
@@ -112,7 +112,7 @@ fn feed<C: Cut, J: Judge, K: Sink>(
     flush(ready, sink)
 }
 
-// Takes the first `first` bytes of a piece that was read, and then all bytes of the source, piece by piece.
+// Takes the first `first` bytes of `piece`, read before, and then all of the source, piece by piece.
 fn take_all<C: Cut, J: Judge, S: Source, K: Sink>(
     units: &mut Units<C, J>,
     ready: &mut Blob,
@@ -144,7 +144,7 @@ fn take_all<C: Cut, J: Judge, S: Source, K: Sink>(
     Ok(())
 }
 
-// Takes the end of the input, and writes the texts that are due.
+// Handles the end of the input, and writes the texts that are due.
 fn finish<C: Cut, J: Judge, K: Sink>(
     units: &mut Units<C, J>,
     ready: &mut Blob,
@@ -164,8 +164,8 @@ fn finish<C: Cut, J: Judge, K: Sink>(
     }
 }
 
-/// Takes a command's input, of which the first `first` bytes of `piece` were already read, and writes what is due. `first` is 0 only where
-/// the input has ended.
+/// Takes a command's input, and writes what is due. The first `first` bytes of the input were read before and are at the start of `piece`;
+/// `first` is 0 only if the input has ended.
 pub fn drive_behind<C: Cut, J: Judge, S: Source, K: Sink>(
     alloc: Global,
     units: &mut Units<C, J>,

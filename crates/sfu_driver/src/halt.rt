@@ -4,21 +4,21 @@ ghost use Rattle.sfu_driver.specs.declared.halt.Halt.TheVariants.{Starved};
 
 use sfu_base::NoMemory;
 
-/// Why the input ends a command.
+/// How the input can end a command.
 #[derive(Clone, Copy, Debug, PartialEq, Eq)]
 pub enum Ending {
     /// A unit is outside the grammar.
     Outside,
     /// The strict receiver complains.
     Complaint,
-    /// A packet ends a frame one of whose elements isn't an OBU.
+    /// A packet completes a frame that has an element that isn't an OBU.
     Obu,
 }
 
 /// Why a unit ends a command.
 #[derive(Clone, Copy, Debug, PartialEq, Eq)]
 pub enum Halt {
-    /// What the input says ends the command.
+    /// The input ends the command.
     Ended(Ending),
     /// Out of memory.
     Starved,
@@ -32,12 +32,12 @@ impl From<NoMemory> for Halt {
     }
 }
 
-/// Why a command ends before it has done all that its input says.
+/// Why a command ends before it has handled all of its input.
 #[derive(Clone, Copy, Debug, PartialEq, Eq)]
 pub enum Interruption {
     /// The source failed.
     SourceFault,
-    /// The sink failed in a text other than the last one of a `Halted` command.
+    /// The sink failed; but a failure in the last text of a `Halted` command doesn't count.
     SinkFault,
     /// A unit, or the end of the input, ended the command.
     Halted(Halt),

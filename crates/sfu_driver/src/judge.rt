@@ -1,4 +1,4 @@
-// What a command makes of the units of its input.
+// What a command writes for the units of its input.
 ghost use Rattle.std.specs.Prelude.{◌≡◌, ◌≤◌, ◌++◌, length, ℕ, List, OnOk, OnErr};
 ghost use Rattle.sfu_driver.specs.Outcome.{Outcome};
 ghost use Rattle.sfu_driver.specs.Drive.{Judges};
@@ -6,35 +6,35 @@ ghost use Rattle.sfu_driver.specs.Drive.{Judges};
 use crate::Halt;
 use sfu_base::{Blob, NoMemory};
 
-/// Judges units one after another, each with its number. Each text is appended to those that are ready; nothing is written here.
+/// Judges units one after another, each with its number. Each text is appended to `ready`; the judge itself writes nothing out.
 pub trait Judge {
-    /// What the judge can stand for.
+    /// The states of the judge, as contracts see them.
     ghost State: { Type 0 };
 
-    /// The judge stands for this state.
+    /// Whether the judge is in this state.
     ghost stands: { Self → Self.State → Type 0 };
 
-    /// What is due for the unit with this number.
+    /// What is due for the unit with this number: a text, and then the next state or why it ends.
     ghost step: { Self.State → ℕ → List ℕ → Outcome Self.State };
 
-    /// The last text if the unit with this number is outside the grammar of units.
+    /// The last text, if the unit with this number is outside the grammar of units.
     ghost outside: { ℕ → List ℕ };
 
     /// The text that is due at the end of the input.
     ghost closing: { Self.State → List ℕ };
 
-    /// Judges the unit with this number. Where the unit ends the command, only the last text is made ready; where memory runs out, none is.
+    /// Judges the unit with this number. If the unit ends the command, only the last text is appended; if memory runs out, none is.
     fn judge(&mut self, number: u32, unit: &[u8], ready: &mut Blob) -> Result<(), Halt>
         ensures judges { (state : Self.State) → Self.stands self.old state
             → Judges Self.stands (Self.step state number unit.now) self.new ready.old ready.new result }
         ensures grows { length ready.old ≤ length ready.new };
 
-    /// Makes the last text ready, since the unit with this number is outside the grammar of units.
+    /// Appends the last text, because the unit with this number is outside the grammar of units.
     fn refuse(&self, number: u64, ready: &mut Blob) -> Result<(), NoMemory>
         ensures ok { OnOk result (ready.new ≡ ready.old ++ Self.outside number) }
         ensures err { OnErr result (ready.new ≡ ready.old) };
 
-    /// Makes ready the text that is due at the end of the input.
+    /// Appends the text that is due at the end of the input.
     fn close(&mut self, ready: &mut Blob) -> Result<(), NoMemory>
         ensures ok { OnOk result ((state : Self.State) → Self.stands self.old state → Self.stands self.new state
             × (ready.new ≡ ready.old ++ Self.closing state)) }

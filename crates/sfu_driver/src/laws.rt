@@ -1,4 +1,4 @@
-// Laws of input as a whole, each the contract of a function that does nothing.
+// Theorems about whole inputs. Each is the contract of a function that does nothing.
 ghost use Rattle.std.specs.Prelude.{◌≡◌, ℕ, List, [], map};
 ghost use Rattle.sfu_driver.specs.Outcome.{takes};
 ghost use Rattle.sfu_driver.specs.Lines.{line_scan, line_scan_end};
@@ -9,8 +9,8 @@ ghost use Rattle.sfu_driver.specs.Statuses.{due_of};
 
 use crate::{Cut, Judge};
 
-/// What is due for all bytes of an input, one after another, is what is due for its lines. What is due for bytes after which more may come
-/// is what is due for the lines that are judged by then.
+/// What is due for the bytes of a whole input is what is due for its lines. What is due for bytes after which more may come is what
+/// is due for the lines that are judged by then.
 pub fn bytes_make_lines<J: Judge>()
     ensures whole { (state : J.State) (number : ℕ) (bytes : List ℕ)
         → due (rule_of line_scan line_scan_end J.step J.outside J.closing) (record { state = state; number = number; kept = [] }) bytes
@@ -20,7 +20,7 @@ pub fn bytes_make_lines<J: Judge>()
         ≡ due_of (judged_all (rule_of line_scan line_scan_end J.step J.outside J.closing) (map said (judged_lines (lines_of bytes))) number state) }
 {}
 
-/// The same for units that are cut in any way.
+/// The same as `bytes_make_lines`, for units that are cut in any way.
 pub fn bytes_make_units<C: Cut, J: Judge>()
     ensures whole { (state : J.State) (number : ℕ) (bytes : List ℕ)
         → due (rule_of C.scan C.scan_end J.step J.outside J.closing) (record { state = state; number = number; kept = [] }) bytes

@@ -1,4 +1,4 @@
-//! One way through the input of every command that reads: it is cut into units, each unit is judged, and the texts that are due are written.
+//! The input loop of all commands: the input is cut into units, each unit is judged, and the texts that are due are written.
 #![tactic(auto)]
 
 mod conclusion;

@@ -1,4 +1,4 @@
-// Input that is cut into lines.
+// Cutting input into lines.
 ghost use Rattle.std.specs.Prelude.{◌≡◌, ◌++◌, ◌+◌, ◌-◌, ◌≤◌, ◌<◌, Some, IsTrue, ℕ, length, take};
 ghost use Rattle.memchr.specs.Find.{IsFirstByte, is_byte};
 ghost use Rattle.sfu_driver.specs.Lines.{ends_in_cr, is_unended, line_scan, line_scan_end, without_cr};
@@ -7,8 +7,8 @@ ghost use Rattle.sfu_driver.specs.Scan.{Finds};
 use crate::{Cut, Found, Last, MOST_UNIT};
 use memchr::memchr;
 
-/// Cuts input into lines, each of which ends with an LF; the last line may lack it. A CR directly before an LF is left out. A line has at
-/// most 4,200 bytes before its LF, a CR included.
+/// Cuts input into lines. Each ends with an LF, which the last line may lack. A CR directly before an LF isn't part of the text. A
+/// line has at most 4,200 bytes before its LF, a CR included.
 #[derive(Clone, Copy, Debug, Drop)]
 pub struct Lines;
 
@@ -34,7 +34,7 @@ fn joined_cr(kept: &[u8], came: &[u8]) -> bool
     has_cr(came)
 }
 
-// How many bytes a line has before its LF, or before the CR directly before the LF.
+// The length of a line's text in bytes: up to its LF, or up to the CR directly before the LF.
 #[inline(always)]
 fn text_len(kept: &[u8], came: &[u8]) -> usize
     requires { length kept.now + length came.now ≤ MOST_UNIT }
@@ -48,7 +48,7 @@ fn text_len(kept: &[u8], came: &[u8]) -> usize
     all
 }
 
-// A line that is too long.
+// The result for a line that is too long.
 fn too_long(kept: &[u8], piece: &[u8]) -> Found
     requires kept { length kept.now ≤ MOST_UNIT }
     requires long { MOST_UNIT < length kept.now + length piece.now }
@@ -60,7 +60,7 @@ fn too_long(kept: &[u8], piece: &[u8]) -> Found
     }
 }
 
-// A line that ends at this place.
+// The result for a line whose LF is at place `at` of the piece.
 #[inline(always)]
 fn end_line(kept: &[u8], piece: &[u8], at: usize) -> Found
     requires first { IsFirstByte (is_byte 10) piece.now (Some at) }

@@ -4,28 +4,28 @@ ghost use Rattle.sfu_driver.specs.Statuses.{number_of, status_for};
 
 use crate::{Ending, Halt, Interruption};
 
-/// How a command ended. The program exits with its number.
+/// How a command ended. The number of the status is the program's exit status.
 #[derive(Clone, Copy, Debug, PartialEq, Eq)]
 pub enum Status {
-    /// All that is due was written: 0.
+    /// All texts that were due are written: 0.
     Done,
-    /// The words are no command: 2.
+    /// The arguments aren't a command: 2.
     NoCommand,
     /// The source failed: 3.
     SourceFault,
-    /// The sink failed in a text other than the one that says why the input ended the command: 4.
+    /// The sink failed, other than in the text that says why the input ended the command: 4.
     SinkFault,
     /// Out of memory: 6.
     NoMemory,
     /// A port failed: 7.
     PortFault,
-    /// What the input says ended the command: 5 where a unit is outside the grammar, 8 where the strict receiver complains, 10 where an element
-    /// of a frame isn't an OBU.
+    /// The input ended the command. 5: a unit is outside the grammar. 8: the strict receiver complains. 10: an element of a frame isn't
+    /// an OBU.
     Ended(Ending),
 }
 
 impl Status {
-    /// The status of a command with this outcome.
+    /// The status of a command with this result.
     pub fn of(came_out: Result<(), Interruption>) -> Status
         ensures { number_of result ≡ status_for came_out }
     {

@@ -1,11 +1,11 @@
-// Inputs with their texts and statuses, for one judge, in pieces of any size, and each fault of the outside.
+// Inputs with their texts and statuses, for one judge, in pieces of any size, and with failures outside.
 use crate::{Ending, Halt, Judge, Lines, Units, answer};
 use sfu_base::{Blob, Failed, MemSink, MemSource, NoMemory, Source};
 use std::alloc::{AllocError, Global};
 use std::test::Fail;
 
-// Writes each line back, complains of one that begins with `z`, and refuses one that begins with a space. No contract speaks of what it
-// stands for.
+// Writes each line back, complains about a line that begins with `z`, and refuses one that begins with a space. No contract describes
+// its state.
 #[derive(Drop)]
 struct Echo;
 
@@ -50,7 +50,7 @@ impl Judge for Echo {
     }
 }
 
-// Gives pieces of at most `most` bytes.
+// Returns pieces of at most `most` bytes.
 #[derive(Drop)]
 struct Pieces {
     inner: MemSource,
@@ -70,7 +70,7 @@ impl Source for Pieces {
     }
 }
 
-// The status, and what was written.
+// The status, and the bytes written.
 fn run(
     alloc: Global,
     input: &[u8],
@@ -93,11 +93,11 @@ fn lines_end_by_lf_in_pieces_of_any_size(rt: HostRuntime) -> Result<(), Fail> {
         ("", 0, ""),
         ("\n", 0, "\n"),
         ("a\nbc", 0, "a\nbc\n"),
-        // A CR directly before an LF is left out, and no other.
+        // A CR directly before an LF is removed; every other CR stays.
         ("a\r\n\r\n", 0, "a\n\n"),
         ("a\r\r\nb\r", 0, "a\r\nb\r\n"),
         ("\ra\n", 0, "\ra\n"),
-        // A line that ends the command: nothing is said of those after it.
+        // A line that ends the command: nothing is written for the lines after it.
         ("a\nz\nb\n", 8, "a\nbad\n"),
         ("a\n b\nz\n", 5, "a\nsecond\n"),
         ("\n\n c", 5, "\n\nline\n"),
@@ -123,7 +123,7 @@ fn a_line_has_at_most_4200_bytes(rt: HostRuntime) -> Result<(), Fail> {
     for _ in 0..4199 {
         line.push(b'a')?;
     }
-    // The CR counts, whether it is left out or not.
+    // The CR counts as a byte of the line, whether it is removed or not.
     for (end, status) in [
         ("a\n", 0),
         ("\r\n", 0),
@@ -139,7 +139,7 @@ fn a_line_has_at_most_4200_bytes(rt: HostRuntime) -> Result<(), Fail> {
             assert_eq!(rt; got, status, "{end:?} in pieces of {most}");
         }
     }
-    // Such a line is judged once its 4,201st byte is there; until then a failing read comes first.
+    // Judged at the 4,201st byte of the line; a read that fails before that byte comes first.
     line.push(b'a')?;
     assert_eq!(rt; run(alloc, line.as_slice(), 0, &[1], &[])?.0, 3);
     line.push(b'a')?;
@@ -150,7 +150,7 @@ fn a_line_has_at_most_4200_bytes(rt: HostRuntime) -> Result<(), Fail> {
 #[test]
 fn the_first_fault_ends_the_command(rt: HostRuntime) -> Result<(), Fail> {
     let alloc = rt.alloc();
-    // In pieces of 3 bytes: two texts, the last text, and a line after it that nobody reads.
+    // In pieces of 3 bytes: two texts, the last text, and a line after it that isn't read.
     let input = b"a\nbc\nd\nz\ne\n";
     for (read_fails, write_fails, status, text) in [
         ([].as_slice(), [].as_slice(), 8, "a\nbc\nd\nbad\n"),

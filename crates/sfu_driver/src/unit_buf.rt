@@ -1,12 +1,12 @@
-// The unit that is being assembled.
+// The buffer for the unit that is being assembled.
 ghost use Rattle.std.specs.Prelude.{◌≡◌, ◌+◌, ◌==◌, ◌≤◌, ◌++◌, [], length};
 
 use std::marker::Model;
 
-/// The capacity in bytes: the longest unit, and the byte that ends it.
+/// The capacity in bytes: the longest unit and the byte that ends it.
 pub const ROOM: usize = 4201;
 
-/// Up to 4,201 bytes, seen as their list.
+/// A buffer of up to 4,201 bytes. In contracts it is the list of its bytes.
 #[derive(Debug, Drop)]
 pub struct UnitBuf {
     room: [u8; ROOM],
@@ -42,7 +42,7 @@ impl UnitBuf {
         self.count = 0;
     }
 
-    /// How many bytes there are.
+    /// The number of bytes.
     pub fn len(&self) -> usize
         ensures len { result ≡ length self.now }
         ensures bounded { length self.now ≤ ROOM }
@@ -50,7 +50,7 @@ impl UnitBuf {
         self.count
     }
 
-    /// Whether there are none.
+    /// Whether there are no bytes.
     pub fn is_empty(&self) -> bool
         ensures { result ≡ (length self.now == 0) }
     {

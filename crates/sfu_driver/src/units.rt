@@ -1,4 +1,4 @@
-// Units that are assembled from pieces of any size, and judged one after another.
+// Assembling units from pieces of any size, and judging them one after another.
 ghost use Rattle.std.specs.Prelude.{◌≤◌, ◌+◌, length};
 ghost use Rattle.sfu_driver.specs.declared.cut.TheConstants.{MOST_UNIT};
 ghost use Rattle.sfu_driver.specs.declared.units.TheConstants.{MOST_UNITS};
@@ -7,11 +7,11 @@ use crate::unit_buf::{ROOM, UnitBuf};
 use crate::{Cut, Ending, Found, Halt, Judge, Last, MOST_UNIT};
 use sfu_base::{Blob, NoMemory};
 
-/// The greatest number of a unit.
+/// The greatest number that a unit may have.
 const MOST_UNITS: u64 = 4_294_967_295;
 
-/// The input of a command so far: how it is cut, what judges its units, the number of the unit that is being assembled, and the bytes of
-/// that unit.
+/// The input of a command so far: the way to cut it, the judge of its units, the number of the unit being assembled, and the bytes of
+/// that unit so far.
 #[derive(Debug, Drop)]
 pub struct Units<C, J> {
     pub cut: C,
@@ -29,7 +29,7 @@ impl<C: Cut, J: Judge> Units<C, J> {
     ghost use Rattle.sfu_driver.specs.Scan.{Whole, between};
     ghost use Rattle.sfu_driver.specs.Units.{JudgeStands, StandsAt, progress, rule_of};
 
-    /// Input of which nothing was read, where the first unit has this number.
+    /// The state before any input was read. The first unit will have this number.
     pub fn new(cut: C, judge: J, number: u64) -> Self
         requires { number ≤ 1 }
         ensures judge { result.judge ≡ judge }
@@ -44,7 +44,7 @@ impl<C: Cut, J: Judge> Units<C, J> {
         }
     }
 
-    // Makes the last text ready, since the unit is outside the grammar, and returns why the command ends.
+    // Appends the last text, because the unit is outside the grammar, and returns why the command ends.
     fn refuse(&self, ready: &mut Blob) -> Halt
         ensures judges { (state : J.State) → Judges J.stands (is_outside {S = J.State} (J.outside self.now.number)) self.now.judge ready.old ready.new
             (Err result) }
@@ -56,7 +56,7 @@ impl<C: Cut, J: Judge> Units<C, J> {
         }
     }
 
-    // The next unit begins.
+    // Begins the next unit.
     #[inline(always)]
     fn begin(&mut self)
         requires { self.old.number ≤ MOST_UNITS }
@@ -68,7 +68,7 @@ impl<C: Cut, J: Judge> Units<C, J> {
         self.kept.clear();
     }
 
-    // Judges the unit that consists of the bytes that were kept and of those that came. The unit says the bytes from `start` to `end`.
+    // Judges the unit that consists of the kept bytes and then `came`. Its text is the bytes from `start` to `end`.
     #[inline(always)]
     fn judge_between(
         &mut self,
@@ -125,8 +125,8 @@ impl<C: Cut, J: Judge> Units<C, J> {
         Ok(())
     }
 
-    /// Takes bytes from the start of a piece until a unit or the piece ends, and judges the unit if it ended. Returns how many bytes were
-    /// taken.
+    /// Takes bytes from the start of a piece until a unit or the piece ends, and judges the unit if it has ended. Returns how many bytes
+    /// were taken.
     #[inline(always)]
     pub fn next(&mut self, piece: &[u8], ready: &mut Blob) -> Result<usize, Halt>
         requires { 0 < length piece.now }
@@ -151,7 +151,7 @@ impl<C: Cut, J: Judge> Units<C, J> {
         }
     }
 
-    // Judges the bytes that are left at the end of the input.
+    // Judges the bytes that remain at the end of the input.
     fn finish_unit(&mut self, ready: &mut Blob) -> Result<(), Halt>
         ensures judges { (point : Point J.State) → StandsAt J.stands self.old point
             → Judges J.stands (judged (rule_of C.scan C.scan_end J.step J.outside J.closing) point.state point.number
@@ -168,7 +168,7 @@ impl<C: Cut, J: Judge> Units<C, J> {
         }
     }
 
-    /// Takes the end of the input: judges the bytes that are left, and makes the closing text ready.
+    /// Handles the end of the input: judges the bytes that remain, and appends the closing text.
     pub fn finish(&mut self, ready: &mut Blob) -> Result<(), Halt>
         ensures judges { (point : Point J.State) → StandsAt J.stands self.old point
             → Judges (JudgeStands J.stands) (ends (rule_of C.scan C.scan_end J.step J.outside J.closing) point) self.new ready.old ready.new result }

@@ -1,5 +1,5 @@
-//! The edge to the system: sources and sinks over std's readers and writers, links and ports over UDP sockets, and the system's clock. They meet the
-//! traits of the outside, count their faults, and tell nothing of content: what a file, a terminal or a socket holds is the system's.
+//! The edge to the system: sources and sinks over std's readers and writers, links and ports over UDP sockets, and the system's clock. They have
+//! the traits of the outside and count their faults. Their contracts say nothing of content: what a file, a terminal or a socket has in it.
 #![tactic(auto)]
 
 mod receive_buffer;

@@ -1,4 +1,4 @@
-// The adapters, each used once through its trait: over bytes, over a reader and a writer that fail, over sockets of this machine, and over clocks.
+// Each adapter used once through its trait: over bytes, over a reader and a writer that fail, over sockets of this machine, and over clocks.
 use crate::trouble::{Trouble, trouble_of};
 use crate::{StdSink, StdSource, SysClock, UdpPorts, WakeTable};
 use sfu_base::{Address, Blob, Clock, Failed, Link, NoMemory, PacketBuf, Ports, Sink, Source};
@@ -70,7 +70,7 @@ fn packet(byte: u8) -> PacketBuf {
     packet
 }
 
-// What three reads by a buffer of three bytes answer, and what they give laid end to end.
+// The results of three reads with a buffer of three bytes, and the bytes read, one after another.
 fn drained<S: Source>(
     alloc: Global,
     source: &mut S,
@@ -107,7 +107,7 @@ impl Write for Broken {
     }
 }
 
-// A reader and a writer whose every third call gets through: before it a signal came, and a pipe wasn't ready.
+// A reader and a writer that succeed at every third call: before it a signal came, and a pipe wasn't ready.
 #[derive(Drop)]
 struct Wavering {
     calls: u8,
@@ -166,7 +166,7 @@ fn a_source_over_a_reader_gives_its_bytes_in_order_and_fails_where_it_does(
     Ok(())
 }
 
-// What a sink answers to a piece of three bytes and one of two.
+// The results of a sink for a piece of three bytes and one of two.
 fn filled<K: Sink>(sink: &mut K) -> (Result<usize, Failed>, Result<usize, Failed>) {
     (sink.write(&[1, 2, 3]), sink.write(&[4, 5]))
 }
@@ -183,7 +183,7 @@ fn a_sink_over_a_writer_takes_what_is_written_and_fails_where_it_does(rt: HostRu
     assert_eq!(rt; filled(&mut StdSink::new(&rt, wavering)), (Ok(3), Ok(2)));
 }
 
-// What a receive answers, and the first byte of the buffer, which held 9 before.
+// The result of a receive, and the first byte of the buffer, which was 9 before.
 fn heard<L: Link>(link: &mut L) -> (Result<bool, Failed>, Option<u8>) {
     let mut buf = packet(9);
     let answer = link.receive(&mut buf);
@@ -201,7 +201,7 @@ fn open(net: &impl Net) -> io::Result<(UdpSocket, SocketAddr, Address)> {
     Ok((socket, at, Address { ip: LOOPBACK, port }))
 }
 
-// What the first receive that isn't `Ok(false)` answers, of at most a hundred.
+// The first result of at most a hundred receives that isn't `Ok(false)`, as of `heard`.
 fn heard_soon<L: Link>(link: &mut L) -> (Result<bool, Failed>, Option<u8>) {
     for _ in 0..100 {
         let heard = heard(link);
@@ -222,7 +222,7 @@ fn is_soon_there<L: Link>(link: &mut L, buf: &mut PacketBuf) -> bool {
     false
 }
 
-// Whether three sends where nobody listens go well, and nothing comes of them.
+// Whether three sends to an address where nobody listens succeed, and nothing comes back.
 fn sends_to_nobody<L: Link>(link: &mut L) -> bool {
     for _ in 0..3 {
         if link.send(&packet(8)) != Ok(()) || heard(link) != (Ok(false), Some(9)) {
@@ -269,7 +269,7 @@ fn a_link_over_udp_hears_its_peer_alone_and_outlasts_one_that_goes_and_comes_bac
     Ok(())
 }
 
-// A clock of the system's that reads so many milliseconds, or can't be read.
+// A system clock that reads this many milliseconds, or can't be read.
 struct Reads(Option<u64>);
 
 impl time::Clock for Reads {

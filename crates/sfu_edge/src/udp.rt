@@ -1,4 +1,4 @@
-// Links over UDP sockets: the trusted edge. They report nothing of content.
+// Links over UDP sockets: the trusted edge. Their contracts say nothing of content.
 ghost use Rattle.std.specs.Prelude.{◌≡◌, ◌<◌, ◌≤◌, None, IfOk, IfSome, length};
 
 use crate::receive_buffer::enlarge;
@@ -13,76 +13,76 @@ use std::os::fd::AsRawFd;
 use std::time::Duration;
 use std::{io, thread, time};
 
-/// How long a receive sleeps where no datagram comes and no other link wakes it, in milliseconds: less than 5 with what the system adds.
+/// The longest sleep of a receive while no datagram comes and no other link wakes it, in milliseconds: under 5 with the system's delay.
 const LONGEST_SLEEP: u64 = 4;
 
-/// How long a receive of a quiet link sleeps, in microseconds: less than 5 milliseconds with what the system adds. Nothing ends it earlier, which
-/// costs less.
+/// The sleep of a quiet link's receive, in microseconds: less than 5 milliseconds with the system's delay. Nothing ends it early, which costs
+/// less than a sleep that can be ended.
 const QUIET_SLEEP: u64 = 4500;
 
-/// After how many receives in a row that returned no datagram, with nothing sent between them, a link is quiet: some 2 seconds.
+/// A link is quiet after this many receives in a row without a datagram and without a send between them: some 2 seconds.
 const QUIET_AFTER: u32 = 500;
 
-/// How long a receive of a busy link sleeps, in microseconds, so that what comes meanwhile is forwarded together. Nothing ends it earlier.
+/// The sleep of a busy link's receive, in microseconds. What comes meanwhile is forwarded together. Nothing ends the sleep early.
 const BUSY_SLEEP: u64 = 700;
 
-/// A link is busy where its socket was empty twice within so many microseconds, with a datagram between.
+/// A link is busy if its socket was empty twice within this many microseconds, with a datagram between.
 const BUSY_WITHIN: u64 = 950;
 
-/// The longest pause of a link that follows a busy one, in microseconds: a longer one is a mistake of the clock.
+/// The longest pause of a link that follows a busy one, in microseconds. A longer one is an error of the clock.
 const LONGEST_PAUSE: u64 = 1500;
 
-/// How many datagrams in a row are received before the followers are woken, where the socket isn't empty before.
+/// The number of datagrams received in a row after which the followers are woken even if the socket isn't empty.
 const ROW: u32 = 32;
 
-/// How many packets sent since the receive before show that more may wait to be sent, so that a receive doesn't sleep. A session sends 32 at most
-/// before it receives again.
+/// After a link has sent at least this many packets since its last receive, more may wait to be sent, so its next receive doesn't sleep. A
+/// session sends at most 32 packets between two receives.
 const MUCH: u32 = 16;
 
-/// How long a send waits for space in the system's buffer before it tries again, in milliseconds.
+/// The time that a send waits between two tries while the system's buffer is full, in milliseconds.
 const SEND_WAIT: u64 = 1;
 
-/// How many datagrams from other addresses a receive passes over in a row.
+/// The most datagrams from other addresses that one receive skips.
 const OTHERS_LIMIT: u32 = 64;
 
-/// How often a send is tried where the system's buffer is full.
+/// The number of tries of a send while the system's buffer is full.
 const SEND_TRIES: u32 = 100;
 
-/// How many bytes of a datagram are received; what lies behind them is cut off.
+/// The most bytes that are received of a datagram; the rest is cut off.
 const DATAGRAM_LIMIT: usize = 2048;
 
-/// A link over a UDP socket, which receives from its peer alone. The socket is connected to the peer, so that the system drops what comes from other
-/// addresses; where there is no route to the peer yet, that is tried again with each send. What the network loses is no fault.
+/// A link over a UDP socket, which only receives from its peer. The socket is connected to the peer, so the system drops datagrams from other
+/// addresses. If there is no route to the peer yet, each send tries again to connect. Loss in the network is no fault.
 #[derive(Drop)]
 pub struct UdpLink<'a, R> {
     system: &'a R,
     socket: UdpSocket,
     peer: SocketAddr,
     is_connected: bool,
-    // of the socket and the waker, and what ended a sleep, which nobody reads
+    // for the socket and the waker; `events` has what ended a sleep, and isn't read
     poll: Poll,
     events: Events<Global>,
     table: &'a WakeTable,
-    // how many links its ports had bound before, which is its number in the table
+    // the link's number in the table: how many links its ports had bound before
     name: u64,
-    // how many receives in a row returned no datagram, with nothing sent between them
+    // the number of receives in a row without a datagram and without a send between them
     idle: u32,
-    // how many receives in a row returned a datagram, and the tail of the last
+    // the number of receives in a row that returned a datagram, and the last datagram's tail
     received: u32,
     received_tail: u64,
-    // how many packets were sent since the socket was last empty, and the tail of the last
+    // the number of packets sent since the socket was last empty, and the last packet's tail
     sent: u32,
     sent_tail: u64,
     is_busy: bool,
-    // when the socket was last found empty behind a datagram
+    // when the socket was last found empty after a datagram
     empty_at: Duration,
     datagram: [u8; DATAGRAM_LIMIT],
     faults: u64,
 }
 
 impl<'a, R: Net + time::Clock> UdpLink<'a, R> {
-    // Binds a socket to the local address, for a link of this name to the peer, with no faults yet. The error is the system's, as where the address is
-    // in use.
+    // Binds a socket to the local address, for a link with this name to this peer, with no faults yet. Returns the system's error, for example if the
+    // address is in use.
     fn bind(
         system: &'a R,
         alloc: Global,
@@ -126,8 +126,8 @@ impl<'a, R: Net + time::Clock> UdpLink<'a, R> {
         })
     }
 
-    // The length of the peer's next datagram, which is then in `datagram`; none where none came until the end of a sleep. Behind a receive that
-    // returned a datagram it looks before it sleeps.
+    // Waits for the peer's next datagram, puts it into `datagram` and returns its length. Returns `None` if none came by the end of the sleep.
+    // If the last receive returned a datagram, this looks before it sleeps.
     fn next(&mut self) -> io::Result<Option<usize>>
         ensures size { IfOk result (λ found. IfSome found (λ count. count ≤ 2048)) }
         ensures name { self.new.name ≡ self.old.name }
@@ -150,7 +150,7 @@ impl<'a, R: Net + time::Clock> UdpLink<'a, R> {
         Ok(found)
     }
 
-    // The length of the peer's datagram that is there now, if one is.
+    // Returns the length of the peer's next datagram if it is already there.
     fn look(&mut self) -> io::Result<Option<usize>>
         ensures size { IfOk result (λ found. IfSome found (λ count. count ≤ 2048)) }
         ensures name { self.new.name ≡ self.old.name }
@@ -168,7 +168,7 @@ impl<'a, R: Net + time::Clock> UdpLink<'a, R> {
         Ok(found)
     }
 
-    // The socket is empty behind a datagram: what came may be sent now.
+    // Ends a batch: the socket is empty after a datagram, so the followers may send what came.
     fn finish_batch(&mut self)
         ensures name { self.new.name ≡ self.old.name }
         ensures faults { self.new.faults ≡ self.old.faults }
@@ -187,19 +187,19 @@ impl<'a, R: Net + time::Clock> UdpLink<'a, R> {
         self.table.expect(self.name, expected);
     }
 
-    // The clock's moment; zero where it can't be read.
+    // The time of the clock; zero if it can't be read.
     fn now(&self) -> Duration {
         self.system.monotonic().unwrap_or(Duration::ZERO)
     }
 
-    // How long this link sleeps by the clock, so that what the busy link that it follows receives meanwhile is forwarded together. None where that one
+    // How long this link sleeps by the clock if it follows a busy link: what that link receives meanwhile is forwarded together. `None` if that link
     // isn't busy, or should have received by now.
     fn pause(&self) -> Option<Duration> {
         let pause = self.table.next_turn(self.name)?.checked_sub(self.now())?;
         (pause < Duration::from_micros(LONGEST_PAUSE)).then_some(pause)
     }
 
-    // From now on the link follows the one that received what it sent last. Returns whether so much was sent that more may have to be sent.
+    // Makes the link follow the link that received the packet it sent last. Returns whether it sent so much that more may have to be sent.
     fn finish_turn(&mut self) -> bool
         ensures name { self.new.name ≡ self.old.name }
         ensures faults { self.new.faults ≡ self.old.faults }
@@ -212,7 +212,7 @@ impl<'a, R: Net + time::Clock> UdpLink<'a, R> {
         sent >= MUCH
     }
 
-    // Sleeps for a time, or until a datagram comes or another link wakes this one.
+    // Sleeps for a time, or until a datagram comes or another link wakes this link.
     fn sleep(&mut self) -> io::Result<()>
         ensures name { self.new.name ≡ self.old.name }
         ensures faults { self.new.faults ≡ self.old.faults }
@@ -232,8 +232,8 @@ impl<'a, R: Net + time::Clock> UdpLink<'a, R> {
         Ok(())
     }
 
-    // Hands the bytes to the system. An error that an earlier datagram met on its way may be told in place of sending this one, so that it is tried
-    // once more; after that, and where the system's buffer stays full, it is lost.
+    // Passes the bytes to the system. An error of an earlier datagram may be reported instead of sending this one, so this one is tried again
+    // once. After that, or if the system's buffer stays full, it is lost.
     fn post(&mut self, bytes: &[u8]) -> io::Result<()>
         ensures name { self.new.name ≡ self.old.name }
         ensures faults { self.new.faults ≡ self.old.faults }
@@ -262,7 +262,7 @@ impl<'a, R: Net + time::Clock> UdpLink<'a, R> {
         Ok(())
     }
 
-    // One send.
+    // Sends once.
     fn hand_over(&self, bytes: &[u8]) -> io::Result<usize> {
         if self.is_connected {
             self.socket.send(bytes)
@@ -272,7 +272,7 @@ impl<'a, R: Net + time::Clock> UdpLink<'a, R> {
     }
 }
 
-// Whether the socket is connected to the peer now; it isn't where there is no route yet.
+// Connects the socket to the peer. Returns whether it is connected; without a route it isn't.
 fn connects(socket: &UdpSocket, peer: SocketAddr) -> io::Result<bool> {
     match socket.connect(peer) {
         Ok(()) => Ok(true),
@@ -283,8 +283,8 @@ fn connects(socket: &UdpSocket, peer: SocketAddr) -> io::Result<bool> {
     }
 }
 
-// The length of the peer's next datagram, which is then at the front of `buffer`; none where none is there now. What came from other addresses
-// before the socket was connected is passed over, and so is an error that an earlier datagram met on its way.
+// Receives the peer's next datagram into the start of `buffer`, and returns its length; `None` if none is there now. Skips datagrams from
+// other addresses, which came before the socket was connected, and errors of earlier datagrams.
 fn take(socket: &UdpSocket, peer: SocketAddr, buffer: &mut [u8]) -> io::Result<Option<usize>>
     ensures { IfOk result (λ found. IfSome found (λ count. count ≤ length buffer.new)) }
 {
@@ -316,8 +316,8 @@ impl<'a, R: Net + time::Clock> Link for UdpLink<'a, R> {
 
     ghost faults = { λ s. s.faults };
 
-    /// Where no datagram of the peer's is there it sleeps until one comes or another link wakes it, for at most 5 milliseconds. Behind a receive that
-    /// returned no datagram it sleeps before it looks.
+    /// If there is no datagram from the peer, this sleeps until one comes or another link wakes it, for at most 5 milliseconds. If the last receive
+    /// returned no datagram, this sleeps before it looks.
     fn receive(&mut self, buf: &mut PacketBuf) -> Result<bool, Failed> {
         match self.next() {
             Ok(Some(count)) => {
@@ -332,7 +332,7 @@ impl<'a, R: Net + time::Clock> Link for UdpLink<'a, R> {
         }
     }
 
-    /// A full buffer of the system is waited for, about 100 milliseconds at most; then, and where the network doesn't take the datagram, it is lost.
+    /// If the system's buffer is full, this waits up to about 100 milliseconds. The datagram is lost after that, or if the network doesn't take it.
     fn send(&mut self, packet: &PacketBuf) -> Result<(), Failed> {
         match self.post(packet.bytes()) {
             Ok(()) => Ok(()),
@@ -344,7 +344,7 @@ impl<'a, R: Net + time::Clock> Link for UdpLink<'a, R> {
     }
 }
 
-/// Binds links over UDP sockets. What comes back is closed.
+/// Binds links over UDP sockets. `back` closes the link that it takes.
 #[derive(Drop)]
 pub struct UdpPorts<'a, R> {
     system: &'a R,
@@ -357,8 +357,8 @@ pub struct UdpPorts<'a, R> {
 }
 
 impl<'a, R: Net + time::Clock + Sync> UdpPorts<'a, R> {
-    /// No port is bound yet. The system opens the sockets, and its clock is what they wait by. The links wake each other by the table, which is for
-    /// these ports alone. Each takes three file descriptors.
+    /// Ports of which none is bound yet. `system` opens the sockets, and they wait by its clock. The links wake each other through `table`,
+    /// which must serve these ports alone. Each link takes three file descriptors.
     pub fn new(system: &'a R, alloc: Global, table: &'a WakeTable) -> Self
         ensures bound { ⟦<UdpPorts<'a, R> as Ports>⟧.bound result ≡ 0 }
         ensures back_count { ⟦<UdpPorts<'a, R> as Ports>⟧.back_count result ≡ 0 }

@@ -1,41 +1,41 @@
-// Which links wake which. A packet that one link received is sent by others. So a link follows the link that received what it sent last: it is woken when
-// that link has received more, or sleeps until the moment at which that link expects to have. A wrong or missing entry costs time alone, since each
-// sleep ends by itself.
+// Which links wake which. A packet that one link received is sent by others. So a link follows the link that received the packet it sent last: that link
+// wakes it after receiving more or, while busy, lets it sleep until the time by which it expects to have received more. A wrong or missing entry only
+// costs time, because each sleep ends by itself.
 use mio::Waker;
 use std::alloc::{AllocError, Global};
 use std::sync::OnceLock;
 use std::sync::atomic::{AtomicU8, AtomicU64, Ordering};
 use std::time::Duration;
 
-/// How many links are woken by others. One that was bound after them isn't.
+/// The number of links that others can wake. A link that is bound after these isn't woken.
 const LINKS: usize = 64;
 
-/// By how many microseconds links with consecutive numbers continue apart, so that they don't wait for the room's lock together.
+/// The offset in microseconds between links with consecutive numbers, so that they don't wait for the room's lock together.
 const STEP: u64 = 40;
 
-/// After how many steps they begin again at none.
+/// The number of different offsets; then they start again from 0.
 const STEPS: u64 = 4;
 
-/// The number of no link.
+/// A number that no link has.
 const NONE: u64 = u64::MAX;
 
-// What a link does: it runs, it sleeps until its waker is called, or another link has woken it since its last sleep.
+// The states of a link: it runs, it sleeps until its waker is called, or another link woke it since its last sleep.
 const RUNS: u8 = 0;
 
 const SLEEPS: u8 = 1;
 
 const WOKEN: u8 = 2;
 
-/// What other links see of a link.
+/// What other links know of a link.
 #[derive(Drop)]
 struct Entry {
     waker: OnceLock<Waker>,
     state: AtomicU8,
-    // the number of the link that it follows
+    // the number of the link that this link follows
     follows: AtomicU64,
-    // the tail of the datagram that it received last, or 0
+    // the tail of the last datagram that this link received, or 0
     received: AtomicU64,
-    // when it expects to have received all that comes until then, in microseconds of the clock; 0 where it isn't busy
+    // the time by which this link expects to have received more, in microseconds of the clock; 0 if it isn't busy
     expected: AtomicU64,
 }
 
@@ -50,7 +50,7 @@ impl Entry {
         }
     }
 
-    // Ends the link's sleep, or keeps it from the next one.
+    // Ends the link's sleep, or prevents its next sleep.
     fn wake(&self) {
         if self.state.swap(WOKEN, Ordering::SeqCst) == SLEEPS {
             if let Some(waker) = self.waker.get() {
@@ -60,7 +60,7 @@ impl Entry {
     }
 }
 
-/// Shared by links that wake each other. A link has a number, from 0 in the order of binding.
+/// Shared by links that wake each other. The number of a link is its place in the order of binding.
 #[derive(Drop)]
 pub struct WakeTable {
     entries: Vec<Entry>,
@@ -76,14 +76,14 @@ impl WakeTable {
         Ok(WakeTable { entries })
     }
 
-    /// The waker ends this link's sleeps.
+    /// Makes this waker end the sleeps of link `number`.
     pub fn bind(&self, number: u64, waker: Waker) {
         if let Some(entry) = self.entries.get(number as usize) {
             let _ = entry.waker.try_set(waker);
         }
     }
 
-    /// This link has received datagrams that its followers may send now, the last of which has this tail.
+    /// Wakes the followers of link `number`, which has received datagrams; the last has this tail.
     pub fn wake_followers(&self, number: u64, tail: u64) {
         let Some(entry) = self.entries.get(number as usize) else {
             return;
@@ -96,7 +96,7 @@ impl WakeTable {
         }
     }
 
-    /// This link is busy: until this moment of the clock it expects to have received all that comes. Zero says that it isn't busy any more.
+    /// Notes that link `number` is busy and expects to have received more by this time of the clock. Zero: it isn't busy any more.
     pub fn expect(&self, number: u64, moment: Duration) {
         if let Some(entry) = self.entries.get(number as usize) {
             let micros = u64::try_from(moment.as_micros()).unwrap_or(0);
@@ -104,8 +104,8 @@ impl WakeTable {
         }
     }
 
-    /// The moment of the clock at which this link should continue: when the busy link that it follows expects to have received more, and some microseconds
-    /// later. None where it follows no link that is busy.
+    /// The time of the clock at which link `number` should continue: some microseconds after the busy link that it follows expects to have received more.
+    /// `None` if it follows no busy link.
     pub fn next_turn(&self, number: u64) -> Option<Duration> {
         let followed = self
             .entries
@@ -123,7 +123,7 @@ impl WakeTable {
         Some(Duration::from_micros(expected.saturating_add(number % STEPS * STEP)))
     }
 
-    /// This link has sent a packet with this tail: it follows the link that received it.
+    /// Notes that link `number` sent a packet with this tail: it follows the packet's receiver.
     pub fn follow(&self, number: u64, tail: u64) {
         let Some(entry) = self.entries.get(number as usize) else {
             return;
@@ -136,7 +136,7 @@ impl WakeTable {
         }
     }
 
-    /// This link is about to sleep. Returns whether it may: no other has woken it since `end_sleep`.
+    /// Notes that link `number` is about to sleep. Returns whether none woke it since `end_sleep`.
     pub fn begin_sleep(&self, number: u64) -> bool {
         match self.entries.get(number as usize) {
             Some(entry) => entry.state.swap(SLEEPS, Ordering::SeqCst) != WOKEN,
@@ -144,7 +144,7 @@ impl WakeTable {
         }
     }
 
-    /// This link runs again.
+    /// Notes that link `number` runs again.
     pub fn end_sleep(&self, number: u64) {
         if let Some(entry) = self.entries.get(number as usize) {
             entry.state.store(RUNS, Ordering::SeqCst);
@@ -152,8 +152,8 @@ impl WakeTable {
     }
 }
 
-/// The last eight bytes of a datagram, which are the same where it is received and where it is sent, since a forwarded packet keeps its payload. 0 where
-/// it is shorter.
+/// The last eight bytes of a datagram as a number; 0 if it is shorter. A forwarded packet keeps its payload, so these bytes are the same where it is
+/// received and where it is sent.
 pub fn tail_of(bytes: &[u8]) -> u64 {
     match bytes.split_last_chunk::<8>() {
         Some((_, last)) => u64::from_le_bytes(*last),

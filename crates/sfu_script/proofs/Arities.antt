@@ -40,7 +40,7 @@ six_of call (a ∷ b ∷ c ∷ d ∷ e ∷ []) said is = cc
 six_of call (a ∷ b ∷ c ∷ d ∷ e ∷ f ∷ []) said is = (a, b, c, d, e, f, refl, cc)
 six_of call (a ∷ b ∷ c ∷ d ∷ e ∷ f ∷ g ∷ more) said is = cc
 
--- ---- behind the fields that were read
+-- ---- after the fields that were read
 
 pub one_read : (places : List Field) (rest : List ℕ) (call : ℕ → Call) (said : Call) → (fields_of places rest >>= of_one call) ≡ Some said
     → (a : ℕ) × Spells (places_of places (a ∷ [])) rest × (call a ≡ said)

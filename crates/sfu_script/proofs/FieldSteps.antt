@@ -22,7 +22,7 @@ pub onto_front : (front : List ℕ) (n : ℕ) (o : Option (List ℕ)) → with_f
 onto_front front n None = refl
 onto_front front n (Some ns) = ap (λ (x : List ℕ). Some x) (sym (append_assoc front (n ∷ []) ns))
 
--- a field with others behind it
+-- a field with others after it
 pub fields_more : (places : List Field) (i : ℕ) (d : Field) (text : List ℕ) → suc i < length places
     → fields_of (drop i places) text ≡ (field (field_of (get_or places i d)) text >>= (λ n. fields_of (drop (suc i) places) n.1 >>= (λ ns. Some (n.0 ∷ ns))))
 fields_more [] i d text lt = absurd (omega arith)

@@ -23,7 +23,7 @@ use Rattle.sfu_script.proofs.FieldLaws.{fields_again}
 use Rattle.sfu_script.proofs.PublishLine.{publish_found, plain_again, layered_again}
 use Rattle.sfu_script.proofs.PacketLine.{packet_found, packet_again}
 
--- the line is the word and what stands behind it
+-- the line is the word and what follows it
 abbrev Behind : List ℕ → List ℕ → Call → Type 0
 Behind word rest call = IsLine call (word ++ 32 ∷ rest)
 
@@ -109,7 +109,7 @@ subscriber_found of_subscriber.Why rest call e =
     let h = two_read (Number32 ∷ Number64 ∷ []) rest (λ s n. Why s n) call e in
     subst (Behind (codes "why") rest) h.3 (codes "why", rest, refl, h.2, refl)
 
--- a call was found behind the word of a track's command, or behind that of a subscriber's
+-- a call was found after the word of a track's command, or after that of a subscriber's
 command_found : (word rest : List ℕ) (call : Call) (t : Option TrackCommand) (s : Option SubscriberCommand) → track_command_of word ≡ t → subscriber_command_of word ≡ s
     → option_map_or (λ command. track_call_of command rest) t (s >>= (λ command. subscriber_call_of command rest)) ≡ Some call → Behind word rest call
 command_found word rest call (Some command) s named other e =

@@ -17,7 +17,7 @@ use Rattle.sfu_script.proofs.Arities.{two_read, three_read}
 use Rattle.sfu_script.proofs.FieldLaws.{fields_again}
 use Rattle.sfu_script.proofs.Steps.{number_read, word_read, number_spelled, word_spelled}
 
--- behind the word `publish`
+-- after the word `publish`
 abbrev pub IsBehind : Call → List ℕ → Type 0
 IsBehind call rest = IsLine call (codes "publish" ++ 32 ∷ rest)
 

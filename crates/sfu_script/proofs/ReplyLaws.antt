@@ -115,7 +115,7 @@ fault_in (word ∷ []) =
     else Some (refusal.Unreadable Padding)
 fault_in words = None
 
--- behind the word `refused`
+-- after the word `refused`
 abbrev refused_in : List (List ℕ) → Option Refusal
 refused_in [] = None
 refused_in (name ∷ others) =

@@ -13,7 +13,7 @@ pub record IsActorLine (actor : ℕ) (call : Call) (line : List ℕ) : Type 0 wh
   pub said : IsLine call rest
   pub is : line ≡ codes "@" ++ (decimal actor ++ (32 ∷ rest))
 
--- the actor that a word names
+-- the actor of a word `@K`
 abbrev pub actor_of : List ℕ → Option ℕ
 actor_of (mark ∷ digit ∷ []) = if mark == 64 && (nat_le 49 digit && nat_le digit 56) then Some (digit - 48) else None
 actor_of word = None

@@ -1,4 +1,4 @@
--- The numbers that the words of a text say, as functions that compute, and what they are as places of a line.
+-- The numbers of the words of a text, as functions that compute, and the same numbers as places of a line.
 -- The code goes over an array of fields with an index.
 use Rattle.std.specs.Prelude.{ℕ, ◌^◌, ◌<◌, List, [], ◌∷◌, Option, Some, None}
 use Rattle.script_texts.specs.Grammar.{Place, Number, Ssrc}
@@ -6,7 +6,7 @@ use Rattle.sfu_script.specs.Reading.{◌>>=◌, field, number_of, ssrc_of}
 use Rattle.sfu_script.specs.declared.fields.Field.{Field}
 use Rattle.sfu_script.specs.declared.fields.Field.TheVariants as kind
 
--- the number that the word says at a field
+-- the number of the word for this field
 abbrev pub field_of : Field → List ℕ → Option ℕ
 field_of kind.Number8 word = number_of 8 word
 field_of kind.Number16 word = number_of 16 word
@@ -14,7 +14,7 @@ field_of kind.Number32 word = number_of 32 word
 field_of kind.Number64 word = number_of 64 word
 field_of kind.Ssrc word = ssrc_of word
 
--- the numbers that the words of the text say, one for each field, with one space between them
+-- the numbers of the words of the text, one for each field, with one space between the words
 abbrev pub fields_of : List Field → List ℕ → Option (List ℕ)
 fields_of [] text = None
 fields_of (last ∷ []) text = do
@@ -39,7 +39,7 @@ places_of [] numbers = []
 places_of (first ∷ others) [] = []
 places_of (first ∷ others) (number ∷ numbers) = place_of first number ∷ places_of others numbers
 
--- how many bits a field's number has
+-- the number of bits of a field
 abbrev pub bits_of : Field → ℕ
 bits_of kind.Number8 = 8
 bits_of kind.Number16 = 16

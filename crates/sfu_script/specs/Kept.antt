@@ -1,4 +1,4 @@
--- Which call a place that is used again holds. Own rule.
+-- The kind of the call in a place that is reused. Own rule.
 use Rattle.std.specs.Prelude.{Bool, true, false}
 use Rattle.sfu_base.specs.declared.call.Call.{Call}
 use Rattle.sfu_base.specs.declared.call.Call.TheVariants.{Packet, Take, Tick}

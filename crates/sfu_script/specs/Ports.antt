@@ -1,4 +1,4 @@
--- The lines that say which ports are served, and the functions that read them. Own rule.
+-- The lines that name the ports to serve, and the functions that read them. Own rule.
 use Rattle.std.specs.Prelude.{ℕ, ◌==◌, ◌&&◌, ◌||◌, not, nat_lt, nat_le, Bool, true, IsTrue, if◌then◌else◌, List, [], ◌∷◌, Option, Some, None, codes}
 use Rattle.std.specs.Int.{from_be_bytes, w32}
 use Rattle.std.specs.Str.{bytes_eq}
@@ -13,7 +13,7 @@ use Rattle.sfu_script.specs.declared.fields.Field.TheVariants.{Number8, Number32
 use Rattle.sfu_script.specs.Reading.{◌>>=◌, cut, cut_at, field, number_of}
 use Rattle.sfu_script.specs.ReadLines.{of_two}
 
--- the places of what a port is for
+-- the places of a line about what a port is for
 abbrev pub role_places : PortRole → List Place
 role_places (Publisher track ssrc) = Word (codes "publisher") ∷ Number 32 track ∷ SsrcPlace ssrc ∷ []
 role_places (Subscriber subscriber ssrc) = Word (codes "subscriber") ∷ Number 32 subscriber ∷ SsrcPlace ssrc ∷ []
@@ -21,8 +21,8 @@ role_places Control = Word (codes "control") ∷ []
 role_places (Rtx subscriber ssrc rtx_ssrc payload_type) =
     Word (codes "rtx") ∷ Number 32 subscriber ∷ SsrcPlace ssrc ∷ SsrcPlace rtx_ssrc ∷ Number 8 payload_type ∷ []
 
--- Resent packets can be told from the others: their stream has an SSRC of its own (RFC 4588, section 5.3), and their payload type is 0 to 63
--- or 96 to 127, so that with or without the marker's bit their second byte is none of RTCP's (RFC 5761, section 4).
+-- Retransmissions differ from other packets: their stream has an SSRC of its own (RFC 4588, section 5.3), and their payload type is 0
+-- to 63 or 96 to 127, so that with or without the marker bit their second byte isn't one of RTCP's (RFC 5761, section 4).
 abbrev pub is_apart : PortRole → Bool
 is_apart (Rtx subscriber ssrc rtx_ssrc payload_type) = not (rtx_ssrc == ssrc) && (nat_lt payload_type 64 || (nat_le 96 payload_type && nat_lt payload_type 128))
 is_apart role = true
@@ -34,7 +34,7 @@ IsPortLine port line = IsTrue (is_apart port.role) × Spells
 
 -- ---- reading
 
--- the IPv4 address that four numbers with dots between them are
+-- the IPv4 address of four numbers with dots between them
 unfoldable pub ip_of : List ℕ → Option ℕ
 ip_of word = do
   first ← cut_at 46 word
@@ -61,11 +61,11 @@ publisher_of rest = fields_of (Number32 ∷ Ssrc ∷ []) rest >>= of_two (λ tra
 abbrev pub subscriber_of : List ℕ → Option PortRole
 subscriber_of rest = fields_of (Number32 ∷ Ssrc ∷ []) rest >>= of_two (λ subscriber ssrc. Subscriber subscriber ssrc)
 
--- a role whose resent packets can be told from the others
+-- a role whose retransmissions can be distinguished from other packets
 abbrev pub if_apart : PortRole → Option PortRole
 if_apart role = if is_apart role then Some role else None
 
--- a subscriber whose resends go out on a stream of their own: its number, its SSRC, and that stream's SSRC and payload type
+-- a subscriber with a retransmission stream: its number, its SSRC, and that stream's SSRC and payload type
 abbrev pub of_rtx : List ℕ → Option PortRole
 of_rtx (subscriber ∷ ssrc ∷ rtx_ssrc ∷ payload_type ∷ []) = if_apart (Rtx subscriber ssrc rtx_ssrc payload_type)
 of_rtx numbers = None
@@ -84,7 +84,7 @@ named_role_of word rest =
 unfoldable pub role_of : List ℕ → Option PortRole
 role_of rest = if bytes_eq rest (codes "control") then Some Control else (cut rest >>= (λ parts. named_role_of parts.0 parts.1))
 
--- behind `port`: the port's own address, its peer's, and what it is for
+-- after `port`: the port's own address, its peer's, and what it is for
 unfoldable pub addressed : List ℕ → Option PortLine
 addressed rest = do
   local ← field address_of rest
@@ -92,7 +92,7 @@ addressed rest = do
   role ← role_of peer.1
   Some (record { local = local.0; peer = peer.0; role = role })
 
--- the port that a line says
+-- the port that a line names
 abbrev pub port_of : List ℕ → Option PortLine
 port_of line = do
   parts ← cut line

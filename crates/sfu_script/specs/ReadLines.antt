@@ -1,4 +1,4 @@
--- The call that a line says, as a function: what whole scripts are computed with.
+-- The call that a line says, as a function, which computes on whole scripts.
 use Rattle.std.specs.Prelude.{ℕ, if◌then◌else◌, List, [], ◌∷◌, Option, Some, None, codes}
 use Rattle.std.specs.Option.{option_map_or}
 use Rattle.std.specs.Str.{bytes_eq}
@@ -32,9 +32,9 @@ abbrev pub of_six : (ℕ → ℕ → ℕ → ℕ → ℕ → ℕ → Call) → L
 of_six call (a ∷ b ∷ c ∷ d ∷ e ∷ f ∷ []) = Some (call a b c d e f)
 of_six call numbers = None
 
--- ---- what stands behind the first word
+-- ---- what follows the first word
 
--- behind `publish`: the track, and then by the word of its kind
+-- after `publish`: the track, and then by the word of its kind
 abbrev pub plain_of : ℕ → List ℕ → Option Call
 plain_of track rest = fields_of (Ssrc ∷ Number32 ∷ []) rest >>= of_two (λ ssrc hold. Publish track Plain ssrc hold)
 
@@ -53,7 +53,7 @@ publish_of rest = do
   kind ← cut track.1
   kind_of track.0 kind.0 kind.1
 
--- behind `packet`: the track, the moment, and then the hex digits
+-- after `packet`: the track, the moment, and then the hex digits
 unfoldable pub packet_head_of : List ℕ → Option (ℕ × ℕ × List ℕ)
 packet_head_of rest = do
   track ← field (number_of 32) rest
@@ -66,7 +66,7 @@ packet_of rest = do
   bytes ← bytes_of head.2
   Some (Packet head.0 head.1 bytes)
 
--- the call of a track's command and what stands behind it
+-- the call of a track's command with these words after it
 abbrev pub track_call_of : TrackCommand → List ℕ → Option Call
 track_call_of of_track.Publish rest = publish_of rest
 track_call_of of_track.Unpublish rest = fields_of (Number32 ∷ []) rest >>= of_one (λ track. Unpublish track)
@@ -75,7 +75,7 @@ track_call_of of_track.Tick rest = fields_of (Number32 ∷ Number64 ∷ []) rest
 track_call_of of_track.Missing rest = fields_of (Number32 ∷ []) rest >>= of_one (λ track. Missing track)
 track_call_of of_track.Key rest = fields_of (Number32 ∷ []) rest >>= of_one (λ track. KeyWanted track)
 
--- the call of a subscriber's command and what stands behind it
+-- the call of a subscriber's command with these words after it
 abbrev pub subscriber_call_of : SubscriberCommand → List ℕ → Option Call
 subscriber_call_of of_subscriber.Join rest =
     fields_of (Number32 ∷ Number32 ∷ Ssrc ∷ Number16 ∷ Number8 ∷ Number8 ∷ []) rest
@@ -89,7 +89,7 @@ subscriber_call_of of_subscriber.Resend rest = fields_of (Number32 ∷ Number16 
 subscriber_call_of of_subscriber.Plead rest = fields_of (Number32 ∷ []) rest >>= of_one (λ subscriber. Plead subscriber)
 subscriber_call_of of_subscriber.Why rest = fields_of (Number32 ∷ Number64 ∷ []) rest >>= of_two (λ subscriber number. Why subscriber number)
 
--- the call of a first word and what stands behind it
+-- the call of a first word with these words after it
 abbrev pub command_of : List ℕ → List ℕ → Option Call
 command_of word rest =
     option_map_or (λ command. track_call_of command rest) (track_command_of word) (subscriber_command_of word >>= (λ command. subscriber_call_of command rest))

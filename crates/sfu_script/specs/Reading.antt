@@ -1,4 +1,4 @@
--- The words of a text from the left, and what they say: functions that compute, beside the relations of `Grammar`.
+-- The words of a text from the left, and their values: functions that compute, beside the relations of `Grammar`.
 -- The code goes over a slice with an index.
 use Rattle.std.specs.Prelude.{ℕ, ◌^◌, ◌==◌, ◌&&◌, ◌||◌, nat_lt, nat_le, Bool, not, if◌then◌else◌, List, [], ◌∷◌, length, slice_index, Option, Some, None}
 use Rattle.std.specs.Option.{option_map}
@@ -8,7 +8,7 @@ use Rattle.std.specs.Str.Parse.{digits_value}
 use Rattle.std.specs.Int.{from_be_bytes, w32}
 use Rattle.hex.specs.Hex.{decode_of, decode_sized}
 
--- the second step, if the first gave a value
+-- the second step, if the first has a value
 infixl 10 ◌>>=◌
 abbrev pub ◌>>=◌ : {A B : Type 0} → Option A → (A → Option B) → Option B
 Some x >>= f = f x
@@ -19,16 +19,16 @@ abbrev pub onto_first : ℕ → Option (List ℕ × List ℕ) → Option (List �
 onto_first b None = None
 onto_first b (Some p) = Some (b ∷ p.0, p.1)
 
--- what stands before the first such byte and behind it
+-- the text before the first such byte and the text after it
 abbrev pub cut_at : ℕ → List ℕ → Option (List ℕ × List ℕ)
 cut_at mark [] = None
 cut_at mark (b ∷ bs) = if b == mark then Some ([], bs) else onto_first b (cut_at mark bs)
 
--- what stands before the first space and behind it
+-- the text before the first space and the text after it
 abbrev pub cut : List ℕ → Option (List ℕ × List ℕ)
 cut text = cut_at 32 text
 
--- what the word before the first space says, and what stands behind the space
+-- the value of the word before the first space, and the text after the space
 abbrev pub field : {X : Type 0} → (List ℕ → Option X) → List ℕ → Option (X × List ℕ)
 field read text = do
   parts ← cut text
@@ -39,14 +39,14 @@ field read text = do
 abbrev pub is_numeral : List ℕ → Bool
 is_numeral word = all_ascii_digits word && nat_lt 0 (length word) && (not (slice_index word 0 == 48) || nat_lt (length word) 2)
 
--- the number of so many bits that the word is
+-- the number, of this many bits, that the word is
 abbrev pub number_of : ℕ → List ℕ → Option ℕ
 number_of bits word = if is_numeral word && nat_lt (digits_value 10 word) (2 ^ bits) then Some (digits_value 10 word) else None
 
--- the number that the word's eight hex digits are
+-- the number of the word's eight hex digits
 abbrev pub ssrc_of : List ℕ → Option ℕ
 ssrc_of word = option_map (from_be_bytes w32) (result_ok (decode_sized word 4))
 
--- the 1 to 2,048 bytes that the word is in hex digits
+-- the 1 to 2,048 bytes of the word's hex digits
 abbrev pub bytes_of : List ℕ → Option (List ℕ)
 bytes_of word = if nat_lt 0 (length word) && nat_le (length word) 4096 then result_ok (decode_of word) else None

@@ -1,4 +1,4 @@
--- Which lines of a source say nothing. Own rule.
+-- The lines of a source that are counted but have no effect. Own rule.
 use Rattle.std.specs.Prelude.{ℕ, ◌==◌, Bool, true, List, [], ◌∷◌}
 
 -- The line is empty, or begins with `#`.

@@ -1,8 +1,8 @@
-// The first words of lines.
+// The command names, which are the first words of lines.
 ghost use Rattle.std.specs.Prelude.{◌≡◌};
 ghost use Rattle.sfu_script.specs.Commands.{subscriber_command_of, track_command_of};
 
-/// What a line says of a track.
+/// The commands about a track.
 #[derive(Clone, Copy, Debug, PartialEq, Eq)]
 pub enum TrackCommand {
     Publish,
@@ -13,7 +13,7 @@ pub enum TrackCommand {
     Key,
 }
 
-/// What a line says of a subscriber.
+/// The commands about a subscriber.
 #[derive(Clone, Copy, Debug, PartialEq, Eq)]
 pub enum SubscriberCommand {
     Join,
@@ -25,7 +25,7 @@ pub enum SubscriberCommand {
     Why,
 }
 
-/// The command about a track with this name; `None` where there is none.
+/// The command about a track with this name; `None` if there is none.
 pub fn track_command(word: &[u8]) -> Option<TrackCommand>
     ensures { result ≡ track_command_of word.now }
 {
@@ -40,7 +40,7 @@ pub fn track_command(word: &[u8]) -> Option<TrackCommand>
     }
 }
 
-/// The command about a subscriber with this name; `None` where there is none.
+/// The command about a subscriber with this name; `None` if there is none.
 pub fn subscriber_command(word: &[u8]) -> Option<SubscriberCommand>
     ensures { result ≡ subscriber_command_of word.now }
 {

@@ -1,4 +1,4 @@
-// The numbers of a line: a list of typed places, and the one reader over such lists.
+// The numbers of a line: the type of each field, and one reader for all lists of fields.
 ghost use Rattle.std.specs.Prelude.{◌≡◌, IfOk, MatchResult, None, Some};
 ghost use Rattle.std.specs.Result.{result_ok};
 ghost use Rattle.sfu_script.specs.Fields.{field_of, fields_of, AreWithin};
@@ -6,18 +6,18 @@ ghost use Rattle.sfu_script.specs.Fields.{field_of, fields_of, AreWithin};
 use crate::NoLine;
 use crate::words::{number8, number16, number32, number64, split, ssrc};
 
-/// What a word has to be.
+/// The type of a field, which is one word of a line.
 #[derive(Clone, Copy, Debug, PartialEq, Eq)]
 pub enum Field {
-    /// A number of 8 bits in decimal digits without a leading zero.
+    /// A number of 8 bits, in decimal digits without a leading zero.
     Number8,
-    /// One of 16 bits.
+    /// A number of 16 bits, in decimal digits without a leading zero.
     Number16,
-    /// One of 32 bits.
+    /// A number of 32 bits, in decimal digits without a leading zero.
     Number32,
-    /// One of 64 bits.
+    /// A number of 64 bits, in decimal digits without a leading zero.
     Number64,
-    /// A number of 32 bits in eight hex digits.
+    /// A number of 32 bits, in eight hex digits.
     Ssrc,
 }
 
@@ -35,7 +35,7 @@ impl Field {
     }
 }
 
-/// The numbers that the words of a text say: one word for each place, with one space between words. `NoLine` exactly where the text isn't
+/// Reads a text as numbers: one word for each field in `places`, with one space between words. `NoLine` exactly when the text isn't
 /// of this form, or `places` is empty. Takes no memory.
 pub fn read_fields<const N: usize>(places: &[Field; N], text: &[u8]) -> Result<[u64; N], NoLine>
     ensures value { MatchResult result (λ numbers. fields_of places.now text.now ≡ Some numbers) (λ _. fields_of places.now text.now ≡ None) }

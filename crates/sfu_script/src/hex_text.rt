@@ -4,14 +4,14 @@ ghost use Rattle.sfu_script.specs.Reading.{bytes_of};
 
 use crate::NoLine;
 
-/// The most bytes that a packet has.
+/// The greatest length of a packet, in bytes.
 pub const MOST_BYTES: usize = 2048;
 
 const MOST_DIGITS: usize = 2 * MOST_BYTES;
 
-// Out of line: inlined into its callers, the loop would not keep its counts in registers.
-/// Decodes a word of hex digits into the start of `room`, and returns the number of bytes, 1 to 2,048. `NoLine` where the word is empty,
-/// has more than 4,096 bytes, has an odd number of bytes, or has a byte that isn't a hex digit.
+// Out of line: if the loop were inlined into its callers, its counters wouldn't stay in registers.
+/// Decodes a word of hex digits into the start of `room`, and returns the number of bytes, 1 to 2,048. `NoLine` if the word is empty,
+/// is longer than 4,096 bytes, has an odd length, or contains a byte that isn't a hex digit.
 #[inline(never)]
 pub fn decode(word: &[u8], room: &mut [u8; MOST_BYTES]) -> Result<usize, NoLine>
     ensures { MatchResult result (λ count. (count ≤ MOST_BYTES) × (bytes_of word.now ≡ Some (take count room.new))) (λ _. bytes_of word.now ≡ None) }

@@ -1,4 +1,4 @@
-// Laws of the texts, each the contract of a function that does nothing.
+// Theorems about the texts. Each is the contract of a function that does nothing.
 ghost use Rattle.std.specs.Prelude.{◌≡◌, ◌↔◌, ℕ, List, Some};
 ghost use Rattle.sfu_base.specs.declared.call.Call.{Call};
 ghost use Rattle.sfu_base.specs.Answer.{Answer};
@@ -11,7 +11,7 @@ ghost use Rattle.sfu_script.specs.declared.ports.PortLine.{PortLine};
 ghost use Rattle.sfu_script.specs.Reading.{bytes_of};
 ghost use Rattle.script_texts.specs.Replies.{answer_text, HasText};
 
-/// A line is read as a call exactly when the grammar says that the line says that call.
+/// A line is read as a call exactly when the line says this call by the grammar.
 pub fn reads_exactly_the_lines()
     ensures { (call : Call) (line : List ℕ) → (call_of line ≡ Some call) ↔ IsLine call line }
 {}
@@ -21,17 +21,17 @@ pub fn lines_say_one_call()
     ensures { (one other : Call) (line : List ℕ) → IsLine one line → IsLine other line → one ≡ other }
 {}
 
-/// What is written for a call is read back as that call.
+/// The line written for a call is read back as the same call.
 pub fn lines_read_back()
     ensures { (call : Call) → HasLine call → call_of (line_of call) ≡ Some call }
 {}
 
-/// A reply's text says at most one answer.
+/// Two answers that are written as the same text are the same answer.
 pub fn replies_say_one_answer()
     ensures { (one other : Answer) → HasText one → HasText other → answer_text one ≡ answer_text other → one ≡ other }
 {}
 
-/// A line is read as a packet exactly when it has the packet's 1 to 2,048 bytes in hex digits.
+/// A line is read as a packet exactly when it spells the packet's 1 to 2,048 bytes in hex digits.
 pub fn reads_exactly_the_packets()
     ensures { (bytes line : List ℕ) → (bytes_of line ≡ Some bytes) ↔ Fills (Hex bytes) line }
 {}
@@ -41,7 +41,7 @@ pub fn reads_exactly_the_actors_lines()
     ensures { (actor : ℕ) (call : Call) (line : List ℕ) → (actor_call_of line ≡ Some (actor, call)) ↔ IsActorLine actor call line }
 {}
 
-/// A line is read as a port exactly when the grammar says that the line says that port.
+/// A line is read as a port exactly when the line says this port by the grammar.
 pub fn reads_exactly_the_ports()
     ensures { (port : PortLine) (line : List ℕ) → (port_of line ≡ Some port) ↔ IsPortLine port line }
 {}

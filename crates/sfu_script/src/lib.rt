@@ -1,4 +1,4 @@
-//! Readers of the lines of scripts: calls on a room, packets, actors' calls and UDP ports. The writers are in `script_texts`, and are
+//! Readers for the lines of scripts: calls on a room, packets, actors' calls and UDP ports. The writers are in `script_texts` and
 //! re-exported here.
 #![tactic(auto)]
 

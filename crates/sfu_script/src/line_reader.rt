@@ -1,4 +1,4 @@
-// Lines read one after another.
+// A reader that reuses its buffers from line to line.
 ghost use Rattle.std.specs.Prelude.{◌≡◌, IfOk, IsTrue, MatchResult, None, OnErr, Some};
 ghost use Rattle.sfu_base.specs.declared.call.Call.{Call};
 ghost use Rattle.sfu_script.specs.Kept.{is_packet, is_take, is_tick};
@@ -12,8 +12,8 @@ use crate::words::{leading32, number32, number64};
 use crate::{NoLine, read_call};
 use sfu_base::{Call, PacketBuf};
 
-/// Reads lines one after another, as [`read_call`] does, and lends each call. The calls are kept: a packet, a take or a tick overwrites
-/// only the fields of the kept call of its kind.
+/// Reads lines one after another, as [`read_call`] does, and lends each call. It keeps one packet, one take and one tick; the next
+/// line of that kind overwrites only the fields of the kept call.
 #[derive(Debug, Drop)]
 pub struct LineReader {
     room: [u8; MOST_BYTES],
@@ -96,7 +96,7 @@ impl LineReader {
         }
     }
 
-    // Out of line: the other lines need no stack space for a call that is returned by value.
+    // Out of line: other lines then need no stack space for a call that is returned by value.
     #[inline(never)]
     fn read_other(&mut self, line: &[u8]) -> Result<(), NoLine>
         ensures { MatchResult result (λ _. call_of line.now ≡ Some self.new.other) (λ _. call_of line.now ≡ None) }
@@ -129,7 +129,7 @@ impl LineReader {
         }
     }
 
-    /// The call that a line says; the call is kept until the next line is read. `NoLine` exactly where it says none. Takes no memory.
+    /// Reads a line as a call, which is kept until the next read. `NoLine` exactly when the line says no call. Takes no memory.
     pub fn read(&mut self, line: &[u8]) -> Result<&Call, NoLine>
         ensures value { MatchResult result (λ said. call_of line.now ≡ Some said.now) (λ _. call_of line.now ≡ None) }
         ensures ok { IfOk result (λ said. IsLine said.now line.now) }

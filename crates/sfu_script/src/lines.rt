@@ -1,4 +1,4 @@
-// The lines of a script.
+// Readers for the lines of a script.
 ghost use Rattle.std.specs.Prelude.{◌≡◌, IfOk, OnErr, List, ℕ};
 ghost use Rattle.std.specs.Result.{result_ok};
 ghost use Rattle.sfu_base.specs.declared.call.Call.{Call};
@@ -20,7 +20,7 @@ use thiserror::Error;
 #[error("the line is outside the grammar")]
 pub struct NoLine;
 
-// The readers of single lines are inlined here: each function that returns a call by value would clear and copy its 2 KB once more.
+// The readers of single lines are inlined here: each function that returns a call by value would clear and copy its 2 KB again.
 #[inline(always)]
 fn behind(word: &[u8], rest: &[u8]) -> Result<Call, NoLine>
     ensures { result_ok result ≡ command_of word.now rest.now }
@@ -34,7 +34,7 @@ fn behind(word: &[u8], rest: &[u8]) -> Result<Call, NoLine>
     }
 }
 
-/// The call that a line says.
+/// Reads a line as a call.
 #[inline(always)]
 pub fn call(line: &[u8]) -> Result<Call, NoLine>
     ensures { result_ok result ≡ call_of line.now }
@@ -43,7 +43,7 @@ pub fn call(line: &[u8]) -> Result<Call, NoLine>
     behind(word, rest)
 }
 
-/// The call that a line says; the line comes without its line end. `NoLine` exactly when it says none. Takes no memory.
+/// Reads a line, without its line end, as a call. `NoLine` exactly when the line says no call. Takes no memory.
 pub fn read_call(line: &[u8]) -> Result<Call, NoLine>
     ensures value { result_ok result ≡ call_of line.now }
     ensures ok { IfOk result (λ said. IsLine said line.now) }

@@ -1,4 +1,4 @@
-// A line that is a packet.
+// A line that consists of a packet's bytes in hex digits.
 ghost use Rattle.std.specs.Prelude.{◌≡◌, List, MatchResult, None, OnErr, OnOk, Some, ℕ};
 ghost use Rattle.script_texts.specs.Grammar.{Fills, Hex};
 ghost use Rattle.sfu_script.specs.Reading.{bytes_of};
@@ -7,7 +7,7 @@ use crate::NoLine;
 use crate::hex_text::{MOST_BYTES, decode};
 use sfu_base::PacketBuf;
 
-/// Reads the lines of packets, as [`read_packet`] does, and reuses the buffer into which hex digits are decoded.
+/// Reads lines of packets, as [`read_packet`] does, and reuses one buffer for hex decoding.
 #[derive(Debug, Drop)]
 pub struct PacketReader {
     room: [u8; MOST_BYTES],
@@ -21,8 +21,8 @@ impl PacketReader {
         }
     }
 
-    /// Fills the buffer with the 1 to 2,048 bytes that a line spells in hex digits. `NoLine` exactly when the line spells no such bytes; the
-    /// buffer is then unchanged. Takes no memory.
+    /// Fills `out` with the 1 to 2,048 bytes that a line has in hex digits. `NoLine` exactly when the line isn't of this form; `out` is
+    /// then unchanged. Takes no memory.
     pub fn read(&mut self, line: &[u8], out: &mut PacketBuf) -> Result<(), NoLine>
         ensures value { MatchResult result (λ _. bytes_of line.now ≡ Some out.new) (λ _. bytes_of line.now ≡ None) }
         ensures ok { OnOk result (Fills (Hex out.new) line.now) }
@@ -41,8 +41,8 @@ impl Default for PacketReader {
     }
 }
 
-/// Fills the buffer with the 1 to 2,048 bytes that a line spells in hex digits. `NoLine` exactly when the line spells no such bytes; the
-/// buffer is then unchanged. Takes no memory.
+/// Fills `out` with the 1 to 2,048 bytes that a line has in hex digits. `NoLine` exactly when the line isn't of this form; `out` is
+/// then unchanged. Takes no memory.
 pub fn read_packet(line: &[u8], out: &mut PacketBuf) -> Result<(), NoLine>
     ensures value { MatchResult result (λ _. bytes_of line.now ≡ Some out.new) (λ _. bytes_of line.now ≡ None) }
     ensures ok { OnOk result (Fills (Hex out.new) line.now) }

@@ -1,4 +1,4 @@
-// The lines that say which UDP ports are served, and for whom.
+// The lines that name the UDP ports to serve, and what each port is for.
 ghost use Rattle.std.specs.Prelude.{◌≡◌, ℕ, IfOk, OnErr};
 ghost use Rattle.std.specs.Result.{result_ok};
 ghost use Rattle.sfu_script.specs.declared.ports.PortLine.{PortLine};
@@ -11,8 +11,8 @@ use crate::fields::read_fields;
 use crate::words::{number8, number16, split, split_at};
 use sfu_base::Address;
 
-/// What a port is for. `ssrc` is the publisher's own SSRC, or that of the packets forwarded to the subscriber; `rtx_ssrc` and
-/// `payload_type` are those of the subscriber's retransmissions.
+/// What a port is for. `ssrc` is the publisher's own SSRC, or that of the packets forwarded to the subscriber. `rtx_ssrc` and
+/// `payload_type` are the SSRC and the payload type of the subscriber's retransmissions.
 #[derive(Clone, Copy, Debug, PartialEq, Eq)]
 pub enum PortRole {
     /// Receives the packets of a track.
@@ -25,9 +25,9 @@ pub enum PortRole {
         subscriber: u32,
         ssrc: u32,
     },
-    /// Receives lines of calls, and sends their replies.
+    /// Receives lines with calls, and sends the replies.
     Control,
-    /// Sends a subscriber's packets, with its retransmissions on a stream of their own (RFC 4588), and receives its feedback.
+    /// Sends a subscriber's packets, and its retransmissions in a separate stream (RFC 4588); receives its feedback.
     Rtx {
         subscriber: u32,
         ssrc: u32,
@@ -36,7 +36,7 @@ pub enum PortRole {
     },
 }
 
-/// A port that is served: its own address, its peer's, and what it is for.
+/// A port to serve: its own address, its peer's address, and what it is for.
 #[derive(Clone, Copy, Debug, PartialEq, Eq)]
 pub struct PortLine {
     pub local: Address,
@@ -158,9 +158,9 @@ fn port(line: &[u8]) -> Result<PortLine, NoLine>
     }
 }
 
-/// The port that a line `port LOCAL PEER ROLE` says. Both addresses are `a.b.c.d:port`. The role is `publisher T SSRC`, `subscriber S
+/// Reads a line `port LOCAL PEER ROLE`. Both addresses are `a.b.c.d:port`. The role is `publisher T SSRC`, `subscriber S
 /// SSRC`, `control`, or `rtx S SSRC RTXSSRC PT`. In the last, RTXSSRC differs from SSRC, and PT is 0 to 63 or 96 to 127. `NoLine` exactly
-/// when the line says no port. Takes no memory.
+/// when the line isn't of this form. Takes no memory.
 pub fn read_port(line: &[u8]) -> Result<PortLine, NoLine>
     ensures value { result_ok result ≡ port_of line.now }
     ensures ok { IfOk result (λ said. IsPortLine said line.now) }

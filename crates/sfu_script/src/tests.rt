@@ -1,4 +1,4 @@
-// Lines, replies and the other texts as tables.
+// Tables of lines, replies and other texts.
 use crate::{
     Calls, Entry, Journal, LineReader, PortLine, PortRole, is_skipped, read_actor_line, read_call,
     read_packet, read_port, write_call, write_complaint, write_end, write_entry, write_line_fault,
@@ -8,7 +8,7 @@ use forwarding_model::Complaint;
 use sfu_base::{Blob, Call, Kind, PacketBuf, Refusal, Reply, RtpFault, Scratch, SeqList, Verdict};
 use std::test::Fail;
 
-// A packet as its length, its first byte and its last.
+// A packet as three numbers: its length, its first byte and its last byte.
 fn ends(bytes: &PacketBuf) -> [u64; 3] {
     let bytes = bytes.bytes();
     let first = bytes.first().copied().unwrap_or(0);
@@ -16,7 +16,7 @@ fn ends(bytes: &PacketBuf) -> [u64; 3] {
     [bytes.len() as u64, u64::from(first), u64::from(last)]
 }
 
-// A call as numbers: which it is, and its fields.
+// A call as numbers: its kind, and its fields.
 fn numbers(call: &Call) -> [u64; 7] {
     match call {
         Call::Publish {
@@ -78,7 +78,7 @@ fn numbers(call: &Call) -> [u64; 7] {
     }
 }
 
-// The lines of the grammar, each with its call. Numbers are 0 and the greatest of their type.
+// Lines of the grammar, each with its call. Numbers are 0 and the greatest of their type.
 const LINES: [(&[u8], [u64; 7]); 33] = [
     (
         b"publish 1 plain 11111111 100",
@@ -348,7 +348,7 @@ fn empty_lines_and_comments_are_skipped(rt: HostRuntime) {
     assert!(rt; !is_skipped(b"\r"));
 }
 
-// Replies that are neither packets nor numbers, with their texts.
+// Replies other than packets and numbers, with their texts.
 const REPLIES: [(Reply, &[u8]); 35] = [
     (Reply::Done, b"ok"),
     (Reply::Key { wanted: true }, b"key yes"),
@@ -603,7 +603,7 @@ fn an_entry_has_two_lines(rt: HostRuntime) -> Result<(), Fail> {
     Ok(())
 }
 
-// A port line's addresses and role, as numbers.
+// A port line as numbers: its addresses and its role.
 fn port_numbers(line: &PortLine) -> [u64; 9] {
     let (role, number, ssrc, rtx_ssrc, payload_type) = match line.role {
         PortRole::Publisher { track, ssrc } => (1, track, ssrc, 0, 0),

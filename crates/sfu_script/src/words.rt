@@ -1,4 +1,4 @@
-// The words of a line, from left to right.
+// Readers for the words of a line, from left to right.
 ghost use Rattle.std.specs.Prelude.{◌≡◌, ◌≤◌, ◌^◌, ◌&&◌, if◌then◌else◌, length, nat_lt, IfSome, MatchResult, None, Some};
 ghost use Rattle.std.specs.Result.{result_ok};
 ghost use Rattle.std.specs.Str.{all_ascii_digits};
@@ -7,7 +7,7 @@ ghost use Rattle.sfu_script.specs.Reading.{cut, cut_at, field, number_of, ssrc_o
 
 use crate::NoLine;
 
-/// What precedes the first byte `mark`, and what follows it; `NoLine` where there is none.
+/// The text before the first byte `mark`, and the text after it; `NoLine` if there is no such byte.
 #[inline(always)]
 pub fn split_at(text: &[u8], mark: u8) -> Result<(&[u8], &[u8]), NoLine>
     ensures { MatchResult result (λ parts. cut_at mark text.now ≡ Some (parts.0.now, parts.1.now)) (λ _. cut_at mark text.now ≡ None) }
@@ -20,14 +20,14 @@ pub fn split_at(text: &[u8], mark: u8) -> Result<(&[u8], &[u8]), NoLine>
     Err(NoLine)
 }
 
-/// What precedes the first space, and what follows it; `NoLine` where there is none. Takes no memory.
+/// The text before the first space, and the text after it; `NoLine` if none. Takes no memory.
 pub fn split(text: &[u8]) -> Result<(&[u8], &[u8]), NoLine>
     ensures { MatchResult result (λ parts. cut text.now ≡ Some (parts.0.now, parts.1.now)) (λ _. cut text.now ≡ None) }
 {
     split_at(text, b' ')
 }
 
-// The number that at most 19 digits spell; it always fits into 64 bits.
+// The value of at most 19 decimal digits; it always fits into 64 bits. `None`: not all are digits.
 fn short_decimal(word: &[u8]) -> Option<u64>
     requires { length word.now ≤ 19 }
     ensures { result ≡ (if all_ascii_digits word.now && nat_lt (digits_value 10 word.now) (2 ^ 64) then Some (digits_value 10 word.now) else None) }
@@ -42,7 +42,7 @@ fn short_decimal(word: &[u8]) -> Option<u64>
     Some(number)
 }
 
-// The number that digits spell, where it fits into 64 bits.
+// The value of decimal digits. `None`: not all are digits, or the value is 2^64 or more.
 fn decimal(word: &[u8]) -> Option<u64>
     ensures { result ≡ (if all_ascii_digits word.now && nat_lt (digits_value 10 word.now) (2 ^ 64) then Some (digits_value 10 word.now) else None) }
 {
@@ -61,7 +61,7 @@ fn decimal(word: &[u8]) -> Option<u64>
     Some(number)
 }
 
-/// The number that a word spells in decimal digits without a leading zero.
+/// Reads a word as a number of 64 bits in decimal digits without a leading zero.
 pub fn number64(word: &[u8]) -> Result<u64, NoLine>
     ensures { result_ok result ≡ number_of 64 word.now }
 {
@@ -74,29 +74,29 @@ pub fn number64(word: &[u8]) -> Result<u64, NoLine>
     decimal(word).ok_or(NoLine)
 }
 
-/// As `number64`, of at most 32 bits.
+/// As `number64`, for 32 bits.
 pub fn number32(word: &[u8]) -> Result<u32, NoLine>
     ensures { result_ok result ≡ number_of 32 word.now }
 {
     u32::try_from(number64(word)?).ok().ok_or(NoLine)
 }
 
-/// As `number64`, of at most 16 bits.
+/// As `number64`, for 16 bits.
 pub fn number16(word: &[u8]) -> Result<u16, NoLine>
     ensures { result_ok result ≡ number_of 16 word.now }
 {
     u16::try_from(number64(word)?).ok().ok_or(NoLine)
 }
 
-/// As `number64`, of at most 8 bits.
+/// As `number64`, for 8 bits.
 pub fn number8(word: &[u8]) -> Result<u8, NoLine>
     ensures { result_ok result ≡ number_of 8 word.now }
 {
     u8::try_from(number64(word)?).ok().ok_or(NoLine)
 }
 
-// The number before the first space, and what follows the space, where the space is among the first 19 bytes. Each byte is read once, and
-// no sum is checked for overflow. `None` says nothing about the text.
+// The number before the first space, and the text after the space, if the space is among the first 19 bytes. Each byte is read once, and
+// the value needs no overflow check. `None` says nothing about the text.
 #[inline(always)]
 fn short_leading(text: &[u8]) -> Option<(u64, &[u8])>
     ensures { IfSome result (λ x. field (number_of 64) text.now ≡ Some (x.0, x.1.now)) }
@@ -130,7 +130,7 @@ fn any_leading(text: &[u8]) -> Result<(u64, &[u8]), NoLine>
     Ok((number64(word)?, rest))
 }
 
-/// The number that the word before the first space spells, as `number64` reads it, and what follows the space.
+/// The number before the first space, as `number64` reads it, and the text after the space.
 #[inline(always)]
 pub fn leading64(text: &[u8]) -> Result<(u64, &[u8]), NoLine>
     ensures { MatchResult result (λ x. field (number_of 64) text.now ≡ Some (x.0, x.1.now)) (λ _. field (number_of 64) text.now ≡ None) }
@@ -141,7 +141,7 @@ pub fn leading64(text: &[u8]) -> Result<(u64, &[u8]), NoLine>
     any_leading(text)
 }
 
-/// As `leading64`, of at most 32 bits.
+/// As `leading64`, for a number of 32 bits.
 #[inline(always)]
 pub fn leading32(text: &[u8]) -> Result<(u32, &[u8]), NoLine>
     ensures { MatchResult result (λ x. field (number_of 32) text.now ≡ Some (x.0, x.1.now)) (λ _. field (number_of 32) text.now ≡ None) }
@@ -153,7 +153,7 @@ pub fn leading32(text: &[u8]) -> Result<(u32, &[u8]), NoLine>
     }
 }
 
-/// The number that eight hex digits spell.
+/// Reads eight hex digits as a number of 32 bits.
 pub fn ssrc(word: &[u8]) -> Result<u32, NoLine>
     ensures { result_ok result ≡ ssrc_of word.now }
 {

@@ -45,7 +45,7 @@ later_words P whole limit old new history told told' before after end k none pre
     let start : words_of old.number old.seen ≡ [] = words_none reply_after (Refused NoMemory) [] old.number old.seen none in
     same ∙ (ap (λ (m : ℕ). words_of m new.seen) (sym n) ∙ (d.words ∙ ap (λ (l : List (Word Call Answer)). l ++ said_of d.steps) start))
 
--- and they were answered want of memory only where they may be
+-- and memory ran out only for calls that may find none
 pub later_memory : (P : Call → Type 0) (whole : Doing) (limit : ℕ) (old new : Known Call) (history : List (Entry Call)) (told told' : Option Traffic) (before after : ℕ) (end : SessionEnd)
     → Keeps P whole limit old new told told' before after end → own_of old.number old.seen ≡ [] → IsPrefix new.seen history → own_of old.number history ≡ new.own
     → StarveWhereTheyMay (Refused NoMemory) P (words_of old.number history)

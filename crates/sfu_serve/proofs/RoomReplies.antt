@@ -21,7 +21,7 @@ module _ (call : Call) (given : Reply) (bytes names : List ℕ) (told : is_starv
       let t = told (ap is_starved named) in
       named_rise t.0 track names (ap (λ (g : Reply). answer_of g bytes names) (sym named) ∙ (t.1 ∙ ap (reply_of t.0) asked)) some
 
-  -- the reply to a call after some history, unless it is want of memory; a packet that it gives can be sent
+  -- the reply to a call after some history, unless memory ran out; a packet that it returns can be sent
   pub room_replies : (given ≡ reply.Packet → IsSendable bytes) → IsReplyTo call given bytes names
   room_replies sendable = record {
     sendable = λ gave. wrapped bytes (sendable gave);

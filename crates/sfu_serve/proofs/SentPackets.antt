@@ -1,4 +1,4 @@
--- What sessions of subscribers send are the packets that their takes and resends gave, as they go out.
+-- What sessions of subscribers send are the packets that their takes and resends returned, as they go out.
 use Rattle.std.proofs.Common.{◌≡◌, ℕ, zero, suc, ◌+◌, ◌%◌, Bool, true, false, if◌then◌else◌, cond, ◌==◌, List, [], ◌∷◌, ◌++◌, refl, ap, sym, subst, ◌∙◌, append-nil, map, arith, Option}
 use Rattle.std.proofs.lemmas.List.{map-append}
 use Rattle.std.specs.Prelude.{None, Some}
@@ -194,7 +194,7 @@ module _ (way : Option Rtx) where
         (λ j. takes_owe j subscriber 32 (outgoing_deed subscriber ssrc way left (j % 65536)) (deed_owes j subscriber ssrc left)),
   )
 
-  -- What such a session sent is what its seat's takes and resends gave in the history, in order; where its last send failed, that
+  -- What such a session sent is what its seat's takes and resends returned in the history, in order; where its last send failed, that
   -- datagram is unsent.
   pub sent_datagrams : (subscriber ssrc limit number found : ℕ) (history : List (Entry Call)) (told told' : Option Traffic) (before after : ℕ) (end : SessionEnd)
       → (s : IsSession (outgoing_deed subscriber ssrc way limit 0) limit number found history told told' before after end)
@@ -252,7 +252,7 @@ unsent_bytes (Post (PliFor media) next) = refl
 unsent_bytes (Post (Wrapped rtx number packet) next) = refl
 unsent_bytes rest = refl
 
--- What a subscriber's session sent are the packets that its seat's takes and resends gave in the history, in order; where its last send
+-- What a subscriber's session sent are the packets that its seat's takes and resends returned in the history, in order; where its last send
 -- failed, that packet is unsent.
 pub sent_packets : (subscriber ssrc limit number found : ℕ) (history : List (Entry Call)) (told told' : Option Traffic) (before after : ℕ) (end : SessionEnd)
     → (s : IsSession (subscriber_deed subscriber ssrc limit) limit number found history told told' before after end) → packets_given (words_of number history) ≡ sent_of s.steps ++ unsent s.rest

@@ -64,7 +64,7 @@ module _ {C A : Type 0} where
       as_long (eqb e.seat n) (word_at reply starved before e) e (words_from reply starved (before ++ e ∷ []) n h) (own_of n h) (words_length reply starved (before ++ e ∷ []) n h)
 
 module _ {C A : Type 0} where
-  -- the words that a seat has more are those of the entries behind what it had seen
+  -- the words that a seat has more are those of the entries after what it had seen
   pub words_since : (reply : List (Entry C) → C → A) (starved : A) (n m : ℕ) (seen seen' added : List (Entry C)) (said : List (Word C A)) → n ≡ m → seen' ≡ seen ++ added
       → words_from reply starved [] n seen' ≡ words_from reply starved [] m seen ++ said → words_from reply starved seen n added ≡ said
   words_since reply starved n m seen seen' added said same goes_on more =

@@ -13,13 +13,13 @@ abbrev pub packet_of : Answer → List (List ℕ)
 packet_of (Sent bytes) = bytes ∷ []
 packet_of answer = []
 
--- the packet that a take or a resend gave, if it gave one
+-- the packet that a take or a resend returned, if it returned one
 abbrev pub packet_given : Call → Answer → List (List ℕ)
 packet_given (Take subscriber) answer = packet_of answer
 packet_given (Resend subscriber seq) answer = packet_of answer
 packet_given call answer = []
 
--- the packets that takes and resends gave, in order
+-- the packets that takes and resends returned, in order
 abbrev pub packets_given : List (Word Call Answer) → List (List ℕ)
 packets_given [] = []
 packets_given (word ∷ words) = packet_given word.call word.answer ++ packets_given words
@@ -31,18 +31,18 @@ unsent rest = []
 
 -- ---- the same as datagrams, where resent packets go out in a way of their own
 
--- the datagram of a packet that a take or a resend gave, if it gave one; so many resent packets were given before
+-- the datagram of a packet that a take or a resend returned, if any; this many resends returned one before
 abbrev pub datagram_given : Option Rtx → ℕ → Call → Answer → List Datagram
 datagram_given way before (Take subscriber) (Sent bytes) = Bytes bytes ∷ []
 datagram_given way before (Resend subscriber seq) (Sent bytes) = resent way (before % 65536) bytes ∷ []
 datagram_given way before call answer = []
 
--- how many resent packets were given then
+-- how many resends have then returned a packet
 abbrev pub resent_then : ℕ → Call → Answer → ℕ
 resent_then before (Resend subscriber seq) (Sent bytes) = before + 1
 resent_then before call answer = before
 
--- the datagrams of the packets that takes and resends gave, in order
+-- the datagrams of the packets that takes and resends returned, in order
 abbrev pub datagrams_given : Option Rtx → ℕ → List (Word Call Answer) → List Datagram
 datagrams_given way before [] = []
 datagrams_given way before (word ∷ words) =

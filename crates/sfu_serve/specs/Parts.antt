@@ -1,4 +1,4 @@
--- How far a session has come, and how it ends.
+-- How much of a session is done, and how it ends.
 use Rattle.std.specs.Prelude.{◌≡◌, ℕ, ◌+◌, ◌^◌, ◌<◌, ◌≤◌, List, Option}
 use Rattle.sfu_base.specs.Answer.{Answer, Refused}
 use Rattle.sfu_base.specs.Faults.{raised}
@@ -22,35 +22,35 @@ use Rattle.session_steps.specs.Sessions.{Doing}
 abbrev pub reply_after : List (Entry Call) → Call → Answer
 reply_after history call = reply_of (entries_of history) call
 
--- the calls of the seat n with their answers: those of the history before each, or want of memory where the entry found none
+-- the calls of the seat n with their answers: each by the history before it, or `NoMemory` if its entry says so
 abbrev pub words_of : ℕ → List (Entry Call) → List (Word Call Answer)
 words_of n history = words.words_of reply_after (Refused NoMemory) n history
 
--- the same of the entries that a history has behind `before`
+-- the same for the entries that a history has after `before`
 abbrev pub words_behind : ℕ → List (Entry Call) → List (Entry Call) → List (Word Call Answer)
 words_behind n before added = words.words_from reply_after (Refused NoMemory) before n added
 
--- Each subscriber was sent what it should be, by this history.
+-- This history sent each subscriber what it should.
 pub record HasHeadline (history : List (Entry Call)) : Type 0 where
   pub headline : Headline (accepted (entries_of history))
 
--- So much of a session is done that the rest is left, after so many receives; a seat and a link went from old to new. Want of memory was
--- answered only to calls that may find none.
+-- So much of a session is done that the rest is left, after this many receives; a seat and a link went from old to new. Only calls that
+-- may run out of memory did so.
 abbrev pub Done : (Call → Type 0) → Doing → Doing → Known Call → Known Call → Option Traffic → Option Traffic → ℕ → ℕ → ℕ → Type 0
 Done MayStarve whole rest old new told told' before after turns =
     IsDone reply_after (Refused NoMemory) MayStarve IsOne HasHeadline whole rest old new told told' before after turns
 
--- nothing was answered want of memory
+-- no call may run out of memory
 abbrev pub NoneMayStarve : Call → Type 0
 NoneMayStarve call = ⊥
 
--- Exactly one call failed: the count is one more, or stood at 2^64 - 1 and stays there.
+-- Exactly one call failed: the count is one more, or was 2^64 - 1 and stays there.
 pub record FailedOnce (before after : ℕ) : Type 0 where
   pub never_falls : before ≤ after
   pub counts : after ≡ raised before
 
--- How a session of `limit` turns ends, by where it stands then and after how many receives. `AllTurns`: it is over, that was after `limit`
--- receives, and no call on its link failed. `LinkFault`: in this turn its receive failed, or a send, and no other call did. `Worn`: a call
+-- How a session of `limit` turns ends, by what is left then and after how many receives. `AllTurns`: it is over after `limit` receives,
+-- and no call on its link failed. `LinkFault`: in this turn its receive failed, or a send, and no other call did. `Worn`: a call
 -- wasn't made, and the seat found all tickets drawn; no call on its link failed.
 abbrev pub MeetsEnd : ℕ → ℕ → ℕ → ℕ → Doing → ℕ → SessionEnd → Type 0
 MeetsEnd before after found limit Over turns AllTurns = (after ≡ before) × (turns ≡ limit)
@@ -59,7 +59,7 @@ MeetsEnd before after found limit (Post what next) turns (LinkFault turn) = Fail
 MeetsEnd before after found limit (Ask call f) turns Worn = (after ≡ before) × (found ≡ 2 ^ 63) × (turns ≤ limit)
 MeetsEnd before after found limit rest turns end = ⊥
 
--- What a session of `limit` turns makes of its seat and its link. Nothing of what is done failed: the first call on the link that fails ends it.
+-- What a session of `limit` turns makes of its seat and its link. No call on the link failed before the one, if any, that ended the session.
 pub record Keeps (MayStarve : Call → Type 0) (whole : Doing) (limit : ℕ) (old new : Known Call) (told told' : Option Traffic)
     (before after : ℕ) (end : SessionEnd) : Type 0 where
   pub rest : Doing

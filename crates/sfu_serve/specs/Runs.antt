@@ -1,4 +1,4 @@
--- What sessions that ran at once did together.
+-- What concurrent sessions did together.
 use Rattle.std.specs.Prelude.{◌≡◌, ◌≢◌, IsTrue, ℕ, ◌+◌, ◌*◌, ◌<◌, ◌≤◌, List, [], ◌∷◌, ◌++◌, length, Option, None}
 use Rattle.sfu_base.specs.Links.{Traffic, with_more}
 use Rattle.sfu_base.specs.Answer.{Answer}
@@ -15,14 +15,14 @@ use Rattle.session_steps.specs.Datagrams.{IsOne}
 use Rattle.session_steps.specs.Sessions.{Doing, publisher_deed, subscriber_deed, rtx_deed, control_deed}
 use Rattle.sfu_serve.specs.Parts.{MeetsEnd, words_of}
 
--- what a session of this role does in so many turns
+-- what a session of this role does in this many turns
 abbrev pub deed_of : Role → ℕ → Doing
 deed_of (Publisher track ssrc) limit = publisher_deed track ssrc limit None None
 deed_of (Subscriber subscriber ssrc) limit = subscriber_deed subscriber ssrc limit
 deed_of Control limit = control_deed limit
 deed_of (Rtx subscriber ssrc rtx) limit = rtx_deed subscriber ssrc rtx limit
 
--- A session of this role can be: a stream of resent packets has an SSRC of its own, and a payload type of seven bits.
+-- A session of this role is possible: a retransmission stream has its own SSRC and a payload type of seven bits.
 abbrev pub CanBe : Role → Type 0
 CanBe (Rtx subscriber ssrc rtx) = (rtx.ssrc ≢ ssrc) × (rtx.payload_type < 128)
 CanBe role = Unit {0}
@@ -34,16 +34,16 @@ pub record IsSession (whole : Doing) (limit number found : ℕ) (history : List 
   pub steps : List (Step Call Answer)
   pub rest : Doing
   pub leads : Leads IsOne whole steps rest
-  -- the seat's entries are the calls of the steps, with the answers that the history gives them
+  -- the seat's entries are the calls of the steps, with their answers in the history
   pub words : words_of number history ≡ said_of steps
-  -- the link tells the receives and the datagrams of the steps more
+  -- the link also reports the receives and the datagrams of the steps
   pub link : told' ≡ with_more (received_of steps) (sent_of steps) told
   pub short : AllFitBuffers (received_of steps)
   -- at most 10,000 calls a turn: feedback of 2,048 bytes has at most 8,704 items, and at most 32 takes follow
   pub most : length (said_of steps) ≤ 10000 * limit
   pub ends : MeetsEnd before after found limit rest (length (received_of steps)) end
 
--- a job before its session: its role, what its link tells and the link's count of faults
+-- a job before its session: its role, what its link reports and the link's count of faults
 pub record Before : Type 0 where
   pub role : Role
   pub told : Option Traffic
@@ -61,7 +61,7 @@ job_before role told faults = record { role = role; told = told; faults = faults
 abbrev pub job_after : SessionEnd → Option Traffic → ℕ → After
 job_after end told faults = record { end = end; told = told; faults = faults }
 
--- each job and its end have a session; the first is that of the seat with this number, and each other that of the next one
+-- each job and its end have a session: the first has the seat with this number, and each other the next one
 abbrev pub AreSessions : ℕ → ℕ → List (Entry Call) → ℕ → List Before → List After → Type 0
 AreSessions limit found history number [] [] = Unit {0}
 AreSessions limit found history number (job ∷ jobs) (ended ∷ others) =
@@ -69,25 +69,25 @@ AreSessions limit found history number (job ∷ jobs) (ended ∷ others) =
     × AreSessions limit found history (number + 1) jobs others
 AreSessions limit found history number _ _ = ⊥
 
--- entries found no memory only where their calls may
+-- only entries whose calls may run out of memory did so
 abbrev pub AllMayStarve : (Call → Type 0) → List (Entry Call) → Type 0
 AllMayStarve MayStarve [] = Unit {0}
 AllMayStarve MayStarve (e ∷ es) = (IsTrue e.starved → MayStarve e.call) × AllMayStarve MayStarve es
 
--- The first seat has seen more of the history: entries of the jobs' seats alone, in which each job's session stands.
+-- The first seat has seen more of the history: only entries of the jobs' seats, which include each job's session.
 pub record HaveRun (MayStarve : Call → Type 0) (limit : ℕ) (old new : Known Call) (jobs : List Before) (ends : List After) : Type 0 where
   pub kept : (new.lock ≡ old.lock) × (new.first ≡ old.first) × (new.number ≡ 0)
-  -- the first seat and one of each job were made, and no draw is forgotten
+  -- the first seat and one seat for each job were made, and the greatest number found never falls
   pub count : new.count ≡ length jobs + 1
   pub found : old.found ≤ new.found
   pub fits : Fits new
-  -- each seat that was made is joined, so that the lock can be closed
+  -- each other seat was joined into the first one, so the lock can be closed
   pub came : AllJoinedIn new
   pub added : List (Entry Call)
   pub seen : new.seen ≡ old.seen ++ added
   pub no_other : own_of 0 added ≡ []
   pub below : AllBelow (length jobs + 1) added
-  -- want of memory came only to calls that may find none
+  -- only calls that may run out of memory did so
   pub memory : AllMayStarve MayStarve added
   pub few : length added ≤ length jobs * (10000 * limit)
   pub each : AreSessions limit new.found new.seen 1 jobs ends

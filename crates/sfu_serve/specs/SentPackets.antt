@@ -12,34 +12,34 @@ use Rattle.sfu_serve.specs.Parts.{Keeps, words_behind, words_of}
 use Rattle.sfu_serve.specs.Runs.{IsSession}
 use Rattle.sfu_serve.specs.Packets.{AreSent, datagrams_given, packets_given, unsent, unsent_datagram}
 
--- The packets that the takes and resends of the seat gave in the history are those that the session sent, in order, and the one that it was
--- to send next, where its last send failed.
+-- The session sent, in order, the packets that the takes and resends of its seat returned in the history. If its last send failed, that
+-- packet is not among them.
 abbrev pub SubscribersSendWhatTheyWereGiven : Type 0
 SubscribersSendWhatTheyWereGiven = (subscriber ssrc limit number found : ℕ) (history : List (Entry Call)) (told told' : Option Traffic)
     (before after : ℕ) (end : SessionEnd)
     → (s : IsSession (subscriber_deed subscriber ssrc limit) limit number found history told told' before after end)
     → packets_given (words_of number history) ≡ sent_of s.steps ++ unsent s.rest
 
--- Where resent packets go out on a stream of their own: each packet that a take gave was sent as it is, and the packet of the i-th resend
--- that gave one, counted from 0, as it is resent there with the number i modulo 65,536; in order, but for the one that it was to send
--- next, where its last send failed.
+-- With a retransmission stream: the session sent each packet of a take unchanged, and the packet of the i-th resend that returned one,
+-- counted from 0, as a retransmission with the number i modulo 65,536 on that stream; all in order. If its last send failed, that
+-- datagram is not among them.
 abbrev pub RtxSessionsSendWhatTheyWereGiven : Type 0
 RtxSessionsSendWhatTheyWereGiven = (subscriber ssrc : ℕ) (rtx : Rtx) (limit number found : ℕ) (history : List (Entry Call))
     (told told' : Option Traffic) (before after : ℕ) (end : SessionEnd)
     → (s : IsSession (rtx_deed subscriber ssrc rtx limit) limit number found history told told' before after end)
     → AreSent (sent_of s.steps) (datagrams_given (Some rtx) 0 (words_of number history)) (unsent_datagram s.rest)
 
--- The same of what a session keeps of its seat and its link (`Keeps`), whatever the seat did before. `added` are the entries that the seat has
--- seen since the session began: each packet that a take gave in them was sent as it is, and the packet of the i-th resend that gave one,
--- counted from 0, as it is resent with the number i modulo 65,536; in order, but for the datagram that it was to send next, where its last
--- send failed.
+-- The same for what a session leaves in its seat and link (`Keeps`), whatever the seat did before. `added` are the entries that the seat has
+-- seen since the session began. The session sent each packet that a take returned in them unchanged, and the packet of the i-th resend that
+-- returned one, counted from 0, as a retransmission with the number i modulo 65,536; all in order. If its last send failed, the datagram of
+-- that send is not among them.
 abbrev pub SendsWhatItWasGiven : (Call → Type 0) → ℕ → ℕ → Rtx → ℕ → Known Call → Known Call → Option Traffic → Option Traffic → ℕ → ℕ → SessionEnd → Type 0
 SendsWhatItWasGiven MayStarve subscriber ssrc rtx limit old new told told' before after end =
     (k : Keeps MayStarve (rtx_deed subscriber ssrc rtx limit) limit old new told told' before after end) (added : List (Entry Call))
     → new.seen ≡ old.seen ++ added
     → AreSent (sent_of k.done.steps) (datagrams_given (Some rtx) 0 (words_behind new.number old.seen added)) (unsent_datagram k.rest)
 
--- So it is of each such session, whatever calls may find no memory.
+-- This is true of each such session, whichever calls may run out of memory.
 abbrev pub RtxSeatsSendWhatTheyWereGiven : (Call → Type 0) → Type 0
 RtxSeatsSendWhatTheyWereGiven MayStarve = (subscriber ssrc : ℕ) (rtx : Rtx) (limit : ℕ) (old new : Known Call) (told told' : Option Traffic)
     (before after : ℕ) (end : SessionEnd) → SendsWhatItWasGiven MayStarve subscriber ssrc rtx limit old new told told' before after end

@@ -1,14 +1,14 @@
--- The calls of a seat with their answers, in the history of a lock. Own rule. The code keeps neither.
+-- The calls of a seat with their answers, in the history of a lock. Own rule. The code has neither.
 use Rattle.std.specs.Prelude.{ℕ, ◌==◌, if◌then◌else◌, List, [], ◌∷◌, ◌++◌}
 use Rattle.turn_lock.specs.declared.history.Entry.{Entry}
 use Rattle.session_steps.specs.Deeds.{Word}
 
 module _ {C A : Type 0} where
-  -- the call of an entry, and what it was answered after a history
+  -- the call of an entry, and its answer after a history
   abbrev pub word_at : (List (Entry C) → C → A) → A → List (Entry C) → Entry C → Word C A
   word_at reply starved history e = record { call = e.call; answer = if e.starved then starved else reply history e.call }
 
-  -- the calls of the seat n with their answers, in a history that goes on from `before`
+  -- the calls of the seat n with their answers, in the entries that follow `before`
   abbrev pub words_from : (List (Entry C) → C → A) → A → List (Entry C) → ℕ → List (Entry C) → List (Word C A)
   words_from reply starved before n [] = []
   words_from reply starved before n (e ∷ es) =

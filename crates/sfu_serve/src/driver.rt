@@ -1,4 +1,4 @@
-// The loop that runs a session: its calls on the room, its link and the clock.
+// The loop that runs a session on the room, with the session's link and the clock.
 ghost use Rattle.std.specs.Prelude.{◌≡◌, ℕ, ◌≤◌, [], ◌∷◌, length, IfOk, IfErr};
 ghost use Rattle.sfu_base.specs.Faults.{HasCause};
 ghost use Rattle.sfu_base.specs.Links.{datagram, with_more};
@@ -17,14 +17,14 @@ use sfu_base::{Clock, Failed, Link, PacketBuf, Scratch};
 use std::sync::Wait;
 use turn_lock::{Seat, Turns};
 
-/// What the sessions of a run share.
+/// What all sessions of a run share.
 #[derive(Drop)]
 pub struct Stage<'a, R: Recorder, C, W> {
     pub rt: &'a W,
-    /// The lock with the room.
+    /// The lock around the room.
     pub turns: &'a Turns<SharedRoom<R>>,
     pub clock: &'a C,
-    /// How many turns each session makes, unless it ends early.
+    /// The number of turns of each session, unless the session ends early.
     pub limit: u64,
 }
 
@@ -47,7 +47,7 @@ impl<'a, R: Recorder, C, W> Stage<'a, R, C, W> {
     }
 }
 
-/// Receives a datagram, and then asks the clock. Each turn of a session is one receive and one moment, whether the session uses the moment or not
+/// Receives a datagram, and then reads the clock. Each turn of a session is one receive and one reading, whether the session uses it or not
 /// (own rule). Returns whether a datagram came, and the moment.
 fn listen<L: Link, C: Clock>(
     link: &mut L,
@@ -65,7 +65,7 @@ fn listen<L: Link, C: Clock>(
     Ok((came?, clock.now()))
 }
 
-/// Sends the output of a step, if there is one.
+/// Sends the datagram that a step returned, if any.
 fn send_output<L: Link>(link: &mut L, output: Output, packet: &PacketBuf) -> Result<(), Failed>
     ensures sent { IfOk result (λ sent. (whole rest : Doing) (seat : Known CallData) → Fits seat → GoesOn whole rest packet.now output
         → Done NoneMayStarve whole rest seat seat (L.told link.old) (L.told link.new) (L.faults link.old) (L.faults link.new) 0) }
@@ -78,8 +78,8 @@ fn send_output<L: Link>(link: &mut L, output: Output, packet: &PacketBuf) -> Res
     }
 }
 
-/// Runs a session that waits for a datagram, for `stage.limit` turns: each is a receive, a look at the clock, and the calls and datagrams that
-/// follow. Ends early where a call on the link failed or the lock is worn (own rule).
+/// Runs a session that waits for a datagram, for `stage.limit` turns. Each turn is a receive, a reading of the clock, and the calls and
+/// datagrams that follow. Ends early if a call on the link failed or all tickets of the lock are drawn (own rule).
 pub fn run_session<R: Recorder, S: Session, L: Link, C: Clock, W: Wait + Sync>(
     stage: &Stage<'_, R, C, W>,
     seat: &mut Seat<SharedRoom<R>>,

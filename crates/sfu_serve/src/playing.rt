@@ -1,4 +1,4 @@
-// Jobs that are played at the same time, each on a seat of its own.
+// Jobs that run at the same time, each with its own seat.
 ghost use Rattle.std.specs.Prelude.{◌≡◌, ◌++◌, ◌∷◌, [], ◌≤◌, ◌<◌, ◌+◌, IfOk, OnOk, length, map};
 ghost use Rattle.std.specs.List.{All};
 ghost use Rattle.turn_lock.specs.Known.{Fits};
@@ -20,14 +20,14 @@ use std::thread;
 use std::thread::Threads;
 use turn_lock::{Seat, Turns};
 
-/// A job with its seat.
+/// A job and its seat.
 #[derive(Drop)]
 pub struct Seated<R: Recorder, L> {
     pub seat: Seat<SharedRoom<R>>,
     pub job: Job<L>,
 }
 
-/// The seat and the link of a job whose session has ended, and how that session ended.
+/// The seat and the link of a job whose session has ended, and how the session ended.
 #[derive(Drop)]
 pub struct Played<R: Recorder, L> {
     pub seat: Seat<SharedRoom<R>>,
@@ -110,7 +110,7 @@ fn session<R: Recorder, L: Link, C: Clock, W: Wait + Sync>(
     }
 }
 
-/// Runs a job's session, with a scratch of its own.
+/// Runs a job's session, with its own scratch.
 fn perform<R: Recorder, L: Link, C: Clock, W: Wait + Sync>(
     stage: &Stage<'_, R, C, W>,
     seated: Seated<R, L>,
@@ -131,7 +131,7 @@ fn perform<R: Recorder, L: Link, C: Clock, W: Wait + Sync>(
     Played { seat, end, link }
 }
 
-/// Runs the jobs' sessions at the same time, each on a thread of its own.
+/// Runs the jobs' sessions at the same time, each on its own thread.
 pub fn play<R: Recorder + Send, L: Link + Send + Drop, C: Clock + Sync, W: Threads + Wait + Sync>(
     rt: &W,
     turns: &Turns<SharedRoom<R>>,

@@ -50,7 +50,7 @@ module _ {S C : Type 0} (stands : S → List (Entry C) → Type 0) (first : ℕ)
   seats_stay P vs me w mine others j v e = ⊎_elim (λ (t : (j ≡ me) × (w ≡ v)). subst (λ (x : ℕ × V). P x.0 x.1) (λ i. (sym t.0 i, t.1 i)) mine)
       (λ (t : (j ≢ me) × (get_elem? vs j ≡ some v)). others j v t.0 t.1) (at_set vs me j w v e)
 
-  -- a live seat's view stands under its number
+  -- a live seat's view is at the place of its number
   numbered : (s : St) (r : Rule s) (j : ℕ) (v : V) → get_elem? s.views j ≡ some v → IsLive v.stage → v.number ≡ j
   numbered s r j v at alive = let k = r.live j v at alive in k.number
 
@@ -74,7 +74,7 @@ module _ {S C : Type 0} (stands : S → List (Entry C) → Type 0) (first : ℕ)
       → (u : V) → get_elem? s.views 0 ≡ some u → AllJoined log' u.joined
   grown s r id v log' es grow at alive mine u e = joined_also r.log log' u.joined (λ i x f pos own. ap (own_of x.number) grow ∙ own_same x.number r.log es x.own own (mine x.number (apart s r id v at alive u i x e f))) (r.joined u e)
 
-  -- A live seat moves from the view v to the view w, and the entries es of its own join the history
+  -- A live seat moves from the view v to the view w, and its own entries es are appended to the history
   moves : (s : St) (r : Rule s) (ws : List ℕ) (hs : List (Maybe (Option S))) (id : ℕ) (v w : V) (log' es : List (Entry C)) (queue : List ℕ) (slot : Maybe (Option S))
       → get_elem? s.views id ≡ some v → IsLive v.stage → IsLive w.stage
       → log' ≡ r.log ++ es → w.number ≡ v.number → w.joined ≡ v.joined
@@ -128,14 +128,14 @@ module _ {S C : Type 0} (stands : S → List (Entry C) → Type 0) (first : ℕ)
         (λ (t : (0 ≢ id) × (get_elem? s.views 0 ≡ some u)). spent_still s r id v w at alive u i x t.1 f) (at_set s.views id 0 w u e);
   }
 
-  -- the slot stays as it is, where the seat that moves does not hold the value
+  -- the slot is unchanged if the seat that moves doesn't have the value
   home_stays : (vs : List V) (serve : ℕ) (log : List (Entry C)) (id : ℕ) (v w : V) (slot : Maybe (Option S)) → get_elem? vs id ≡ some v → ¬ (v.stage ≡ Holding serve)
       → AtHome stands serve log vs slot → AtHome stands serve log (set vs id w) slot
   home_stays vs serve log id v w none at free h =
       (h.0, h.1, set_else vs id h.0 w (λ e. free (ap (λ (z : V). z.stage) (some-injective v h.1 (sym at ∙ (ap (λ (n : ℕ). get_elem? vs n) (sym e) ∙ h.2))) ∙ h.3)) ∙ h.2, h.3)
   home_stays vs serve log id v w (some y) at free h = h
 
-  -- some live seat has seen all, also where one moves to a view that has seen as much
+  -- some live seat has seen everything, also after one moves to a view that has seen as much
   whole_stays : (vs : List V) (log : List (Entry C)) (id : ℕ) (v w : V) → get_elem? vs id ≡ some v → IsLive w.stage → w.seen ≡ v.seen
       → ((j : ℕ) × (u : V) × (get_elem? vs j ≡ some u) × IsLive u.stage × (u.seen ≡ log))
       → ((j : ℕ) × (u : V) × (get_elem? (set vs id w) j ≡ some u) × IsLive u.stage × (u.seen ≡ log))
@@ -143,7 +143,7 @@ module _ {S C : Type 0} (stands : S → List (Entry C) → Type 0) (first : ℕ)
       (λ e. (id, w, set_here vs id w (within vs id v at), alive, same ∙ (ap (λ (z : V). z.seen) (some-injective v h.1 (sym at ∙ (ap (λ (n : ℕ). get_elem? vs n) (sym e) ∙ h.2))) ∙ h.4)))
       (λ ne. (h.0, h.1, set_else vs id h.0 w ne ∙ h.2, h.3, h.4))
 
-  -- a step that leaves the queue, the history and the stage as they are
+  -- a step that doesn't change the queue, the history and the stage
   quiet : (s : St) (r : Rule s) (id : ℕ) (v w : V) → get_elem? s.views id ≡ some v → IsLive v.stage → w.stage ≡ v.stage → w.number ≡ v.number → w.joined ≡ v.joined → w.seen ≡ v.seen → ¬ (v.stage ≡ Holding (first + length r.log))
       → Knows first r.log r.queue (length s.views) id w
       → Rule record { words = s.words; homes = s.homes; views = set s.views id w }
@@ -163,7 +163,7 @@ module _ {S C : Type 0} (stands : S → List (Entry C) → Type 0) (first : ℕ)
       (whole_stays s.views r.log id v w at alive' same r.whole)
       (λ e. subst (λ (x : List (Entry C) × List (Joined C)). AllJoined x.0 x.1) (λ i. (sym same i, sym joins i)) (r.joined_seen v (subst (λ (n : ℕ). get_elem? s.views n ≡ some v) e at)))
 
-  -- a longer queue has each seat where it was
+  -- each seat has the same place in a longer queue
   queues_on : (serve : ℕ) (log : List (Entry C)) (queue more : List ℕ) (j : ℕ) (seen : List (Entry C)) (st : Stage) → Queues serve log queue j seen st → Queues serve log (queue ++ more) j seen st
   queues_on serve log queue more j seen Idle q = tt
   queues_on serve log queue more j seen (Waiting t) q = (q.0, at_longer queue more (t - serve) j q.1)
@@ -234,12 +234,12 @@ module _ {S C : Type 0} (stands : S → List (Entry C) → Type 0) (first : ℕ)
         (omega arith, (λ e. absurd (miss e)), λ _. refl),
       ))
 
-  -- the value is at home where no seat holds it
+  -- the value is in the slot if no seat has it
   at_home : (serve : ℕ) (log : List (Entry C)) (vs : List V) (slot : Maybe (Option S)) → AtHome stands serve log vs slot → ((j : ℕ) (u : V) → get_elem? vs j ≡ some u → ¬ (u.stage ≡ Holding serve)) → (x : S) × (slot ≡ some (Some x)) × stands x log
   at_home serve log vs none h nobody = absurd (nobody h.0 h.1 h.2 h.3)
   at_home serve log vs (some y) h nobody = (h.0, ap some h.1, h.2)
 
-  -- two views in one place are one
+  -- two views at one place are the same
   one_view : (vs : List V) (i j : ℕ) (u v : V) → get_elem? vs i ≡ some u → get_elem? vs j ≡ some v → i ≡ j → u ≡ v
   one_view vs i j u v p q e = some-injective u v (sym p ∙ (ap (λ (n : ℕ). get_elem? vs n) e ∙ q))
 
@@ -333,7 +333,7 @@ module _ {S C : Type 0} (stands : S → List (Entry C) → Type 0) (first : ℕ)
         (refl, sound_of s r id v v at alive refl refl refl k.own_seen k.seen refl (λ z. r.joined_seen v (at_root s r id v at alive z)), (r.log, k.seen, k.beside)),
       )
 
-  -- where the front of the queue is served, each other seat is one place nearer
+  -- after the front of the queue was served, each other seat is one place nearer
   queues_shift : (serve next : ℕ) (log log' : List (Entry C)) (queue : List ℕ) (id j : ℕ) (seen : List (Entry C)) → next ≡ serve + 1 → get_elem? queue 0 ≡ some id → j ≢ id → (st : Stage) → Queues serve log queue j seen st → Queues next log' (drop 1 queue) j seen st
   queues_shift serve next log log' queue id j seen up front ne Idle q = tt
   queues_shift serve next log log' queue id j seen up front ne (Waiting t) q =
@@ -483,7 +483,7 @@ module _ {S C : Type 0} (stands : S → List (Entry C) → Type 0) (first : ℕ)
   longer_both true xs ys zs e p q = let le : length xs < length ys = ltb-true _ _ e in (prefix_shorter xs ys zs p q (omega arith), prefix_self ys)
   longer_both false xs ys zs e p q = let le : length ys ≤ length xs = ltb-false _ _ e in (prefix_self xs, prefix_shorter ys xs zs q p le)
 
-  -- a beginning that begins with all is all
+  -- a prefix that begins with all is all
   longest : (xs ys zs : List (Entry C)) → IsPrefix xs ys → IsPrefix ys zs → xs ≡ zs → ys ≡ zs
   longest xs ys zs p q e = prefix_whole ys zs q (let le : length xs ≤ length ys = prefix_length xs ys p in omega (arith, ap length e))
 
@@ -585,7 +585,7 @@ module _ {S C : Type 0} (stands : S → List (Entry C) → Type 0) (first : ℕ)
     gone = λ u i x e f. absurd (some-ne-none x (sym (ap (λ (z : V). get_elem? z.joined i) (some-injective (first_seat first) u e) ∙ f)));
   }
 
-  -- where each other seat was joined, the value is at home and stands for what the first seat has seen
+  -- if each other seat was joined, the value is in the slot and represents what the first seat has seen
   pub closes : (id : ℕ) (v : V) (ws : List ℕ) (xs : List (Option S)) → v.number ≡ 0 → v.stage ≡ Idle → ((n : ℕ) → 0 < n → n < v.count → (i : ℕ) × (x : Joined C) × (get_elem? v.joined i ≡ some x) × (x.number ≡ n))
       → Final (Seen Rule id v) ws xs → (x : S) × (get_elem? xs 0 ≡ some (Some x)) × stands x v.seen × (v.found ≤ v.base + length v.seen)
   closes id v ws xs first_one idle all end =

@@ -8,7 +8,7 @@ first_or [] = None
 first_or (x ∷ xs) = x.1
 
 module _ {S C : Type 0} where
-  -- the value that comes out is the one that was held, and at the end the slot has the value that was put there
+  -- the value taken out is the one that the seat had, and at the end the slot has the value that was put there
   pub moved : (v : View C) (l : List (ℕ × Option S)) (x y z : S) (r : Option S) (m n : Me (Option S) (View C)) → l ≡ (0, Some x) ∷ [] → l ≡ (0, r) ∷ rest l → r ≡ Some y → m ≡ (v, (0, None) ∷ rest l) → n ≡ (m.0, (0, Some z) ∷ rest m.1)
       → (x ≡ y) × (n ≡ (v, (0, Some z) ∷ []))
   moved v l x y z r m n held took is e f =

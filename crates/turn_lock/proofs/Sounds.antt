@@ -40,12 +40,12 @@ module _ {C : Type 0} where
   both true xs ys h e p q = let le : length xs < length ys = ltb-true _ _ e in (prefix_shorter xs ys h q p (omega arith), prefix_self ys)
   both false xs ys h e p q = let le : length ys ≤ length xs = ltb-false _ _ e in (prefix_self xs, prefix_shorter ys xs h q p le)
 
-  -- what two seats had seen begins what the first has seen once they are joined
+  -- what each of two seats had seen is a prefix of what the first has seen after the join
   pub both_begin : (v w u : View C) → u ≡ joining v w → ((h : List (Entry C)) × IsPrefix u.seen h × IsPrefix u.beside h) → IsPrefix v.seen u.seen × IsPrefix w.seen u.seen
   both_begin v w u e t = let s = subst (λ (z : View C). (h : List (Entry C)) × IsPrefix z.seen h × IsPrefix z.beside h) e t in
       subst (λ (z : View C). IsPrefix v.seen z.seen × IsPrefix w.seen z.seen) (sym e) (both (ltb (length v.seen) (length w.seen)) v.seen w.seen s.0 refl s.1 s.2)
 
-  -- what the invariant of a seat tells those who see it as a value
+  -- what the invariant of a seat shows about its value in contracts
   pub fits : (z : TableId) (v : View C) → Sound v → Fits (known z v)
   fits z v s = record { own = s.own; found = s.found; below = s.below; joined = s.joined }
 

@@ -6,7 +6,7 @@ use Rattle.turn_lock.specs.declared.history.Entry.{Entry}
 use Rattle.turn_lock.specs.declared.history.Joined.{Joined}
 
 module _ {C : Type 0} where
-  -- the entry of a call by the seat with this number, with the mark whether it found no memory
+  -- the entry of a call by the seat with this number, marked if memory ran out
   abbrev pub entry : ℕ → C → Bool → Entry C
   entry seat call starved = record { seat = seat; call = call; starved = starved }
 
@@ -15,11 +15,11 @@ module _ {C : Type 0} where
   own_of n [] = []
   own_of n (e ∷ es) = cond (e.seat == n) (e ∷ own_of n es) (own_of n es)
 
-  -- each entry is of a seat with a number below n
+  -- each entry belongs to a seat with a number below n
   abbrev pub AllBelow : ℕ → List (Entry C) → Type 0
   AllBelow n [] = Unit {0}
   AllBelow n (e ∷ es) = (e.seat < n) × AllBelow n es
 
-  -- each joined seat has a number above 0, and its list is that of its entries in h
+  -- each joined seat has a number above 0 and the list of its entries in h
   abbrev pub AllJoined : List (Entry C) → List (Joined C) → Type 0
   AllJoined h xs = (i : ℕ) (x : Joined C) → get_elem? xs i ≡ some x → (0 < x.number) × (own_of x.number h ≡ x.own)

@@ -1,8 +1,8 @@
--- The rule of the lock, which holds between any two steps, and what each kind of step tells.
+-- The rule of the lock, which holds between any two steps, and what each kind of step shows.
 --
--- Word 0 is the next ticket, word 1 the ticket that is served, and the only slot has the value. A seat's number is its place in the table's
--- list of views. The log is the history. The seats in the queue have the tickets from the served one on, in order, so the front seat alone
--- may have the value. While no seat has it, it is in the slot and stands for the log.
+-- Word 0 is the next ticket, word 1 the ticket being served, and the only slot has the value. A seat's number is its place in the table's
+-- list of views. The log is the history. The seats in the queue have the tickets from the served one on, in order, so only the front seat
+-- may have the value. While no seat has it, the value is in the slot and represents the log.
 use Rattle.std.specs.Prelude.{◌≡◌, ◌≢◌, ℕ, ◌+◌, ◌-◌, ◌^◌, ◌≤◌, max, List, [], ◌∷◌, length, Some}
 use mathlib.Core.Option.{Option, none, some}
 use mathlib.Core.List.{IsPrefix}
@@ -22,14 +22,14 @@ abbrev Sat : Type 0 → Type 0 → Type 0
 Sat S C = Me (Opt S) (View C)
 
 module _ {C : Type 0} where
-  -- the ticket, if any, is in its place in the queue, and who holds the value has seen all
+  -- a ticket is in its place in the queue, and the seat with the value has seen the whole log
   abbrev pub Queues : ℕ → List (Entry C) → List ℕ → ℕ → List (Entry C) → Stage → Type 0
   Queues serve log queue j seen Idle = Unit {0}
   Queues serve log queue j seen (Waiting t) = (serve ≤ t) × (get_elem? queue (t - serve) ≡ some j)
   Queues serve log queue j seen (Holding t) = (t ≡ serve) × (get_elem? queue 0 ≡ some j) × (seen ≡ log)
   Queues serve log queue j seen Spent = ⊥
 
-  -- what is true of a live seat
+  -- what is known of a live seat
   pub record Knows (first : ℕ) (log : List (Entry C)) (queue : List ℕ) (seats : ℕ) (j : ℕ) (v : View C) : Type 0 where
     pub base : v.base ≡ first
     pub number : v.number ≡ j
@@ -42,7 +42,7 @@ module _ {C : Type 0} where
     pub queued : Queues (first + length log) log queue j v.seen v.stage
 
 module _ {S C : Type 0} where
-  -- the only slot is at home with a value that stands for the history, or out with the seat whose turn it is
+  -- the only slot has a value that represents the history, or the seat whose turn it is has the slot
   abbrev pub AtHome : (S → List (Entry C) → Type 0) → ℕ → List (Entry C) → List (View C) → Option (Opt S) → Type 0
   AtHome stands serve log views none = (j : ℕ) × (v : View C) × (get_elem? views j ≡ some v) × (v.stage ≡ Holding serve)
   AtHome stands serve log views (some y) = (x : S) × (y ≡ Some x) × stands x log
@@ -52,33 +52,33 @@ module _ {S C : Type 0} where
     pub log : List (Entry C)
     -- the numbers of the seats that have tickets, in the order of the tickets
     pub queue : List ℕ
-    -- what lies in the slot, where it is at home
+    -- the content of the slot, if no seat has the slot
     pub slot : Option (Opt S)
     pub words : s.words ≡ (first + length log + length queue) ∷ (first + length log) ∷ []
-    -- at most 2^63 is drawn: a ticket lies below it
+    -- every ticket is below 2^63, so the next one is at most 2^63
     pub high : first + length log + length queue ≤ 2 ^ 63
     pub homes : s.homes ≡ slot ∷ []
     pub home : AtHome stands (first + length log) log s.views slot
     pub live : (j : ℕ) (v : View C) → get_elem? s.views j ≡ some v → IsLive v.stage → Knows first log queue (length s.views) j v
     pub queued : (i j : ℕ) → get_elem? queue i ≡ some j → (v : View C) × (get_elem? s.views j ≡ some v) × HasTicket (first + length log + i) v.stage
-    -- the seat that served last has seen all
+    -- some live seat, the last to serve, has seen the whole history
     pub whole : (j : ℕ) × (v : View C) × (get_elem? s.views j ≡ some v) × IsLive v.stage × (v.seen ≡ log)
-    -- each entry is of a seat that was made
+    -- each entry belongs to a seat that was made
     pub below : AllBelow (length s.views) log
-    -- the first seat stays
+    -- the first seat is never joined
     pub root : (v : View C) × (get_elem? s.views 0 ≡ some v) × IsLive v.stage
-    -- what the first seat kept of each joined seat is all that this seat has in the history, since a joined seat makes no turn
+    -- what the first seat keeps of each joined seat is all of this seat's entries, since a joined seat makes no turn
     pub joined : (v : View C) → get_elem? s.views 0 ≡ some v → AllJoined log v.joined
     pub joined_seen : (v : View C) → get_elem? s.views 0 ≡ some v → AllJoined v.seen v.joined
     pub gone : (v : View C) (i : ℕ) (x : Joined C) → get_elem? s.views 0 ≡ some v → get_elem? v.joined i ≡ some x → (w : View C)
         × (get_elem? s.views x.number ≡ some w) × (w.stage ≡ Spent)
 
-  -- the number found at a draw is known, and where it is the one that was expected the seat has it as its ticket
+  -- the draw's result is noted as found; if it is the expected ticket, the seat has this ticket
   abbrev pub drew : Step (Opt S) → Sat S C → ℕ → Sat S C → Type 0
   drew st m found m' = (max m.0.found found ≤ 2 ^ 63) × (found ≡ st.first → m' ≡ (drawing m.0 found (Waiting found), m.1))
       × (found ≢ st.first → m' ≡ (drawing m.0 found m.0.stage, m.1))
 
-  -- where the ticket is served, the seat sees the whole history and has the value that stands for it
+  -- a seat whose ticket is served sees the whole history and takes the value, which represents it
   abbrev pub looked : (S → List (Entry C) → Type 0) → Step (Opt S) → Sat S C → ℕ → Sat S C → Type 0
   looked stands st m found m' =
       (m.0.stage ≡ Waiting found → (h : List (Entry C)) × (x : S) × IsPrefix m.0.seen h × stands x h × (m.0.base + length h ≡ found)
@@ -88,19 +88,19 @@ module _ {S C : Type 0} where
   abbrev pub served : List (Entry C) → Step (Opt S) → Sat S C → ℕ → Sat S C → Type 0
   served es st m found m' = (m' ≡ (serving m.0 es, [])) × (found ≡ m.0.base + length m.0.seen)
 
-  -- what was seen, and what was seen beside it, begin one history
+  -- the list that was seen and the list seen beside it are prefixes of one history
   abbrev pub told : Step (Opt S) → Sat S C → ℕ → Sat S C → Type 0
   told st m found m' = (m' ≡ m) × Sound m.0 × ((h : List (Entry C)) × IsPrefix m.0.seen h × IsPrefix m.0.beside h)
 
-  -- the seat of the table has the same table and number
+  -- it is the same seat of the same table
   abbrev pub IsSame : Seat (Opt S) (View C) → Seat (Opt S) (View C) → Type 0
   IsSame p q = (q.table_id ≡ p.table_id) × (q.id ≡ p.id)
 
-  -- the seat rests
+  -- the seat isn't in a turn and has no value
   abbrev pub Rests : Seat (Opt S) (View C) → Type 0
   Rests p = (p.me.0.stage ≡ Idle) × (p.me.1 ≡ [])
 
-  -- the seat has a ticket
+  -- the seat has a ticket and no value
   abbrev pub Waits : Seat (Opt S) (View C) → ℕ → Seat (Opt S) (View C) → Type 0
   Waits p t q = IsSame p q × (q.me ≡ (finding p.me.0 q.me.0.found (Waiting t), [])) × (p.me.0.found ≤ q.me.0.found) × (t ≤ q.me.0.found)
 
@@ -108,6 +108,6 @@ module _ {S C : Type 0} where
   abbrev pub IsWorn : Seat (Opt S) (View C) → Seat (Opt S) (View C) → Type 0
   IsWorn p q = IsSame p q × (q.me ≡ (finding p.me.0 (2 ^ 63) Idle, [])) × (p.me.0.found ≤ 2 ^ 63)
 
-  -- the seat has the value, which stands for all that it now has seen
+  -- the seat has the value, which represents all that the seat has now seen
   abbrev pub Has : (S → List (Entry C) → Type 0) → ℕ → Seat (Opt S) (View C) → Type 0
   Has stands t p = (x : S) × (p.me.0.stage ≡ Holding t) × (p.me.1 ≡ (0, Some x) ∷ []) × stands x p.me.0.seen × (p.me.0.base + length p.me.0.seen ≡ t)

@@ -1,4 +1,4 @@
--- What a seat knows, and what each step makes of it.
+-- What a seat knows, and how each step changes it.
 use Rattle.std.specs.Prelude.{◌≡◌, ℕ, ◌+◌, ◌^◌, ◌<◌, ◌≤◌, ltb, cond, max, List, [], ◌∷◌, ◌++◌, length}
 use Rattle.atomic_table.specs.Seated.{TableId}
 use Rattle.turn_lock.specs.declared.history.Entry.{Entry}
@@ -22,11 +22,11 @@ IsLive (Holding u) = Unit {0}
 IsLive Spent = ⊥
 
 module _ {C : Type 0} where
-  -- what contracts see of it
+  -- what contracts see of a view
   abbrev pub known : TableId → View C → Known C
   known lock v = record { lock = lock; first = v.base; number = v.number; seen = v.seen; own = v.own; found = v.found; count = v.count; joined = v.joined }
 
-  -- what the seat has seen has its own entries and, of the first seat, those of the joined seats
+  -- the seen prefix has the seat's own entries; for the first seat, also those of the joined seats
   pub record Sound (v : View C) : Type 0 where
     pub own : own_of v.number v.seen ≡ v.own
     pub found : v.found ≤ 2 ^ 63
@@ -42,7 +42,7 @@ module _ {C : Type 0} where
   finding v f stage =
       record { base = v.base; number = v.number; seen = v.seen; own = v.own; found = f; count = v.count; joined = v.joined; beside = v.beside; stage = stage }
 
-  -- a draw found the number t
+  -- the view after a draw that found the number t
   abbrev pub drawing : View C → ℕ → Stage → View C
   drawing v t stage =
       record {
@@ -57,7 +57,7 @@ module _ {C : Type 0} where
         stage = stage;
       }
 
-  -- the entries es of its own are in the history
+  -- the view after the seat added the entries es of its own to the history
   abbrev pub serving : View C → List (Entry C) → View C
   serving v es = record {
     base = v.base;

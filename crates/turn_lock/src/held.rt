@@ -1,4 +1,4 @@
-//! What a lock may hold.
+//! What a lock may protect.
 ghost use Rattle.std.specs.Prelude.{ℕ, Bool, List, [], ◌∷◌, ◌++◌};
 ghost use Rattle.turn_lock.specs.declared.history.Entry.{Entry};
 ghost use Rattle.turn_lock.specs.History.{entry};
@@ -17,13 +17,13 @@ pub trait Held: Drop {
     /// Whether the value represents this list of entries.
     ghost stands: { Self → List (Entry Self.Call) → Type 0 };
 
-    /// Whether, after these entries, this call of the seat with this number may get this reply, with this in the scratch.
+    /// Whether a call by the seat with this number after these entries may return this reply, with this in the scratch.
     ghost gives: { List (Entry Self.Call) → ℕ → Self.Call → Self.Reply → Self.Scratch → Type 0 };
 
-    /// Whether the reply is out of memory.
+    /// Whether the reply says that memory ran out.
     ghost starves: { Self.Reply → Bool };
 
-    /// Serves a call of the seat with this number. The value then represents one entry more, that of this call.
+    /// Serves a call by the seat with number `seat`, and appends the call's entry to the value's list.
     fn serve(&mut self, seat: u32, call: &Self::Call, scratch: &mut Self::Scratch) -> Self::Reply
         ensures { (h : List (Entry Self.Call)) → stands self.old h → stands self.new (h ++ entry seat call.now (starves result) ∷ [])
             × gives h seat call.now result scratch.new };

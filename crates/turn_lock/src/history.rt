@@ -1,16 +1,16 @@
-//! The parts of a history. Values of these types exist in proofs alone.
+//! The parts of a history. Values of these types exist only in proofs.
 use std::collections::LinkedList;
 
-/// A call that a seat made by a turn.
+/// One call in the history, made by a seat in a turn.
 pub struct Entry<C> {
     /// The seat's number.
     pub seat: u32,
     pub call: C,
-    /// Whether the reply was out of memory.
+    /// Whether the reply says that memory ran out.
     pub starved: bool,
 }
 
-/// A seat that was joined into the first one.
+/// A seat that was joined into the first seat, which has number 0.
 pub struct Joined<C> {
     /// The seat's number, which is above 0.
     pub number: u32,

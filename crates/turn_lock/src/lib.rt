@@ -1,7 +1,7 @@
-//! A lock whose turns form one history.
+//! A lock that puts all calls on its value into one history.
 //!
-//! Threads share a `Turns` and have a `Seat` each. A turn serves one call on the value behind the lock and returns the call's
-//! place in the one history of all turns. In contracts a seat shows the prefix of that history that it has seen, and the entries that it made.
+//! Threads share a `Turns`; each has its own `Seat`. A turn serves one call on the value behind the lock and returns the call's
+//! place in the one history of all turns. In contracts a seat shows the prefix of that history that it has seen, and its own entries.
 #![tactic(auto)]
 
 mod held;

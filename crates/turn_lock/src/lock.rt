@@ -21,23 +21,23 @@ use std::marker::{Brand, Model};
 use std::sync::Wait;
 use thiserror::Error;
 
-/// The word with the next ticket.
+/// The index of the word that contains the next ticket to draw.
 const NEXT_TICKET: usize = 0;
 
-/// The word with the ticket that is served.
+/// The index of the word that contains the ticket being served.
 const SERVED_TICKET: usize = 1;
 
 /// The number of gates. A thread that waits for a ticket sleeps at gate `ticket % GATES`, and a turn's end wakes all sleepers at the next
 /// ticket's gate. While at most `GATES` threads wait, each has a gate of its own.
 const GATES: usize = 64;
 
-/// A thread whose ticket is at most this far behind the served one may spin; a thread further back sleeps at once.
+/// A thread may spin if its ticket is at most this far behind the served one; other threads sleep at once.
 const NEAR: u64 = 1;
 
 /// Every ticket is below this number.
 const TICKET_LIMIT: u64 = 1 << 63;
 
-/// The gate at which the holder of a ticket waits.
+/// The index of the gate at which a thread with this ticket waits.
 fn gate_of(ticket: u64) -> usize
     ensures { result ≡ ticket % GATES }
 {
@@ -57,7 +57,7 @@ pub struct Turn<T> {
 #[error("all tickets of the lock are drawn")]
 pub struct Worn;
 
-/// A lock with the value behind it. Contracts see which lock it is.
+/// A lock and the value behind it. In contracts a `Turns` is its lock's identity.
 #[derive(Drop)]
 pub struct Turns<H: Held> {
     table: Table<Option<H>, View<H::Call>, u64, Ticketed<H>, Global>,
@@ -78,8 +78,8 @@ impl<H: Held> Model for Turns<H> {
 }
 
 /// A thread's handle on a lock: with it the thread makes turns, one at a time. Contracts see the seat's lock, the place of the first entry, the seat's
-/// number, the prefix of the history that it has seen, and its own entries. They see the greatest number found at a draw by this seat or,
-/// for the first seat, also by the seats joined into it. Of the first seat they also see how many seats were made and which were joined.
+/// number, the prefix of the history that it has seen, and its own entries. They see the greatest next ticket found at a draw by this seat or,
+/// for the first seat, also by the seats joined into it. For the first seat they also see how many seats were made and which were joined.
 #[derive(Drop)]
 pub struct Seat<H: Held> {
     inner: atomic_table::Seat<Option<H>, View<H::Call>>,
@@ -110,7 +110,7 @@ impl<H: Held> Seat<H> {
 }
 
 impl<H: Held> Turns<H> {
-    /// Puts a value that has served nothing behind a new lock, and returns the lock with its first seat, which has number 0. The first
+    /// Puts a value that has served no call behind a new lock. Returns the lock and its first seat, which has number 0. The first
     /// turn will have the place `first`, which must be at most 2^63. On `NoMemory` the value is dropped.
     pub fn new(alloc: Global, value: H, first: u64) -> Result<(Turns<H>, Seat<H>), NoMemory>
         requires first { first ≤ 2 ^ 63 }
@@ -134,8 +134,8 @@ impl<H: Held> Turns<H> {
         Ok((Turns { table, gates }, seat))
     }
 
-    /// Makes a seat for one more thread. `seat` must be the first one, which may have counted at most 1,023 seats, itself
-    /// included. The new seat has the next number and has seen what the first one has.
+    /// Makes a seat for one more thread. `seat` must be the first seat, with at most 1,023 seats made so far, itself
+    /// included. The new seat has the next number and has seen the same prefix of the history as the first.
     pub fn split(&self, seat: &mut Seat<H>) -> Seat<H>
         requires lock { seat.old.lock ≡ self.now }
         requires first { seat.old.number ≡ 0 }
@@ -154,8 +154,8 @@ impl<H: Held> Turns<H> {
         }
     }
 
-    /// Joins another seat of this lock into the first one, which keeps the other's number and entries. Of the lists that the two had
-    /// seen, one begins the other; from then on the first seat has seen the longer.
+    /// Joins the seat `from` of this lock into the first seat `into`, which keeps the number and the entries of `from`. Of the two
+    /// prefixes of the history that they have seen, `into` keeps the longer one; the other one is a prefix of it.
     pub fn join(&self, into: &mut Seat<H>, from: Seat<H>)
         requires lock { (into.old.lock ≡ self.now) × (from.lock ≡ self.now) }
         requires first { into.old.number ≡ 0 }
@@ -175,8 +175,8 @@ impl<H: Held> Turns<H> {
             .load::<Tell>(&mut into.inner, SERVED_TICKET);
     }
 
-    /// Waits until each turn with an earlier ticket is over, and then serves a call on the value. `Worn` is returned only where all
-    /// tickets are drawn; the value and the scratch are then unchanged.
+    /// Draws a ticket, waits until each turn with an earlier ticket is over, and serves the call on the value. Returns `Worn` only
+    /// if all tickets are drawn; the value and the scratch are then unchanged.
     pub fn turn<W: Wait + Sync>(
         &self,
         rt: &W,
@@ -199,8 +199,8 @@ impl<H: Held> Turns<H> {
         Ok(Turn { place, reply })
     }
 
-    /// Ends the lock and returns its value. `seat` must be the first one, into which each other seat was joined. The value represents
-    /// all that this seat has seen.
+    /// Ends the lock and returns its value. `seat` must be the first seat, and each other seat must have been joined into it. The
+    /// returned value represents all entries that `seat` has seen.
     pub fn close(self, seat: Seat<H>) -> H
         requires lock { seat.lock ≡ self }
         requires first { seat.number ≡ 0 }
@@ -222,7 +222,7 @@ impl<H: Held> Turns<H> {
         value
     }
 
-    /// Draws the next ticket. `None`: all are drawn.
+    /// Draws the next ticket. Returns `None` if all are drawn.
     fn draw<W: Wait>(
         &self,
         rt: &W,

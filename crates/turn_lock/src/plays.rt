@@ -49,7 +49,7 @@ impl<H, C, J: Naming<C>> Play<Option<H>, View<C>> for Serve<J> {
     ghost then = { served J.adds };
 }
 
-/// Changes nothing. Shows, after a join, that both lists that the two seats had seen are prefixes of one history.
+/// Changes nothing. Shows, after a join, that the lists seen by the two seats are both prefixes of one history.
 pub(crate) struct Tell;
 
 impl<H, C> Play<Option<H>, View<C>> for Tell {

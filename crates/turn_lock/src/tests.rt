@@ -1,4 +1,4 @@
-//! A total behind a lock.
+//! A sum behind a lock, with calls from one thread and from many.
 ghost use Rattle.std.specs.Prelude.{◌≡◌, ◌+◌, ◌≤◌, All, IfOk};
 
 use crate::{Held, Seat, Turns};
@@ -87,7 +87,7 @@ fn seats_for<H: Held>(
     Ok(seats)
 }
 
-/// Adds 1 in each of `TURNS_EACH` turns, and returns the places. `None`: a turn failed, or a reply was that of another place.
+/// Adds 1 in each of `TURNS_EACH` turns, and returns the places. `None`: a turn failed, or a reply didn't fit its place.
 fn count<W: Wait + Sync>(
     rt: &W,
     alloc: Global,
@@ -174,7 +174,7 @@ impl<R: Clock + Drop> Held for Slow<R> {
     }
 }
 
-/// Makes four turns, and returns whether each reply was that of its place.
+/// Makes four turns, and returns whether each reply fits its place.
 fn wait_for_four<R: Clock + Drop, W: Wait + Sync>(
     rt: &W,
     turns: &Turns<Slow<R>>,

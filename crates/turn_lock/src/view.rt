@@ -1,34 +1,34 @@
-//! What a seat knows. Values of these types exist in proofs alone.
+//! What a seat knows. Values of these types exist only in proofs.
 use crate::history::{Entry, Joined};
 use std::collections::LinkedList;
 
-/// How far a seat is in a turn.
+/// A seat's progress in a turn.
 pub enum Stage {
-    /// The seat makes no turn.
+    /// The seat isn't in a turn.
     Idle,
-    /// The seat has this ticket and waits until it is served.
+    /// The seat has drawn this ticket and waits until the lock serves it.
     Waiting(u64),
-    /// The seat has this ticket, which is served now, and has the value.
+    /// The lock serves this ticket, which the seat has drawn. The seat has taken the value.
     Holding(u64),
-    /// The seat was joined into the first one.
+    /// The seat was joined into the first seat and makes no more turns.
     Spent,
 }
 
-/// What a seat knows of the lock and of the history.
+/// What a seat knows about the lock and the history.
 pub struct View<C> {
-    /// The place of the first entry.
+    /// The place of the history's first entry.
     pub base: u64,
     pub number: u32,
     /// The prefix of the history that the seat has seen.
     pub seen: LinkedList<Entry<C>>,
     pub own: LinkedList<Entry<C>>,
-    /// The greatest number found at a draw by this seat or, for the first seat, also by the seats joined into it. 0 before any draw.
+    /// The greatest next ticket found at a draw by this seat; for the first seat, also by the seats joined into it. 0 before a draw.
     pub found: u64,
-    /// Of the first seat: how many seats were made, itself included.
+    /// For the first seat: the number of seats made so far, itself included.
     pub count: u32,
-    /// Of the first seat: the seats that were joined into it.
+    /// For the first seat: the seats that were joined into it.
     pub joined: LinkedList<Joined<C>>,
-    /// Of the first seat: the shorter of the two seen prefixes at the last join, empty before any join.
+    /// For the first seat: the shorter of the two prefixes seen at the last join; empty before a join.
     pub beside: LinkedList<Entry<C>>,
     pub stage: Stage,
 }

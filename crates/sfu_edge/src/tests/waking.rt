@@ -1,4 +1,4 @@
-// Which links wake which: the table by itself, and under links of this machine.
+// Which links wake which: the table alone, and with links of this machine.
 use super::{heard, heard_soon, open, packet};
 use crate::{UdpPorts, WakeTable};
 use mio::{Events, Poll, Token, Waker};
@@ -8,13 +8,13 @@ use std::io;
 use std::test::Fail;
 use std::time::Duration;
 
-// Whether a waker of the poll was called since the last look.
+// Whether a waker of the poll was called since the last check.
 fn is_called(poll: &mut Poll, events: &mut Events<Global>) -> io::Result<bool> {
     poll.poll(events, Some(Duration::ZERO))?;
     Ok(!events.is_empty())
 }
 
-// Whether a link would sleep now, which runs again then.
+// Whether a link would sleep now; afterwards it runs.
 fn sleeps(table: &WakeTable, number: u64) -> bool {
     let sleeps = table.begin_sleep(number);
     table.end_sleep(number);
@@ -29,19 +29,19 @@ fn a_follower_is_woken_before_its_sleep_in_it_and_when_it_is_gone(
     let mut poll = Poll::new(&rt)?;
     let mut events = Events::with_capacity(rt.alloc(), 2)?;
     table.bind(1, Waker::new(poll.registry(), Token(1))?);
-    // It follows nobody: it sent nothing, then what nobody received, and what was too short to be known.
+    // It follows no link: it sent nothing, then what nobody received, then what is too short for a tail.
     table.wake_followers(0, 70);
     table.follow(1, 71);
     table.follow(1, 0);
     table.wake_followers(0, 70);
     assert_eq!(rt; sleeps(&table, 1), true);
-    // It follows link 0. Before its sleep it is woken without its waker.
+    // It follows link 0. It is woken before its sleep, without its waker.
     table.follow(1, 70);
     table.wake_followers(0, 72);
     assert_eq!(rt; is_called(&mut poll, &mut events)?, false);
     assert_eq!(rt; sleeps(&table, 1), false);
     assert_eq!(rt; sleeps(&table, 1), true);
-    // Between its last look and the system's wait, by the waker, once.
+    // It is woken between its last check and the system's wait, by the waker, once.
     assert_eq!(rt; table.begin_sleep(1), true);
     table.wake_followers(0, 73);
     table.wake_followers(0, 74);
@@ -49,7 +49,7 @@ fn a_follower_is_woken_before_its_sleep_in_it_and_when_it_is_gone(
     assert_eq!(rt; is_called(&mut poll, &mut events)?, false);
     table.end_sleep(1);
     assert_eq!(rt; sleeps(&table, 1), true);
-    // It follows link 2 from now on, and itself never.
+    // From now on it follows link 2. It never follows itself.
     table.wake_followers(2, 75);
     table.follow(1, 75);
     table.wake_followers(0, 76);
@@ -58,7 +58,7 @@ fn a_follower_is_woken_before_its_sleep_in_it_and_when_it_is_gone(
     table.follow(1, 77);
     table.wake_followers(1, 78);
     assert_eq!(rt; sleeps(&table, 1), true);
-    // It is gone in its sleep.
+    // Its poll is dropped while it sleeps.
     assert_eq!(rt; table.begin_sleep(1), true);
     drop(poll);
     table.wake_followers(2, 79);
@@ -85,7 +85,7 @@ fn a_link_that_sends_what_another_received_is_woken_by_it(rt: HostRuntime) -> Re
         assert_eq!(rt; heard_soon(&mut publisher), (Ok(true), Some(bytes[0])));
         assert_eq!(rt; heard(&mut publisher), (Ok(false), Some(9)));
         assert_eq!(rt; sleeps(&table, 1), !wakes);
-        // What is forwarded has another header and the same payload.
+        // A forwarded packet has another header and the same payload.
         forwarded.fill(&[0u8; 12]);
         forwarded.append(&bytes[12..]);
         assert_eq!(rt; subscriber.send(&forwarded), Ok(()));
@@ -111,13 +111,13 @@ fn followers_of_a_busy_link_continue_in_steps_behind_the_moment_that_it_expects(
             Some(Duration::from_micros(micros))
         );
     }
-    // One that follows nobody, one that follows a link that isn't busy, and one beyond the table.
+    // A link that follows none, one that follows a link that isn't busy, and one beyond the table.
     assert_eq!(rt; table.next_turn(6), None);
     table.wake_followers(2, 71);
     table.follow(1, 71);
     assert_eq!(rt; table.next_turn(1), None);
     assert_eq!(rt; table.next_turn(64), None);
-    // The link isn't busy any more.
+    // Link 0 isn't busy any more.
     table.expect(0, Duration::ZERO);
     assert_eq!(rt; table.next_turn(2), None);
     Ok(())

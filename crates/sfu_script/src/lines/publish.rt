@@ -1,4 +1,4 @@
-// The lines `publish T plain SSRC HOLD` and `publish T layered SSRC HOLD ID`, after their first word.
+// The lines `publish T plain SSRC HOLD` and `publish T layered SSRC HOLD ID`, read after `publish`.
 ghost use Rattle.std.specs.Prelude.{◌≡◌};
 ghost use Rattle.std.specs.Result.{result_ok};
 ghost use Rattle.sfu_script.specs.ReadLines.{kind_of, layered_of, plain_of, publish_of};
@@ -46,7 +46,7 @@ fn of_kind(track: u32, kind: &[u8], rest: &[u8]) -> Result<Call, NoLine>
     }
 }
 
-/// The call that the words after `publish` say.
+/// The call of a line `publish` with these words after it.
 #[tactic(auto, unfolding(crate::specs::ReadLines::publish_of))]
 #[inline(always)]
 pub fn read(rest: &[u8]) -> Result<Call, NoLine>

@@ -1,4 +1,4 @@
-// The lines about a subscriber, after their first word.
+// The lines about a subscriber; their first word has been read.
 ghost use Rattle.std.specs.Prelude.{◌≡◌};
 ghost use Rattle.std.specs.Result.{result_ok};
 ghost use Rattle.sfu_script.specs.ReadLines.{subscriber_call_of};
@@ -65,7 +65,7 @@ fn why(rest: &[u8]) -> Result<Call, NoLine>
     })
 }
 
-/// The call that a command says with the words after it.
+/// The call of a command with these words after it.
 #[inline(always)]
 pub fn read(command: SubscriberCommand, rest: &[u8]) -> Result<Call, NoLine>
     ensures { result_ok result ≡ subscriber_call_of command rest.now }

@@ -1,4 +1,4 @@
-// The lines about a track, after their first word.
+// The lines about a track; their first word has been read.
 ghost use Rattle.std.specs.Prelude.{◌≡◌};
 ghost use Rattle.std.specs.Result.{result_ok};
 ghost use Rattle.sfu_script.specs.ReadLines.{track_call_of};
@@ -10,7 +10,7 @@ use crate::fields::read_fields;
 use crate::lines::{packet, publish};
 use sfu_base::Call;
 
-/// The call that a command says with the words after it.
+/// The call of a command with these words after it.
 #[inline(always)]
 pub fn read(command: TrackCommand, rest: &[u8]) -> Result<Call, NoLine>
     ensures { result_ok result ≡ track_call_of command rest.now }

@@ -1,4 +1,4 @@
--- `end` gives the allocator's handle back: nothing stands at the pointer.
+-- `end` returns the allocator's handle: nothing is at the pointer.
 use mathlib.Core.Path.{◌≡◌, refl, sym, subst}
 use mathlib.Core.List.{List, [], ◌∷◌, ◌++◌}
 use seplogic.Ra.Ura.{Ura}
