@@ -104,7 +104,7 @@ impl Actors {
     }
 }
 
-// Delays each actor before and after its first call until all are there, and records the gate's calls.
+// Delays each actor before and after its first call, and records the gate's calls.
 #[derive(Drop)]
 struct Meeting<'a, R> {
     clock: &'a R,
