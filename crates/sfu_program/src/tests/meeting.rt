@@ -78,7 +78,7 @@ fn is_local(address: Address, port: u64) -> bool {
     address.ip == 0x7f00_0001 && u64::from(address.port) == port
 }
 
-// Ports of three links that meet. The first is bound at 127.0.0.1:5000 for 127.0.0.1:6000, the next two at the next ports; any other bind fails.
+// Ports of links that meet. The first is bound at 127.0.0.1:5000 for 127.0.0.1:6000, each later one at the next port numbers; others fail.
 #[derive(Drop)]
 struct MeetingPorts<'a, R> {
     clock: &'a R,
