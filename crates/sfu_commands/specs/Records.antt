@@ -25,7 +25,7 @@ length_said high low = high * 256 + low
 abbrev pub is_length : ℕ → Bool
 is_length count = nat_le 1 count && nat_le count 2061
 
--- The outcome of a body's bytes so far, for this length: it is judged as soon as no body, or none of its kind, has the length, or all bytes are there.
+-- The outcome of a body's bytes so far, for this length: judged as soon as no body, or none of its kind, has the length, or all bytes are there.
 abbrev pub body_so_far : ℕ → List ℕ → Scan
 body_so_far count [] = if is_length count then More else NoUnit
 body_so_far count (kind ∷ fields) =
