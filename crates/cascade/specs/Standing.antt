@@ -16,7 +16,7 @@ use Rattle.cascade.specs.Calls.{Both}
 use Rattle.cascade.specs.declared.endpoint.Endpoint.{Endpoint}
 use Rattle.cascade.specs.declared.two_rooms.TwoRooms.{TwoRooms}
 
--- a recorder that keeps nothing tells nothing
+-- a recorder that stores nothing reports nothing
 abbrev pub untold : KeepNone → Option (List Noted)
 untold recorder = None
 
@@ -32,14 +32,14 @@ pub record WasFed (endpoint : Endpoint) (taken : List (List ℕ)) : Type 0 where
   pub stands : StandsFor endpoint.receiver taken
   pub complains_is : endpoint.complains ≡ is_some (complaint_over 4 taken)
 
--- one take: it gave a packet, which the receiver was fed
+-- one take: it returned a packet, which the receiver was fed
 pub record TakesNext (old new : Endpoint) (room : Room KeepNone) (n : ℕ) (past : List Call) : Type 0 where
   pub bytes : List ℕ
   pub gave : answer past (call.Take n) ≡ Sent bytes
   pub room_is : StandsAfter room (call.Take n ∷ past)
   pub fed : (taken : List (List ℕ)) → WasFed old taken → WasFed new (taken ++ bytes ∷ [])
 
--- or it was refused, and nothing came
+-- or it was refused, and the receiver was fed nothing
 pub record TakesNone (old new : Endpoint) (room : Room KeepNone) (n : ℕ) (past : List Call) : Type 0 where
   pub why : Refusal
   pub refused : answer past (call.Take n) ≡ Refused why
@@ -50,7 +50,7 @@ abbrev pub TakesOne : Bool → Endpoint → Endpoint → Room KeepNone → ℕ �
 TakesOne true old new room n past = TakesNext old new room n past
 TakesOne false old new room n past = TakesNone old new room n past
 
--- both rooms, where these calls were accepted, and the receivers of what each subscriber of the second was given
+-- both rooms, where these calls were accepted, and the receivers of the packets that each subscriber of the second room took
 pub record AreAfter (rooms : TwoRooms) (both : Both) : Type 0 where
   pub first : StandsAfter rooms.first both.first
   pub second : StandsAfter rooms.second both.second

@@ -1,4 +1,4 @@
-// One subscriber of the second room, and the strict receiver of what it takes.
+// One subscriber of the second room, and a strict receiver of the packets that it takes.
 ghost use Rattle.std.specs.Prelude.{◌++◌, ◌∷◌, [], List, ℕ, IfOk};
 ghost use Rattle.sfu_base.specs.declared.call.Call.{Call};
 ghost use Rattle.room_core.specs.Given.{given_to};
@@ -13,23 +13,23 @@ use strict_receiver::Receiver;
 /// The seat that makes all calls.
 pub const SEAT: u32 = 0;
 
-/// The id of the header extension element that has a packet's descriptor.
+/// The header extension id of the dependency descriptors (RFC 8285).
 pub const EXTENSION: u8 = 4;
 
-// The most packets that wait for a subscriber.
+// The capacity of a subscriber's queue, in packets.
 const MOST_QUEUED: u32 = 512;
 
-/// What is kept of a subscriber of the second room: a strict receiver of what it takes.
+/// The receiving side of a subscriber of the second room: a strict receiver of its packets.
 #[derive(Drop)]
 pub struct Endpoint {
-    /// The receiver of what the subscriber took.
+    /// The strict receiver of the packets that the subscriber took.
     pub receiver: Receiver,
     /// Whether the receiver has a complaint.
     pub complains: bool,
 }
 
 impl Endpoint {
-    /// An endpoint that has received nothing. `NoMemory`: there wasn't enough memory for what the receiver keeps.
+    /// An endpoint that has received nothing. `NoMemory`: there wasn't enough memory for the receiver.
     pub fn new(alloc: Global) -> Result<Endpoint, NoMemory>
         ensures { IfOk result (λ endpoint. WasFed endpoint []) }
     {
@@ -46,7 +46,7 @@ impl Endpoint {
         self.complains = self.receiver.feed(packet).is_err();
     }
 
-    // Takes a packet and feeds it, if one waits. Returns whether one did.
+    // Takes the oldest queued packet, if there is one, and feeds it. Returns whether there was one.
     fn take_one(
         &mut self,
         subscriber: u32,
@@ -64,7 +64,7 @@ impl Endpoint {
         }
     }
 
-    /// Takes until nothing waits for the subscriber with this number, and feeds each packet to the receiver.
+    /// Takes all packets queued for the subscriber with this number, and feeds each to the receiver.
     pub fn take_all(&mut self, subscriber: u32, room: &mut Room<KeepNone>, scratch: &mut Scratch)
         ensures room { (past : List Call) → StandsAfter room.old past → StandsAfter room.new (all_taken subscriber past) }
         ensures fed { (past : List Call) → StandsAfter room.old past → WasFed self.old (given_to subscriber past)

@@ -1,4 +1,4 @@
-// A feed: what a subscriber of one room takes is brought to a track of another.
+// A feed: the packets that a subscriber of one room takes are fed to a track of another room.
 ghost use Rattle.std.specs.Prelude.{◌≡◌, ◌⊎◌, IsTrue, List, Some};
 ghost use Rattle.sfu_base.specs.declared.call.Refusal.TheVariants.{NoMemory};
 ghost use Rattle.room_core.specs.History.{Entry};
@@ -9,22 +9,22 @@ ghost use Rattle.cascade.specs.Moving.{MovesOrEnds, refused_by};
 use room_core::{Recorder, Room};
 use sfu_base::{Refusal, Reply, Scratch};
 
-/// What a feed did.
+/// The outcome of a feed.
 #[derive(Clone, Copy, Debug, PartialEq, Eq)]
 pub struct Fed {
     /// How many packets the second room accepted, at most 512.
     pub moved: u32,
-    /// The refusal at which the feed ended: `Empty` where all that waited was moved.
+    /// The refusal that ended the feed: `Empty` if all queued packets were moved.
     pub end: Refusal,
 }
 
 // The seat that makes all calls of a feed.
 const SEAT: u32 = 0;
 
-// The most packets that wait for a subscriber.
+// The capacity of a subscriber's queue, in packets.
 const MOST_QUEUED: u32 = 512;
 
-// The refusal that a reply is, if it is one.
+// The reason if a reply is a refusal, else `None`.
 fn refused_by(reply: Reply) -> Option<Refusal>
     ensures { result ≡ refused_by reply }
 {
@@ -34,7 +34,7 @@ fn refused_by(reply: Reply) -> Option<Refusal>
     }
 }
 
-// Takes one packet and brings it to the track. Returns the refusal where one of the two calls is refused.
+// Takes one packet and feeds it to the track. If one of the two calls is refused, returns the reason.
 fn move_one<A: Recorder, B: Recorder>(
     first: &mut Room<A>,
     subscriber: u32,
@@ -55,10 +55,10 @@ fn move_one<A: Recorder, B: Recorder>(
     refused_by(second.packet(SEAT, track, moment, &scratch.packet))
 }
 
-/// Takes packets of a subscriber of the first room, and brings each to a track of the second at this moment (milliseconds). All calls are
-/// made as seat 0, until one is refused. `end` is that refusal: `Empty` where all was moved, `NoSubscriber` where the first room has no
-/// such subscriber, or one of [`Room::packet`] where the second room refused a packet. A refused packet was taken from the first room, and
-/// isn't in the second; the rest still waits in the first. Only where a recorder may refuse can `end` be `NoMemory`.
+/// Takes the packets queued for a subscriber of the first room, and feeds each to a track of the second at `moment` (milliseconds). All
+/// calls are made as seat 0, until one is refused; `end` is that refusal. It is `Empty` if all packets were moved, `NoSubscriber` if the
+/// first room has no such subscriber, or a refusal of [`Room::packet`] if the second room refused a packet; that packet is lost, and the
+/// packets after it stay queued in the first room. `end` can be `NoMemory` only if a recorder may refuse.
 pub fn feed<A: Recorder, B: Recorder>(
     first: &mut Room<A>,
     subscriber: u32,

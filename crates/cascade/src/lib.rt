@@ -1,9 +1,9 @@
-//! A cascade of two rooms: what a subscriber of one room takes is brought to a track of another, and is forwarded again to that track's
-//! subscribers. Own rules.
+//! A cascade of two rooms: the packets that a subscriber of one room takes are fed to a track of another room, which forwards them to that
+//! track's subscribers. Own rules.
 //!
-//! [`feed`] does it for one subscriber and one track. The laws say what becomes of frames that were forwarded to the first room's
-//! subscriber. [`play`] sends a made stream through two rooms, with a strict receiver at each subscriber of the second, and [`cascade`] is
-//! the command that writes what the receivers found.
+//! [`feed`] moves the packets of one subscriber to one track. The laws say what happens to frames that were forwarded to the first room's
+//! subscriber. [`play`] sends a generated stream through two rooms, with a strict receiver for each subscriber of the second room.
+//! [`cascade`] is the command that writes what the receivers found.
 #![tactic(auto)]
 
 mod command;

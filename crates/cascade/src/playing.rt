@@ -9,9 +9,9 @@ use sfu_base::{NoMemory, PacketBuf};
 use std::alloc::Global;
 use stream_maker::{Event, Maker};
 
-/// Sends a stream through two rooms to the three subscribers of the second. The stream has `frames` frames, and about `loss` percent of its packets
-/// are lost; `start` seeds the random generator. Returns five lines: two on what was made, and one for each subscriber with what a strict receiver
-/// counts and complains of in what it took. `NoMemory`: there wasn't enough memory for the rooms, the receivers or the text.
+/// Sends a generated stream through two rooms to the three subscribers of the second room. The stream has `frames` frames; about `loss` percent of
+/// its packets are lost; `start` seeds the random generator. Returns five lines: two about the stream, and one for each subscriber with what a
+/// strict receiver finds in its packets. `NoMemory`: there wasn't enough memory for the rooms, the receivers or the text.
 pub fn play(alloc: Global, frames: u32, start: u64, loss: u8) -> Result<String, NoMemory>
     requires some_frames { 1 ≤ frames }
     requires few_frames { frames ≤ 1000000 }

@@ -1,11 +1,11 @@
-// The rows of a cascade: what the receivers of the second room count.
+// Whole cascades: what the receivers of the second room count.
 use crate::feeding::feed;
 use crate::playing::play;
 use room_core::{KeepNone, Room};
 use sfu_base::{PacketBuf, Refusal, Scratch, SeqList};
 use std::test::Fail;
 
-// By the rules of the stream: 500 units of two frames and 10 key units among them.
+// Worked out from the rules of the stream: 500 units of two frames, 10 of them key units.
 const THOUSAND: &str = "made 1000 frames 1520 packets\nlost 0 repeated 0 swapped 0\n\
     subscriber 1 frames 1000 packets 1520 complaints 0\nsubscriber 2 frames 250 packets 270 complaints 0\n\
     subscriber 3 frames 1000 packets 1520 complaints 0\n";
@@ -15,7 +15,7 @@ const ONE_UNIT: &str = "made 2 frames 5 packets\nlost 0 repeated 0 swapped 0\n\
     subscriber 1 frames 2 packets 5 complaints 0\nsubscriber 2 frames 1 packets 3 complaints 0\n\
     subscriber 3 frames 2 packets 5 complaints 0\n";
 
-// Frames, seed, loss in percent, and how the text begins: the whole text where nothing is lost.
+// Frames, seed, loss in percent, and how the text begins (the whole text if nothing is lost).
 const ROWS: [(u32, u64, u8, &str); 3] = [
     (1000, 7, 0, THOUSAND),
     (2, 7, 0, ONE_UNIT),
@@ -36,7 +36,7 @@ fn streams_go_through_both_rooms(rt: HostRuntime) -> Result<(), Fail> {
             }
         }
         assert_eq!(rt; pleased, 3);
-        // It is the same each time.
+        // A second run returns the same text.
         assert_eq!(rt; play(alloc, frames, start, loss)?.as_str(), text.as_str());
     }
     Ok(())

@@ -1,4 +1,4 @@
-// Two rooms of which the second is fed from the first, and the receivers of the second one's subscribers.
+// Two rooms, the second fed from the first, and the receivers of the second room's subscribers.
 ghost use Rattle.std.specs.Prelude.{◌≡◌, IfOk, OnOk, false};
 ghost use Rattle.sfu_base.specs.Answer.{is_starved};
 ghost use Rattle.cascade.specs.Calls.{Both, after_packet, after_tick, all_fed, opened, ticked_first, ticked_second, viewed, wish_for};
@@ -15,14 +15,14 @@ const PUBLISHER: u32 = 0x1111_1111;
 // The tracks' hold in milliseconds: how long packets wait for a gap to be filled.
 const HOLD: u32 = 50;
 
-/// Two rooms, of which the second is fed from the first, and a strict receiver for each of the second one's three subscribers.
+/// Two rooms, the second fed from the first, and a strict receiver for each of the second room's three subscribers.
 #[derive(Drop)]
 pub struct TwoRooms {
-    /// The room of the publisher. Its subscribers 1 and 2 are those that feed the second room.
+    /// The publisher's room. Its subscribers 1 and 2 feed the second room.
     pub first: Room<KeepNone>,
-    /// The room whose tracks 1 (layered) and 2 (plain) are fed.
+    /// The room that is fed: its track 1 is layered, its track 2 plain.
     pub second: Room<KeepNone>,
-    /// Where a take leaves its packet.
+    /// The output buffers of the calls: a take writes its packet to them.
     pub scratch: Scratch,
     /// Subscriber 1 of the second room: track 1, with a wish for all layers.
     pub one: Endpoint,
@@ -32,7 +32,7 @@ pub struct TwoRooms {
     pub three: Endpoint,
 }
 
-// `NoMemory` where a call ran out of memory.
+// `NoMemory` if the call ran out of memory.
 fn found(reply: Reply) -> Result<(), NoMemory>
     ensures { OnOk result (is_starved reply ≡ false) }
 {
@@ -98,14 +98,14 @@ impl TwoRooms {
         })
     }
 
-    /// Brings a packet to track 1 of the first room at this moment (milliseconds); the room may refuse it.
+    /// Feeds a packet to track 1 of the first room at this moment (milliseconds); the room may refuse it.
     pub fn packet(&mut self, moment: u64, bytes: &PacketBuf)
         ensures { (both : Both) → AreAfter self.old both → AreAfter self.new (after_packet moment bytes.now both) }
     {
         self.first.packet(SEAT, 1, moment, bytes);
     }
 
-    // Feeds what a subscriber of the first room takes to a track of the second.
+    // Feeds the packets queued for a subscriber of the first room to a track of the second.
     fn bring(&mut self, subscriber: u32, track: u32, moment: u64)
         ensures { (both : Both) → AreAfter self.old both → AreAfter self.new (all_fed subscriber track moment both) }
     {
@@ -134,7 +134,7 @@ impl TwoRooms {
         self.second.tick(SEAT, 2, moment);
     }
 
-    // Each subscriber of the second room takes until nothing waits for it.
+    // Each subscriber of the second room takes all packets queued for it.
     fn view(&mut self)
         ensures { (both : Both) → AreAfter self.old both → AreAfter self.new (viewed both) }
     {
@@ -144,7 +144,7 @@ impl TwoRooms {
     }
 
     /// Ticks the first room at this moment (milliseconds). Then feeds its subscriber 1 to track 1 of the second room and its subscriber 2
-    /// to track 2, and ticks both of these tracks. Then each subscriber of the second room takes until nothing waits for it.
+    /// to track 2, and ticks both of these tracks. Then each subscriber of the second room takes all packets queued for it.
     pub fn tick(&mut self, moment: u64)
         ensures { (both : Both) → AreAfter self.old both → AreAfter self.new (after_tick moment both) }
     {

@@ -1,10 +1,10 @@
--- What the growing file stands for.
+-- The recorded frames that the growing file stands for.
 use Rattle.std.specs.Prelude.{◌≡◌, ◌+◌, ◌%◌, ◌^◌, ℕ, Bool, true, false, List, [], ◌∷◌, ◌++◌, length}
 use Rattle.std.specs.List.{flat_map}
 use Rattle.ivf_recorder.specs.declared.file.IvfFile.{IvfFile}
 use Rattle.ivf_recorder.specs.Units.{RecordedFrame, TemporalUnit, Size, ivf, unit_bytes, units_of}
 
--- the newest unit, which begins at this place and has this timestamp and time, and those before it
+-- the newest unit, with this offset, timestamp and time, and the units before it
 pub record IsNewest (timestamp time at : ℕ) (contents : List RecordedFrame) : Type 0 where
   pub closed : List TemporalUnit
   pub unit : TemporalUnit
@@ -23,7 +23,7 @@ pub record IsFileOf (file : IvfFile) (size : Size) (contents : List RecordedFram
   pub count : file.count ≡ length (units_of contents) % 2 ^ 32
   pub newest : HasNewest file.begun file.timestamp file.time file.at contents
 
--- but for the memory that its bytes have
+-- the same but for the capacity of its bytes
 pub record IsSameBut (old new : IvfFile) : Type 0 where
   pub bytes : new.bytes.items ≡ old.bytes.items
   pub begun : new.begun ≡ old.begun

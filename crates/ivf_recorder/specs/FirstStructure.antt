@@ -1,5 +1,5 @@
--- Whose width and height a file has: those of the structure that the first packet carries. Own rule.
--- The code asks the receiver at the end of the first frame.
+-- The width and height of a file are those of the structure that the first packet carries. Own rule.
+-- The code reads them from the receiver at the end of the first frame.
 use Rattle.std.specs.Prelude.{◌≡◌, ℕ, List, ◌∷◌, true, None}
 use Rattle.forwarding_model.specs.frames.Reading.{Descriptor, is_key_start}
 use Rattle.forwarding_model.specs.frames.Reading.DescriptorReading.{Reads}
@@ -10,7 +10,7 @@ use Rattle.ivf_recorder.specs.Frames.{size_over}
 use Rattle.ivf_recorder.specs.Units.{size_in}
 
 -- The first of these packets has a descriptor that reads with no structure in force and begins a key frame. The width and height are those of
--- the greatest spatial id in its structure.
+-- the highest spatial id in its structure.
 pub record IsFirstSize (id : ℕ) (history : List (List ℕ)) : Type 0 where
   pub first : List ℕ
   pub later : List (List ℕ)

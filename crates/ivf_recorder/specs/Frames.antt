@@ -1,4 +1,4 @@
--- The frames that a strict receiver accepts of packets, and what is recorded of them. Own rules. The code keeps no packet.
+-- The frames that a strict receiver accepts from packets, and what is recorded of them. Own rules. The code stores no packet.
 use Rattle.std.specs.Prelude.{ℕ, ◌≤◌, Bool, true, false, ◌&&◌, if◌then◌else◌, List, [], ◌∷◌, ◌++◌, length, Option, Some, None, is_some}
 use Rattle.std.specs.List.{AllByRecursion}
 use Rattle.std.specs.Option.{option_map}
@@ -23,7 +23,7 @@ pub record WholeFrame : Type 0 where
   pub packets : List (List ℕ)
   pub structure : Option TemplateStructure
 
--- the frames that ended, and the packets of the one that is open
+-- the frames that ended, and the packets of the unfinished frame
 pub record Gathered : Type 0 where
   pub frames : List WholeFrame
   pub unfinished : List (List ℕ)
@@ -31,7 +31,7 @@ pub record Gathered : Type 0 where
 abbrev pub nothing_gathered : Gathered
 nothing_gathered = record { frames = []; unfinished = [] }
 
--- a packet that was accepted has ended its frame, or left it open
+-- after an accepted packet, which ended its frame or left it open
 abbrev pub with_packet : Option OpenFrame → Option TemplateStructure → Gathered → List ℕ → Gathered
 with_packet None structure gathered packet = record {
   frames = gathered.frames ++ record { packets = gathered.unfinished ++ packet ∷ []; structure = structure } ∷ [];
@@ -39,19 +39,19 @@ with_packet None structure gathered packet = record {
 }
 with_packet (Some frame) structure gathered packet = record { frames = gathered.frames; unfinished = gathered.unfinished ++ packet ∷ [] }
 
--- with a packet, of which this is the receiver then
+-- after a packet, which left the receiver in this state
 abbrev pub gather : Receiver TemplateStructure → Gathered → List ℕ → Gathered
 gather Waiting gathered packet = gathered
 gather (Receiving r) gathered packet = with_packet r.frame r.structure gathered packet
 gather (Complaining complaint) gathered packet = gathered
 
--- with these packets, which a receiver gets that has gathered so much
+-- after these packets, which come to this receiver with these frames gathered
 abbrev pub gather_all : ℕ → Receiver TemplateStructure → Gathered → List (List ℕ) → Gathered
 gather_all id receiver gathered [] = gathered
 gather_all id receiver gathered (packet ∷ more) =
     gather_all id (receive (format_of id) receiver (read_packet packet)) (gather (receive (format_of id) receiver (read_packet packet)) gathered packet) more
 
--- of all these packets, the oldest first
+-- after all these packets, the oldest first
 abbrev pub gathered_over : ℕ → List (List ℕ) → Gathered
 gathered_over id history = gather_all id Waiting nothing_gathered history
 
@@ -62,7 +62,7 @@ abbrev pub first_timestamp : List (List ℕ) → ℕ
 first_timestamp [] = 0
 first_timestamp (packet ∷ more) = timestamp_of packet
 
--- a frame's timestamp and the bytes of its OBUs, or none where an element isn't an OBU
+-- a frame's timestamp and the bytes of its OBUs, or none if an element isn't an OBU
 abbrev pub content_of : WholeFrame → Option RecordedFrame
 content_of frame = option_map (λ obus. record { timestamp = first_timestamp frame.packets; bytes = all_bytes obus }) (obus_in (elements_over frame.packets))
 
@@ -70,7 +70,7 @@ abbrev pub before_fault : Option RecordedFrame → List RecordedFrame → List R
 before_fault None others = []
 before_fault (Some content) others = content ∷ others
 
--- those of the frames before the first that has such an element
+-- the contents of the frames before the first frame that has such an element
 abbrev pub contents_of : List WholeFrame → List RecordedFrame
 contents_of [] = []
 contents_of (frame ∷ frames) = before_fault (content_of frame) (contents_of frames)
@@ -85,7 +85,7 @@ are_sound (frame ∷ frames) = is_some (content_of frame) && are_sound frames
 abbrev pub AreShort : List (List ℕ) → Type 0
 AreShort history = AllByRecursion (λ packet. length packet ≤ 2048) history
 
--- what is recorded of them
+-- what is recorded of these packets
 abbrev pub contents_over : ℕ → List (List ℕ) → List RecordedFrame
 contents_over id history = contents_of (gathered_over id history).frames
 
@@ -99,8 +99,8 @@ fault_by false complaint = Some fault.Obu
 fault_by true None = None
 fault_by true (Some complaint) = Some (fault.Complaint complaint)
 
--- What is wrong with them, if anything: an element of a frame isn't an OBU, or the strict receiver complains. A frame that it accepts came
--- before its complaint, so the first is told where both are so.
+-- The fault of these packets, if any: an element of a frame isn't an OBU, or the strict receiver complains. If both apply, it is the first of
+-- these, since accepted frames come before the complaint.
 abbrev pub fault_over : ℕ → List (List ℕ) → Option RecordFault
 fault_over id history = fault_by (are_sound (gathered_over id history).frames) (complaint_over id history)
 
@@ -108,7 +108,7 @@ fault_over id history = fault_by (are_sound (gathered_over id history).frames) (
 abbrev pub size_over : ℕ → List (List ℕ) → Size
 size_over id history = size_in (structure_of (gathered_over id history).frames)
 
--- the file of them
+-- the file recorded from them
 abbrev pub ivf_over : ℕ → List (List ℕ) → List ℕ
 ivf_over id history = ivf (size_over id history) (contents_over id history)
 

@@ -1,4 +1,4 @@
--- What a recorder stands for. Own rules.
+-- The packets that a recorder stands for. Own rules.
 use Rattle.std.specs.Prelude.{◌≡◌, ℕ, List, [], ◌∷◌, ◌++◌, true, Option, Some, None, Result, Ok, Err}
 use Rattle.strict_receiver.specs.Receivers.{StandsFor as ReceiverStandsFor, complaint_over}
 use Rattle.ivf_recorder.specs.declared.fault.RecordFault.{RecordFault}
@@ -15,24 +15,24 @@ abbrev pub timestamp_said : List (List ℕ) → Option ℕ
 timestamp_said [] = None
 timestamp_said (packet ∷ more) = Some (first_timestamp (packet ∷ more))
 
--- these are the packets of the open frame so far
+-- these are the packets of the unfinished frame so far
 pub record Holds (frame : OpenFrame) (unfinished : List (List ℕ)) : Type 0 where
   pub elements : segments_in frame ≡ elements_over unfinished
   pub timestamp : frame.timestamp ≡ timestamp_said unfinished
 
--- it goes on
+-- the state of a recorder without a fault
 pub record GoesOn (now : Recording) (history : List (List ℕ)) : Type 0 where
   pub receiver : ReceiverStandsFor now.receiver history
   pub frame : Holds now.frame (gathered_over now.receiver.id history).unfinished
 
--- it was fed these packets' bytes, the oldest first
+-- it was fed these packets, given as bytes, the oldest first
 pub record StandsFor (now : Recording) (history : List (List ℕ)) : Type 0 where
   pub fault : now.fault ≡ fault_over now.receiver.id history
   pub file : IsFileOf now.file (size_over now.receiver.id history) (contents_over now.receiver.id history)
   pub goes : now.fault ≡ None → GoesOn now history
   pub short : AreShort history
 
--- the receiver has accepted one packet more, whose elements were taken
+-- the receiver has accepted one more packet, whose elements were appended
 pub record IsFed (mid : Recording) (history : List (List ℕ)) (packet : List ℕ) : Type 0 where
   pub receiver : ReceiverStandsFor mid.receiver (history ++ packet ∷ [])
   pub calm : complaint_over mid.receiver.id (history ++ packet ∷ []) ≡ None
@@ -42,10 +42,10 @@ pub record IsFed (mid : Recording) (history : List (List ℕ)) (packet : List �
   pub fault : mid.fault ≡ None
   pub short : AreShort (history ++ packet ∷ [])
 
--- ---- answers
+-- ---- results
 
--- Memory was wanting, before which there was no fault, and all is as before. Or the fault over all packets is answered, if there is one, and
--- they are stood for.
+-- Memory ran out, there was no fault before, and nothing changed. Or the fault of all packets is returned, if there is one, and the recorder
+-- stands for all packets.
 abbrev pub Feeds : Option RecordFault → ℕ → Recording → List (List ℕ) → List ℕ → Result (Unit {0}) RecordFault → Type 0
 Feeds before id new history packet (Ok _) = StandsFor new (history ++ packet ∷ []) × (fault_over id (history ++ packet ∷ []) ≡ None)
 Feeds before id new history packet (Err fault.NoMemory) = StandsFor new history × (before ≡ None)

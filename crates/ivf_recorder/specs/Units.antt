@@ -1,7 +1,7 @@
 -- An IVF file of AV1: a header, and temporal units, each with its size and its time. IVF has no standard; this is the form that `dav1d`, `ffmpeg`
--- and libvpx read, with the lowest byte of a number first. A temporal unit begins with a temporal delimiter (AV1 Bitstream Specification, section
+-- and libvpx read; numbers are little-endian. A temporal unit begins with a temporal delimiter (AV1 Bitstream Specification, section
 -- 7.5), and its frames have one RTP timestamp, of 90,000 ticks a second (RTP Payload Format For AV1, section 4.1). Where units end is an own
--- rule. The code keeps the file whole, and writes the newest unit's size and the number of units anew where a frame ends.
+-- rule. The code stores the whole file, and rewrites the newest unit's size and the number of units when a frame ends.
 use Rattle.std.specs.Prelude.{ℕ, ◌+◌, ◌-◌, ◌%◌, ◌^◌, ◌==◌, ◌&&◌, Bool, nat_le, if◌then◌else◌, List, [], ◌∷◌, ◌++◌, length, codes, Option, Some, None}
 use Rattle.std.specs.Int.{to_le_bytes, w16, w32, w64}
 use Rattle.std.specs.List.{flat_map}
@@ -14,7 +14,7 @@ pub record RecordedFrame : Type 0 where
   pub timestamp : ℕ
   pub bytes : List ℕ
 
--- a run of frames with one RTP timestamp: that, the time in ticks since the first unit, and a temporal delimiter with the OBUs of the frames
+-- consecutive frames with one RTP timestamp: the timestamp, the time in ticks since the first unit, and a temporal delimiter with the frames' OBUs
 pub record TemporalUnit : Type 0 where
   pub timestamp : ℕ
   pub time : ℕ
@@ -38,15 +38,15 @@ grown unit content = record { timestamp = unit.timestamp; time = unit.time; byte
 abbrev pub joins : TemporalUnit → RecordedFrame → Bool
 joins unit content = unit.timestamp == content.timestamp && nat_le (length unit.bytes + length content.bytes) most_unit
 
--- how many ticks a timestamp is after another, modulo 2^32
+-- by how many ticks a timestamp is after another, modulo 2^32
 abbrev pub ticks_after : ℕ → ℕ → ℕ
 ticks_after before later = (later + 2 ^ 32 - before) % 2 ^ 32
 
--- the time of the next unit is modulo 2^64 (own rule)
+-- the time of the next unit, modulo 2^64 (own rule)
 abbrev pub next_time : TemporalUnit → RecordedFrame → ℕ
 next_time unit content = (unit.time + ticks_after unit.timestamp content.timestamp) % 2 ^ 64
 
--- the unit that goes on with these frames, and those behind it
+-- the unit that continues with these frames, and the units after it
 abbrev pub units_from : TemporalUnit → List RecordedFrame → List TemporalUnit
 units_from unit [] = unit ∷ []
 units_from unit (content ∷ more) =
@@ -71,7 +71,7 @@ pub record Size : Type 0 where
 abbrev pub no_size : Size
 no_size = record { width = 0; height = 0 }
 
--- the resolution of the greatest spatial id, which is the last; none is told where there is none (own rule)
+-- the resolution of the highest spatial id, which is the last; 0 and 0 if there is none (own rule)
 abbrev pub last_size : List (ℕ × ℕ) → Size
 last_size [] = no_size
 last_size (r ∷ []) = record { width = r.0; height = r.1 }

@@ -8,44 +8,44 @@ use crate::frame::OpenFrame;
 use sfu_base::NoMemory;
 use std::alloc::Global;
 
-/// The most bytes of a unit of more than one frame.
+/// The most bytes of a unit of more than one frame, without the unit's header.
 const MOST_UNIT: usize = 16_777_216;
 
-/// The place of the width in the header; the height follows it.
+/// The offset of the width (two bytes) in the file header; the height (two bytes) follows it.
 const SIZE_AT: usize = 12;
 
-/// The place of the number of units.
+/// The offset of the number of units (four bytes) in the file header.
 const COUNT_AT: usize = 24;
 
-/// The bytes of a unit's size and time.
+/// The length of a unit's header: size (4 bytes) and time (8 bytes).
 const UNIT_HEADER: usize = 12;
 
-/// The bytes of a new unit before its first frame: its size, its time, and a temporal delimiter.
+/// The bytes of a new unit before its first frame: size (4), time (8), temporal delimiter (2).
 const UNIT_FRONT: usize = 14;
 
-/// The header, without width, height and number of units.
+/// The file header, with width, height and number of units 0.
 const HEADER: [u8; 32] = [
     b'D', b'K', b'I', b'F', 0, 0, 32, 0, b'A', b'V', b'0', b'1', 0, 0, 0, 0, 0x90, 0x5f, 0x01, 0,
     1, 0, 0, 0, 0, 0, 0, 0, 0, 0, 0, 0,
 ];
 
-/// What one more frame does to the newest unit.
+/// The outcome of appending a frame to the newest unit.
 #[derive(Clone, Copy)]
 pub enum Growth {
     Grown,
-    /// The unit would get too long, and is as before.
+    /// The unit would get too long; it is unchanged.
     TooLong,
-    /// An element of the frame isn't an OBU, and all is as before.
+    /// An element of the frame isn't an OBU; nothing changed.
     Unsound,
 }
 
-/// A file with the frames so far.
+/// An IVF file with the frames so far.
 #[derive(Drop)]
 pub struct IvfFile {
     pub bytes: Vec<u8>,
     /// Whether there is a unit.
     pub begun: bool,
-    /// The place at which the newest unit begins.
+    /// The offset in the file at which the newest unit begins.
     pub at: usize,
     /// The RTP timestamp of the newest unit.
     pub timestamp: u32,
@@ -57,7 +57,7 @@ pub struct IvfFile {
     ghost unit: { at + 12 ≤ vec_len bytes },
 }
 
-// Overwrites the bytes from `at` on with as many new ones.
+// Overwrites the bytes from offset `at` on with these bytes.
 fn put_at(bytes: &mut Vec<u8>, at: usize, new: &[u8])
     requires within { at + length new.now ≤ vec_len bytes.old }
     ensures put { (front old rest : List ℕ) → bytes.old.items ≡ front ++ (old ++ rest) → length front ≡ at → length old ≡ length new.now
@@ -67,7 +67,7 @@ fn put_at(bytes: &mut Vec<u8>, at: usize, new: &[u8])
     bytes[at..at + new.len()].copy_from_slice(new);
 }
 
-// A unit before its first frame: its size, still 0, its time and a temporal delimiter.
+// The bytes of a unit before its first frame: size (still 0), time and a temporal delimiter.
 fn unit_front(time: u64) -> [u8; UNIT_FRONT]
     ensures { result ≡ to_le_bytes w32 0 ++ (to_le_bytes w64 time ++ delimiter) }
 {
@@ -109,7 +109,7 @@ impl IvfFile {
         }
     }
 
-    /// Appends a frame, for which memory is reserved. Returns false, and leaves all as before, if an element of the frame isn't an OBU.
+    /// Appends a frame; memory for it must be reserved. If an element of the frame isn't an OBU, returns false and changes nothing.
     pub fn add(&mut self, frame: &OpenFrame) -> bool
         requires room { vec_len self.old.bytes + (UNIT_FRONT + most_bytes frame.now) ≤ vec_capacity self.old.bytes }
         ensures { (size : Size) (contents : List RecordedFrame) → IsFileOf self.old size contents
@@ -126,7 +126,7 @@ impl IvfFile {
         }
     }
 
-    // Appends a frame to the newest unit, which has the frame's timestamp.
+    // Appends a frame to the newest unit, which must have the frame's timestamp.
     fn grow(&mut self, frame: &OpenFrame) -> Growth
         requires room { vec_len self.old.bytes + most_bytes frame.now ≤ vec_capacity self.old.bytes }
         requires begun { self.old.begun ≡ true }
@@ -148,7 +148,7 @@ impl IvfFile {
         Growth::Grown
     }
 
-    // Appends a frame in a unit of its own.
+    // Appends a frame as a new unit. If an element isn't an OBU, returns false.
     fn add_apart(&mut self, timestamp: u32, frame: &OpenFrame) -> bool
         requires room { vec_len self.old.bytes + (UNIT_FRONT + most_bytes frame.now) ≤ vec_capacity self.old.bytes }
         requires timestamp { timestamp_in frame.now.timestamp ≡ timestamp }
@@ -165,7 +165,7 @@ impl IvfFile {
         true
     }
 
-    // Writes the size of the newest unit into its header.
+    // Writes the size of the newest unit into the unit's header.
     fn tell_unit_size(&mut self)
         ensures told { TellsUnitSize self.old.at self.old.bytes.items self.new.bytes.items }
         ensures same { HasSameUnit self.old self.new }
@@ -179,7 +179,7 @@ impl IvfFile {
         );
     }
 
-    // The time of the next unit, in ticks since the first unit.
+    // The time of the next unit, which has this RTP timestamp, in ticks since the first unit.
     fn next_time(&self, timestamp: u32) -> u64
         ensures { (size : Size) (contents : List RecordedFrame) → IsFileOf self.now size contents → IsNextTime contents timestamp result }
     {
@@ -190,7 +190,7 @@ impl IvfFile {
         self.time.wrapping_add(u64::from(ticks))
     }
 
-    // Makes the unit that begins at `at` the newest, and writes its size and the number of units.
+    // Makes the unit at offset `at` the newest, and writes its size and the number of units.
     fn begin(&mut self, at: usize, timestamp: u32, time: u64)
         requires within { at + UNIT_FRONT ≤ vec_len self.old.bytes }
         ensures told { TellsUnit at self.old.count self.old.bytes.items self.new.bytes.items }

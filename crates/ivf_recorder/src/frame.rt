@@ -1,4 +1,4 @@
-// The elements of the frame that is open.
+// The elements of the unfinished frame.
 ghost use Rattle.std.specs.Prelude.{◌≡◌, ◌+◌, ◌-◌, ◌^◌, ◌*◌, ◌≤◌, ◌<◌, ◌++◌, ◌∷◌, [], None, Some, OnErr, OnOk, length, take, true, ℕ, List};
 ghost use Rattle.std.specs.Vec.{vec_capacity, vec_len};
 ghost use Rattle.ivf_recorder.specs.Segments.{are_cuts};
@@ -8,18 +8,18 @@ use av1_payload::PayloadElements;
 use sfu_base::NoMemory;
 use std::alloc::Global;
 
-/// The elements of an unfinished frame's packets: their bytes, concatenated, and the places (`cuts`) at which elements begin. Bytes before
-/// the first of these places belong to an element that began before the frame; a frame that is accepted has no such bytes.
+/// The elements of an unfinished frame's packets: their concatenated bytes, and the offsets (`cuts`) at which elements begin. Bytes before
+/// the first offset belong to an element that began before the frame; a frame that is accepted has no such bytes.
 #[derive(Drop)]
 pub struct OpenFrame {
-    /// The RTP timestamp of the first packet, if one came.
+    /// The RTP timestamp of the frame's first packet, or `None` before it.
     pub timestamp: Option<u32>,
     pub bytes: Vec<u8>,
     pub cuts: Vec<usize>,
     ghost within: { are_cuts 0 cuts.items (vec_len bytes) ≡ true },
 }
 
-/// A point in an open frame to go back to.
+/// A point in an unfinished frame to go back to: its timestamp, and the lengths of its vectors.
 #[derive(Clone, Copy)]
 pub struct Mark {
     pub timestamp: Option<u32>,
@@ -34,7 +34,7 @@ impl OpenFrame {
     ghost use Rattle.ivf_recorder.specs.Obus.{obus_in};
     ghost use Rattle.ivf_recorder.specs.Taken.{Grown, HasTaken, IsReadable, with_element};
 
-    /// A frame without packets. Takes no memory.
+    /// A frame without packets. Allocates no memory.
     pub fn new(alloc: Global) -> OpenFrame
         ensures timestamp { result.timestamp ≡ None }
         ensures elements { segments_in result ≡ no_elements }
@@ -46,8 +46,8 @@ impl OpenFrame {
         }
     }
 
-    /// Takes the elements of the next packet. A packet that isn't RTP, or whose payload doesn't read, changes nothing. After `NoMemory` a
-    /// part of the elements may have been taken.
+    /// Appends the elements of the next packet. A packet that isn't RTP, or whose payload isn't well formed, changes nothing. After `NoMemory`
+    /// some of the elements may have been appended.
     pub fn take(&mut self, packet: &[u8]) -> Result<(), NoMemory>
         ensures taken { OnOk result (IsReadable packet.now → HasTaken self.old self.new packet.now) }
         ensures grown { Grown self.old self.new }
@@ -65,7 +65,7 @@ impl OpenFrame {
         Ok(())
     }
 
-    // Appends the elements of a packet. If `continues`, the first one continues the last element so far.
+    // Appends the elements of a packet. If `continues`, the first of them continues the last element so far.
     fn append(&mut self, continues: bool, elements: PayloadElements) -> Result<(), NoMemory>
         ensures added { OnOk result (segments_in self.new ≡ add_elements continues (segments_in self.old) elements.entry) }
         ensures grown { Grown self.old self.new }
@@ -80,7 +80,7 @@ impl OpenFrame {
         Ok(())
     }
 
-    // Appends an element, or if `goes_on`, more bytes of the last one.
+    // Appends an element. If `goes_on`, appends the bytes to the last element instead.
     fn add(&mut self, goes_on: bool, element: &[u8]) -> Result<(), NoMemory>
         ensures added { OnOk result (segments_in self.new ≡ with_element goes_on (segments_in self.old) element.now) }
         ensures grown { Grown self.old self.new }
@@ -130,7 +130,7 @@ impl OpenFrame {
         }
     }
 
-    /// Removes all that was taken since this mark.
+    /// Removes everything that was appended since this mark.
     pub fn back_to(&mut self, mark: Mark)
         requires within { are_cuts 0 (take mark.cuts self.old.cuts.items) mark.bytes ≡ true }
         requires bytes { mark.bytes ≤ vec_len self.old.bytes }
@@ -153,7 +153,7 @@ impl OpenFrame {
         self.bytes.clear();
     }
 
-    /// An upper bound of the bytes of the frame's OBUs, with size fields.
+    /// An upper bound of the number of bytes of the frame's OBUs with their size fields.
     pub fn most_bytes(&self) -> usize
         ensures most { result ≡ most_bytes self.now }
         ensures small { result < 2 ^ 64 - 2 ^ 32 }
@@ -164,7 +164,7 @@ impl OpenFrame {
         bytes.len() + (cuts.len() + 1) * MORE_BYTES
     }
 
-    // Appends the frame's OBUs. Stops, and returns false, at the first element that isn't one.
+    // Appends the frame's OBUs. Stops, and returns false, at the first element that isn't an OBU.
     fn lay_all(&self, out: &mut Vec<u8>) -> bool
         requires room { vec_len out.old + most_bytes self.now ≤ vec_capacity out.old }
         ensures lays { LaysOr result (obus_in (segments_in self.now)) out.old.items out.new.items }
@@ -185,7 +185,7 @@ impl OpenFrame {
         append_obu(left, out)
     }
 
-    /// Appends a head and the frame's OBUs, for which there is capacity. Returns false, and appends nothing, if an element isn't an OBU.
+    /// Appends `head` and the frame's OBUs; `out` must have capacity for both. If an element isn't an OBU, returns false and appends nothing.
     pub fn lay(&self, head: &[u8], out: &mut Vec<u8>) -> bool
         requires room { vec_len out.old + length head.now + most_bytes self.now ≤ vec_capacity out.old }
         ensures lays { Lays result head.now (obus_in (segments_in self.now)) out.old.items out.new.items }

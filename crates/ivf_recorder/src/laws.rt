@@ -1,4 +1,4 @@
-// Laws of the definitions.
+// Theorems about the definitions.
 ghost use Rattle.std.specs.Prelude.{◌≡◌, ◌<◌, ◌^◌, [], List, length, ℕ};
 ghost use Rattle.std.specs.List.{AllByRecursion};
 ghost use Rattle.strict_receiver.specs.Receivers.{frames_over};
@@ -8,26 +8,26 @@ ghost use Rattle.ivf_recorder.specs.Obus.{Obu};
 ghost use Rattle.ivf_recorder.specs.ReadFiles.{IsFileWith};
 ghost use Rattle.ivf_recorder.specs.Units.{no_size, units_of};
 
-/// A law: a file reads as at most one list of OBUs. Temporal delimiters and size fields aren't part of the list.
+/// A law: a file can be read as at most one list of OBUs. Temporal delimiters and size fields aren't part of the list.
 pub fn files_have_one_reading()
     ensures one { (bytes : List ℕ) (obus others : List Obu) → IsFileWith bytes obus → IsFileWith bytes others → obus ≡ others }
 {}
 
-/// A law: what is recorded of packets of at most 2,048 bytes is read back as the OBUs of the recorded frames, each once and in order. The size of
-/// each unit fits its field of four bytes.
+/// A law: the file recorded from packets of at most 2,048 bytes each reads as the OBUs of the recorded frames, each once and in order. The size
+/// of each unit fits its field of four bytes.
 pub fn files_read_back()
     ensures read { (id : ℕ) (history : List (List ℕ)) → AreShort history → IsFileWith (ivf_over id history) (obus_over id history) }
     ensures sizes { (id : ℕ) (history : List (List ℕ)) → AreShort history
         → AllByRecursion (λ unit. length unit.bytes < 2 ^ 32) (units_of (contents_over id history)) }
 {}
 
-/// A law: packets have as many frames here as a strict receiver of the packets counts.
+/// A law: the recorder gathers as many frames from packets as a strict receiver of them counts.
 pub fn frames_are_those_that_are_accepted()
     ensures count { (id : ℕ) (history : List (List ℕ)) → length (gathered_over id history).frames ≡ frames_over id history }
 {}
 
-/// A law: where a frame is recorded, the first packet begins a key frame, and width and height are those of the structure that this packet
-/// carries. Where none is recorded, both are 0.
+/// A law: if a frame is recorded, the first packet begins a key frame, and width and height are those of the template dependency structure in
+/// that packet. If no frame is recorded, both are 0.
 pub fn sizes_are_of_the_first_structure()
     ensures none { (id : ℕ) (history : List (List ℕ)) → contents_over id history ≡ [] → size_over id history ≡ no_size }
     ensures first { (id : ℕ) (history : List (List ℕ)) → (contents_over id history ≡ [] → ⊥) → IsFirstSize id history }

@@ -11,7 +11,7 @@ use sfu_base::{Blob, NoMemory};
 use std::alloc::Global;
 use strict_receiver::Receiver;
 
-/// The receiver that judges the packets, the elements of the unfinished frame, the file so far, and the fault that was returned, if any.
+/// The receiver that judges the packets, the elements of the unfinished frame, the file so far, and the fault that stays, if any.
 #[derive(Drop)]
 pub struct Recording {
     pub receiver: Receiver,
@@ -29,7 +29,7 @@ impl Recording {
     ghost use Rattle.ivf_recorder.specs.Taken.{Grown, HasTaken, IsReadable};
     ghost use Rattle.ivf_recorder.specs.declared.fault.RecordFault.{RecordFault as FaultOf};
 
-    /// No packet came yet.
+    /// A recording before its first packet.
     pub fn new(alloc: Global, id: u8) -> Result<Recording, NoMemory>
         ensures id { IfOk result (λ recorder. recorder.receiver.id ≡ id) }
         ensures stands { IfOk result (λ recorder. StandsFor recorder []) }
@@ -42,7 +42,7 @@ impl Recording {
         })
     }
 
-    /// Takes the next packet's bytes. All memory is taken before the receiver sees them, since the receiver can't undo a packet.
+    /// Takes the next packet. All memory is allocated before the receiver sees the packet, since the receiver can't undo a packet.
     pub fn feed(&mut self, packet: &[u8]) -> Result<(), RecordFault>
         requires { length packet.now ≤ 2048 }
         ensures id { self.new.receiver.id ≡ self.old.receiver.id }
@@ -65,8 +65,8 @@ impl Recording {
         }
     }
 
-    // Takes the packet's elements, and reserves memory for the frame in the file. After `NoMemory` a part of the elements may have been
-    // taken.
+    // Appends the packet's elements to the frame, and reserves memory for the frame in the file. After `NoMemory` some of the elements may
+    // have been appended.
     fn make_ready(&mut self, packet: &[u8]) -> Result<(), NoMemory>
         ensures taken { OnOk result (IsReadable packet.now → HasTaken self.old.frame self.new.frame packet.now) }
         ensures grown { Grown self.old.frame self.new.frame }
@@ -79,7 +79,7 @@ impl Recording {
         self.file.reserve(self.frame.most_bytes())
     }
 
-    // Keeps the fault, which every later call returns.
+    // Stores the fault; every later call returns it.
     fn fail(&mut self, fault: RecordFault) -> RecordFault
         ensures result { result ≡ fault }
         ensures fault { self.new.fault ≡ Some fault }
@@ -89,7 +89,7 @@ impl Recording {
         fault
     }
 
-    // A packet was accepted: if it ended a frame, the frame is appended to the file.
+    // Follows an accepted packet: if the packet ended a frame, appends the frame to the file.
     fn end_frame(&mut self) -> Result<(), RecordFault>
         requires room { vec_len self.old.file.bytes + (14 + most_bytes self.old.frame) ≤ vec_capacity self.old.file.bytes }
         ensures ends { (history : List (List ℕ)) (packet : List ℕ) → IsFed self.old history packet
@@ -111,7 +111,7 @@ impl Recording {
         Ok(())
     }
 
-    /// The file so far, which is complete after each frame. Takes no memory.
+    /// Returns the file, which is a complete IVF file after each frame. Allocates no memory.
     pub fn finish(self) -> Blob
         ensures file { (history : List (List ℕ)) → StandsFor self history → result ≡ ivf_over self.receiver.id history }
         ensures reads { (history : List (List ℕ)) → StandsFor self history → IsFileWith result (obus_over self.receiver.id history) }
@@ -120,7 +120,7 @@ impl Recording {
     }
 }
 
-// The width and height of the greatest spatial id; 0 and 0 if the structure says none.
+// Width and height in pixels of the highest spatial id; 0 and 0 if no resolutions are known.
 fn size(structure: Option<&Structure>) -> (u32, u32)
     ensures { size_in (option_copied structure.entry) ≡ record { width = result.0; height = result.1 } }
 {

@@ -1,6 +1,6 @@
--- Which of the packets that were taken from a bundle's legs go out, and as what. Own rule, over RTP's fields (RFC 3550, section 5.1).
--- Legs are counted from 1. Lists of events have the newest first; packets that go out, and packets that were taken, have the oldest first.
--- The code keeps no list.
+-- Which of the packets that were taken from a bundle's legs go out, and with which bytes. Own rule, over RTP's fields (RFC 3550, section 5.1).
+-- Legs are counted from 1. Lists of events have the newest first; lists of packets that were taken or go out have the oldest first.
+-- The code stores none of these lists.
 use Rattle.std.specs.Prelude.{◌+◌, ◌-◌, ◌%◌, ◌^◌, ◌==◌, ◌&&◌, ◌||◌, ℕ, List, [], ◌∷◌, ◌++◌, map, Bool, true, false}
 use Rattle.std.specs.Prelude.{if◌then◌else◌, Option, None, Some}
 use Rattle.rtp_packet.specs.Fields.{marker_of, timestamp_of}
@@ -14,7 +14,7 @@ pub data LegEvent : Type 0 where
   Chose : (leg : ℕ) → LegEvent
   Took : (leg : ℕ) → (packet : List ℕ) → LegEvent
 
--- ---- where a bundle stands
+-- ---- the state of a bundle's switch
 
 pub record Standing : Type 0 where
   pub chosen : ℕ
@@ -23,7 +23,7 @@ pub record Standing : Type 0 where
   pub ended : Bool  -- the last packet that went out ended its frame
   pub timestamp : ℕ  -- that of the last packet that went out
 
--- the first leg is chosen first
+-- at first leg 1 is chosen
 abbrev pub begun : Standing
 begun = record { chosen = 1; active = None; offset = 0; ended = false; timestamp = 0 }
 
@@ -31,17 +31,17 @@ abbrev pub is_active : ℕ → Option ℕ → Bool
 is_active leg None = false
 is_active leg (Some active) = active == leg
 
--- another leg may become active: none is, or the last packet that went out ended its frame
+-- another leg may become active: none is active, or the last packet that went out ended its frame
 abbrev pub may_change : Option ℕ → Bool → Bool
 may_change None ended = true
 may_change (Some active) ended = ended
 
--- the packet goes out: its leg is active, or is chosen and may become active, and the packet is a key start
+-- The packet goes out: its leg is active; or is chosen and may become active, and the packet is a key start.
 abbrev pub goes_out : Marks → Standing → ℕ → List ℕ → Bool
 goes_out marks s leg packet = is_active leg s.active || (s.chosen == leg && (may_change s.active s.ended && marks.key packet))
 
--- The offset of a leg that becomes active with a packet of this timestamp: 0 for the first one; else the packet goes out with the last
--- timestamp plus 3,000.
+-- The offset of a leg that becomes active with a packet of this timestamp. The first leg has 0; a later one makes this packet go out with
+-- the last timestamp plus 3,000.
 abbrev pub offset_for : Option ℕ → ℕ → ℕ → ℕ
 offset_for None last own = 0
 offset_for (Some active) last own = (last + 3000 + (2 ^ 32 - own)) % 2 ^ 32
@@ -65,7 +65,7 @@ standing marks [] = begun
 standing marks (Chose leg ∷ past) = record (standing marks past) { chosen = leg }
 standing marks (Took leg packet ∷ past) = after_packet marks (standing marks past) leg packet
 
--- the timestamp that the packet goes out with, if it does
+-- the timestamp that the packet goes out with; none if it doesn't go out
 abbrev pub stamp_of : Marks → Standing → ℕ → List ℕ → Option ℕ
 stamp_of marks s leg packet = if goes_out marks s leg packet then Some (timestamp_at s leg packet) else None
 
@@ -85,7 +85,7 @@ passed marks (Took leg packet ∷ past) =
     else passed marks past
 
 -- All that goes out, whether it was drawn or is queued: the i-th packet, counted from 0, has the first number plus i, modulo 65,536, and the
--- bundle's SSRC. No other bit of it differs from the packet that was taken.
+-- bundle's SSRC. Only the number, the SSRC and the timestamp differ from the packet that was taken.
 abbrev pub outgoing : Marks → (first ssrc : ℕ) → List LegEvent → List (List ℕ)
 outgoing marks first ssrc events = map (λ packet. packet.bytes) (numbered first ssrc (passed marks events))
 

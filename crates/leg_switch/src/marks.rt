@@ -1,4 +1,4 @@
-// What a packet of a leg says to the switch: whether it is a key start, and whether it ends its frame.
+// What the switch reads from a packet of a leg: whether it is a key start, and whether it ends its frame.
 ghost use Rattle.std.specs.Prelude.{◌≡◌, None};
 ghost use Rattle.rtp_packet.specs.Faults.{first_fault};
 ghost use Rattle.leg_switch.specs.Marks.{ends_frame, starts_key};
@@ -6,8 +6,8 @@ ghost use Rattle.leg_switch.specs.Marks.{ends_frame, starts_key};
 use dd_descriptor::{NewestDescriptor, edges};
 use packet_format::{begins_epoch, descriptor_bytes};
 
-/// Whether a packet is a key start: it carries a template dependency structure, has the start bit and refers to nothing (AV1 RTP payload
-/// format, Appendix A). `newest` may say anything afterwards.
+/// Whether a packet is a key start: its descriptor carries a template dependency structure and has start_of_frame set, and its frame refers
+/// to no other frame (AV1 RTP payload format, Appendix A). Afterwards the content of `newest` is unspecified.
 pub fn starts_key(packet: &[u8], id: u8, newest: &mut NewestDescriptor) -> bool
     requires { first_fault packet.now ≡ None }
     ensures { result ≡ starts_key id packet.now }

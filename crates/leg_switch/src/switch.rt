@@ -7,17 +7,17 @@ use crate::marks::{ends_frame, starts_key};
 use dd_descriptor::NewestDescriptor;
 use std::marker::Model;
 
-/// By how much a stream's timestamps rise at a change of leg, in ticks of the media's clock (own rule).
+/// How far the forwarded timestamp rises at a change of leg, in ticks of the RTP clock (own rule).
 const STEP: u32 = 3000;
 
-/// Which of a bundle's legs, counted from 1, is chosen, and which is active. The packets of the active leg are forwarded. The chosen leg
-/// becomes active with a key start, but only where no packet was forwarded yet or the last forwarded packet ended its frame. Timestamps
-/// continue over a change of leg.
+/// The chosen leg and the active leg of a bundle; legs are counted from 1. The packets of the active leg are forwarded. A key start of the
+/// chosen leg makes that leg active, but only if no packet was forwarded yet or the last forwarded packet ended its frame. At a change of
+/// leg the forwarded timestamp rises by 3,000.
 #[derive(Debug, Drop)]
 pub struct Switch {
     chosen: u8,
     active: Option<u8>,
-    // What is added to the timestamps of the active leg.
+    // Added to the timestamps of the active leg, modulo 2^32.
     offset: u32,
     // Of the last forwarded packet: whether it ended its frame, and the timestamp that it was forwarded with.
     ended: bool,
@@ -38,7 +38,7 @@ impl Switch {
     ghost use Rattle.leg_switch.specs.Marks.{marks_of};
     ghost use Rattle.leg_switch.specs.Switching.{after_packet, begun, may_change, offset_for, stamp_of};
 
-    /// The first leg is chosen, and none is active.
+    /// A switch with leg 1 chosen and no leg active.
     pub fn new() -> Switch
         ensures { result ≡ begun }
     {
@@ -51,14 +51,14 @@ impl Switch {
         }
     }
 
-    /// The leg that is chosen.
+    /// The chosen leg, counted from 1.
     pub fn chosen(&self) -> u8
         ensures { result ≡ self.now.chosen }
     {
         self.chosen
     }
 
-    /// The active leg: `None` until a packet is forwarded.
+    /// The active leg, counted from 1, or `None` until a packet is forwarded.
     pub fn active(&self) -> Option<u8>
         ensures { result ≡ self.now.active }
     {
@@ -72,9 +72,9 @@ impl Switch {
         self.chosen = leg;
     }
 
-    /// Decides on a packet that was taken from this leg, and must be an RTP packet. Returns the timestamp that the packet is forwarded with,
-    /// or `None` where it is dropped. `id` is the header extension id of the packet's dependency descriptor (RFC 8285). `newest` is working
-    /// memory, and may say anything afterwards.
+    /// Decides whether a packet taken from `leg` is forwarded. The packet must be a valid RTP packet. Returns the timestamp to forward it with,
+    /// or `None` if it is dropped. `id` is the header extension id of the packet's dependency descriptor (RFC 8285). `newest` is working
+    /// memory; afterwards its content is unspecified.
     pub fn pass(
         &mut self,
         id: u8,
@@ -102,14 +102,14 @@ impl Switch {
         Some(self.timestamp)
     }
 
-    // Whether this leg would become active with a key start.
+    // Whether a key start of this leg would make it active, if it isn't yet.
     fn may_change_to(&self, leg: u8) -> bool
         ensures { result ≡ (self.now.chosen == leg && may_change self.now.active self.now.ended) }
     {
         self.chosen == leg && (self.active.is_none() || self.ended)
     }
 
-    // The offset of a leg that becomes active with a packet of this timestamp.
+    // The offset that a leg gets when a packet with this timestamp makes it active.
     fn offset_for(&self, timestamp: u32) -> u32
         ensures { result ≡ offset_for self.now.active self.now.timestamp timestamp }
     {

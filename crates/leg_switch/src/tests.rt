@@ -1,5 +1,5 @@
-// Packets of two legs, and which of them are forwarded. The wanted timestamps are worked out by hand from the rule: the packet's own plus the
-// leg's offset, and 3,000 after the last one at a change of leg.
+// Packets of two legs, and which of them are forwarded. The expected timestamps are worked out by hand: the packet's own timestamp plus the
+// leg's offset; at a change of leg, the last forwarded timestamp plus 3,000.
 
 use crate::Switch;
 use dd_descriptor::NewestDescriptor;
@@ -8,7 +8,7 @@ use std::test::Fail;
 
 #[test]
 fn legs_change_between_frames_at_key_frames(rt: HostRuntime) -> Result<(), Fail> {
-    // The leg that was chosen before, the leg that the packet was taken from, the packet, and the timestamp that it is forwarded with.
+    // The chosen leg, the leg that the packet was taken from, the packet, and the timestamp that it is forwarded with (`None`: dropped).
     let rows: [(u8, u8, &[u8], Option<u32>); 17] = [
         // a key frame of a leg that is not chosen, then a packet of the chosen leg that begins no key frame
         (
@@ -55,7 +55,7 @@ fn legs_change_between_frames_at_key_frames(rt: HostRuntime) -> Result<(), Fail>
             b"\x90\xe0\x00\x04\x00\x00\x00\x08\x11\x11\x11\x11\xbe\xde\x00\x01\x42\x41\x00\x04\x90\x00\x00",
             Some(8),
         ),
-        // a frame of leg 2 that is no key frame, then a key frame: 3,000 behind 8
+        // a frame of leg 2 that is no key frame, then a key frame: 3,000 after 8
         (
             2,
             2,
@@ -74,14 +74,14 @@ fn legs_change_between_frames_at_key_frames(rt: HostRuntime) -> Result<(), Fail>
             b"\x90\xe0\x00\x05\x00\x00\x00\x09\x11\x11\x11\x11\xbe\xde\x00\x01\x42\xc1\x00\x05\x10\x30\x00",
             None,
         ),
-        // the active leg is still forwarded where another is chosen
+        // the active leg is still forwarded when another leg is chosen
         (
             1,
             2,
             b"\x90\xe0\x00\x05\x00\x00\x00\x66\x44\x44\x44\x44\xbe\xde\x00\x01\x42\xc1\x00\x05\x10\x30\x00",
             Some(3010),
         ),
-        // back to leg 1, whose timestamps wrap: an offset of its own
+        // back to leg 1, whose timestamps wrap around: it gets a new offset
         (
             1,
             1,
@@ -94,7 +94,7 @@ fn legs_change_between_frames_at_key_frames(rt: HostRuntime) -> Result<(), Fail>
             b"\x90\xe0\x00\x07\x00\x00\x00\x04\x11\x11\x11\x11\xbe\xde\x00\x01\x42\xc1\x00\x07\x10\x30\x00",
             Some(6020),
         ),
-        // a packet without a descriptor, and one with two bytes of it: both are forwarded, since their leg is active, and end no frame
+        // a packet without a descriptor, and one with only two bytes of it: both are forwarded, since their leg is active, and end no frame
         (
             2,
             1,

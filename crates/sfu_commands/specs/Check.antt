@@ -1,5 +1,5 @@
--- The command `check ID`: each line of the source is a packet, and a strict receiver that knows the id of the descriptors' header extension
--- judges the packets. Own rule. The code feeds them to a receiver one after another, and keeps none.
+-- The command `check ID`: each line of the source is a packet, and a strict receiver with this header extension id of the descriptors checks
+-- the packets. Own rule. The code feeds them to a receiver one after another, and stores none.
 use Rattle.std.specs.Prelude.{◌≡◌, ◌⊎◌, ℕ, if◌then◌else◌, min, List, [], ◌∷◌, ◌++◌, map, Option, Some, None, codes, decimal, slice_index}
 use Rattle.forwarding_model.specs.declared.complaint.Complaint.{Complaint}
 use Rattle.strict_receiver.specs.Receivers.{Seen, StandsFor, complaint_over, frames_over, greatest_count, packets_over}
@@ -20,11 +20,11 @@ IsCheck words id = IsWithId (codes "check") words id
 
 -- ---- texts
 
--- the line that says which line has a packet that the receiver complains of, and what of
+-- the output line with the number of a line, and the complaint about its packet
 abbrev pub complaint_line : ℕ → Complaint → List ℕ
 complaint_line number complaint = complaint_text number complaint ++ 10 ∷ []
 
--- the line that says how many packets and frames were accepted
+-- the output line with the numbers of accepted packets and frames
 abbrev pub ok_line : ℕ → ℕ → List ℕ
 ok_line packets frames = codes "ok " ++ decimal packets ++ codes " packets " ++ decimal frames ++ codes " frames\n"
 
@@ -33,7 +33,7 @@ ok_line packets frames = codes "ok " ++ decimal packets ++ codes " packets " ++ 
 abbrev pub bytes_in : List NumberedPacket → List (List ℕ)
 bytes_in packets = map (λ packet. packet.bytes) packets
 
--- the line of the first packet that isn't accepted
+-- the number of the line of the first packet that isn't accepted
 abbrev pub first_refused : ℕ → List NumberedPacket → ℕ
 first_refused id packets = slice_index (map (λ packet. packet.number) packets) (packets_over id (bytes_in packets))
 
@@ -46,12 +46,12 @@ first_end (Some complaint) refused fault = Some (end_by ending.Complaint (compla
 abbrev pub check_end : ℕ → PacketScript → Option End
 check_end id script = first_end (complaint_over id (bytes_in script.packets)) (first_refused id script.packets) script.fault
 
--- this text, where nothing ends the command
+-- this text, if nothing ends the command
 abbrev pub unless_ended : Option End → List ℕ → Due
 unless_ended None text = record { text = text; end = None }
 unless_ended (Some end) text = record { text = []; end = Some end }
 
--- the counts of what is accepted, or why the script ends the command
+-- the counts of accepted packets and frames, or why the script ends the command
 abbrev pub due_for_packets : ℕ → PacketScript → Due
 due_for_packets id script =
     unless_ended (check_end id script) (ok_line (packets_over id (bytes_in script.packets)) (frames_over id (bytes_in script.packets)))
@@ -73,7 +73,7 @@ IsCheckStatus status = (status ≡ 0) ⊎ (status ≡ 3) ⊎ (status ≡ 4) ⊎ 
 
 -- ---- a line
 
--- the packets that came, of which there is no complaint, and the id of the receiver
+-- the packets that came without a complaint, and the header extension id of the receiver
 pub record Reception : Type 0 where
   pub id : ℕ
   pub packets : List (List ℕ)
@@ -81,7 +81,7 @@ pub record Reception : Type 0 where
 abbrev pub nothing_received : ℕ → Reception
 nothing_received id = record { id = id; packets = [] }
 
--- a receiver stands for them
+-- a receiver stands for these packets
 pub record HasReceived (now : Seen) (reception : Reception) : Type 0 where
   pub id : now.id ≡ reception.id
   pub stands : StandsFor now reception.packets
@@ -94,7 +94,7 @@ judged_as (Some complaint) number later = ends_with ending.Complaint (complaint_
 abbrev pub with_one : Reception → List ℕ → Reception
 with_one reception packet = record { id = reception.id; packets = reception.packets ++ packet ∷ [] }
 
--- what is due for a packet, or for a line that is none
+-- what is due for a packet, or for a line that isn't a packet
 abbrev pub receives : Option (List ℕ) → ℕ → Reception → Outcome Reception
 receives None number reception = ends_with ending.Outside (fault_line number)
 receives (Some packet) number reception = judged_as (complaint_over reception.id (reception.packets ++ packet ∷ [])) number (with_one reception packet)
@@ -103,7 +103,7 @@ receives (Some packet) number reception = judged_as (complaint_over reception.id
 abbrev pub checked : Reception → ℕ → List ℕ → Outcome Reception
 checked reception number line = if is_skipped line then goes_on reception else receives (bytes_of line) number reception
 
--- what is due at the end of the input, as a receiver counts
+-- what is due at the end of the input: the receiver's counts
 abbrev pub counted : Reception → List ℕ
 counted reception =
     ok_line (min (packets_over reception.id reception.packets) greatest_count) (min (frames_over reception.id reception.packets) greatest_count)

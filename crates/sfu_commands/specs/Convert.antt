@@ -1,4 +1,4 @@
--- The command `convert`: a script of lines is written as one of records, a record for each call. Own rule.
+-- The command `convert`: a script of lines is written as a script of records, one record for each call. Own rule.
 use Rattle.std.specs.Prelude.{◌≡◌, ◌⊎◌, ℕ, if◌then◌else◌, List, [], ◌∷◌, ◌++◌, Option, Some, None, codes}
 use Rattle.std.specs.List.{flat_map}
 use Rattle.sfu_base.specs.declared.call.Call.{Call}
@@ -19,7 +19,7 @@ IsConvert words = words ≡ codes "convert" ∷ []
 
 -- ---- a line
 
--- the record of a call, or the end, without a text, at a line that says none
+-- the record of a call; or, at a line without a call, the end without a text
 abbrev pub record_for : Option Call → Outcome (Unit {0})
 record_for None = ends_with Outside []
 record_for (Some call) = writes (record_of call) tt
@@ -33,11 +33,11 @@ converted state number line = if is_skipped line then goes_on tt else record_for
 abbrev pub records_of : List Call → List ℕ
 records_of calls = flat_map record_of calls
 
--- the script of records that says these calls
+-- the script of records that contains these calls
 abbrev pub convert_text : List Call → List ℕ
 convert_text calls = header ++ records_of calls
 
--- a line outside the grammar ends the command, and nothing says which it is
+-- a line outside the grammar ends the command, and its number isn't written
 abbrev pub silent_end : Option ℕ → Option End
 silent_end fault = outside_end (λ _. []) fault
 

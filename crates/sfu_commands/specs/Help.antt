@@ -1,4 +1,4 @@
--- The usage line: the command `help` writes it, and so does what refuses words that are no command.
+-- The usage line, written by the command `help` and for words that are no command.
 use Rattle.std.specs.Prelude.{◌≡◌, ◌⊎◌, ℕ, List, [], ◌∷◌, Option, codes}
 use Rattle.std.specs.Io.KnownBytes.{Appends}
 use Rattle.sfu_base.specs.Faults.{Rose}
@@ -25,7 +25,7 @@ pub record Helps {S : Type 0} (source source' : S) (written written' : Option (L
   pub unread : source' ≡ source
   pub shows : ShowsUsage written written' writes writes' status
 
--- Words that are no command: nothing is read, and the usage line is written, or a front of it where the sink fails.
+-- Words that are no command: nothing is read, and the usage line is written, or a prefix of it if the sink fails.
 pub record Refuses {S : Type 0} (source source' : S) (written written' : Option (List ℕ)) (writes writes' status : ℕ) : Type 0 where
   pub unread : source' ≡ source
   pub shows : WritesEnd written written' writes writes' [] usage_text

@@ -1,4 +1,4 @@
--- The words of a command that takes the id of a header extension. Own rule.
+-- The words of a command that takes a header extension id. Own rule.
 use Rattle.std.specs.Prelude.{◌≡◌, ◌≤◌, ℕ, List, [], ◌∷◌, decimal}
 
 -- the command's name, and an id of 1 to 255 in decimal digits without a leading zero

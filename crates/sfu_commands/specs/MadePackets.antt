@@ -1,6 +1,6 @@
--- What a packet of a trial's stream says to the project's own readers: its RTP header (RFC 3550, section 5.1), the element under id 4 of its header
+-- What the project's own readers read from a packet of a trial's stream: its RTP header (RFC 3550, section 5.1), the element with id 4 of its header
 -- extension (RFC 8285), and the first three bytes of the dependency descriptor there (RTP Payload Format For AV1 v1.0, Appendix A). The stream's
--- definition lays bytes end to end; these readers take them apart.
+-- definition concatenates bytes; these readers parse them.
 use Rattle.std.specs.Prelude.{◌≡◌, ℕ, ◌%◌, ◌^◌, ◌&&◌, Bool, List, None, Some, Ok}
 use Rattle.dd_bits.specs.Bits.{bits_of_bytes}
 use Rattle.dd_descriptor.specs.Reading.{head_at}

@@ -1,4 +1,4 @@
--- What the bytes of a script of packets say. Own rule. The code never has a whole script in its hands, and keeps no packet.
+-- The packets in the bytes of a script. Own rule. The code never has a whole script in memory, and stores no packet.
 use Rattle.std.specs.Prelude.{ℕ, ◌+◌, nat_le, if◌then◌else◌, List, [], ◌∷◌, Option, Some, None}
 use Rattle.sfu_driver.specs.Input.{Line, judged_lines, lines_of, said}
 use Rattle.sfu_driver.specs.Scan.{Scan, More, Whole, NoUnit}
@@ -22,30 +22,30 @@ breaks_at number = record { packets = []; fault = Some number }
 abbrev pub numbered : ℕ → List ℕ → NumberedPacket
 numbered number bytes = record { number = number; bytes = bytes }
 
--- a packet before the others, or a line that is none
+-- a packet before the others, or a line that isn't a packet
 abbrev pub with_packet : Option (List ℕ) → ℕ → PacketScript → PacketScript
 with_packet None number others = breaks_at number
 with_packet (Some bytes) number others = record { packets = numbered number bytes ∷ others.packets; fault = others.fault }
 
--- a line with this text: a skipped one is counted, and says nothing
+-- a line with this text: a skipped line is counted, and has no packet
 abbrev pub with_packet_text : List ℕ → ℕ → PacketScript → PacketScript
 with_packet_text text number others = if is_skipped text then others else with_packet (bytes_of text) number others
 
--- a line before the others; there are at most 4,294,967,295
+-- a line before the others; there are at most 4,294,967,295 lines
 abbrev pub with_packet_line : Scan → ℕ → PacketScript → PacketScript
 with_packet_line More number others = others
 with_packet_line (Whole text) number others = if nat_le number 4294967295 then with_packet_text text number others else breaks_at number
 with_packet_line NoUnit number others = breaks_at number
 
--- what lines say of which the first has this number
+-- the script of these lines, the first of which has this number
 abbrev pub packets_of : List Line → ℕ → PacketScript
 packets_of [] number = record { packets = []; fault = None }
 packets_of (line ∷ lines) number = with_packet_line (said line) number (packets_of lines (number + 1))
 
--- what a whole script says
+-- the packets of a whole script
 abbrev pub packets_in : List ℕ → PacketScript
 packets_in bytes = packets_of (lines_of bytes) 1
 
--- what the lines say that are judged before the end of the script is seen
+-- the packets of the lines that are judged before the end of the script is seen
 abbrev pub packets_so_far : List ℕ → PacketScript
 packets_so_far bytes = packets_of (judged_lines (lines_of bytes)) 1

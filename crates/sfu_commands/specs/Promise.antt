@@ -1,4 +1,4 @@
--- What is promised to the subscribers of a script: own statement. The replies that `run` writes are those of the script's history, by
+-- What is guaranteed to the subscribers of a script: own statement. The replies that `run` writes are those of the script's history, by
 -- its statuses; here is what is true of every such history.
 use Rattle.std.specs.Prelude.{◌≡◌, ℕ, List, ◌++◌, map}
 use Rattle.room_core.specs.History.{Entry, accepted}
@@ -12,16 +12,16 @@ use Rattle.sfu_commands.specs.Script.{Script, entry_of, form_of, script_of, scri
 abbrev pub history_of : Script → List Entry
 history_of script = map entry_of script.calls
 
--- Each subscriber of the script that these bytes say was sent what it should be, and so was each of every front of it.
+-- Each subscriber of the script with these bytes was sent what it should be; the same holds for every prefix of the bytes.
 pub record IsServed (bytes : List ℕ) : Type 0 where
   pub whole : Headline (accepted (history_of (script_of bytes)))
   pub so_far : (front rest : List ℕ) → front ++ rest ≡ bytes → Headline (accepted (history_of (script_so_far front)))
 
--- In a script of records each item is a byte: a number there is as great as its bytes say. In one of lines the digits say how great it is.
+-- In a script of records each item is a byte, as numbers there are made of bytes. In a script of lines, digits make the numbers.
 abbrev pub IsOfBytes : Form → List ℕ → Type 0
 IsOfBytes Lines bytes = Unit {0}
 IsOfBytes Records bytes = AreBytes bytes
 
--- The same of whatever bytes a source has, whether it tells them or not.
+-- The same for any bytes that a source has, known or not.
 abbrev pub AreServed : Type 0
 AreServed = (bytes : List ℕ) → IsOfBytes (form_of bytes) bytes → IsServed bytes

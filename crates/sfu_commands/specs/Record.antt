@@ -1,5 +1,5 @@
--- The command `record ID`: each line of the source is a packet, and the frames that a strict receiver accepts of them are written as an IVF
--- file at the end. Own rule. The code feeds the packets to a recorder one after another, and keeps none.
+-- The command `record ID`: each line of the source is a packet, and the frames that a strict receiver accepts from them are written as an IVF
+-- file at the end. Own rule. The code feeds the packets to a recorder one after another, and stores none.
 use Rattle.std.specs.Prelude.{◌≡◌, ◌⊎◌, ℕ, if◌then◌else◌, List, [], ◌∷◌, ◌++◌, Option, Some, None, codes}
 use Rattle.ivf_recorder.specs.declared.fault.RecordFault.{RecordFault}
 use Rattle.ivf_recorder.specs.declared.fault.RecordFault.TheVariants as fault
@@ -24,11 +24,11 @@ IsRecord words id = IsWithId (codes "record") words id
 
 -- ---- texts
 
--- the line that says which line has a packet that ends a frame with an element that isn't an OBU
+-- the output line for a line whose packet ends a frame with an element that isn't an OBU
 abbrev pub obu_line : ℕ → List ℕ
 obu_line number = obu_text number ++ 10 ∷ []
 
--- why a fault at the packet of this line ends the command, and the line that says so
+-- why a fault at the packet of this line ends the command, and the output line for it
 abbrev pub end_at : ℕ → RecordFault → End
 end_at number (fault.Complaint complaint) = end_by ending.Complaint (complaint_line number complaint)
 end_at number fault.Obu = end_by ending.Obu (obu_line number)
@@ -40,7 +40,7 @@ abbrev pub end_unless : Option RecordFault → ℕ → Option End → Option End
 end_unless None number others = others
 end_unless (Some f) number others = Some (end_at number f)
 
--- the first packet of these, behind those that came, at which there is a fault ends the command; else what ends it at last
+-- The first of these packets, which come after others, that has a fault ends the command; if none has, this end does.
 abbrev pub end_from : ℕ → List (List ℕ) → List NumberedPacket → Option End → Option End
 end_from id came [] last = last
 end_from id came (packet ∷ more) last =
@@ -71,7 +71,7 @@ IsRecordStatus status = (status ≡ 0) ⊎ (status ≡ 3) ⊎ (status ≡ 4) ⊎
 
 -- ---- a line
 
--- a recorder stands for these packets; where it has given its file away, nothing is said
+-- a recorder stands for these packets; nothing is said after its file was taken
 abbrev pub HasRecorded : Option Recording → Reception → Type 0
 HasRecorded None reception = Unit {0}
 HasRecorded (Some recorder) reception = (recorder.receiver.id ≡ reception.id) × StandsFor recorder reception.packets
@@ -81,7 +81,7 @@ abbrev pub recorded_as : Option RecordFault → ℕ → Reception → Outcome Re
 recorded_as None number later = goes_on later
 recorded_as (Some f) number later = ends_with (end_at number f).why (end_at number f).text
 
--- what is due for a packet, or for a line that is none
+-- what is due for a packet, or for a line that isn't a packet
 abbrev pub records : Option (List ℕ) → ℕ → Reception → Outcome Reception
 records None number reception = ends_with ending.Outside (fault_line number)
 records (Some packet) number reception = recorded_as (fault_over reception.id (reception.packets ++ packet ∷ [])) number (with_one reception packet)

@@ -1,4 +1,4 @@
--- The command `run`: each line of the source, or each record in a script of records, is one call by seat 0 on a room that keeps nothing, and
+-- The command `run`: each line of the source, or each record in a script of records, is one call by seat 0 on a room that records nothing, and
 -- each reply is a line of the sink.
 use Rattle.std.specs.Prelude.{◌≡◌, ◌⊎◌, ℕ, if◌then◌else◌, List, [], ◌∷◌, ◌++◌, Option, Some, None, codes}
 use Rattle.sfu_base.specs.declared.call.Call.{Call}
@@ -18,11 +18,11 @@ IsRun words = words ≡ codes "run" ∷ []
 
 -- ---- a line or record
 
--- a recorder that keeps nothing tells nothing
+-- a recorder that stores nothing reports nothing
 abbrev pub untold : KeepNone → Option (List Noted)
 untold recorder = None
 
--- the reply to a call, or the end at a line or record that says none
+-- the reply to a call, or the end at a line or record without a call
 abbrev pub reply_to : Form → Option Call → ℕ → List Entry → Outcome (List Entry)
 reply_to form None number history = ends_with Outside (fault_in form number)
 reply_to form (Some call) number history = writes (reply_line history call) (history ++ entry_of call ∷ [])
@@ -49,7 +49,7 @@ due_in form bytes = due_for form (script_in form bytes) []
 abbrev pub part_in : Form → List ℕ → Due
 part_in form bytes = due_for form (judged_in form bytes) []
 
--- the same of any script: its first byte says which form it has
+-- the same for any script: its first byte decides which form it has
 abbrev pub run_due : List ℕ → Due
 run_due bytes = due_in (form_of bytes) bytes
 

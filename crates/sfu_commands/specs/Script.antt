@@ -1,4 +1,4 @@
--- What the bytes of a script say, and which texts are due for it. Own rule. The code never has a whole script in its hands: it reads
+-- The calls in the bytes of a script, and the texts that are due for it. Own rule. The code never has a whole script in memory: it reads
 -- pieces of any size, and serves the lines or records one after another.
 use Rattle.std.specs.Prelude.{ℕ, ◌+◌, ◌==◌, Bool, nat_le, if◌then◌else◌, List, [], ◌∷◌, ◌++◌, map, false, Option, Some, None}
 use Rattle.sfu_base.specs.declared.call.Call.{Call}
@@ -26,22 +26,22 @@ abbrev pub units_in : Form → List ℕ → List Scan
 units_in Lines bytes = map said (lines_of bytes)
 units_in Records bytes = units_of record_scan record_scan_end 0 [] bytes
 
--- those that are judged before the end of the script is seen
+-- those of them that are judged before the end of the script is seen
 abbrev pub units_so_far : Form → List ℕ → List Scan
 units_so_far Lines bytes = map said (judged_lines (lines_of bytes))
 units_so_far Records bytes = judged_units record_scan 0 [] bytes
 
--- the number of the first: the header counts as record 0
+-- the number of the first of them: the header counts as record 0
 abbrev pub first_number : Form → ℕ
 first_number Lines = 1
 first_number Records = 0
 
--- whether one says nothing: an empty line, a comment, the header
+-- whether one of them has no call and is skipped: an empty line, a comment, the header
 abbrev pub is_silent : Form → ℕ → List ℕ → Bool
 is_silent Lines number line = is_skipped line
 is_silent Records number body = number == 0
 
--- the call that one says
+-- the call in one of them
 abbrev pub call_in : Form → List ℕ → Option Call
 call_in Lines line = call_of line
 call_in Records body = records.call_of body
@@ -57,12 +57,12 @@ pub record Script : Type 0 where
 abbrev pub stops_at : ℕ → Script
 stops_at number = record { calls = []; fault = Some number }
 
--- a call before the others, or a line or record that says none
+-- a call before the others, or a line or record without a call
 abbrev pub with_call : Option Call → ℕ → Script → Script
 with_call None number others = stops_at number
 with_call (Some call) number others = record { calls = call ∷ others.calls; fault = others.fault }
 
--- one that says nothing is counted
+-- a skipped line or record is counted
 abbrev pub with_text : Form → List ℕ → ℕ → Script → Script
 with_text form text number others = if is_silent form number text then others else with_call (call_in form text) number others
 
@@ -72,30 +72,30 @@ with_unit form More number others = others
 with_unit form (Whole text) number others = if nat_le number 4294967295 then with_text form text number others else stops_at number
 with_unit form NoUnit number others = stops_at number
 
--- what lines or records say of which the first has this number
+-- the calls of these lines or records, the first of which has this number
 abbrev pub calls_of : Form → List Scan → ℕ → Script
 calls_of form [] number = record { calls = []; fault = None }
 calls_of form (unit ∷ units) number = with_unit form unit number (calls_of form units (number + 1))
 
--- what a whole script of this form says
+-- the calls of a whole script of this form
 abbrev pub script_in : Form → List ℕ → Script
 script_in form bytes = calls_of form (units_in form bytes) (first_number form)
 
--- what is judged of it before its end is seen
+-- the calls that are judged before its end is seen
 abbrev pub judged_in : Form → List ℕ → Script
 judged_in form bytes = calls_of form (units_so_far form bytes) (first_number form)
 
--- what a whole script says
+-- the calls of a whole script
 abbrev pub script_of : List ℕ → Script
 script_of bytes = script_in (form_of bytes) bytes
 
--- what the lines or records say that are judged before the end of the script is seen
+-- the calls of the lines or records that are judged before the end of the script is seen
 abbrev pub script_so_far : List ℕ → Script
 script_so_far bytes = judged_in (form_of bytes) bytes
 
 -- ---- texts
 
--- a call of seat 0 that found its memory
+-- a call of seat 0 that didn't run out of memory
 abbrev pub entry_of : Call → Entry
 entry_of call = record { seat = 0; call = call; starved = false }
 
@@ -108,7 +108,7 @@ abbrev pub run_text : List Call → List Entry → List ℕ
 run_text [] history = []
 run_text (call ∷ calls) history = reply_line history call ++ run_text calls (history ++ entry_of call ∷ [])
 
--- the line that says which line or record is outside the grammar
+-- the output line that says which line or record is outside the grammar
 abbrev pub fault_in : Form → ℕ → List ℕ
 fault_in Lines number = fault_line number
 fault_in Records number = record_fault_line number

@@ -23,7 +23,7 @@ pub record StandsAfter (room : Room KeepNone) (past : List Call) : Type 0 where
   pub stands : Stands untold room history
   pub are : accepted history ≡ past
 
--- the subscriber joined the layered track so, and is one of its history's
+-- the subscriber joined the layered track, and the track's history has it
 pub record HasJoined (n : ℕ) (past : List Call) : Type 0 where
   pub ssrc : ℕ
   pub wish : Wish
@@ -49,7 +49,7 @@ pub record IsFedAfter (room : Room KeepNone) (viewer : Viewer) (n : ℕ) (past :
   pub joined_is : HasJoined n past
   pub fed : WasFed viewer (received n past)
 
--- one take: a packet waited, and one less does now, or none did
+-- one take: a packet was queued, and one less is queued now; or none was queued
 pub record TakesOne (found : Bool) (room : Room KeepNone) (viewer : Viewer) (n : ℕ) (past : List Call) : Type 0 where
   pub after : IsFedAfter room viewer n (and_call past (call.Take n))
   pub queued : queued_for n past ≡ (if found then suc (queued_for n (and_call past (call.Take n))) else 0)

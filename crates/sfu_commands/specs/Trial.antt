@@ -1,5 +1,5 @@
--- The command `trial`: the stream of a number goes through a room to three subscribers, and what each took into a strict receiver of its own.
--- Own rule. The code has a room and three receivers; here are the calls, and what the history of the calls says was taken.
+-- The command `trial`: a generated stream goes through a room to three subscribers, and the packets of each to a strict receiver of its own.
+-- Own rule. The code has a room and three receivers; here are the calls, and the packets that were taken by the history of the calls.
 use Rattle.std.specs.Prelude.{◌≡◌, ◌⊎◌, ◌+◌, ℕ, zero, suc, min, fold, List, [], ◌∷◌, ◌++◌, length, Option, Some, None, is_some}
 use Rattle.std.specs.Io.KnownBytes.{Appends}
 use Rattle.sfu_base.specs.Bytes.{bit}
@@ -28,7 +28,7 @@ use Rattle.strict_receiver.specs.Receivers.{complaint_over, frames_over, greates
 use Rattle.sfu_driver.specs.Drive.{WritesPart}
 use Rattle.sfu_driver.specs.Statuses.{FirstFault}
 
--- ---- calls; the accepted ones stand newest first
+-- ---- calls; lists of accepted calls have the newest first
 
 -- the accepted calls after one more call
 abbrev pub and_call : List Call → Call → List Call
@@ -37,7 +37,7 @@ and_call past call = after (answer past call) call past
 abbrev pub wish_for : ℕ → ℕ → Wish
 wish_for spatial temporal = record { spatial = spatial; temporal = temporal }
 
--- Before the stream there is a layered track, whose descriptors stand under id 4, and which waits 50 milliseconds for a gap. Three subscribers
+-- Before the stream there is a layered track, whose descriptors have id 4, and whose hold is 50 milliseconds. Three subscribers
 -- wish for all layers, for the lower temporal layer, and for the lower layers.
 abbrev pub opening : List Call
 opening =
@@ -50,7 +50,7 @@ opening =
 abbrev pub opened : List Call
 opened = fold and_call [] opening
 
--- how many packets wait for a subscriber that joined so
+-- how many packets are queued for a subscriber that joined with these values
 abbrev pub queued_by : ℕ → Option Joined → List Call → ℕ
 queued_by n None past = 0
 queued_by n (Some j) past = length (queue (sent (kind_of j.track past)) (subscriber_by j) (events_for n j past))
@@ -58,16 +58,16 @@ queued_by n (Some j) past = length (queue (sent (kind_of j.track past)) (subscri
 unfoldable pub queued_for : ℕ → List Call → ℕ
 queued_for n past = queued_by n (joined n past) past
 
--- so many takes of a subscriber, one after another
+-- this many takes of a subscriber, one after another
 unfoldable pub takes : ℕ → ℕ → List Call → List Call
 takes zero n past = past
 takes (suc count) n past = and_call (takes count n past) (call.Take n)
 
--- a subscriber takes all that waits for it, and once more, which finds nothing
+-- a subscriber takes all its queued packets, and then once more, when the queue is empty
 unfoldable pub after_takes : ℕ → List Call → List Call
 after_takes n past = takes (queued_for n past + 1) n past
 
--- what an event of the stream brings: a packet comes, or a tick, behind which each subscriber takes until nothing waits for it
+-- after an event of the stream: a packet, or a tick, after which each subscriber takes until its queue is empty
 unfoldable pub after_event : List Call → Event → Option Place → List Call
 after_event past (event.Packet moment) None = past
 after_event past (event.Packet moment) (Some p) = and_call past (call.Packet 1 moment (packet_bytes p))
@@ -94,20 +94,20 @@ received n past = taken_by n (joined n past) past
 abbrev pub joined_as : ℕ → Wish → Joined
 joined_as ssrc wish = record { track = 1; ssrc = ssrc; first = 0; wish = wish }
 
--- The track is there, and each subscriber joined it as it asked to: none of the opening's calls was refused.
+-- The track is published, and each subscriber joined it with its values: none of the opening's calls was refused.
 pub record HaveJoined (past : List Call) : Type 0 where
   pub track : published 1 past ≡ Some (record { kind = Layered 4; ssrc = 0x11111111; hold = 50 })
   pub first : joined 1 past ≡ Some (joined_as 0x22222222 (wish_for 1 1))
   pub second : joined 2 past ≡ Some (joined_as 0x22222223 (wish_for 1 0))
   pub third : joined 3 past ≡ Some (joined_as 0x22222224 (wish_for 0 0))
 
--- What each subscriber took is what its takes were answered, in this order.
+-- The packets that each subscriber took are those that its takes returned, in this order.
 pub record AreGiven (past : List Call) : Type 0 where
   pub first : received 1 past ≡ given_to 1 past
   pub second : received 2 past ≡ given_to 2 past
   pub third : received 3 past ≡ given_to 3 past
 
--- A strict receiver of what each subscriber took has no complaint.
+-- A strict receiver has no complaint about the packets that each subscriber took.
 pub record ArePleased (past : List Call) : Type 0 where
   pub first : complaint_over 4 (received 1 past) ≡ None
   pub second : complaint_over 4 (received 2 past) ≡ None
@@ -130,7 +130,7 @@ trial_text s = summary_of (made s) (trial_calls s)
 
 -- ---- statuses
 
--- The summary was written, or the sink failed before all of it was, or memory was wanting, and nothing was written.
+-- The summary was written; or the sink failed before all of it was; or memory ran out, and nothing was written.
 pub record ShowsTrial (s : Stream) (written written' : Option (List ℕ)) (writes writes' status : ℕ) : Type 0 where
   pub done : status ≡ 0 → Appends written written' (trial_text s)
   pub sink : status ≡ 4 → Rose writes writes'

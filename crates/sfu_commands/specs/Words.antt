@@ -1,4 +1,4 @@
--- The words after the program's name, and which command they are. Own rule.
+-- The command-line words, and which command they are. Own rule.
 use Rattle.std.specs.Prelude.{◌≡◌, ℕ, List, [], ◌∷◌, Option, Some, None, codes}
 use Rattle.sfu_commands.specs.declared.words.Command.{Command}
 use Rattle.sfu_commands.specs.declared.words.Command.TheVariants.{Run, Convert, Simulcast, Help, Check, Record, Trial, Cascade}
@@ -9,7 +9,7 @@ use Rattle.sfu_commands.specs.Record.{IsRecord}
 use Rattle.sfu_commands.specs.Help.{IsHelp}
 use Rattle.sfu_commands.specs.StreamWords.{IsCascade, IsTrial}
 
--- the command `simulcast`, which `sfu_program` does
+-- the command `simulcast`, which `sfu_program` implements
 abbrev pub IsSimulcast : List (List ℕ) → Type 0
 IsSimulcast words = words ≡ codes "simulcast" ∷ []
 

@@ -1,4 +1,4 @@
-// The calls that the units of a script say.
+// Reads calls from the units of a script: its lines or records.
 ghost use Rattle.std.specs.Prelude.{◌≡◌, IfSome, MatchOption, None, Some};
 ghost use Rattle.script_texts.specs.Lines.{IsLine};
 ghost use Rattle.sfu_script.specs.ReadLines.{call_of};
@@ -9,7 +9,7 @@ use script_records::RecordReader;
 use sfu_base::Call;
 use sfu_script::LineReader;
 
-/// The call that a line says, or `None` exactly where it says none. The call is kept until the next line is read.
+/// Reads the call of a line; returns `None` exactly if the line isn't a call. The call stays valid until the next line is read.
 #[inline(always)]
 pub fn read_line<'a>(reader: &'a mut LineReader, line: &[u8]) -> Option<&'a Call>
     ensures value { MatchOption result (call_of line.now ≡ None) (λ call. call_of line.now ≡ Some call.now) }
@@ -18,7 +18,7 @@ pub fn read_line<'a>(reader: &'a mut LineReader, line: &[u8]) -> Option<&'a Call
     reader.read(line).ok()
 }
 
-/// Reads lines and records. A call is kept until the next is read.
+/// Reads calls from lines and records. A call stays valid until the next one is read.
 #[derive(Drop)]
 pub struct CallReader {
     pub lines: LineReader,
@@ -34,7 +34,7 @@ impl CallReader {
         }
     }
 
-    /// The call that a line or the body of a record says; `None` exactly where it says none.
+    /// Reads the call of a line or of a record's body; returns `None` exactly if it isn't a call.
     #[inline(always)]
     pub fn read(&mut self, form: Form, unit: &[u8]) -> Option<&Call>
         ensures { MatchOption result (call_in form unit.now ≡ None) (λ call. call_in form unit.now ≡ Some call.now) }

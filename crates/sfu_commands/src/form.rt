@@ -1,10 +1,10 @@
 // The two forms of scripts.
 
-/// What a script is made of.
+/// The form of a script.
 #[derive(Clone, Copy, Debug, PartialEq, Eq)]
 pub enum Form {
     /// Lines of text, counted from 1.
     Lines,
-    /// A header, which counts as record 0, and records.
+    /// A header, which counts as record 0, and then records.
     Records,
 }

@@ -1,10 +1,10 @@
-// The words of a command that takes the id of a header extension.
+// The words of a command that takes a header extension id.
 ghost use Rattle.std.specs.Prelude.{◌∷◌, [], MatchOption, ℕ};
 ghost use Rattle.sfu_commands.specs.IdWords.{IsWithId};
 
 use sfu_script::{Field, NoLine, read_fields};
 
-/// The id, 1 to 255, that two words say where they are the command `name`; `None` exactly when they aren't.
+/// Reads the header extension id, 1 to 255, if two words are the command `name` and an id; returns `None` exactly if they aren't.
 pub fn read_id(name: &str, word: &str, id: &str) -> Option<u8>
     ensures { MatchOption result ((number : ℕ) → ¬ (IsWithId name.now (word.now ∷ id.now ∷ []) number))
         (λ number. IsWithId name.now (word.now ∷ id.now ∷ []) number) }

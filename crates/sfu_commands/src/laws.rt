@@ -1,4 +1,4 @@
-// What is true of every converted script, of every packet of a trial, and of what is recorded of a subscriber's takes. The functions have no effect:
+// Theorems about converted scripts, the packets of a trial, and the recorded packets of a subscriber's takes. The functions have no effect:
 // their contracts are the laws.
 ghost use Rattle.std.specs.Prelude.{◌≡◌, List, None, Some, ℕ};
 ghost use Rattle.stream_maker.specs.declared.place.Place.{Place};
@@ -11,8 +11,8 @@ ghost use Rattle.sfu_commands.specs.Run.{run_due};
 ghost use Rattle.sfu_commands.specs.Script.{form_of, script_in, script_of, stops_at};
 ghost use Rattle.sfu_commands.specs.declared.form.Form.TheVariants.{Lines, Records};
 
-/// A script that `convert` converts whole says the same calls as the script of records that `convert` makes of it, and `run` writes the same for
-/// both. A script of records isn't converted: for `convert` it is outside the grammar at line 1, and the header alone is written.
+/// If `convert` converts a script as a whole, the script of records that it writes contains the same calls, and `run` writes the same for both
+/// scripts. A script of records isn't converted: for `convert` it is outside the grammar at line 1, and only the header is written.
 pub fn converted_scripts_run_alike()
     ensures calls { (bytes : List ℕ) → (convert_due bytes).end ≡ None → script_of (convert_due bytes).text ≡ script_of bytes }
     ensures replies { (bytes : List ℕ) → (convert_due bytes).end ≡ None → run_due (convert_due bytes).text ≡ run_due bytes }
@@ -20,15 +20,15 @@ pub fn converted_scripts_run_alike()
         × (convert_due bytes ≡ record { text = header; end = silent_end (Some 1) }) }
 {}
 
-/// The project's own readers read back the packets of a trial's stream. RTP finds no fault in a packet (RFC 3550, section 5.1). Under id 4 the packet
-/// has a dependency descriptor with the edges, the template and the frame number of its place in the stream (RFC 8285; RTP Payload Format For AV1
-/// v1.0, Appendix A).
+/// The project's own readers accept the packets of a trial's stream. Each is a valid RTP packet (RFC 3550, section 5.1). Its header extension
+/// element with id 4 (RFC 8285) is a dependency descriptor with the start and end bits, the template and the frame number of the packet's place
+/// in the stream (RTP Payload Format For AV1 v1.0, Appendix A).
 pub fn made_packets_say_their_places()
     ensures { (p : Place) → SaysPlace p (packet_bytes p) }
 {}
 
-/// A recorder that knows a layered track's extension id has no complaint of what is forwarded to a subscriber of the track, nor of what the
-/// subscriber's takes gave: `record` doesn't end with 8 there.
+/// A recorder with a layered track's header extension id has no complaint about the packets forwarded to a subscriber of the track, nor
+/// about the packets that the subscriber took: for them `record` doesn't end with status 8.
 pub fn taken_packets_arent_complained_of()
     ensures complaint { TakenPacketsArentComplainedOf }
     ensures status { TakenPacketsDontEndWith8 }

@@ -22,7 +22,7 @@ pub struct PacketJudge {
     pub packet: PacketBuf,
 }
 
-/// Appends the line of a complaint to the texts that are ready. After `NoMemory` all is as before.
+/// Appends the line of a complaint to `ready`, the output so far. After `NoMemory` it is unchanged.
 pub fn add_complaint(number: u32, complaint: &Complaint, ready: &mut Blob) -> Result<(), NoMemory>
     ensures ok { OnOk result (ready.new ≡ ready.old ++ complaint_line number complaint.now) }
     ensures err { OnErr result (ready.new ≡ ready.old) }
@@ -44,7 +44,7 @@ fn append_counts(packets: u64, frames: u64, ready: &mut Blob) -> Result<(), NoMe
     ready.append(b" frames\n")
 }
 
-// Appends the line of the counts to the texts that are ready. After `NoMemory` all is as before.
+// Appends the line of the counts to `ready`, the output so far. After `NoMemory` it is unchanged.
 fn add_counts(packets: u64, frames: u64, ready: &mut Blob) -> Result<(), NoMemory>
     ensures ok { OnOk result (ready.new ≡ ready.old ++ ok_line packets frames) }
     ensures err { OnErr result (ready.new ≡ ready.old) }
@@ -58,7 +58,7 @@ fn add_counts(packets: u64, frames: u64, ready: &mut Blob) -> Result<(), NoMemor
 }
 
 impl PacketJudge {
-    /// A judge that has received no packet, for this id of the descriptors' header extension.
+    /// A judge before its first packet; `id` is the header extension id of the descriptors.
     pub fn new(alloc: Global, id: u8) -> Result<PacketJudge, NoMemory>
         ensures { IfOk result (λ judge. HasReceived judge.receiver (nothing_received id)) }
     {
@@ -108,7 +108,7 @@ impl Judge for PacketJudge {
 }
 
 // Out of line: the loop of `run` then keeps its counts in registers.
-/// Judges the packets of the source's lines as a strict receiver with this id of the descriptors' header extension does, and returns the status.
+/// Checks the packets of the source's lines with a strict receiver, for this header extension id of the descriptors. Returns the status.
 #[inline(never)]
 pub fn check<S: Source, K: Sink>(alloc: Global, id: u8, source: &mut S, sink: &mut K) -> Status
     ensures checks { Checks id (exchange_of S.left S.faults K.written K.faults source.old source.new sink.old sink.new) (number_of result) }

@@ -14,7 +14,7 @@ use sfu_driver::{Ending, Halt, Judge, Lines, Status, Units, answer};
 use sfu_script::{PacketReader, is_skipped};
 use std::alloc::Global;
 
-/// Feeds the packet of each line to a recorder, whose file is taken at the end.
+/// Feeds the packet of each line to a recorder, and takes the recorder's file at the end.
 #[derive(Drop)]
 pub struct PacketRecorder {
     pub recorder: Option<IvfRecorder>,
@@ -22,8 +22,8 @@ pub struct PacketRecorder {
     pub packet: PacketBuf,
 }
 
-// Appends the line `line N obu` to the texts that are ready: an element of the frame that ends at line N isn't an OBU. After `NoMemory` all is as
-// before.
+// Appends the line `line N obu`, with N = `number`, to `ready`, the output so far: an element of the frame that ends at line N isn't an OBU.
+// After `NoMemory` the output is unchanged.
 fn add_obu(number: u32, ready: &mut Blob) -> Result<(), NoMemory>
     ensures ok { OnOk result (ready.new ≡ ready.old ++ obu_line number) }
     ensures err { OnErr result (ready.new ≡ ready.old) }
@@ -34,7 +34,7 @@ fn add_obu(number: u32, ready: &mut Blob) -> Result<(), NoMemory>
 }
 
 impl PacketRecorder {
-    /// A judge that has received no packet, for this id of the descriptors' header extension.
+    /// A judge before its first packet; `id` is the header extension id of the descriptors.
     pub fn new(alloc: Global, id: u8) -> Result<PacketRecorder, NoMemory>
         ensures { IfOk result (λ judge. HasRecorded judge.recorder (nothing_received id)) }
     {
@@ -86,7 +86,7 @@ impl Judge for PacketRecorder {
         add_fault(number, ready)
     }
 
-    // Where no text is ready, the file is moved instead of copied.
+    // If `ready` is empty, the file is moved into it instead of copied.
     fn close(&mut self, ready: &mut Blob) -> Result<(), NoMemory> {
         let Some(recorder) = self.recorder.take() else {
             return Err(NoMemory);
@@ -100,7 +100,7 @@ impl Judge for PacketRecorder {
     }
 }
 
-/// Records the packets of the source's lines as a recorder with this id of the descriptors' header extension does, and returns the status.
+/// Records the packets of the source's lines as an IVF file, for this header extension id of the descriptors. Returns the status.
 #[inline(never)]
 pub fn record<S: Source, K: Sink>(alloc: Global, id: u8, source: &mut S, sink: &mut K) -> Status
     ensures records { Records id (exchange_of S.left S.faults K.written K.faults source.old source.new sink.old sink.new) (number_of result) }

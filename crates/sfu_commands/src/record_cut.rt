@@ -1,4 +1,4 @@
-// A script of records that is cut into its header and its records.
+// Cuts a script of records into its header and its records.
 ghost use Rattle.std.specs.Prelude.{◌≡◌, ◌⊎◌, ◌++◌, ◌+◌, ◌≤◌, ◌<◌, ℕ, length, slice_index};
 ghost use Rattle.sfu_driver.specs.Scan.{Finds};
 ghost use Rattle.sfu_commands.specs.Records.{is_header, is_length, length_said, record_scan, record_scan_end};
@@ -6,17 +6,17 @@ ghost use Rattle.sfu_commands.specs.Records.{is_header, is_length, length_said, 
 use script_records::may_have_length;
 use sfu_driver::{Cut, Found, Last, MOST_UNIT};
 
-/// The bytes that a script of records begins with.
+/// The header: the bytes that a script of records begins with.
 pub const HEADER: &[u8] = b"\x00SF2";
 
-/// The most bytes that a record's body has.
+/// The most bytes of a record's body.
 const MOST_BODY: usize = 2061;
 
 /// Cuts input into a header and records. A record ends with its last byte, or as soon as its length or its kind is outside the grammar.
 #[derive(Clone, Copy, Debug, Drop)]
 pub struct Records;
 
-// The byte at this place of `kept` followed by `came`.
+// The byte at index `place` of `kept` followed by `came`.
 #[inline(always)]
 fn joined(kept: &[u8], came: &[u8], place: usize) -> u8
     requires { place < length kept.now + length came.now }
@@ -54,7 +54,7 @@ fn has_header(kept: &[u8], came: &[u8]) -> bool
         && joined(kept, came, 3) == 50
 }
 
-// How many bytes the body has, as the two bytes before it say.
+// The number of bytes of the body: the two bytes before it, big-endian.
 #[inline(always)]
 fn body_length(kept: &[u8], came: &[u8]) -> usize
     requires { 2 ≤ length kept.now + length came.now }

@@ -24,7 +24,7 @@ fn form_by(first: &[u8]) -> Form
     }
 }
 
-// Runs a script of lines, of which a piece was read.
+// Runs a script of lines, whose first `first` bytes were read and are at the start of `piece`.
 #[inline(never)]
 fn run_lines<S: Source, K: Sink>(
     alloc: Global,
@@ -47,7 +47,7 @@ fn run_lines<S: Source, K: Sink>(
     answer_behind(alloc, &mut units, piece, first, source, sink)
 }
 
-// Runs a script of records, of which a piece was read.
+// Runs a script of records, whose first `first` bytes were read and are at the start of `piece`.
 #[inline(never)]
 fn run_records<S: Source, K: Sink>(
     alloc: Global,
@@ -70,8 +70,8 @@ fn run_records<S: Source, K: Sink>(
     answer_behind(alloc, &mut units, piece, first, source, sink)
 }
 
-/// Runs a script: serves the calls of the source's lines, or of its records where its first byte is 0, writes a line for each reply, and
-/// returns the status.
+/// Runs a script: serves the calls of the source's lines, or of its records if the source's first byte is 0. Writes a line for each reply,
+/// and returns the status.
 pub fn run<S: Source, K: Sink>(alloc: Global, source: &mut S, sink: &mut K) -> Status
     ensures runs { Runs (exchange_of S.left S.faults K.written K.faults source.old source.new sink.old sink.new) (number_of result) }
     ensures headline { AreServed }

@@ -24,7 +24,7 @@ use sfu_driver::{Ending, Halt, Judge};
 use sfu_script::is_skipped;
 use std::alloc::Global;
 
-/// Serves each call of a script by seat 0 on a room whose recorder keeps nothing.
+/// Serves each call of a script as seat 0, on a room whose recorder stores nothing.
 #[derive(Drop)]
 pub struct CallServer {
     pub reader: CallReader,
@@ -32,7 +32,7 @@ pub struct CallServer {
     pub scratch: Scratch,
 }
 
-// Appends the line of a reply to the texts that are ready.
+// Appends the line of a reply to `ready`, the output so far.
 #[inline(always)]
 fn answer(reply: &Reply, scratch: &Scratch, ready: &mut Blob) -> Result<(), Halt>
     ensures starved { is_starved reply.now ≡ true → result ≡ Err Starved }
@@ -47,7 +47,7 @@ fn answer(reply: &Reply, scratch: &Scratch, ready: &mut Blob) -> Result<(), Halt
     Ok(())
 }
 
-// Serves a call of any kind. Out of line: each way by which a reply can come moves it, but the reply to a take is written from where it is made.
+// Serves a call of any kind. Out of line: here each reply is moved, but the reply to a take (see `serve`) is written from where it is made.
 #[inline(never)]
 fn serve_any(
     room: &mut Room<KeepNone>,
@@ -61,7 +61,7 @@ fn serve_any(
     ensures grows { length ready.old ≤ length ready.new }
 {
     match room.serve(0, call, scratch) {
-        // Most of these replies are `Done`, which is named here, so that no reply is moved.
+        // Most of these replies are `Done`; it is named here so that no reply is moved.
         Reply::Done => answer(&Reply::Done, scratch, ready),
         reply => answer(&reply, scratch, ready),
     }
@@ -82,7 +82,7 @@ impl CallServer {
         }
     }
 
-    // Serves the call of a line or record. It is inlined, as `judge` is, into the loop over units, so that most kinds of call are told apart there.
+    // Serves the call of a line or record. Inlined, as `judge` is, into the loop over units: most kinds of call are distinguished there.
     #[inline(always)]
     fn serve(&mut self, form: Form, number: u32, unit: &[u8], ready: &mut Blob) -> Result<(), Halt>
         ensures judges { (history : List Entry) → Stands untold self.old.room history

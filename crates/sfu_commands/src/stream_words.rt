@@ -10,18 +10,18 @@ const MOST_FRAMES: u64 = 1_000_000;
 
 const MOST_LOSS: u64 = 50;
 
-/// The numbers that a stream is made from.
+/// The parameters of a generated stream.
 #[derive(Clone, Copy, Debug, PartialEq, Eq)]
 pub struct StreamNumbers {
-    /// How many frames are made, 1 to 1,000,000.
+    /// The number of frames, 1 to 1,000,000.
     pub frames: u32,
     /// The seed of the random generator.
     pub start: u64,
-    /// About how many percent of packets are lost, at most 50.
+    /// The approximate packet loss in percent, at most 50.
     pub loss: u8,
 }
 
-// The number that a word is, in decimal digits without a leading zero.
+// Reads a word as a number in decimal digits without a leading zero; `None` if it isn't one.
 fn number(word: &str) -> Option<u64>
     ensures { MatchOption result ((n : ℕ) → ¬ (IsNumber n word.now)) (λ n. IsNumber n word.now) }
 {
@@ -31,7 +31,7 @@ fn number(word: &str) -> Option<u64>
     }
 }
 
-/// The stream that four words say, where they are the command with the name `command`; `None` exactly when they aren't.
+/// Reads the parameters of a stream if the four words are the command `command`; returns `None` exactly if they aren't.
 pub fn read_stream(
     command: &str,
     name: &str,

@@ -6,8 +6,8 @@ use crate::form::Form;
 use script_texts::{add_fault, add_record_fault};
 use sfu_base::{Blob, NoMemory};
 
-/// Appends the line `line N` or `record N` to the texts that are ready: unit N of the script, with N = `number`, is outside the grammar. After
-/// `NoMemory` all is as before.
+/// Appends the line `line N` or `record N`, with N = `number`, to `ready`, the output so far: unit N of the script is outside the grammar. After
+/// `NoMemory` the output is unchanged.
 #[cold]
 #[inline(never)]
 pub fn add_unit_fault(form: Form, number: u64, ready: &mut Blob) -> Result<(), NoMemory>

@@ -1,4 +1,4 @@
-// The words after the program's name.
+// The command-line arguments.
 ghost use Rattle.std.specs.Prelude.{map};
 ghost use Rattle.std.specs.String.{string_bytes};
 ghost use Rattle.sfu_commands.specs.Words.{Reads, ReadsFour, ReadsTwo, ReadsWord};
@@ -6,29 +6,29 @@ ghost use Rattle.sfu_commands.specs.Words.{Reads, ReadsFour, ReadsTwo, ReadsWord
 use crate::id_words::read_id;
 use crate::stream_words::read_stream;
 
-/// A single-threaded command: it waits for nobody.
+/// A single-threaded command.
 #[derive(Clone, Copy, Debug, PartialEq, Eq)]
 pub enum Command {
     /// Serves the calls of a script.
     Run,
     /// Writes the usage line.
     Help,
-    /// Writes a script of lines as one of records.
+    /// Converts a script of lines to a script of records.
     Convert,
-    /// Serves a script whose lines also speak of bundles. `sfu_program` does this, since this crate knows no bundles.
+    /// Serves a script whose lines may also be calls on bundles. `sfu_program` implements it, since this crate doesn't depend on bundles.
     Simulcast,
-    /// Judges packets as a strict receiver with this id of the descriptors' header extension does.
+    /// Checks packets with a strict receiver, for this header extension id of the descriptors.
     Check(u8),
-    /// Records packets as a recorder with this id of the descriptors' header extension does.
+    /// Records packets as an IVF file, for this header extension id of the descriptors.
     Record(u8),
-    /// Writes what strict receivers find in what three subscribers take of a stream. The stream has `frames` frames, and about `loss` percent of its
-    /// packets are lost; `start` seeds the random generator.
+    /// Sends a generated stream to three subscribers, and writes what strict receivers find in their packets. The stream has `frames` frames; about
+    /// `loss` percent of its packets are lost; `start` seeds the random generator.
     Trial { frames: u32, start: u64, loss: u8 },
     /// The same for a stream through two rooms: the second is fed from the first, and the three subscribers are in the second.
     Cascade { frames: u32, start: u64, loss: u8 },
 }
 
-// The command of one word.
+// The command that one word is.
 fn read_word(word: &str) -> Option<Command>
     ensures { ReadsWord word.now result }
 {
@@ -41,7 +41,7 @@ fn read_word(word: &str) -> Option<Command>
     }
 }
 
-// The command of two words.
+// The command that two words are.
 fn read_two(word: &str, id: &str) -> Option<Command>
     ensures { ReadsTwo word.now id.now result }
 {
@@ -51,7 +51,7 @@ fn read_two(word: &str, id: &str) -> Option<Command>
     read_id("record", word, id).map(Command::Record)
 }
 
-// The command of four words.
+// The command that four words are.
 fn read_four(name: &str, frames: &str, start: &str, loss: &str) -> Option<Command>
     ensures { ReadsFour name.now frames.now start.now loss.now result }
 {
@@ -72,7 +72,7 @@ fn read_four(name: &str, frames: &str, start: &str, loss: &str) -> Option<Comman
     }
 }
 
-/// The command that the words are; `None` exactly when they are no command.
+/// The command that the words are; `None` exactly if they are no command.
 pub fn read_words(words: &[String]) -> Option<Command>
     ensures { Reads (map string_bytes words.now) result }
 {

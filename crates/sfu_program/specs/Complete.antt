@@ -1,4 +1,4 @@
--- Completeness: what each command answers where nothing outside fails. A later command adds a field to `Completes`.
+-- Completeness: what each command does if nothing outside fails. A later command adds a field to `Completes`.
 use Rattle.std.specs.Prelude.{◌≡◌, ◌⊎◌, ℕ, List, [], ◌++◌, map, Option, Some, None, IfSome}
 use Rattle.std.specs.Io.KnownBytes.{Appends, IsAtEnd}
 use Rattle.sfu_base.specs.Faults.{Rose}
@@ -36,32 +36,32 @@ pub record NoneRose (x : Exchange) (before after : ℕ) : Type 0 where
   pub writes : ¬ (Rose x.writes x.writes')
   pub ports : ¬ (Rose before after)
 
--- the statuses that say nothing of the outside: all done, no command, an ending by the input, and want of memory
+-- the statuses that depend on nothing outside: all done, no command, an end by the input, and out of memory
 abbrev pub IsInside : ℕ → Type 0
 IsInside status = (status ≡ 0) ⊎ (status ≡ 2) ⊎ (status ≡ 5) ⊎ (status ≡ 6) ⊎ (status ≡ 8) ⊎ (status ≡ 10)
 
 -- ---- what is due for all of the input
 
--- 0 with the source read to its end, where the input doesn't end the command; else the status of its ending
+-- 0 with the source read to its end, if the input doesn't end the command; else the status of the command's end
 abbrev pub EndsAs : Option End → Exchange → ℕ → Type 0
 EndsAs None x status = (status ≡ 0) × IsAtEnd x.left'
 EndsAs (Some end) x status = status ≡ status_of end.why
 
--- all that is due for the source's bytes was written, and the status is theirs; or memory was wanting
+-- all that is due for the source's bytes was written, with the status for these bytes; or memory ran out
 abbrev pub Finishes : (List ℕ → Due) → Exchange → ℕ → Type 0
 Finishes whole x status = (status ≡ 6) ⊎ IfSome x.left (λ bytes. EndsAs (whole bytes).end x status × Appends x.written x.written' (full_text (whole bytes)))
 
--- the same of a command that reads nothing
+-- the same for a command that reads nothing
 abbrev pub Shows : List ℕ → Exchange → ℕ → Type 0
 Shows text x status = (status ≡ 0) × Appends x.written x.written' text
 
--- ---- `serve`: what is due where each session makes all its turns
+-- ---- `serve`: what is due if each session makes all its turns
 
 -- each port's session made all its turns
 abbrev pub all_turns : List PortLine → List SessionEnd
 all_turns lines = map (λ _. AllTurns) lines
 
--- this text, unless a line is outside the grammar
+-- this text, if no line is outside the grammar
 abbrev pub unless_fault : Option ℕ → List ℕ → List ℕ
 unless_fault None text = text
 unless_fault (Some line) text = []
@@ -78,14 +78,14 @@ serve_due bytes = due_of_setup (configuration_of bytes)
 
 -- ---- the commands
 
--- What the command that the words say does where nothing outside fails.
+-- What the command that the words are does if nothing outside fails.
 pub record Completes (words : List (List ℕ)) (x : Exchange) (status : ℕ) : Type 0 where
   pub run : IsRun words → Finishes run_due x status
   pub convert : IsConvert words → Finishes convert_due x status
   pub simulcast : IsSimulcast words → Finishes simulcast_due x status
-  -- 8 exactly where the receiver complains
+  -- 8 exactly if the receiver complains
   pub check : (id : ℕ) → IsCheck words id → Finishes (check_due id) x status
-  -- 8 and 10 exactly where the recorder complains of a packet and of an element
+  -- 8 exactly if the recorder complains about a packet, 10 exactly if about an element
   pub recorded : (id : ℕ) → IsRecord words id → Finishes (record_due id) x status
   -- the journal is that of a history that the script's actors made
   pub together : IsTogether words → (history : List Entry) × Finishes (together_due history) x status × (status ≡ 0 → IfSome x.left (IsPlayed history))

@@ -8,14 +8,14 @@ use Rattle.sfu_together.specs.Together.{IsTogether}
 abbrev pub IsServing : List (List ℕ) → Type 0
 IsServing words = (turns : ℕ) × IsServe words turns
 
--- the words are one of the commands: one that a single thread does, `together`, or `serve`
+-- the words are one of the commands: a single-threaded one, `together`, or `serve`
 abbrev pub IsCommand : List (List ℕ) → Type 0
 IsCommand words = IsForm words ⊎ IsTogether words ⊎ IsServing words
 
--- the statuses of the commands that wait for nobody
+-- the statuses of the single-threaded commands
 abbrev pub IsStatus : ℕ → Type 0
 IsStatus status = (status ≡ 0) ⊎ (status ≡ 2) ⊎ (status ≡ 3) ⊎ (status ≡ 4) ⊎ (status ≡ 5) ⊎ (status ≡ 6) ⊎ (status ≡ 8) ⊎ (status ≡ 10)
 
--- the statuses of the program: 7 is that of ports alone
+-- the statuses of the program: 7 is only for ports
 abbrev pub IsEnd : ℕ → Type 0
 IsEnd status = IsStatus status ⊎ (status ≡ 7)

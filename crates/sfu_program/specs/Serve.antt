@@ -22,12 +22,12 @@ use Rattle.port_config.specs.Reading.{ReadsNoSetup}
 use Rattle.sfu_script.specs.declared.ports.PortLine.{PortLine}
 use Rattle.port_config.specs.Script.{configuration_of}
 
--- sessions that ended: how, and what their links tell and count
+-- sessions that ended: how, and the traffic and faults of their links
 abbrev pub afters : {L : Type 0} → (L → Option Traffic) → (L → ℕ) → List (Ended L) → List After
 afters told faults ended = map (λ session. job_after session.end (told session.link) (faults session.link)) ended
 
--- There is one history that begins with these calls by seat 0, and each job had its session in it, with the seat of its place, counted
--- from 1; no other seat made a call behind them. No session found the lock worn.
+-- There is one history that begins with these calls by seat 0. Each job had its session in it, by the seat with the job's place, counted
+-- from 1; no other seat made a call after those of seat 0. No session found the lock worn.
 pub record HaveServed (limit : ℕ) (calls : List Call) (jobs : List Before) (ended : List After) : Type 0 where
   pub history : List (turn.Entry Call)
   pub added : List (turn.Entry Call)
@@ -36,11 +36,11 @@ pub record HaveServed (limit : ℕ) (calls : List Call) (jobs : List Before) (en
   pub below : AllBelow (length jobs + 1) added
   pub each : AreSessions limit 0 history 1 jobs ended
   pub unworn : AreUnworn (map (λ after. after.end) ended)
-  -- want of memory came only to a publish or a join
+  -- only a publish or a join ran out of memory
   pub memory : AllMayStarve TakesMemory history
   pub headline : Headline (accepted (entries_of history))
 
--- All ports of these lines were bound, in their order; the K-th port had the session of the K-th line, on its own link; and all came back in this
+-- All ports of these lines were bound, in order; the K-th port had the session of the K-th line, on its own link; and all were released in this
 -- order.
 pub record HasServed {L : Type 0} (told : L → Option Traffic) (faults name : L → ℕ) (limit : ℕ) (calls : List Call) (lines : List PortLine)
     (old new : PortsSeen L) (ended : List (Ended L)) : Type 0 where
@@ -53,12 +53,12 @@ pub record HasServed {L : Type 0} (told : L → Option Traffic) (faults name : L
   pub back : new.back ≡ length lines
   pub returned : new.returned ≡ after_backs (map (λ session. session.link) ended) old.returned
 
--- Where memory was wanting no bind failed. So no port failed, but where all sessions had ended.
+-- If memory ran out, no bind failed. So no port failed, unless all sessions had ended.
 abbrev pub Starved : {L : Type 0} → (L → Option Traffic) → (L → ℕ) → (L → ℕ) → ℕ → List Call → List PortLine → PortsSeen L → PortsSeen L → Type 0
 Starved {L} told faults name limit calls lines old new =
     (new.faults ≡ old.faults) ⊎ ((ended : List (Ended L)) × HasServed told faults name limit calls lines old new ended)
 
--- What came of the ports of these lines, behind these calls.
+-- The outcome for the ports of these lines, after these calls.
 pub record Ends {L : Type 0} (told : L → Option Traffic) (faults name : L → ℕ) (limit : ℕ) (calls : List Call) (lines : List PortLine)
     (written written' : Option (List ℕ)) (writes writes' : ℕ) (old new : PortsSeen L) (status : ℕ) : Type 0 where
   -- 0: each session made all its turns, and a line for each was written
@@ -68,7 +68,7 @@ pub record Ends {L : Type 0} (told : L → Option Traffic) (faults name : L → 
   pub sink : status ≡ 4 → Rose writes writes'
   pub unwritten : status ≡ 4 → (ended : List (Ended L)) × HasServed told faults name limit calls lines old new ended
       × WritesPart written written' (ends_text 1 (ends_of ended))
-  -- 6: memory was wanting, and nothing was written; no bind failed, and where a session's link did, all ports came back
+  -- 6: memory ran out, and nothing was written; no bind failed, and if a session's link failed, all ports were released
   pub memory : status ≡ 6 → Appends written written' [] × Starved told faults name limit calls lines old new
   -- 7: a port wasn't bound, so no session started; or the link of a session failed, and the lines were written
   pub ports : status ≡ 7 → Rose old.faults new.faults
@@ -84,20 +84,20 @@ pub record Ends {L : Type 0} (told : L → Option Traffic) (faults name : L → 
 abbrev pub serve_text : {L : Type 0} → List Call → List (Ended L) → List ℕ
 serve_text calls ended = first_text calls ++ ends_text 1 (ends_of ended)
 
--- What was done for these calls and lines.
+-- The outcome for these calls and lines.
 pub record Acts {L : Type 0} (told : L → Option Traffic) (faults name : L → ℕ) (limit : ℕ) (calls : List Call) (lines : List PortLine)
     (written written' : Option (List ℕ)) (writes writes' : ℕ) (old new : PortsSeen L) (status : ℕ) : Type 0 where
   -- 0: each session made all its turns, and all that is due was written
   pub done : status ≡ 0 → (ended : List (Ended L)) × HasServed told faults name limit calls lines old new ended × (all_made (ends_of ended) ≡ true)
       × Appends written written' (serve_text calls ended)
-  -- 4: the sink failed; what was written is a part of what is due, and not all of it. Before the replies were written no port was bound
+  -- 4: the sink failed; a part of what is due was written, but not all of it. Before the replies were written no port was bound
   pub sink : status ≡ 4 → Rose writes writes'
   pub unwritten : status ≡ 4 → (WritesPart written written' (first_text calls) × (new ≡ old))
       ⊎ ((ended : List (Ended L)) × HasServed told faults name limit calls lines old new ended × WritesPart written written' (serve_text calls ended))
-  -- 6: memory was wanting; nothing was written, or the replies to the first calls. No bind failed, and where a session's link did, all ports came back
+  -- 6: memory ran out; nothing was written, or the replies to the first calls. No bind failed, and if a session's link failed, all ports were released
   pub memory : status ≡ 6 → (Appends written written' [] × (new ≡ old))
       ⊎ (Appends written written' (first_text calls) × Starved told faults name limit calls lines old new)
-  -- 7: a port wasn't bound, so no session started and the replies alone were written; or the link of a session failed, and all was written
+  -- 7: a port wasn't bound, so no session started and only the replies were written; or the link of a session failed, and all was written
   pub ports : status ≡ 7 → Rose old.faults new.faults
   pub failed : status ≡ 7 → (WasUnbound told faults name lines old new × Appends written written' (first_text calls))
       ⊎ ((ended : List (Ended L)) × HasServed told faults name limit calls lines old new ended × (all_made (ends_of ended) ≡ false)
@@ -107,7 +107,7 @@ pub record Acts {L : Type 0} (told : L → Option Traffic) (faults name : L → 
   pub first_fault : FirstFault 0 0 writes writes' status
   pub calm : status ≡ 0 → new.faults ≡ old.faults
 
--- The source was read to its end, its bytes are a configuration, and this was done for its calls and its ports.
+-- The source was read to its end, its bytes are a configuration, and this is the outcome for its calls and ports.
 pub record ActsOn {L : Type 0} (told : L → Option Traffic) (faults name : L → ℕ) (limit : ℕ) (left left' written written' : Option (List ℕ))
     (writes writes' : ℕ) (old new : PortsSeen L) (status : ℕ) : Type 0 where
   pub bytes : List ℕ
@@ -116,7 +116,7 @@ pub record ActsOn {L : Type 0} (told : L → Option Traffic) (faults name : L �
   pub whole : (configuration_of bytes).fault ≡ None
   pub acts : Acts told faults name limit (configuration_of bytes).setup.calls (configuration_of bytes).setup.ports written written' writes writes' old new status
 
--- What `serve` does. Where the source fails (3), a line is outside the grammar (5) or memory is wanting for what the lines say (6), no call
+-- What `serve` does. If the source fails (3), a line is outside the grammar (5) or memory runs out for the configuration (6), no call
 -- is made and no port bound.
 pub record Serves {L : Type 0} (told : L → Option Traffic) (faults name : L → ℕ) (limit : ℕ) (x : Exchange) (old new : PortsSeen L) (status : ℕ) : Type 0 where
   pub came : (ReadsNoSetup x.left x.left' x.written x.written' x.reads x.reads' x.writes x.writes' status × (new ≡ old))
@@ -124,7 +124,7 @@ pub record Serves {L : Type 0} (told : L → Option Traffic) (faults name : L �
   -- the first read or write that fails ends the command, and at 0 no bind, receive or send failed
   pub first_fault : FirstFault x.reads x.reads' x.writes x.writes' status
   pub calm : status ≡ 0 → new.faults ≡ old.faults
-  -- no other status comes
+  -- there is no other status
   pub only : (status ≡ 0) ⊎ (status ≡ 3) ⊎ (status ≡ 4) ⊎ (status ≡ 5) ⊎ (status ≡ 6) ⊎ (status ≡ 7)
-  -- where nothing outside fails, all sessions make all their turns, unless a line is outside the grammar
+  -- if nothing outside fails, all sessions make all their turns, unless a line is outside the grammar
   pub complete : ¬ (Rose x.reads x.reads') → ¬ (Rose x.writes x.writes') → ¬ (Rose old.faults new.faults) → (status ≡ 0) ⊎ (status ≡ 5) ⊎ (status ≡ 6)

@@ -1,4 +1,4 @@
--- What the calls that are made before any session starts make of the room behind the lock, and which texts are due for them.
+-- The room behind the lock after the calls that are made before any session starts, and the texts that are due for these calls.
 use Rattle.std.specs.Prelude.{◌≡◌, ◌^◌, ◌≤◌, ℕ, false, List, [], length, map}
 use Rattle.atomic_table.specs.Seated.{TableId}
 use Rattle.sfu_base.specs.declared.call.Call.{Call}
@@ -7,19 +7,19 @@ use Rattle.turn_lock.specs.History.{entry}
 use Rattle.turn_lock.specs.Known.{Known}
 use Rattle.sfu_commands.specs.Script.{entry_of, reply_line, run_text}
 
--- the turns of seat 0 that these calls are, where each found its memory
+-- the turns of seat 0 for these calls, none of which ran out of memory
 abbrev pub made_first : List Call → List (turn.Entry Call)
 made_first calls = map (λ call. entry 0 call false) calls
 
--- the reply lines of these calls on a new room, in their order
+-- the reply lines of these calls on a new room, in order
 abbrev pub first_text : List Call → List ℕ
 first_text calls = run_text calls []
 
--- the line of the reply to a call behind these
+-- the line of the reply to a call after these calls
 abbrev pub next_line : List Call → Call → List ℕ
 next_line calls call = reply_line (map entry_of calls) call
 
--- Seat 0, which is the lock's only one yet, made these calls.
+-- Seat 0, which is still the lock's only one, made these calls.
 pub record HasMade (lock : TableId) (calls : List Call) (seat : Known Call) : Type 0 where
   pub lock_is : seat.lock ≡ lock
   pub first_is : seat.first ≡ 0
@@ -28,7 +28,7 @@ pub record HasMade (lock : TableId) (calls : List Call) (seat : Known Call) : Ty
   pub none_joined : seat.joined ≡ []
   pub seen_is : seat.seen ≡ made_first calls
 
--- The same of some of these calls, and the lock gave no ticket for the next one.
+-- The same for some of these calls, and the lock had no ticket for the next one.
 pub record IsWornOut (lock : TableId) (calls : List Call) (seat : Known Call) : Type 0 where
   pub some : List Call
   pub made : HasMade lock some seat

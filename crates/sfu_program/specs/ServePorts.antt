@@ -1,4 +1,4 @@
--- Ports that are bound for sessions, and that come back. Own rule.
+-- Ports that are bound for sessions, and that are released. Own rule.
 use Rattle.std.specs.Prelude.{◌≡◌, ◌⊎◌, ◌<◌, ◌+◌, ℕ, List, [], ◌∷◌, ◌++◌, length, map, take, Option}
 use Rattle.std.specs.Option.{option_map}
 use Rattle.sfu_base.specs.Faults.{raised}
@@ -12,7 +12,7 @@ use Rattle.sfu_serve.specs.declared.run.Role.{Role}
 use Rattle.sfu_serve.specs.declared.run.Role.TheVariants.{Publisher, Subscriber, Control, Rtx}
 use Rattle.sfu_serve.specs.Runs.{Before, job_before}
 
--- whose session a port's line asks for
+-- the role of the session that a port's line requests
 abbrev pub role_of : PortRole → Role
 role_of (line.Publisher track ssrc) = Publisher track ssrc
 role_of (line.Subscriber subscriber ssrc) = Subscriber subscriber ssrc
@@ -21,19 +21,19 @@ role_of (line.Rtx subscriber ssrc rtx_ssrc payload_type) = Rtx subscriber ssrc (
 
 -- ---- ports that are bound
 
--- The port of a job was just bound for this line: it has no faults yet and, where it tells its traffic, none.
+-- The port of a job was just bound for this line: it has no faults yet and, if its traffic is known, no traffic.
 pub record IsFresh (line : PortLine) (job : Before) : Type 0 where
   pub role : job.role ≡ role_of line.role
   pub quiet : job.faults ≡ 0
   pub silent : tells_nothing_yet job.told
 
--- the same of each line and its job, in order
+-- the same for each line and its job, in order
 abbrev pub AreFresh : List PortLine → List Before → Type 0
 AreFresh [] [] = Unit {0}
 AreFresh (line ∷ lines) (job ∷ jobs) = IsFresh line job × AreFresh lines jobs
 AreFresh _ _ = ⊥
 
--- jobs before their sessions: their roles, and what their links tell and count
+-- jobs before their sessions: their roles, and the traffic and faults of their links
 abbrev pub befores : {L : Type 0} → (L → Option Traffic) → (L → ℕ) → List (Job L) → List Before
 befores told faults jobs = map (λ job. job_before job.role (told job.link) (faults job.link)) jobs
 
@@ -42,9 +42,9 @@ abbrev pub AreNamedFrom : {L : Type 0} → (L → ℕ) → ℕ → List L → Ty
 AreNamedFrom name n [] = Unit {0}
 AreNamedFrom name n (link ∷ links) = (name link ≡ n) × AreNamedFrom name (n + 1) links
 
--- ---- ports that come back
+-- ---- ports that are released
 
--- these ports came back, in this order
+-- these ports were released, in this order
 abbrev pub after_backs : {L : Type 0} → List L → Option (List L) → Option (List L)
 after_backs ports told = option_map (λ others. others ++ ports) told
 
@@ -53,12 +53,12 @@ abbrev pub SomeFault : {L : Type 0} → (L → ℕ) → List L → Type 0
 SomeFault faults [] = ⊥
 SomeFault faults (link ∷ links) = (0 < faults link) ⊎ SomeFault faults links
 
--- none of these links has
+-- none of these links has faults
 abbrev pub NoFault : {L : Type 0} → (L → ℕ) → List L → Type 0
 NoFault faults [] = Unit {0}
 NoFault faults (link ∷ links) = (faults link ≡ 0) × NoFault faults links
 
--- what ports count and tell: how many were bound and came back, those that came back, and the faults
+-- the state of ports: how many were bound and released, which were released, and the number of faults
 pub record PortsSeen (L : Type 0) : Type 0 where
   pub bound : ℕ
   pub back : ℕ
@@ -68,7 +68,7 @@ pub record PortsSeen (L : Type 0) : Type 0 where
 abbrev pub seen_ports : {L : Type 0} → ℕ → ℕ → Option (List L) → ℕ → PortsSeen L
 seen_ports bound back returned faults = record { bound = bound; back = back; returned = returned; faults = faults }
 
--- A port wasn't bound: one bind failed, and no other was made. Those of the lines before it were bound, in their order, and came back.
+-- A port wasn't bound: one bind failed, and no other was made. The ports of the lines before it were bound, in order, and released.
 pub record WasUnbound {L : Type 0} (told : L → Option Traffic) (faults name : L → ℕ) (lines : List PortLine) (old new : PortsSeen L) : Type 0 where
   pub jobs : List (Job L)
   pub fewer : length jobs < length lines

@@ -1,4 +1,4 @@
--- The command `simulcast`: each line of the source is a call by seat 0 on a room with bundles that keeps nothing, or says something of a bundle, and
+-- The command `simulcast`: each line of the source is a call by seat 0 on a room with bundles that records nothing, or a call on a bundle, and
 -- each reply is a line of the sink.
 use Rattle.std.specs.Prelude.{◌≡◌, ◌⊎◌, ℕ, if◌then◌else◌, List, [], ◌∷◌, ◌++◌, Option, Some, None}
 use Rattle.script_texts.specs.WholeLines.{fault_line}
@@ -16,7 +16,7 @@ use Rattle.sfu_program.specs.SimulcastTexts.{line_told}
 
 -- ---- a line
 
--- the reply, or the end at a line that says nothing
+-- the reply, or the end at a line that is no call
 abbrev pub bundle_reply_to : Option BundleLine → ℕ → Simulcast → Outcome Simulcast
 bundle_reply_to None number h = ends_with Outside (fault_line number)
 bundle_reply_to (Some line) number h = writes (line_told line h).reply (line_told line h).after
@@ -27,7 +27,7 @@ bundle_served h number text = if is_skipped text then goes_on h else bundle_repl
 
 -- ---- the whole script
 
--- the replies to lines, one after another, and each over what the lines before it left
+-- the replies to lines, one after another, each in the state after the lines before it
 abbrev pub replies_text : List BundleLine → Simulcast → List ℕ
 replies_text [] h = []
 replies_text (line ∷ lines) h = (line_told line h).reply ++ replies_text lines (line_told line h).after

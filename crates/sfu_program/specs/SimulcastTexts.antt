@@ -14,7 +14,7 @@ use Rattle.simulcast.specs.Answers.{Answered, bundle_made, bundle_pumped, leg_ch
 use Rattle.simulcast.specs.Bundles.{Simulcast}
 use Rattle.simulcast.specs.Made.{just_made}
 
--- why a line was refused; a refusal that the room has too has the room's text
+-- why a line was refused; a refusal that a room also has is written as the room's
 abbrev pub fault_text : BundleFault → List ℕ
 fault_text fault.NoBundle = bundle_reply_text reply.NoBundle
 fault_text (fault.NumberUsed highest) = answer_text (Refused (refusal.NumberUsed highest))
@@ -40,7 +40,7 @@ abbrev pub answered_text : {A : Type 0} → (A → List ℕ) → Result A Bundle
 answered_text text (Ok answer) = text answer
 answered_text text (Err why) = fault_text why
 
--- the line that a line of a script is answered with, and what there is behind it
+-- the output line for a line of a script, and the state after it
 pub record Told : Type 0 where
   pub reply : List ℕ
   pub after : Simulcast

@@ -1,4 +1,4 @@
-// The commands of one thread, by their words.
+// The single-threaded commands.
 ghost use Rattle.std.specs.Prelude.{◌≡◌, ◌↔◌, ℕ, map};
 ghost use Rattle.std.specs.String.{string_bytes};
 ghost use Rattle.sfu_commands.specs.Check.{Checks, IsCheck};
@@ -26,7 +26,7 @@ use sfu_base::{Sink, Source};
 use sfu_commands::{Command, check, convert, help, read_words, record, refuse, run, trial};
 use std::alloc::Global;
 
-// Does what the words say: one arm and one clause for each command.
+// Executes the command that the words are: one arm and one clause for each command.
 fn follow<S: Source, K: Sink>(alloc: Global, words: &[String], source: &mut S, sink: &mut K) -> u8
     ensures run { IsRun (map string_bytes words.now)
         → Runs (exchange_of S.left S.faults K.written K.faults source.old source.new sink.old sink.new) result }
@@ -78,14 +78,14 @@ fn follow<S: Source, K: Sink>(alloc: Global, words: &[String], source: &mut S, s
     }
 }
 
-/// Does what the words say where they are a single-threaded command (any but `together` and `serve`), and returns the program's status. It always
-/// returns.
+/// Executes the command that the words are, if it is a single-threaded one (any but `together` and `serve`), and returns the program's status. It
+/// always returns.
 ///
-/// Status 0: the source was read to its end, where the command reads it, and all that is due was written. 2: the words are no command; nothing was
-/// read, and the usage line was written. 3 and 4: the source or the sink failed. 5: a line is outside the grammar; what is due before it and `line N`
-/// were written, or `record N` in a script of records; `convert` writes no such line. 6: out of memory. 8: the strict receiver of `check` or `record`
-/// complains; `line N` and the complaint were written. 10: in `record` a packet ends a frame one of whose elements isn't an OBU; `line N obu` was
-/// written. The first of these that is met ends the call. Where the sink fails in the text of 2, 5, 8 or 10, the status stays.
+/// Status 0: the source was read to its end, if the command reads it, and all output was written. 2: the words are no such command; nothing was
+/// read, and the usage line was written. 3 and 4: the source or the sink failed. 5: a line is outside the grammar; the output due before it and
+/// `line N` were written, or `record N` in a script of records; `convert` writes no such line. 6: out of memory. 8: the strict receiver of `check` or
+/// `record` complains; `line N` and the complaint were written. 10: in `record` a packet ends a frame in which an element isn't an OBU; `line N obu`
+/// was written. The first of these that occurs ends the call. If the sink fails in the text of 2, 5, 8 or 10, the status is unchanged.
 pub fn sfu_alone<S: Source, K: Sink>(
     alloc: Global,
     words: &[String],

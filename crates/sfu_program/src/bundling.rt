@@ -1,4 +1,4 @@
-// The command `simulcast`: a script whose lines also speak of bundles.
+// The command `simulcast`: serves a script whose lines may also be calls on bundles.
 mod command;
 mod server;
 

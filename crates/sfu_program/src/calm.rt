@@ -1,4 +1,4 @@
-// The top call over a source, a sink and ports that never fail.
+// The top call over a source, a sink and ports that can't fail.
 ghost use Rattle.std.specs.Prelude.{◌≡◌};
 ghost use Rattle.sfu_program.specs.Complete.{IsInside};
 
@@ -8,7 +8,7 @@ use std::alloc::Global;
 use std::sync::Wait;
 use std::thread::Threads;
 
-/// Does what [`sfu`] does where nothing outside can fail: the status is 0, 2, 5, 6, 8 or 10.
+/// Does what [`sfu`] does. Since nothing outside can fail, the status is 0, 2, 5, 6, 8 or 10.
 pub fn sfu_calm<W: Threads + Wait + Sync, C: Clock + Sync>(
     rt: &W,
     alloc: Global,

@@ -15,7 +15,7 @@ use sfu_edge::{StdSink, StdSource, SysClock, UdpPorts, WakeTable};
 use std::process::ExitCode;
 use std::{env, io};
 
-// The words after the program's name; none, which is no command, where one of the words isn't UTF-8.
+// The command-line arguments; if one of them isn't UTF-8, none, which is no command.
 fn arguments(rt: &HostRuntime) -> io::Result<Vec<String>> {
     let mut words = Vec::new(rt.alloc());
     let all = match env::args(rt) {

@@ -51,15 +51,15 @@ fn are_together(words: &[String]) -> bool
     }
 }
 
-/// Does what the words say, and returns the program's status. Only `serve` binds ports and looks at the clock. Each port that `serve` bound for a
-/// session comes back, unless memory runs out for the sessions.
+/// Executes the command that the words are, and returns the program's status. Only `serve` binds ports and reads the clock. Each port that `serve`
+/// bound for a session is released, unless memory runs out for the sessions.
 ///
-/// Status 0: the source was read to its end, where the command reads it, and all that is due was written; in `serve` each session made all its turns.
-/// 2: the words are no command; nothing was read, and the usage line was written. 3 and 4: the source or the sink failed. 5: a line is outside the
-/// grammar; what is due before it and `line N` were written, or `record N` in a script of records; `convert` writes no such line. 6: out of memory.
-/// 7: a port wasn't bound, or the link of a session failed; in the second case a line for each session was written. 8: the strict receiver of `check`
-/// or `record` complains; `line N` and the complaint were written. 10: in `record` a packet ends a frame one of whose elements isn't an OBU; `line N
-/// obu` was written. The first of these that is met ends the call. Where the sink fails in the text of 2, 5, 8 or 10, the status stays.
+/// Status 0: the source was read to its end, if the command reads it, and all output was written; in `serve` each session made all its turns. 2: the
+/// words are no command; nothing was read, and the usage line was written. 3 and 4: the source or the sink failed. 5: a line is outside the grammar;
+/// the output due before it and `line N` were written, or `record N` in a script of records; `convert` writes no such line. 6: out of memory. 7: a
+/// port wasn't bound, or the link of a session failed; in the second case a line for each session was written. 8: the strict receiver of `check` or
+/// `record` complains; `line N` and the complaint were written. 10: in `record` a packet ends a frame in which an element isn't an OBU; `line N obu`
+/// was written. The first of these that occurs ends the call. If the sink fails in the text of 2, 5, 8 or 10, the status is unchanged.
 pub fn sfu<W: Threads + Wait + Sync, S: Source, K: Sink, P: Ports, C: Clock + Sync>(
     rt: &W,
     alloc: Global,

@@ -1,4 +1,4 @@
-// What the program does, by the words that it is given.
+// The program's outputs and statuses, for each command.
 mod addresses;
 mod bundling;
 mod calm;

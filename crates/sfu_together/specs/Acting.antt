@@ -1,4 +1,4 @@
--- What a seat of `together` makes, and what it keeps of its turns.
+-- The calls that a seat of `together` makes, and the entries that it stores of its turns.
 use Rattle.std.specs.Prelude.{◌≡◌, ◌⊎◌, ℕ, ◌+◌, ◌^◌, ◌<◌, ◌≤◌, false, List, [], ◌∷◌, ◌++◌, length, map}
 use Rattle.std.specs.List.{flat_map}
 use mathlib.Core.List.{IsPrefix}
@@ -17,28 +17,28 @@ use Rattle.sfu_together.specs.declared.cast.Done.{Done}
 use Rattle.sfu_together.specs.declared.cast.Job.{Job}
 use Rattle.sfu_together.specs.History.{told_of}
 
--- ---- turns that are kept
+-- ---- stored turns
 
--- what is kept of a turn after these
+-- what is stored of a turn after these turns
 abbrev pub placed_at : List (Entry Call) → Entry Call → Placed
 placed_at past e = record { place = length past; entry = told_of (entries_of past) e.seat e.call }
 
--- what is kept of turns after these
+-- what is stored of turns after these turns
 abbrev pub placed_from : List (Entry Call) → List (Entry Call) → List Placed
 placed_from past [] = []
 placed_from past (e ∷ es) = placed_at past e ∷ placed_from (past ++ e ∷ []) es
 
--- what is kept of all turns of a history
+-- what is stored of all turns of a history
 abbrev pub placed : List (Entry Call) → List Placed
 placed history = placed_from [] history
 
 -- ---- a seat's calls
 
--- the turn's entry of a call that found its memory
+-- the turn's entry of a call that didn't run out of memory
 abbrev pub turn_of : ℕ → Call → Entry Call
 turn_of seat call = entry seat call false
 
--- A seat made these calls, in order, or found the lock worn; and it kept its turns.
+-- A seat made these calls, in order, or found the lock worn; and its turns were stored.
 pub record Acts (old new : Known Call) (calls : List Call) (kept : List Placed) : Type 0 where
   pub keeps : KeepsSeat old new
   pub goes_on : IsPrefix old.seen new.seen
@@ -48,7 +48,7 @@ pub record Acts (old new : Known Call) (calls : List Call) (kept : List Placed) 
 
 -- ---- seats that are split off and joined
 
--- the first seat, which has counted so many seats
+-- the first seat, which has counted this many seats
 abbrev pub counting : Known Call → ℕ → Known Call
 counting k n = record { lock = k.lock; first = k.first; number = k.number; seen = k.seen; own = k.own; found = k.found; count = n; joined = k.joined }
 
@@ -70,7 +70,7 @@ pub record IsReady (lock : TableId) (job : Job) : Type 0 where
   pub some : 0 < job.actor
   pub within : job.actor ≤ 8
 
--- The job's actor has made its calls of these lists, the first actor's first.
+-- The job's actor has made its calls: the first actor has the first of these lists.
 pub record HasActed (lists : List (List Call)) (job : Job) (done : Done) : Type 0 where
   pub index : ℕ
   pub actor : index + 1 ≡ job.actor
@@ -79,12 +79,12 @@ pub record HasActed (lists : List (List Call)) (job : Job) (done : Done) : Type 
   pub acts : Acts job.seat done.seat calls done.kept.items
   pub fits : Fits done.seat
 
--- What came back of an actor with these calls, whose seat was split off from this one.
+-- The result of an actor with these calls, whose seat was split off from this one.
 pub record IsDone (root : Known Call) (i : ℕ) (calls : List Call) (done : Done) : Type 0 where
   pub acts : Acts (another (counting root (i + 1))) done.seat calls done.kept.items
   pub fits : Fits done.seat
 
--- the same of each actor of the script
+-- the same for each actor of the script
 abbrev pub AreDone : Known Call → List (List Call) → List Done → Type 0
 AreDone root lists dones = (i : ℕ) (done : Done) → get_elem? dones i ≡ some done → (calls : List Call) × (get_elem? lists i ≡ some calls)
     × IsDone root i calls done
@@ -104,6 +104,6 @@ pub record HasJoined (old : Known Call) (dones : List Done) (new : Known Call) :
   pub found : old.found ≤ new.found
   pub each : (i : ℕ) (done : Done) → get_elem? dones i ≡ some done → (done.seat.found ≤ new.found) × IsPrefix done.seat.seen new.seen
 
--- what all of them kept, one after another
+-- what was stored of the turns of all of them, one actor after another
 abbrev pub kept_by : List Done → List Placed
 kept_by dones = flat_map (λ done. done.kept.items) dones

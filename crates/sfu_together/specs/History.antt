@@ -12,7 +12,7 @@ use Rattle.script_texts.specs.Replies.{answer_text}
 
 -- ---- the history
 
--- the entry of a call of a seat that found its memory
+-- the entry of a call of a seat that didn't run out of memory
 abbrev pub made_by : ℕ → Call → Entry
 made_by seat call = record { seat = seat; call = call; starved = false }
 
@@ -21,7 +21,7 @@ abbrev pub own : ℕ → List Entry → List Entry
 own seat [] = []
 own seat (e ∷ es) = if e.seat == seat then e ∷ own seat es else own seat es
 
--- The history has the opening part's calls by seat 0, then a list in which each actor has its own calls, in order, and nobody else has one,
+-- The history has the opening part's calls by seat 0; then a list with each actor's own calls, in the actor's order, and with no other seat's calls;
 -- then the closing part's calls by seat 0. The first actor has seat 1.
 pub record IsMadeBy (script : Actors) (history : List Entry) : Type 0 where
   pub middle : List Entry
@@ -35,7 +35,7 @@ pub record IsMadeBy (script : Actors) (history : List Entry) : Type 0 where
 abbrev pub told_of : List Entry → ℕ → Call → journal.Entry
 told_of past actor call = record { actor = actor; call = call; reply = answer_text (reply_of past call) }
 
--- the journal's entries of what comes after this history
+-- the journal's entries of the calls after this history
 abbrev pub journal_from : List Entry → List Entry → List journal.Entry
 journal_from past [] = []
 journal_from past (e ∷ es) = told_of past e.seat e.call ∷ journal_from (past ++ e ∷ []) es
@@ -44,7 +44,7 @@ journal_from past (e ∷ es) = told_of past e.seat e.call ∷ journal_from (past
 abbrev pub journal_of : List Entry → List journal.Entry
 journal_of history = journal_from [] history
 
--- The journal is that of one history that the script's actors made, and each subscriber in it was sent what it should be.
+-- The journal is that of a history that the script's actors made, and each subscriber in that history was sent what it should be.
 pub record IsJournal (script : Actors) (entries : List journal.Entry) : Type 0 where
   pub history : List Entry
   pub made : IsMadeBy script history

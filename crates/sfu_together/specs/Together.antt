@@ -21,7 +21,7 @@ IsTogether words = words ≡ codes "together" ∷ []
 abbrev pub journal_text : List Entry → List ℕ
 journal_text history = flat_map entry_text (journal_of history)
 
--- the journal of this history, unless a line is outside the grammar
+-- the journal of this history, if no line is outside the grammar
 abbrev pub text_unless : Option ℕ → List Entry → List ℕ
 text_unless None history = journal_text history
 text_unless (Some line) history = []
@@ -37,17 +37,17 @@ pub record IsPlayed (history : List Entry) (bytes : List ℕ) : Type 0 where
   pub parts : AreActors (together_script bytes).said actors
   pub made : IsMadeBy actors history
 
--- What a status says: what it says for every command that reads, where what is due is the journal of one history, and nothing is due before
+-- What a status means: the same as for every command that reads. What is due is the journal of one history, and nothing is due before
 -- the end of the script is seen.
 pub record Plays (x : Exchange) (status : ℕ) : Type 0 where
   pub history : List Entry
   pub statuses : Statuses (together_due history) read_part x.left x.left' x.written x.written' x.reads x.reads' x.writes x.writes' status
-  -- with 0 and 4 the script's actors made that history
+  -- for 0 and 4 the script's actors made that history
   pub played : (status ≡ 0) ⊎ (status ≡ 4) → IfSome x.left (IsPlayed history)
-  -- whatever the source tells, it had the bytes of such a script
+  -- even if the source's bytes aren't known, it had the bytes of such a script
   pub script : (status ≡ 0) ⊎ (status ≡ 4) → (bytes : List ℕ) × Consumes x.left x.left' bytes × IsAtEnd x.left' × IsPlayed history bytes
-  -- and with 3 and 6 nothing was written
+  -- for 3 and 6 nothing was written
   pub unwritten : (status ≡ 3) ⊎ (status ≡ 6) → Appends x.written x.written' []
-  -- each subscriber in it was sent what it should be
+  -- each subscriber in the history was sent what it should be
   pub headline : Headline (accepted history)
   pub only : (status ≡ 0) ⊎ (status ≡ 3) ⊎ (status ≡ 4) ⊎ (status ≡ 5) ⊎ (status ≡ 6)

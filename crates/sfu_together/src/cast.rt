@@ -17,7 +17,7 @@ use std::thread;
 use std::thread::Threads;
 use turn_lock::{Seat, Turns};
 
-/// How many actors a script has.
+/// The number of actors of a script.
 const ACTORS: u8 = 8;
 
 /// An actor, 1 to 8, with its seat.
@@ -27,14 +27,14 @@ pub struct Job {
     pub actor: u8,
 }
 
-/// The seat of an actor that has ended, and what the actor kept of its turns.
+/// The seat of an actor that has finished, and the entries of the actor's turns.
 #[derive(Drop)]
 pub struct Done {
     pub seat: Seat<PlayedRoom>,
     pub kept: Vec<Placed>,
 }
 
-/// Splits off a seat for each actor, in order.
+/// Splits off a seat of the lock for each actor, in the order of the actors.
 pub fn cast(
     alloc: Global,
     turns: &Turns<PlayedRoom>,
@@ -59,7 +59,7 @@ pub fn cast(
     Ok(jobs)
 }
 
-/// Makes an actor's calls.
+/// Makes an actor's calls by the seat of its job.
 fn perform<W: Wait + Sync, G: Gate>(
     rt: &W,
     alloc: Global,
@@ -78,7 +78,7 @@ fn perform<W: Wait + Sync, G: Gate>(
     Ok(Done { seat, kept })
 }
 
-/// What came back of all actors, in order. `NoMemory`: an actor ran out of memory, or the list did.
+/// The results of all actors, in order. `NoMemory`: an actor or this list ran out of memory.
 fn all_done(alloc: Global, ended: Vec<Result<Done, NoMemory>>) -> Result<Vec<Done>, NoMemory>
     ensures { IfOk result (λ dones. map Ok dones.items ≡ ended.items) }
 {
@@ -125,7 +125,7 @@ pub fn play<W: Threads + Wait + Sync, G: Gate>(
     all_done(alloc, ended)
 }
 
-/// Joins the actors' seats into the first one, in order, and appends to `kept` what the actors kept.
+/// Joins the actors' seats into `seat`, in order, and appends the entries of the actors' turns to `kept`.
 pub fn gather(
     turns: &Turns<PlayedRoom>,
     seat: &mut Seat<PlayedRoom>,

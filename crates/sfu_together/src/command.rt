@@ -13,7 +13,7 @@ use std::sync::Wait;
 use std::thread::Threads;
 
 /// Reads a script of actors to its end, makes its calls (those of the actors at the same time), writes the journal, and returns the status.
-/// Nothing of the journal is written before the last call was made.
+/// No part of the journal is written before the last call was made.
 pub fn play_script<W: Threads + Wait + Sync, S: Source, K: Sink>(
     rt: &W,
     alloc: Global,

@@ -1,6 +1,6 @@
 // Hooks around the actors' calls.
 
-/// Is called before and after each actor's call, outside the lock. So a gate may hold an actor up.
+/// A hook that is called before and after each actor's call, outside the lock. It may delay actors.
 pub trait Gate: Sync {
     /// Is called before the actor, 1 to 8, makes its call with the index `line`, counted from 0.
     fn before(&self, actor: u8, line: u32);

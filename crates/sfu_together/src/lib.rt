@@ -1,4 +1,4 @@
-//! The command `together`: actors that make their calls on one room at the same time, and the journal of the history that their turns form.
+//! The command `together`: actors make their calls on one room at the same time, and the command writes the journal of their turns.
 #![tactic(auto)]
 
 mod acting;

@@ -1,4 +1,4 @@
-// The room that the actors' lock holds.
+// The room behind the actors' lock.
 ghost use Rattle.std.specs.Prelude.{◌≡◌, false};
 ghost use Rattle.sfu_base.specs.Answer.{is_starved, answer_of};
 ghost use Rattle.sfu_together.specs.Turns.{entries_of};
@@ -9,8 +9,8 @@ use room_core::{KeepNone, Recorder, Room};
 use sfu_base::{Call, Reply, Scratch};
 use turn_lock::Held;
 
-/// A room behind a lock, whose recorder keeps nothing. A turn is one call on the room by the turn's seat. Between turns the room represents the
-/// history of all turns.
+/// A room behind a lock; the room's recorder stores nothing. A turn is one call on the room by the turn's seat. Between turns the room is in
+/// the state that the history of all turns leaves.
 #[derive(Drop)]
 pub struct PlayedRoom {
     pub room: Room<KeepNone>,

@@ -1,4 +1,4 @@
-// A script's calls, and their journal.
+// Makes a script's calls and returns their journal.
 ghost use Rattle.std.specs.Prelude.{◌≤◌, IfOk};
 ghost use Rattle.sfu_together.specs.History.{IsJournal};
 ghost use Rattle.actor_script.specs.Counts.{count_of};
@@ -24,7 +24,7 @@ pub enum TogetherFault {
     NoMemory,
 }
 
-// Makes a script's calls on a room that records nothing: the opening part's by seat 0, then those of the actors, each by a seat of its own,
+// Makes a script's calls on a room that records nothing: the opening part's by seat 0, then the actors', each actor by a seat of its own,
 // then the closing part's by seat 0.
 fn make<W: Threads + Wait + Sync, G: Gate>(
     rt: &W,
@@ -66,7 +66,7 @@ fn make<W: Threads + Wait + Sync, G: Gate>(
 }
 
 /// Makes a script's calls, at most 100,000, and returns the journal. The actors run at the same time, each on a thread of its own, and the
-/// gate is called before and after each call of an actor. On `NoMemory` all that was made is dropped.
+/// gate is called before and after each call of an actor. On `NoMemory` the room and the entries are dropped.
 pub fn run_together<W: Threads + Wait + Sync, G: Gate>(
     rt: &W,
     alloc: Global,

@@ -1,4 +1,4 @@
-// Eight actors that are inside at the same time, and what their gate hears.
+// Eight actors that make calls at the same time, and what their gate records.
 use crate::gate::Gate;
 use crate::running::run_together;
 use actor_script::read_actors;
@@ -8,22 +8,22 @@ use std::test::Fail;
 use std::thread;
 use std::time::{Clock, Duration};
 
-// The opening part's call, two of each actor, and the closing part's.
+// One call of the opening part, two of each actor, and one of the closing part.
 const SCRIPT: &[u8] =
     b"take 9\n@1 take 1\n@1 take 1\n@2 take 2\n@2 take 2\n@3 take 3\n@3 take 3\n@4 take 4\n@4 take 4\n\
     @5 take 5\n@5 take 5\n@6 take 6\n@6 take 6\n@7 take 7\n@7 take 7\n@8 take 8\n@8 take 8\ntake 9\n";
 
-// How often an actor looks for another one at most, with a millisecond between two looks.
+// How often an actor checks for another one at most, with a millisecond between two checks.
 const MOST_LOOKS: u32 = 10_000;
 
-// What the gate hears of one actor, two hexadecimal digits for each time: 1 before a call or 2 after it, then the call's index.
+// What the gate records of one actor, two hexadecimal digits for each event: 1 before a call or 2 after it, then the call's index.
 const BEFORE: u8 = 0x10;
 
 const AFTER: u8 = 0x20;
 
 const HEARD: u64 = 0x10_20_11_21;
 
-// What the gate heard of one actor.
+// What the gate recorded of one actor.
 #[derive(Drop)]
 struct Actor {
     before: AtomicBool,
@@ -40,7 +40,7 @@ impl Actor {
         }
     }
 
-    // Appends to what the gate heard of this actor.
+    // Appends an event to the record of this actor.
     fn hear(&self, kind: u8, line: u32) {
         let place = u64::from(line.min(15));
         let heard = self.heard.load(Ordering::SeqCst) % (1 << 48);
@@ -48,7 +48,7 @@ impl Actor {
             .store(heard * 256 + u64::from(kind) + place, Ordering::SeqCst);
     }
 
-    // Whether the flag of this kind is up, which is raised before or after the first call.
+    // Whether the flag of this kind is set; it is set before or after the first call.
     fn is_up(&self, kind: u8) -> bool {
         if kind == BEFORE {
             self.before.load(Ordering::SeqCst)
@@ -70,9 +70,9 @@ impl Actor {
 #[derive(Drop)]
 struct Actors {
     each: [Actor; 8],
-    // An actor waited for another one in vain.
+    // An actor waited for another one until it gave up.
     missed: AtomicBool,
-    // The gate heard of an actor outside 1 to 8.
+    // The gate was called for an actor outside 1 to 8.
     strayed: AtomicBool,
 }
 
@@ -104,7 +104,7 @@ impl Actors {
     }
 }
 
-// Holds each actor up before and after its first call, and records what it hears.
+// Delays each actor before and after its first call, and records the gate's calls.
 #[derive(Drop)]
 struct Meeting<'a, R> {
     clock: &'a R,

@@ -1,4 +1,4 @@
--- What each call on a room with bundles answers, and what it leaves, as functions: so are the code's calls wherever memory is found.
+-- What each call on a room with bundles returns, and the state after it, as functions: the code's calls agree with them unless memory runs out.
 use Rattle.std.specs.Prelude.{ℕ, ◌-◌, false, List, [], ◌∷◌, ◌++◌, Option, None, Some, Result, Ok, Err, length, slice_get, slice_set}
 use Rattle.sfu_base.specs.Answer.{Answer}
 use Rattle.sfu_base.specs.declared.call.Call.{Call}
@@ -16,7 +16,7 @@ use Rattle.simulcast.specs.Bundle.{again_of, and_chosen, and_drawn, is_active_in
 use Rattle.simulcast.specs.Bundles.{Simulcast, and_asked, and_now, bundle_refusal, forbids, place_of, with_made}
 use Rattle.simulcast.specs.Drawn.{outgoing_of}
 
--- what a call answers, and what there is behind it
+-- the result of a call, and the state after it
 pub record Answered (A : Type 0) : Type 0 where
   pub answer : Result A BundleFault
   pub after : Simulcast
@@ -29,12 +29,12 @@ done_with answer after = record { answer = Ok answer; after = after }
 abbrev pub refused_for : {A : Type 0} → BundleFault → Simulcast → Answered A
 refused_for why h = record { answer = Err why; after = h }
 
--- the bundle at this place, if there is one
+-- the bundle at this index, if there is one
 abbrev pub made_at : List Made → Option ℕ → Option Made
 made_at made None = None
 made_at made (Some i) = slice_get made i
 
--- what is done with the bundle that has this number, and with its place; where none has it, the call is refused
+-- what is done with the bundle of this number and its index; if no bundle has the number, the call is refused
 abbrev pub with_found : {A : Type 0} → Simulcast → Option ℕ → Option Made → (ℕ → Made → Answered A) → Answered A
 with_found h (Some i) (Some m) does = does i m
 with_found h _ _ does = refused_for fault.NoBundle h
@@ -72,7 +72,7 @@ leg_chosen number leg h = with_number number h (λ i m. choice_of leg h i m (leg
 
 -- ---- a pump
 
--- how many more packets go out now than before, and how many of those that were taken since don't
+-- how many more packets go out now than before, and how many of the packets taken since don't
 abbrev pub counts_of : (old new : Made) → Pumped
 counts_of old new = record {
   forwarded = length (passed (marks_of new.id) new.events) - length (passed (marks_of old.id) old.events);
@@ -87,7 +87,7 @@ bundle_pumped number h = with_number number h (λ i m. pump_of h i m (pumped_who
 
 -- ---- packets that go out
 
--- the packet behind those that were drawn, of all that goes out
+-- of all that goes out, the packet after those that were drawn
 abbrev pub draw_of : Simulcast → ℕ → Made → Option (List ℕ) → Answered (List ℕ)
 draw_of h i m None = refused_for (fault.Room Empty) h
 draw_of h i m (Some packet) = done_with packet (with_made h i (and_drawn m))

@@ -1,4 +1,4 @@
--- What a room with bundles stands for, and what its calls do.
+-- The state that a room with bundles stands for, and what its calls do to it.
 use Rattle.std.specs.Prelude.{IsTrue, ◌≡◌, ◌==◌, ◌+◌, ◌%◌, ◌≤◌, ℕ, Bool, true, false, if◌then◌else◌, List, [], ◌∷◌, ◌++◌, Option, None, Some, Result, Ok, Err, count_by, fold, is_some, max, nat_le, length, map, position, slice_get, slice_set}
 use Rattle.std.specs.List.{find, list_all}
 use Rattle.std.specs.Option.{option_map}
@@ -47,7 +47,7 @@ AreBundles [] (m ∷ ms) = ⊥
 AreBundles (b ∷ bs) [] = ⊥
 AreBundles (b ∷ bs) (m ∷ ms) = IsBundle b m × AreBundles bs ms
 
--- no subscriber is two legs, of one bundle or of two
+-- no subscriber is two legs, whether of one bundle or of two
 abbrev pub NoneIsTwo : List Made → Type 0
 NoneIsTwo made = (i j k l n : ℕ) (m p : Made) → slice_get made i ≡ Some m → slice_get made j ≡ Some p → leg_at k m.legs ≡ Some n
     → leg_at l p.legs ≡ Some n → (i ≡ j) × (k ≡ l)
@@ -60,15 +60,15 @@ pub record StandsFor {R : Type 0} (noted : R → Option (List Noted)) (b : Bundl
   pub strays : (i : ℕ) (m : Made) → slice_get h.made i ≡ Some m → HasNoStrays m
   pub few : length h.made ≤ 64
 
--- whether the room's recorder may refuse a call for want of memory
+-- whether the room's recorder may refuse a call when memory runs out
 abbrev pub may_starve : {R : Type 0} → (R → Bool) → Bundles R → Bool
 may_starve may_refuse b = recorder_may_refuse may_refuse b.room
 
--- where the bundle with this number stands
+-- the index of the bundle with this number
 abbrev pub place_of : ℕ → List Made → Option ℕ
 place_of number made = position (λ m. m.number == number) made
 
--- the history and this bundle are now so
+-- after the history and the bundle at this index became these
 abbrev pub and_now : Simulcast → ℕ → Pumping → Simulcast
 and_now h i s = record { history = s.history; made = slice_set h.made i s.made }
 
@@ -81,7 +81,7 @@ with_made h i m = record { history = h.history; made = slice_set h.made i m }
 abbrev pub owner : ℕ → List Made → Option ℕ
 owner n made = option_map (λ m. m.number) (find (λ m. has_leg n m.legs) made)
 
--- the bundle that forbids the call: it has the call's subscriber as a leg
+-- the bundle that forbids the call, as the call's subscriber is its leg
 abbrev pub forbids_by : (ℕ → Option ℕ) → Call → Option ℕ
 forbids_by own (Take n) = own n
 forbids_by own (Leave n) = own n
@@ -98,32 +98,32 @@ CallsAs noted b h seat call bytes numbers None (Ok reply) =
     (is_starved reply ≡ false → answer_of reply bytes numbers ≡ reply_of h.history call)
     × StandsFor noted b (record { history = h.history ++ record { seat = seat; call = call; starved = is_starved reply } ∷ []; made = h.made })
 
--- what the room's own call does, but where a bundle forbids it
+-- what the room's own call does, unless a bundle forbids it
 abbrev pub Calls : {R : Type 0} → (R → Option (List Noted)) → (old new : Bundles R) → ℕ → Call → (bytes numbers : List ℕ) → Result Reply BundleFault → Type 0
 Calls noted old new seat call bytes numbers result = (h : Simulcast) → StandsFor noted old h
     → CallsAs noted new h seat call bytes numbers (forbids call h.made) result
 
--- want of memory is that of the room's recorder
+-- only the room's recorder runs out of memory
 abbrev pub StarvesBy : {R A : Type 0} → (R → Bool) → Bundles R → Result A BundleFault → Type 0
 StarvesBy may_refuse b result = result ≡ Err NoMemory → IsTrue (may_starve may_refuse b)
 
--- or the call takes memory
+-- the same, or the call itself takes memory
 abbrev pub CallStarvesBy : {R : Type 0} → (R → Bool) → Bundles R → Call → Result Reply BundleFault → Type 0
 CallStarvesBy may_refuse b call (Ok reply) = MemoryHasCause may_refuse b.room call reply
 CallStarvesBy may_refuse b call (Err why) = Unit {0}
 
--- Where it is answered, the room does and answers what its own `serve` does, into the scratch too; else nothing changes.
+-- A call that isn't refused by a bundle has the effects and the reply of the room's `serve`, the scratch included; else nothing changes.
 abbrev pub CallsWhole : {R : Type 0} → (R → Option (List Noted)) → (R → Bool) → (old new : Bundles R) → ℕ → Call → (before after : Scratch) → Result Reply BundleFault → Type 0
 CallsWhole noted may_refuse old new seat call before after (Ok reply) = ServesInto noted may_refuse old.room new.room seat call reply before after
 CallsWhole noted may_refuse old new seat call before after (Err why) = (new ≡ old) × (after ≡ before)
 
--- whatever the bundles stand for, the room's headline holds of its history
+-- for any state that the bundles stand for, the room's headline holds for its history
 abbrev pub BundlesHeadline : {R : Type 0} → (R → Option (List Noted)) → Bundles R → Type 0
 BundlesHeadline noted b = (h : Simulcast) → StandsFor noted b h → Headline (accepted h.history)
 
 -- ---- a pump
 
--- no memory was found at a take of it: what it did before stands
+-- a take ran out of memory: the takes before it aren't undone
 pub record PumpStops {R : Type 0} (noted : R → Option (List Noted)) (b : Bundles R) (h : Simulcast) (i : ℕ) (s : Pumping) : Type 0 where
   pub now : Pumping
   pub leg : ℕ
@@ -177,7 +177,7 @@ Redraws noted b number n bytes result = (h : Simulcast) → StandsFor noted b h 
 
 -- ---- choices
 
--- the chosen leg is asked for a key frame, unless it is active
+-- a key frame of the chosen leg is requested, unless the leg is active
 abbrev pub and_asked : Bool → Bool → ℕ → List Entry → List Entry
 and_asked true starved n history = history
 and_asked false starved n history = called starved (Plead n) history
@@ -197,13 +197,13 @@ ChoosesAt noted b h (Some i) leg result = (m : Made) → slice_get h.made i ≡ 
 abbrev pub Chooses : {R : Type 0} → (R → Option (List Noted)) → (old new : Bundles R) → ℕ → ℕ → Result (Unit {0}) BundleFault → Type 0
 Chooses noted old new number leg result = (h : Simulcast) → StandsFor noted old h → ChoosesAt noted new h (place_of number h.made) leg result
 
--- ---- what a strict receiver makes of it
+-- ---- what a strict receiver finds
 
--- A strict receiver of what a bundle sends, and of each front of it, has no complaint.
+-- A strict receiver has no complaint about any prefix of what a bundle sends.
 abbrev pub Pleases : Made → Type 0
 Pleases m = (sends queued : List (List ℕ)) → sends ++ queued ≡ outgoing (marks_of m.id) m.first m.ssrc m.events → complaint (format_of m.id) (map read_packet sends) ≡ None
 
--- so it is of each bundle, whatever the bundles stand for
+-- this holds for each bundle, in any state that the bundles stand for
 abbrev pub PleasesReceivers : {R : Type 0} → (R → Option (List Noted)) → Bundles R → Type 0
 PleasesReceivers noted b = (h : Simulcast) (i : ℕ) (m : Made) → StandsFor noted b h → slice_get h.made i ≡ Some m → Pleases m
 
@@ -229,7 +229,7 @@ bound_or (Some bundle) twice number later = Some bundle
 bound_or None true number later = Some number
 bound_or None false number later = later
 
--- The bundle that has the first leg that is a leg already; or this bundle's number, where the leg stands twice.
+-- For the first leg that is bound: the bundle that has the leg already, or this bundle's number if the leg is listed twice.
 abbrev pub bound_leg : (ℕ → Option ℕ) → ℕ → List ℕ → List ℕ → Option ℕ
 bound_leg own number legs [] = None
 bound_leg own number legs (n ∷ later) = bound_or (own n) (nat_le 2 (count_by (λ l. l == n) legs)) number (bound_leg own number legs later)
@@ -239,7 +239,7 @@ unbound_or (Some bundle) kinds = Some (fault.Bound bundle)
 unbound_or None true = None
 unbound_or None false = Some fault.WrongKind
 
--- the first refusal that stands
+-- the first refusal that applies
 abbrev pub refusal_by : (number highest live : ℕ) → Bool → Option ℕ → Bool → Option BundleFault
 refusal_by number highest live are_live bound kinds =
     if nat_le number highest then Some (fault.NumberUsed highest)

@@ -8,12 +8,12 @@ use Rattle.simulcast.specs.Waiting.{waiting}
 use Rattle.simulcast.specs.Made.{AreLegs, Made, leg_at}
 use Rattle.simulcast.specs.Pumping.{Pumping}
 
--- where the bundle stands
+-- the state of the bundle's switch
 abbrev pub standing_of : Made → Standing
 standing_of m = standing (marks_of m.id) m.events
 
--- Where nothing waits for the active leg, as when a pump has taken from it, a key start of the chosen leg goes out: whole frames were taken from
--- the active one, so that no packet is dropped for want of the end of a frame.
+-- If no packet is queued for the active leg, as after a pump has drained it, a key start of the chosen leg goes out: whole frames were taken from
+-- the active leg, so the last packet that was taken ended its frame.
 abbrev pub KeyStartsGoOut : Type 0
 KeyStartsGoOut = (s : Pumping) (active n : ℕ) (key : List ℕ) → AreWellFormed (accepted s.history) → AreLegs (accepted s.history) s.made
     → (standing_of s.made).active ≡ Some active → leg_at active s.made.legs ≡ Some n → waiting n (accepted s.history) ≡ []

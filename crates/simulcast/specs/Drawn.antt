@@ -1,22 +1,22 @@
--- What was drawn of a bundle. Own statements.
+-- What was drawn from a bundle. Own statements.
 use Rattle.std.specs.Prelude.{◌≡◌, ◌≤◌, ℕ, List, [], ◌∷◌, ◌++◌, Some, length, slice_get, take}
 use Rattle.leg_switch.specs.Marks.{marks_of}
 use Rattle.leg_switch.specs.Switching.{LegEvent, outgoing}
 use Rattle.simulcast.specs.Made.{Made}
 use Rattle.simulcast.specs.Bundle.{and_drawn}
 
--- all that goes out of a bundle, whether it was drawn or is queued, the oldest first
+-- all packets that go out of a bundle, whether drawn or queued, the oldest first
 abbrev pub outgoing_of : Made → List (List ℕ)
 outgoing_of m = outgoing (marks_of m.id) m.first m.ssrc m.events
 
--- what was drawn: as many of these as there were draws
+-- the packets that were drawn: as many of these as there were draws
 abbrev pub drawn_of : Made → List (List ℕ)
 drawn_of m = take m.draws (outgoing_of m)
 
--- A draw adds the packet that it gave.
+-- A draw appends the packet that it returned.
 abbrev pub DrawsAdd : Type 0
 DrawsAdd = (m : Made) (bytes : List ℕ) → slice_get (outgoing_of m) m.draws ≡ Some bytes → drawn_of (and_drawn m) ≡ drawn_of m ++ bytes ∷ []
 
--- And whatever happens later, what was drawn stays.
+-- Later events don't change what was drawn.
 abbrev pub DrawsStay : Type 0
 DrawsStay = (m : Made) (later : List LegEvent) → m.draws ≤ length (outgoing_of m) → drawn_of (record m { events = later ++ m.events }) ≡ drawn_of m

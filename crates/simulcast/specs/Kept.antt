@@ -1,5 +1,5 @@
--- What holds of a room's history and its bundles, whatever calls were made. Own statements: no room is spoken of, so a script's replies, which are
--- made of the functions of `Answers`, have it too.
+-- What holds for a room's history and its bundles after any calls. Own statements, without a room: they also hold for the replies to a script,
+-- which are made of the functions of `Answers`.
 use Rattle.std.specs.Prelude.{◌≡◌, ◌<◌, ◌^◌, ℕ, List, [], Some, slice_get}
 use Rattle.sfu_base.specs.declared.call.Call.{Call}
 use Rattle.room_core.specs.Headline.{Headline}
@@ -17,14 +17,14 @@ pub record IsKept (h : Simulcast) : Type 0 where
   pub strays : (i : ℕ) (m : Made) → slice_get h.made i ≡ Some m → HasNoStrays m
   pub fits : (i : ℕ) (m : Made) → slice_get h.made i ≡ Some m → m.ssrc < 2 ^ 32
 
--- All that a room promises holds of the history; each leg of a bundle is a live subscriber, and what was taken from it is what its takes gave since
--- the bundle was made; and a strict receiver of what a bundle sends has no complaint.
+-- All guarantees of a room hold for the history; each leg of a bundle is a live subscriber, and what was taken from it is what its takes returned
+-- since the bundle was made; and a strict receiver has no complaint about what a bundle sends.
 pub record IsPleasing (h : Simulcast) : Type 0 where
   pub headline : Headline (accepted h.history)
   pub legs : (i : ℕ) (m : Made) → slice_get h.made i ≡ Some m → AreLegs (accepted h.history) m
   pub receivers : (i : ℕ) (m : Made) → slice_get h.made i ≡ Some m → Pleases m
 
--- So it is where nothing was made, and each call keeps it so.
+-- This holds before any call, and each call preserves it.
 pub record CallsKeep : Type 0 where
   pub begins : IsKept (nothing_made [])
   pub calls : (h : Simulcast) (call : Call) → IsValue call → IsKept h → IsKept (room_called call h).after

@@ -1,4 +1,4 @@
--- What a pump makes of a room's history and of a bundle. Own rule.
+-- What a pump does to a room's history and to a bundle. Own rule.
 use Rattle.std.specs.Prelude.{◌≡◌, ◌⊎◌, ◌++◌, ◌==◌, ◌||◌, ℕ, nat_le, Bool, true, false, if◌then◌else◌, List, [], ◌∷◌, Option, None, Some}
 use Rattle.std.specs.List.{AllByRecursion}
 use Rattle.sfu_base.specs.declared.call.Call.{Call}
@@ -14,7 +14,7 @@ pub record Pumping : Type 0 where
   pub history : List Entry
   pub made : Made
 
--- a call by seat 0, which found no memory or did
+-- after a call by seat 0, which ran out of memory or not
 abbrev pub called : Bool → Call → List Entry → List Entry
 called starved call history = history ++ record { seat = 0; call = call; starved = starved } ∷ []
 
@@ -23,7 +23,7 @@ and_took k packet m = record m { events = Took k packet ∷ m.events }
 
 -- ---- takes
 
--- a take of a leg, and the packet that it gave, if it gave one
+-- a take from a leg, and the packet that it returned, if any
 pub record LegTake : Type 0 where
   pub leg : ℕ
   pub subscriber : ℕ
@@ -38,7 +38,7 @@ abbrev pub took_all : List LegTake → Pumping → Pumping
 took_all [] s = s
 took_all (t ∷ takes) s = took_all takes (record { history = called false (Take t.subscriber) s.history; made = and_given t.leg t.packet s.made })
 
--- they are takes of legs
+-- they are takes from legs
 abbrev pub AreOfLegs : List ℕ → List LegTake → Type 0
 AreOfLegs legs takes = AllByRecursion (λ t. leg_at t.leg legs ≡ Some t.subscriber) takes
 
@@ -48,7 +48,7 @@ AreOfLegs legs takes = AllByRecursion (λ t. leg_at t.leg legs ≡ Some t.subscr
 abbrev pub is_full : Made → Bool
 is_full m = nat_le 512 (queued_of m)
 
--- The leg k, for whose subscriber n these packets wait, is taken from until a take is refused, or until 512 packets are queued.
+-- The leg k, for whose subscriber n these packets are queued, is taken from until a take is refused, or 512 packets of the bundle are queued.
 abbrev pub drained : (k n : ℕ) → List (List ℕ) → Pumping → Pumping
 drained k n [] s = if is_full s.made then s else record { history = called false (Take n) s.history; made = s.made }
 drained k n (packet ∷ queue) s =
@@ -58,12 +58,12 @@ abbrev pub drained_from : ℕ → Option ℕ → Pumping → Pumping
 drained_from k None s = s
 drained_from k (Some n) s = drained k n (waiting n (accepted s.history)) s
 
--- the leg, if there is such a leg
+-- the same for this leg, if there is such a leg
 abbrev pub drained_leg : Option ℕ → Pumping → Pumping
 drained_leg None s = s
 drained_leg (Some k) s = drained_from k (leg_at k s.made.legs) s
 
--- one leg after another
+-- the same for these legs, one after another
 abbrev pub pumped : List (Option ℕ) → Pumping → Pumping
 pumped [] s = s
 pumped (leg ∷ legs) s = pumped legs (drained_leg leg s)
@@ -82,6 +82,6 @@ unless false leg = Some leg
 abbrev pub other : Standing → ℕ → Option ℕ
 other s leg = unless (is_active leg s.active || s.chosen == leg) leg
 
--- the active leg, then the chosen one where it is another, then the rest in order
+-- the active leg, then the chosen leg if it is another, then the others in order
 abbrev pub order : Standing → List (Option ℕ)
 order s = s.active ∷ unless (is_active s.chosen s.active) s.chosen ∷ other s 1 ∷ other s 2 ∷ other s 3 ∷ []

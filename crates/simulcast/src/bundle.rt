@@ -11,11 +11,11 @@ use rtp_packet::restamp;
 use sfu_base::{NoMemory, PacketBuf, Refusal};
 use std::alloc::Global;
 
-/// The most packets of a bundle that are queued (own rule).
+/// The most packets that a bundle queues (own rule).
 const MOST_QUEUED: u16 = 512;
 
-/// A bundle: its number, the header extension id of its legs' descriptors, the subscribers that are its legs, which of them is chosen and
-/// which is active, and the outgoing packets.
+/// A bundle: its number, the header extension id of its legs' dependency descriptors, its legs (numbers of subscribers), the switch with
+/// the chosen and the active leg, and the outgoing packets.
 #[derive(Drop)]
 pub struct Bundle {
     pub number: u32,
@@ -33,7 +33,7 @@ impl Bundle {
     ghost use Rattle.simulcast.specs.Pumping.{and_took, order};
     ghost use Rattle.simulcast.specs.Bundle.{ChoosesIn, DrawsIn, IsBundle, RedrawsIn};
 
-    /// A bundle to which nothing happened yet.
+    /// A new bundle: leg 1 is chosen, no leg is active, and no packet is queued.
     pub fn new(
         alloc: Global,
         number: u32,
@@ -60,14 +60,14 @@ impl Bundle {
         })
     }
 
-    /// Whether this subscriber is a leg.
+    /// Whether this subscriber is a leg of the bundle.
     pub fn has(&self, subscriber: u32) -> bool
         ensures { result ≡ has_leg subscriber self.now.legs.items }
     {
         self.legs.iter().any(|leg| *leg == subscriber)
     }
 
-    /// Chooses a leg, counted from 1, and returns the leg's subscriber if it isn't active. `NoLeg`: there is no such leg.
+    /// Chooses a leg, counted from 1. Returns the leg's subscriber, or `None` if the leg is active. `NoLeg`: there is no such leg.
     pub fn choose(&mut self, leg: u8) -> Result<Option<u32>, BundleFault>
         ensures chooses { ChoosesIn self.old self.new leg result }
         ensures fault { IfErr result (λ why. why ≡ BundleFault.NoLeg (length self.old.legs.items)) }
@@ -85,7 +85,7 @@ impl Bundle {
         }
     }
 
-    /// Writes the oldest queued packet to `out`, and returns its sequence number. `Empty`: no packet is queued.
+    /// Dequeues the oldest packet, writes it to `out`, and returns its sequence number. `Empty`: no packet is queued.
     pub fn draw(&mut self, out: &mut PacketBuf) -> Result<u16, Refusal>
         ensures draws { DrawsIn self.old self.new out.new result }
         ensures unchanged { OnErr result (out.new ≡ out.old) }
@@ -93,8 +93,8 @@ impl Bundle {
         self.ring.take(out)
     }
 
-    /// Writes the packet that was drawn under this sequence number to `out` again. `NotKept`: none of the last 1,024 drawn packets has the
-    /// number.
+    /// Writes the packet that was drawn with this sequence number to `out` again. `NotKept`: none of the last 1,024 drawn packets has the
+    /// sequence number.
     pub fn redraw(&self, seq: u16, out: &mut PacketBuf) -> Result<(), Refusal>
         ensures redraws { RedrawsIn self.now seq out.new result }
         ensures unchanged { OnErr result (out.new ≡ out.old) }
@@ -102,7 +102,7 @@ impl Bundle {
         self.ring.resend(seq, out)
     }
 
-    /// The legs in the order in which a pump takes from them; `None` is skipped.
+    /// The order in which a pump takes from the legs, counted from 1; a `None` is skipped.
     pub fn order(&self) -> [Option<u8>; 5]
         ensures { result ≡ order self.now.switch }
     {
@@ -117,7 +117,7 @@ impl Bundle {
         ]
     }
 
-    /// The subscriber that is this leg, counted from 1, if there is such a leg.
+    /// The subscriber of this leg, counted from 1, or `None` if there is no such leg.
     pub fn leg(&self, leg: u8) -> Option<u32>
         ensures { result ≡ leg_at leg self.now.legs.items }
     {
@@ -141,7 +141,7 @@ impl Bundle {
         self.ring.queued() >= MOST_QUEUED
     }
 
-    /// Queues a packet that was taken from a leg, or drops it.
+    /// Decides on a packet taken from a leg: queues it with its new timestamp, or drops it.
     pub fn take_in(&mut self, leg: u8, packet: &mut PacketBuf, newest: &mut NewestDescriptor)
         requires room { length self.old.ring.queued < 512 }
         requires reads { first_fault packet.old ≡ None }

@@ -13,12 +13,12 @@ use room_core::{Recorder, Room};
 use sfu_base::{Call, Kind, PacketBuf, Refusal, Reply, Scratch};
 use std::alloc::Global;
 
-/// The most bundles that there can be (own rule).
+/// The most bundles of a room (own rule).
 const MOST_BUNDLES: usize = 64;
 
-/// A room with bundles. A bundle makes one outgoing stream of what its legs, two or three subscribers of the room, are sent. `choose` selects
-/// the leg to forward, `pump` takes what waits for the legs, `draw` returns the stream's next packet, and `redraw` a packet that was drawn.
-/// Neither bundles nor their legs end.
+/// A room with bundles. A bundle merges the packets sent to its legs, two or three subscribers of the room, into one outgoing stream.
+/// `choose` selects the leg to forward, `pump` takes the packets queued for the legs, `draw` returns the stream's next packet, and `redraw`
+/// returns a packet that was drawn before. Bundles and their legs are never removed.
 #[derive(Drop)]
 pub struct Bundles<R: Recorder> {
     alloc: Global,
@@ -27,14 +27,14 @@ pub struct Bundles<R: Recorder> {
     bundles: Vec<Bundle>,
 }
 
-// Whether a leg is listed twice.
+// Whether a leg is listed more than once.
 fn stands_twice(legs: &[u32], leg: u32) -> bool
     ensures { result ≡ nat_le 2 (count_by (λ l. l == leg) legs.now) }
 {
     legs.iter().filter(|l| **l == leg).count() >= 2
 }
 
-// The bundle that a leg is bound to: its owner, or this bundle if the leg is listed twice.
+// The number of the bundle that a leg belongs to: `owner`, or `number` if the leg is listed twice.
 fn bound_or(owner: Option<u32>, twice: bool, number: u32) -> Option<u32>
     ensures { result ≡ bound_or owner twice number None }
 {
@@ -65,7 +65,7 @@ impl<R: Recorder> Bundles<R> {
     ghost use Rattle.simulcast.specs.Bundles.{Bundled, BundlesHeadline, Calls, CallsWhole, CallStarvesBy, Chooses, Draws, PleasesReceivers, PumpsOne, Redraws, Simulcast, StandsFor, StarvesBy};
     ghost use Rattle.simulcast.specs.Bundles.{bound_leg, bundle_refusal, forbids_by, has_kind, is_live, may_starve, nothing_made};
 
-    /// The room, with no bundle yet. Takes no memory.
+    /// The room, with no bundle yet. Allocates no memory.
     pub fn new(alloc: Global, room: Room<R>) -> Bundles<R>
         ensures stands { (history : List Entry) → Stands R.noted room history → StandsFor R.noted result (nothing_made history) }
         ensures recorder { may_starve R.may_refuse result ≡ recorder_may_refuse R.may_refuse room }
@@ -78,7 +78,7 @@ impl<R: Recorder> Bundles<R> {
         }
     }
 
-    // The place of the bundle with this number, if there is one.
+    // The index of the bundle with this number, if there is one.
     fn place(&self, number: u32) -> Option<usize>
         ensures { result ≡ position (λ b. b.number == number) self.now.bundles.items }
     {
@@ -87,7 +87,7 @@ impl<R: Recorder> Bundles<R> {
             .position(|bundle| bundle.number == number)
     }
 
-    // The bundle that has this subscriber as a leg, if there is one.
+    // The number of the bundle that has this subscriber as a leg, if there is one.
     fn owner(&self, subscriber: u32) -> Option<u32>
         ensures { result ≡ option_map (λ b. b.number) (find (λ b. has_leg subscriber b.legs.items) self.now.bundles.items) }
     {
@@ -97,7 +97,7 @@ impl<R: Recorder> Bundles<R> {
         }
     }
 
-    // The highest number of a bundle, 0 before the first.
+    // The highest number of all bundles, or 0 if there is none.
     fn highest(&self) -> u32
         ensures { result ≡ fold (λ h b. max h b.number) 0 self.now.bundles.items }
     {
@@ -106,7 +106,7 @@ impl<R: Recorder> Bundles<R> {
             .fold(0, |highest: u32, bundle| highest.max(bundle.number))
     }
 
-    // Whether all these are live subscribers.
+    // Whether all these legs are live subscribers.
     fn are_live(&self, legs: &[u32]) -> bool
         ensures { (history : List Entry) → Stands R.noted self.now.room history → result ≡ list_all (is_live (accepted history)) legs.now }
     {
@@ -118,7 +118,7 @@ impl<R: Recorder> Bundles<R> {
         true
     }
 
-    // Whether the tracks of all these are layered, with this header extension id.
+    // Whether the tracks of all these legs are layered, with this header extension id.
     fn are_layered(&self, legs: &[u32], id: u8) -> bool
         ensures { (history : List Entry) → Stands R.noted self.now.room history → result ≡ list_all (has_kind id (accepted history)) legs.now }
     {
@@ -130,7 +130,7 @@ impl<R: Recorder> Bundles<R> {
         true
     }
 
-    // The bundle that the first bound leg is bound to: one that has the leg already, or this number if the leg is listed twice.
+    // For the first leg that is bound: the number of the bundle that has the leg already, or `number` if the leg is listed twice.
     fn bound(&self, number: u32, legs: &[u32]) -> Option<u32>
         ensures { result ≡ bound_leg (λ n. option_map (λ b. b.number) (find (λ b. has_leg n b.legs.items) self.now.bundles.items)) number legs.now legs.now }
     {
@@ -142,7 +142,7 @@ impl<R: Recorder> Bundles<R> {
         None
     }
 
-    // The first refusal that applies to a bundle with these legs.
+    // The first refusal that applies to a new bundle with this number and these legs.
     fn refusal(&self, number: u32, id: u8, legs: &[u32]) -> Option<BundleFault>
         ensures { (h : Simulcast) → StandsFor R.noted self.now h → result ≡ bundle_refusal h number id legs.now }
     {
@@ -168,10 +168,10 @@ impl<R: Recorder> Bundles<R> {
         }
     }
 
-    /// Begins a bundle of two or three legs, which are subscribers of layered tracks with this header extension id. The bundle sends with this
-    /// SSRC, and sequence numbers from `first` on. The first leg is chosen. `NumberUsed`: the number is at most the highest of a bundle.
-    /// `TooMany`: there are 64 bundles. `Room(NoSubscriber)`: a leg isn't live. `Bound`: a leg belongs to that bundle already, or is listed
-    /// twice; then that bundle is this one. `WrongKind`: a leg's track isn't layered with this id. `NoMemory` comes last.
+    /// Creates a bundle of two or three legs, which are subscribers of layered tracks with this header extension id. The bundle sends with this
+    /// SSRC, and sequence numbers from `first` on; leg 1 is chosen. `NumberUsed`: the number isn't above the highest number of a bundle (0 if
+    /// there is none). `TooMany`: there are 64 bundles. `Room(NoSubscriber)`: a leg isn't live. `Bound`: a leg belongs to that bundle, or is
+    /// listed twice and that bundle is this one. `WrongKind`: a leg's track isn't layered with this id. `NoMemory` is checked last.
     pub fn bundle(
         &mut self,
         number: u32,
@@ -197,7 +197,7 @@ impl<R: Recorder> Bundles<R> {
         }
     }
 
-    // The bundle that forbids a call, if one does.
+    // The number of the bundle that forbids a call, if one does.
     fn forbids(&self, call: &Call) -> Option<u32>
         ensures { result ≡ forbids_by (λ n. option_map (λ b. b.number) (find (λ b. has_leg n b.legs.items) self.now.bundles.items)) call.now }
     {
@@ -209,7 +209,7 @@ impl<R: Recorder> Bundles<R> {
     }
 
     /// Serves a call of a seat on the room, as `Room::serve` does. `Bound`: the call is a `Take` or a `Leave` of a leg of that bundle; nothing
-    /// changes, including the scratch.
+    /// changes, not even the scratch.
     pub fn call(
         &mut self,
         seat: u32,
@@ -227,9 +227,9 @@ impl<R: Recorder> Bundles<R> {
         }
     }
 
-    /// Takes what waits for the bundle's legs: from the active leg, then from the chosen one if that is another, then from the rest in order. It
-    /// takes from a leg until nothing waits for it, or 512 packets of the bundle are queued. `NoBundle`: no bundle has the number. `NoMemory`: a
-    /// take ran out of memory; the takes before it stay.
+    /// Takes the packets queued for the bundle's legs: from the active leg, then from the chosen leg if that is another, then from the others in
+    /// order. It takes from a leg until the leg's queue is empty, or 512 packets of the bundle are queued. `NoBundle`: no bundle has the number.
+    /// `NoMemory`: a take ran out of memory; the takes before it aren't undone.
     pub fn pump(&mut self, number: u32, scratch: &mut Scratch) -> Result<Pumped, BundleFault>
         ensures pumps { PumpsOne R.noted self.old self.new number result }
         ensures unchanged { result ≡ Err BundleFault.NoBundle → scratch.new ≡ scratch.old }
@@ -252,8 +252,8 @@ impl<R: Recorder> Bundles<R> {
         }
     }
 
-    /// Writes the bundle's oldest queued packet to `out`, and returns its sequence number. `NoBundle`: no bundle has the number. `Room(Empty)`:
-    /// no packet is queued. An error leaves `out` as it was.
+    /// Dequeues the bundle's oldest packet, writes it to `out`, and returns its sequence number. `NoBundle`: no bundle has the number.
+    /// `Room(Empty)`: no packet is queued. An error leaves `out` as it was.
     pub fn draw(&mut self, number: u32, out: &mut PacketBuf) -> Result<u16, BundleFault>
         ensures draws { Draws R.noted self.old self.new number out.new result }
         ensures unchanged { OnErr result (out.new ≡ out.old) }
@@ -268,7 +268,7 @@ impl<R: Recorder> Bundles<R> {
         }
     }
 
-    /// Writes the packet that was drawn under this sequence number to `out` again. `NoBundle`: no bundle has the number. `Room(NotKept)`: none
+    /// Writes the packet that was drawn with this sequence number to `out` again. `NoBundle`: no bundle has the number. `Room(NotKept)`: none
     /// of the last 1,024 drawn packets has the sequence number. An error leaves `out` as it was.
     pub fn redraw(&self, number: u32, seq: u16, out: &mut PacketBuf) -> Result<(), BundleFault>
         ensures redraws { Redraws R.noted self.now number seq out.new result }

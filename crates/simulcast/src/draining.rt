@@ -1,4 +1,4 @@
-// What is taken from the legs of a bundle.
+// Takes packets from the legs of a bundle.
 ghost use Rattle.std.specs.Prelude.{◌≡◌, ◌≤◌, ◌+◌, ◌∷◌, [], IfOk, IsErr, IsTrue, length};
 ghost use Rattle.room_core.specs.Serves.{recorder_may_refuse};
 ghost use Rattle.simulcast.specs.Pumping.{Pumping};
@@ -11,10 +11,10 @@ use dd_descriptor::NewestDescriptor;
 use room_core::{Recorder, Room};
 use sfu_base::{NoMemory, Scratch};
 
-/// One more than a subscriber's queue holds: after this many takes no packet waits for a leg.
+/// One more than the 512 packets of a full subscriber's queue: after this many takes it is empty.
 const MOST_TAKES: u32 = 513;
 
-// Takes what waits for a leg, until nothing waits or 512 packets of the bundle are queued. Returns how many packets were taken.
+// Takes the packets queued for a leg, until its queue is empty or the bundle has 512 packets queued. Returns how many packets were taken.
 fn drain<R: Recorder>(
     room: &mut Room<R>,
     bundle: &mut Bundle,
@@ -46,7 +46,7 @@ fn drain<R: Recorder>(
     Ok(MOST_TAKES)
 }
 
-// The same for this leg of the bundle, if there is such a leg.
+// Drains this leg of the bundle, if there is such a leg. Returns how many packets were taken.
 fn drain_leg<R: Recorder>(
     room: &mut Room<R>,
     bundle: &mut Bundle,
@@ -70,7 +70,7 @@ fn drain_leg<R: Recorder>(
     }
 }
 
-// The same for these legs, one after another.
+// Drains these legs, one after another. Returns how many packets were taken.
 fn drain_legs<R: Recorder>(
     room: &mut Room<R>,
     bundle: &mut Bundle,
@@ -94,8 +94,8 @@ fn drain_legs<R: Recorder>(
     Ok(taken)
 }
 
-/// Takes what waits for the legs of a bundle: from the active leg, then from the chosen one if that is another, then from the rest in order.
-/// It takes from a leg until nothing waits for it, or 512 packets of the bundle are queued.
+/// Takes the packets queued for the legs of a bundle: from the active leg, then from the chosen leg if that is another, then from the others
+/// in order. It takes from a leg until the leg's queue is empty, or 512 packets of the bundle are queued.
 pub fn pump<R: Recorder>(
     room: &mut Room<R>,
     bundle: &mut Bundle,

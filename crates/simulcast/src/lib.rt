@@ -1,4 +1,4 @@
-//! Simulcast: one outgoing stream out of what two or three subscribers of a room are sent.
+//! Simulcast: merges the packets of two or three subscribers of a room into one outgoing stream.
 #![tactic(auto)]
 
 mod bundle;

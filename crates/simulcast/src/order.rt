@@ -1,8 +1,8 @@
-// A leg in the order in which a pump takes from the legs.
+// An entry of the order in which a pump takes from the legs.
 ghost use Rattle.std.specs.Prelude.{◌≡◌};
 ghost use Rattle.simulcast.specs.Pumping.{unless};
 
-/// This leg, or none if it comes earlier.
+/// This leg, or `None` if it `is_taken`: it comes earlier in the order.
 pub fn unless(is_taken: bool, leg: u8) -> Option<u8>
     ensures { result ≡ unless is_taken leg }
 {

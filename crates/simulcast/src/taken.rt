@@ -1,4 +1,4 @@
-// What a take of a leg returned.
+// The reply to a take from a leg.
 ghost use Rattle.std.specs.Prelude.{◌≡◌, None, true, false};
 ghost use Rattle.sfu_base.specs.Answer.{is_starved};
 ghost use Rattle.sfu_base.specs.declared.call.Reply.TheVariants as reply;
@@ -7,7 +7,7 @@ ghost use Rattle.rtp_packet.specs.Fields.{marker_of};
 
 use sfu_base::{Refusal, Reply};
 
-/// Whether a reply is out of memory.
+/// Whether a reply says that the call ran out of memory.
 pub fn is_starved(reply: &Reply) -> bool
     ensures { result ≡ is_starved reply.now }
 {
@@ -22,7 +22,7 @@ pub fn is_packet(answer: &Reply) -> bool
     matches!(answer, Reply::Packet)
 }
 
-/// A packet's marker, the highest bit of its second byte (RFC 3550, section 5.1).
+/// A packet's marker bit, the highest bit of its second byte (RFC 3550, section 5.1).
 #[tactic(auto, using(rtp_packet::proofs::Faultless::header_there))]
 pub fn marker(packet: &[u8]) -> bool
     requires { first_fault packet.now ≡ None }

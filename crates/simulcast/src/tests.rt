@@ -1,5 +1,5 @@
-// Bundles of a room's layered tracks. The packets are laid as RFC 3550 and RFC 8285 lay them, the descriptors as Appendix A of RTP Payload
-// Format For AV1 does; what is wanted is worked out by hand from the rules.
+// Bundles of a room's layered tracks. The packets are laid out by RFC 3550 and RFC 8285, the descriptors by Appendix A of RTP Payload Format
+// For AV1; the expected results are worked out by hand from the rules.
 
 use crate::{BundleFault, Bundles, Pumped};
 use room_core::{KeepNone, Room};
@@ -33,7 +33,7 @@ fn pumped(forwarded: u32, dropped: u32) -> Result<Pumped, BundleFault> {
     Ok(Pumped { forwarded, dropped })
 }
 
-// Key frames 1 and 3 of one decode target, and frames 2 and 3 that refer to the one before.
+// Key frames 1 and 3 of one decode target, and frames 2 and 3 that each refer to the frame before.
 const KEY_1: &[u8] = b"\x00\x03\x48\xc0\x00\x01\x80\x00\x3a\x41\x01\x00\x00\x00\x18\x30\x00";
 
 const KEY_3: &[u8] = b"\x00\x03\x48\xc0\x00\x03\x80\x00\x3a\x41\x01\x00\x00\x00\x18\x30\x00";
@@ -42,8 +42,8 @@ const FRAME_2: &[u8] = b"\x00\x01\x42\xc1\x00\x02\x10\x30\x00";
 
 const FRAME_3: &[u8] = b"\x00\x01\x42\xc1\x00\x03\x10\x30\x00";
 
-// The first one as it is sent, with the mask of its target, and the others behind it. The last one's timestamp is 3,000 higher, as leg 2 is
-// active then.
+// The first packet as it is sent, with the mask of its target, and the packets after it. The last one's timestamp is 3,000 higher, as leg 2
+// is active then.
 const OUT_10: &[u8] =
     b"\x90\xe0\x00\x0a\x00\x00\x00\x00\x55\x55\x55\x55\xbe\xde\x00\x03\x48\xc0\x00\x01\xc0\x00\x3a\x41\x01\x40\x00\x00\x18\x30\x00";
 
@@ -195,10 +195,10 @@ fn one_stream_goes_out_of_two_tracks(rt: HostRuntime) {
         Step::Redraw(1, 12, Ok(()), OUT_12),
         Step::Redraw(1, 14, Err(BundleFault::Room(not_kept)), &[]),
         Step::Pump(1, pumped(0, 0)),
-        // the active leg is not asked for a key frame
+        // no key frame is requested of the active leg
         Step::Choose(1, 2, Ok(())),
         Step::KeyWanted(2, false),
-        // what is refused, in the order of the refusals
+        // refused calls, in the order in which the refusals are checked
         Step::Take(1, Err(bound)),
         Step::Leave(2, Err(bound)),
         Step::Bundle(1, 5, &[1, 9], Err(BundleFault::NumberUsed { highest: 1 })),

@@ -28,7 +28,7 @@ pub struct Stage {
     pub third: Viewer,
 }
 
-// `NoMemory` where a call ran out of memory.
+// `NoMemory` if the call ran out of memory.
 fn found(reply: Reply) -> Result<(), NoMemory>
     ensures { OnOk result (is_starved reply ≡ false) }
 {
@@ -58,7 +58,7 @@ fn open(alloc: Global) -> Result<Room<KeepNone>, NoMemory>
 }
 
 impl Stage {
-    /// The room before the stream.
+    /// The stage before the stream: the track is published, and its subscribers have joined.
     pub fn new(alloc: Global) -> Result<Stage, NoMemory>
         ensures { IfOk result (λ stage. IsStaged stage opened) }
     {
@@ -78,14 +78,14 @@ impl Stage {
         })
     }
 
-    /// Brings a packet to the track at this moment (milliseconds).
+    /// Feeds a packet to the track at this moment (milliseconds).
     pub fn packet(&mut self, moment: u64, bytes: &PacketBuf)
         ensures { (past : List Call) → IsStaged self.old past → IsStaged self.new (and_call past (call.Packet 1 moment bytes.now)) }
     {
         self.room.packet(SEAT, TRACK, moment, bytes);
     }
 
-    /// Ticks the track at this moment (milliseconds); then each subscriber takes until nothing waits for it.
+    /// Ticks the track at this moment (milliseconds); then each subscriber takes all its queued packets.
     pub fn tick(&mut self, moment: u64)
         ensures { (past : List Call) → IsStaged self.old past
             → IsStaged self.new (after_takes 3 (after_takes 2 (after_takes 1 (and_call past (call.Tick 1 moment))))) }

@@ -38,7 +38,7 @@ fn whole_text(alloc: Global, counts: Counts, stage: &Stage) -> Result<String, Al
     Ok(text)
 }
 
-/// The five lines of the summary: two on the stream, and one for each subscriber.
+/// The five lines of the summary: two about the stream, and one for each subscriber.
 pub fn summary(alloc: Global, counts: Counts, stage: &Stage) -> Result<String, NoMemory>
     ensures { IfOk result (λ text. (past : List Call) → IsStaged stage.now past → string_bytes text ≡ summary_of counts past) }
 {

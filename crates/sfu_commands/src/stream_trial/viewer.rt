@@ -1,4 +1,4 @@
-// One subscriber, and the strict receiver of what it takes.
+// One subscriber, and a strict receiver of the packets that it takes.
 ghost use Rattle.std.specs.Prelude.{◌++◌, ◌∷◌, [], List, ℕ, IfOk};
 ghost use Rattle.sfu_base.specs.declared.call.Call.{Call};
 ghost use Rattle.sfu_commands.specs.Trial.{after_takes, received};
@@ -12,13 +12,13 @@ use strict_receiver::Receiver;
 /// The seat that makes all calls.
 pub const SEAT: u32 = 0;
 
-/// The id of the header extension element that has a packet's descriptor.
+/// The header extension id of the dependency descriptors (RFC 8285).
 pub const EXTENSION: u8 = 4;
 
-// The most packets that wait for a subscriber.
+// The capacity of a subscriber's queue, in packets.
 const MOST_QUEUED: u32 = 512;
 
-/// A subscriber's strict receiver.
+/// The strict receiver of a subscriber's packets.
 #[derive(Drop)]
 pub struct Viewer {
     pub receiver: Receiver,
@@ -27,7 +27,7 @@ pub struct Viewer {
 }
 
 impl Viewer {
-    /// A receiver that has received nothing.
+    /// A viewer that has received nothing.
     pub fn new(alloc: Global) -> Result<Viewer, NoMemory>
         ensures { IfOk result (λ viewer. WasFed viewer []) }
     {
@@ -44,7 +44,7 @@ impl Viewer {
         self.complains = self.receiver.feed(packet).is_err();
     }
 
-    // Takes a packet and feeds it, if one waits. Returns whether one did.
+    // Takes the oldest queued packet, if there is one, and feeds it. Returns whether there was one.
     fn take_one(
         &mut self,
         subscriber: u32,
@@ -62,7 +62,7 @@ impl Viewer {
         }
     }
 
-    /// Takes until nothing waits for the subscriber with this number, and feeds each packet to the receiver.
+    /// Takes all packets queued for the subscriber with this number, and feeds each to the receiver.
     pub fn take_all(&mut self, subscriber: u32, room: &mut Room<KeepNone>, scratch: &mut Scratch)
         ensures { (past : List Call) → IsFedAfter room.old self.old subscriber past → IsFedAfter room.new self.new subscriber (after_takes subscriber past) }
     {

@@ -23,7 +23,7 @@ use sfu_script::is_skipped;
 use simulcast::{BundleFault, Bundles};
 use std::alloc::Global;
 
-/// Serves each line of a script by seat 0 on a room with bundles whose recorder keeps nothing.
+/// Serves each line of a script as seat 0, on a room with bundles whose recorder stores nothing.
 #[derive(Drop)]
 pub struct BundleServer {
     pub bundles: Bundles<KeepNone>,
@@ -44,7 +44,7 @@ impl BundleServer {
         }
     }
 
-    // Appends to the texts that are ready the line of a reply that the room has.
+    // Appends the line of a room's reply to `ready`, the output so far.
     fn answer(&mut self, reply: &Reply, ready: &mut Blob) -> Result<(), Halt>
         ensures starved { is_starved reply.now ≡ true → result ≡ Err Starved }
         ensures ok { OnOk result (ready.new ≡ ready.old ++ (answer_text (answer_of reply.now self.old.scratch.packet self.old.scratch.names) ++ 10 ∷ [])) }
@@ -59,7 +59,7 @@ impl BundleServer {
         Ok(())
     }
 
-    // Appends to the texts that are ready the line of a refusal.
+    // Appends the line of a refusal to `ready`, the output so far.
     fn refuse(&mut self, why: BundleFault, ready: &mut Blob) -> Result<(), Halt>
         ensures starved { why ≡ BundleFault.NoMemory → result ≡ Err Starved }
         ensures ok { OnOk result (ready.new ≡ ready.old ++ (fault_text why ++ 10 ∷ [])) }
@@ -153,7 +153,7 @@ impl BundleServer {
         }
     }
 
-    // Serves what a line says.
+    // Serves the call of a line.
     fn serve(&mut self, line: &BundleLine, ready: &mut Blob) -> Result<(), Halt>
         requires { HasLegs line.now }
         ensures { ServesLine (λ h. line_told line.now h) self.old self.new ready.old ready.new result }
@@ -183,7 +183,7 @@ impl BundleServer {
     }
 }
 
-// Appends to the texts that are ready the line of a reply that only lines about bundles have.
+// Appends the line of a reply that only calls on bundles have to `ready`, the output so far.
 fn tell(reply: BundleReply, ready: &mut Blob) -> Result<(), Halt>
     ensures ok { OnOk result (ready.new ≡ ready.old ++ (bundle_reply_text reply ++ 10 ∷ [])) }
     ensures err { OnErr result (ready.new ≡ ready.old) }

@@ -1,4 +1,4 @@
-// What is done for a configuration: its calls are made, its ports have their sessions, and the status says how that went.
+// Executes a configuration: makes its calls, runs the sessions of its ports, and returns the status.
 ghost use Rattle.std.specs.Prelude.{◌≡◌, ◌≤◌, ◌<◌, ◌^◌, IfOk, IsTrue, length, vec_len};
 ghost use Rattle.turn_lock.specs.Known.{Fits};
 ghost use Rattle.port_config.specs.Script.{all_apart};
@@ -20,7 +20,7 @@ use std::sync::Wait;
 use std::thread::Threads;
 use turn_lock::{Seat, Turns};
 
-/// Makes these calls on a new room behind a new lock, and makes the lines of their replies ready.
+/// Makes these calls on a new room behind a new lock. Returns lock, seat and the replies' lines.
 fn open<W: Wait + Sync>(
     rt: &W,
     alloc: Global,
@@ -53,7 +53,7 @@ fn open<W: Wait + Sync>(
     }
 }
 
-/// Binds the ports, runs their sessions, gives the ports back, writes a line for each session, and returns the status.
+/// Binds the ports, runs their sessions, releases the ports, writes a line for each session, and returns the status.
 fn serve_ports<P: Ports, K: Sink, C: Clock + Sync, W: Threads + Wait + Sync>(
     rt: &W,
     alloc: Global,
@@ -91,8 +91,8 @@ fn serve_ports<P: Ports, K: Sink, C: Clock + Sync, W: Threads + Wait + Sync>(
     end_all(alloc, ended, ports, sink)
 }
 
-/// Does what a configuration says, and returns the status: 0 where each session made all its turns, 4 where the sink failed, 6 where memory
-/// ran out, 7 where a port wasn't bound or the link of a session failed.
+/// Executes a configuration, and returns the status: 0 if each session made all its turns, 4 if the sink failed, 6 if memory ran out, 7 if a
+/// port wasn't bound or the link of a session failed.
 pub fn act<P: Ports, K: Sink, C: Clock + Sync, W: Threads + Wait + Sync>(
     rt: &W,
     alloc: Global,

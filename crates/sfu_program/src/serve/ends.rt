@@ -1,4 +1,4 @@
-// The lines of sessions that ended.
+// The output lines of sessions that ended.
 ghost use Rattle.std.specs.Prelude.{◌≡◌, ◌++◌, ◌≤◌, length, OnOk};
 ghost use Rattle.sfu_program.specs.ServeEnds.{AreUnworn, IsUnworn, all_made, end_line, ends_of, ends_text, is_all};
 
@@ -6,7 +6,7 @@ use sfu_base::{Blob, NoMemory};
 use sfu_script::write_end;
 use sfu_serve::{Ended, SessionEnd};
 
-// Appends the line of the session with this number to the texts that are ready.
+// Appends the line of the session with this number to `ready`, the output so far.
 fn add_end(number: u32, end: SessionEnd, ready: &mut Blob) -> Result<(), NoMemory>
     requires { IsUnworn end }
     ensures { OnOk result (ready.new ≡ ready.old ++ end_line number end) }
@@ -20,7 +20,7 @@ fn add_end(number: u32, end: SessionEnd, ready: &mut Blob) -> Result<(), NoMemor
     ready.append(b"\n")
 }
 
-/// Appends the lines of sessions, in their order, to the texts that are ready. The first session has the number 1.
+/// Appends the lines of sessions, in order, to `ready`, the output so far. The first session has the number 1.
 pub fn add_ends<L>(ended: &[Ended<L>], ready: &mut Blob) -> Result<(), NoMemory>
     requires few { length ended.now ≤ 64 }
     requires unworn { AreUnworn (ends_of ended.now) }

@@ -21,7 +21,7 @@ pub enum Unmade {
     Worn,
 }
 
-// Makes one call by the first seat, and appends the line of its reply to the texts that are ready.
+// Makes a call by the first seat, and appends the line of its reply to `ready`, the output so far.
 fn make_call<W: Wait + Sync>(
     rt: &W,
     turns: &Turns<SharedRoom<KeepNone>>,
@@ -50,7 +50,7 @@ fn make_call<W: Wait + Sync>(
     }
 }
 
-/// Makes these calls by the first seat, in their order, and appends the lines of their replies to the texts that are ready.
+/// Makes these calls by the first seat, in order, and appends the lines of their replies to `ready`, the output so far.
 pub fn make_calls<W: Wait + Sync>(
     rt: &W,
     turns: &Turns<SharedRoom<KeepNone>>,

@@ -1,4 +1,4 @@
-// The ports of `serve`: bound in order, and given back in order.
+// The ports of `serve`: bound in order, and released in order.
 ghost use Rattle.std.specs.Prelude.{◌≡◌, ◌+◌, ◌<◌, ◌≤◌, ℕ, [], length, map, take, vec_len, IfErr, IfOk, OnErr, OnOk};
 ghost use Rattle.std.specs.Vec.{vec_capacity};
 ghost use Rattle.sfu_base.specs.Faults.{HasCause, Rose, raised};
@@ -22,7 +22,7 @@ pub enum Unbound {
     PortFault,
 }
 
-// Whose session a port's line asks for.
+// The role of the session that a port's line requests.
 fn role(line: PortRole) -> Role
     ensures { result ≡ role_of line }
 {
@@ -46,7 +46,7 @@ fn role(line: PortRole) -> Role
     }
 }
 
-// Binds the port of a line for a job.
+// Binds the port of a line, and returns the job of the port's session.
 fn bind_one<P: Ports>(line: &PortLine, ports: &mut P) -> Result<Job<P::Port>, Failed>
     requires { P.bound ports.old < 64 }
     ensures fresh { IfOk result (λ job. IsFresh line.now (job_before job.role (P.Port.told job.link) (P.Port.faults job.link))) }
@@ -63,7 +63,7 @@ fn bind_one<P: Ports>(line: &PortLine, ports: &mut P) -> Result<Job<P::Port>, Fa
     })
 }
 
-// Binds the ports of lines in their order, until one fails.
+// Binds the ports of lines in order, until one fails, and appends a job for each.
 fn bind_each<P: Ports>(
     lines: &[PortLine],
     ports: &mut P,
@@ -91,7 +91,7 @@ fn bind_each<P: Ports>(
     Ok(())
 }
 
-// Gives back the ports of jobs, in the order of the jobs.
+// Releases the ports of jobs, in the order of the jobs.
 fn give_back<P: Ports>(jobs: Vec<Job<P::Port>>, ports: &mut P)
     requires { P.back_count ports.old + vec_len jobs ≤ P.bound ports.old }
     ensures bound { P.bound ports.new ≡ P.bound ports.old }
@@ -106,7 +106,7 @@ fn give_back<P: Ports>(jobs: Vec<Job<P::Port>>, ports: &mut P)
     }
 }
 
-/// Gives back the ports of sessions that ended, in the order of the sessions.
+/// Releases the ports of sessions that ended, in the order of the sessions.
 pub fn give_back_ended<P: Ports>(ended: Vec<Ended<P::Port>>, ports: &mut P)
     requires { P.back_count ports.old + vec_len ended ≤ P.bound ports.old }
     ensures bound { P.bound ports.new ≡ P.bound ports.old }
@@ -122,7 +122,7 @@ pub fn give_back_ended<P: Ports>(ended: Vec<Ended<P::Port>>, ports: &mut P)
     }
 }
 
-/// Binds the ports of lines in their order, each for a job. Where one bind fails, the ports that were bound before it are given back in
+/// Binds the ports of lines in order, and returns a job for each. If a bind fails, releases the ports that were bound before it, in
 /// order.
 #[tactic(auto, using(crate::proofs::ServeBacks::fresh_quiet))]
 pub fn bind_all<P: Ports>(

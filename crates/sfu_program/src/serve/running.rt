@@ -25,7 +25,7 @@ use std::sync::Wait;
 use std::thread::Threads;
 use turn_lock::{Seat, Turns};
 
-/// Runs the sessions of all jobs at once, and ends the lock once all sessions have ended.
+/// Runs the sessions of all jobs at the same time, and closes the lock when all have ended.
 pub fn run_all<L: Link + Send + Drop, C: Clock + Sync, W: Threads + Wait + Sync>(
     rt: &W,
     alloc: Global,
@@ -50,8 +50,8 @@ pub fn run_all<L: Link + Send + Drop, C: Clock + Sync, W: Threads + Wait + Sync>
     Ok(ended)
 }
 
-/// Gives back the ports of sessions that ended, writes the line of each session, and returns the status: 0 where each made all its turns, 7
-/// where the link of one failed, 4 where the sink failed, 6 where memory ran out for the lines.
+/// Releases the ports of sessions that ended, writes the line of each session, and returns the status: 0 if each made all its turns, 7 if
+/// the link of one failed, 4 if the sink failed, 6 if memory ran out for the lines.
 pub fn end_all<P: Ports, K: Sink>(
     alloc: Global,
     ended: Vec<Ended<P::Port>>,

@@ -6,10 +6,10 @@ ghost use Rattle.sfu_program.specs.ServeWords.{IsServe};
 
 use sfu_script::{Field, read_fields};
 
-/// The greatest number of turns.
+/// The greatest number of turns of a session.
 const MOST_TURNS: u64 = 1_000_000_000_000;
 
-// The number that a word is, in decimal digits without a leading zero.
+// Reads a word as a number in decimal digits without a leading zero; `None` if it isn't one.
 fn number(word: &str) -> Option<u64>
     ensures { MatchOption result ((n : ℕ) → ¬ (IsNumber n word.now)) (λ n. IsNumber n word.now) }
 {
@@ -19,7 +19,7 @@ fn number(word: &str) -> Option<u64>
     }
 }
 
-// The turns that these two words say, if they are the command `serve`.
+// Reads the number of turns if the two words are the command `serve`, else returns `None`.
 fn read_turns(name: &str, turns: &str) -> Option<u64>
     ensures { MatchOption result ((n : ℕ) → ¬ (IsServe (name.now ∷ turns.now ∷ []) n)) (λ n. IsServe (name.now ∷ turns.now ∷ []) n) }
 {
@@ -33,7 +33,7 @@ fn read_turns(name: &str, turns: &str) -> Option<u64>
     Some(turns)
 }
 
-/// How many turns each session makes, where the words are the command `serve`; `None` exactly when they aren't.
+/// Reads how many turns each session makes if the words are the command `serve`; returns `None` exactly if they aren't.
 pub fn read_serve(words: &[String]) -> Option<u64>
     ensures { MatchOption result ((n : ℕ) → ¬ (IsServe (map string_bytes words.now) n)) (λ n. IsServe (map string_bytes words.now) n) }
 {

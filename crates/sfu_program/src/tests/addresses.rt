@@ -3,14 +3,14 @@ use super::serve::served;
 use sfu_base::{Address, CalmLink, CalmPorts, Failed, Ports};
 use std::test::Fail;
 
-// A subscriber's port, a controller's, one with retransmissions on a stream of their own, and a publisher's.
+// The ports of a subscriber, of a controller, of a subscriber with an RTX stream, and of a publisher.
 const FOUR: &str =
     "publish 1 plain 11111111 100\njoin 1 1 22222222 7 0 0\njoin 2 1 44444444 0 0 0\n\
     port 10.1.2.3:5001 192.168.7.9:6003 subscriber 1 22222222\nport 127.0.0.2:4999 172.16.254.1:65535 control\n\
     port 192.0.2.254:1 100.64.0.9:40001 rtx 2 44444444 33333333 97\n\
     port 198.51.100.77:5000 203.0.113.5:1 publisher 1 11111111\n";
 
-// Of each line the local address and the peer's.
+// The local address and the peer's address of each line.
 const WANTED: [(u32, u16); 8] = [
     (0x0a01_0203, 5001),
     (0xc0a8_0709, 6003),
@@ -22,7 +22,7 @@ const WANTED: [(u32, u16); 8] = [
     (0xcb00_7105, 1),
 ];
 
-// Ports that never fail and write down at which addresses they were bound.
+// Ports that never fail, and record the addresses at which they were bound.
 #[derive(Drop)]
 struct NotingPorts {
     inner: CalmPorts,

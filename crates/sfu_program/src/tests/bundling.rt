@@ -25,8 +25,8 @@ const THIRD_1: &str = "packet 1 0 90e003ea0000000011111111bede000142c10003103000
 
 const KEY_3_2: &str = "packet 2 0 90e007d20000000044444444bede000348c0000380003a4101000000183000\n";
 
-// What is forwarded: the first track's three frames, then the second's key frame, with a timestamp 3,000 higher. The key frames have a mask of their
-// one target.
+// What is forwarded: the first track's three frames, then the second's key frame, with a timestamp that is 3,000 higher. The key frames have a mask
+// of their one target.
 const OUT_10: &str = "packet 90e0000a0000000055555555bede000348c00001c0003a4101400000183000\n";
 
 const OUT_11: &str = "packet 90e0000b0000000055555555bede000142c10002103000\n";
@@ -35,7 +35,7 @@ const OUT_12: &str = "packet 90e0000c0000000055555555bede000142c10003103000\n";
 
 const OUT_13: &str = "packet 90e0000d00000bb855555555bede000348c00003c0003a4101400000183000\n";
 
-// The status of a script, and what was written.
+// Runs a script; returns the status and the output.
 fn run(alloc: Global, script: &str) -> Result<(u8, Vec<u8>), AllocError> {
     let words = words(alloc, &["simulcast"])?;
     let mut source = MemSource::new(script.as_bytes().to_vec(alloc)?, Vec::new(alloc));
@@ -69,14 +69,14 @@ fn one_stream_goes_out_of_two_tracks(rt: HostRuntime) -> Result<(), Fail> {
 #[test]
 fn lines_of_bundles_are_refused_for_their_reasons(rt: HostRuntime) -> Result<(), Fail> {
     let alloc = rt.alloc();
-    // After the bundle of the legs 1 and 2 began, subscriber 3 joins track 1, 4 a plain track, 5 a track with another id, and 6 track 2.
+    // After the bundle of the legs 1 and 2 was created, subscriber 3 joins track 1, 4 a plain track, 5 a track with another id, and 6 track 2.
     let others = "publish 3 plain 77777777 0\npublish 4 layered 88888888 0 5\njoin 3 1 1 0 0 0\n";
     assert_eq!(rt; run(alloc, others)?.0, 5);
     let others =
         "publish 3 plain 77777777 0\npublish 4 layered 88888888 0 5\njoin 3 1 00000003 0 0 0\njoin 4 3 00000004 0 0 0\n\
         join 5 4 00000005 0 0 0\njoin 6 2 00000006 0 0 0\n";
     for (line, reply) in [
-        // The first refusal that applies, in their order.
+        // The first refusal that applies, in the order of the checks.
         ("bundle 1 5 55555555 0 9 9\n", "refused numberused 1\n"),
         ("bundle 0 4 55555555 0 3 6\n", "refused numberused 1\n"),
         ("bundle 2 5 55555555 0 1 9\n", "refused nosubscriber\n"),

@@ -1,4 +1,4 @@
-// The command `check` over sources and sinks in memory: packets with what a strict receiver says of them.
+// The command `check` over sources and sinks in memory: packets, and what a strict receiver finds in them.
 use super::run::words;
 use crate::alone::sfu_alone;
 use sfu_base::{MemSink, MemSource};
@@ -13,7 +13,7 @@ pub const NEXT: &str = "90e000000000000022222222bede000142c10002103000\n";
 /// The first packet of a frame that isn't finished.
 pub const BEGUN: &str = "906000000000000011111111bede00034880000180003a4101000000183000\n";
 
-/// The status of this command with this id, and what was written.
+/// Runs this command with this id; returns the status and the output.
 pub fn command(
     alloc: Global,
     name: &str,
@@ -57,7 +57,7 @@ fn packets_are_counted_or_complained_of(rt: HostRuntime) -> Result<(), Fail> {
             "line 2 othersource 22222222 33333333\n",
         ),
         (&["80\n"], 8, "line 1 unread\n"),
-        // The packet of an unfinished frame is counted, and the frame isn't.
+        // The packet of an unfinished frame is counted, but not the frame.
         (&[BEGUN], 0, "ok 1 packets 0 frames\n"),
         // Upper case is read, the last line may lack its LF, and a CR directly before an LF is dropped.
         (
@@ -68,7 +68,7 @@ fn packets_are_counted_or_complained_of(rt: HostRuntime) -> Result<(), Fail> {
             0,
             "ok 2 packets 2 frames\n",
         ),
-        // Skipped lines are counted and fed to nobody.
+        // Skipped lines are counted as lines and not fed to the receiver.
         (
             &["# a\n", "\n", KEY, "#80\n", "\r\n", NEXT],
             0,
@@ -79,7 +79,7 @@ fn packets_are_counted_or_complained_of(rt: HostRuntime) -> Result<(), Fail> {
             8,
             "line 5 sequence 65535 65535\n",
         ),
-        // A line outside the grammar: what comes after it isn't judged, nor what comes after a complaint.
+        // After a line outside the grammar, or a complaint, no further line is checked.
         (&[KEY, "take 1\n", KEY], 5, "line 2\n"),
         (&[KEY, "8\n"], 5, "line 2\n"),
         (&[KEY, "# a\n", "80 "], 5, "line 3\n"),

@@ -12,7 +12,7 @@ use std::sync::Wait;
 use std::test::Fail;
 use std::thread::Threads;
 
-/// Gives a script byte by byte.
+/// A source that returns its script byte by byte.
 #[derive(Drop)]
 pub struct ByteSource {
     pub inner: MemSource,
@@ -31,7 +31,7 @@ impl Source for ByteSource {
     }
 }
 
-// Takes a text byte by byte.
+// A sink that takes a text byte by byte.
 #[derive(Drop)]
 struct ByteSink {
     inner: MemSink,
@@ -50,21 +50,21 @@ impl Sink for ByteSink {
     }
 }
 
-// A command on an input.
+// A command with its input.
 #[derive(Clone, Copy)]
 struct Row<'a> {
     words: &'a [&'a str],
     /// The input in pieces, each with the text that is due after it.
     pieces: &'a [(&'a str, &'a str)],
-    /// How many reads of a byte are made.
+    /// How many reads of one byte are made.
     reads: u64,
-    /// The text that is due at the end; where the input ends the command, the command's last text.
+    /// The text that is due at the end; if the input ends the command, the command's last text.
     last: &'a [u8],
     status: u8,
 }
 
 impl<'a> Row<'a> {
-    // All pieces.
+    // All pieces, concatenated.
     fn input(&self, alloc: Global) -> Result<Vec<u8>, AllocError> {
         let mut input = Vec::new(alloc);
         for (piece, _) in self.pieces {
@@ -87,7 +87,7 @@ impl<'a> Row<'a> {
         Ok(text)
     }
 
-    // The places of the first and of the last byte of each text, and the place after all texts.
+    // The offsets of the first and of the last byte of each text, and the offset after all texts.
     fn edges(&self, alloc: Global) -> Result<Vec<usize>, AllocError> {
         let mut places = Vec::new(alloc);
         let mut text = Vec::new(alloc);
@@ -100,7 +100,7 @@ impl<'a> Row<'a> {
     }
 }
 
-// Appends a text to others, and the places of the text's first and last byte to others.
+// Appends a text to `text`, and the offsets of its first and last byte to `places`.
 fn add_edges(places: &mut Vec<usize>, text: &mut Vec<u8>, more: &[u8]) -> Result<(), AllocError> {
     let first = text.len();
     text.extend_from_slice(more)?;
@@ -111,7 +111,7 @@ fn add_edges(places: &mut Vec<usize>, text: &mut Vec<u8>, more: &[u8]) -> Result
     Ok(())
 }
 
-// The status where these reads and writes of a byte fail, what was written, and whether the next read fails.
+// The status if these reads and writes of a byte fail, the output, and whether the next read fails.
 fn outcome<W: Threads + Wait + Sync>(
     rt: &W,
     alloc: Global,
@@ -142,7 +142,7 @@ fn outcome<W: Threads + Wait + Sync>(
 
 const RECORD: &str = "\0\x05\x09\0\0\0\x01";
 
-// The third and the fourth line bring a key frame and a frame that refers to it.
+// The third and the fourth line are a key frame and a frame that refers to it.
 const LAYERED: [(&str, &str); 8] = [
     ("publish 1 layered 11111111 100 4\n", "ok\n"),
     ("join 1 1 22222222 65535 0 0\n", "ok\n"),
@@ -262,7 +262,7 @@ const OF_CALLS: [Row; 8] = [
     },
 ];
 
-// Those that read packets.
+// The commands that read packets.
 const OF_PACKETS: [Row; 7] = [
     Row {
         words: &["check", "4"],
@@ -326,7 +326,7 @@ fn unread<'a>(words: &'a [&'a str], text: &'a str, status: u8) -> Row<'a> {
     }
 }
 
-// Those that start threads.
+// The commands that start threads.
 const OF_THREADS: [Row; 4] = [
     Row {
         words: &["together"],
@@ -361,8 +361,8 @@ const OF_THREADS: [Row; 4] = [
     },
 ];
 
-// Each read of a byte fails in turn, then the write of the first and of the last byte of each text; then nothing fails. Returns the first read or
-// write, counted from 0, whose failure had a wrong outcome.
+// Lets each read of a byte fail in turn, then the write of the first and of the last byte of each text, and at last nothing. Returns the first
+// read or write, counted from 0, whose failure had a wrong outcome.
 fn try_row<W: Threads + Wait + Sync>(
     rt: &W,
     alloc: Global,
@@ -395,7 +395,7 @@ fn try_row<W: Threads + Wait + Sync>(
     Ok(None)
 }
 
-// The first of the rows that goes wrong: its status, and which call failed.
+// The first row with a wrong outcome: its status, and which read or write failed.
 fn first_wrong<W: Threads + Wait + Sync>(
     rt: &W,
     alloc: Global,

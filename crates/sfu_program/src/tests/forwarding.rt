@@ -1,4 +1,4 @@
-// What comes to a publisher's port is forwarded at a subscriber's.
+// A packet that arrives at a publisher's port is forwarded from a subscriber's port.
 ghost use Rattle.std.specs.Prelude.{◌≤◌, IfOk, None};
 ghost use Rattle.sfu_base.specs.Links.{IsFresh};
 
@@ -13,12 +13,12 @@ use std::time::{Clock, Duration};
 // How often the subscriber's link checks whether the packet was processed, with a millisecond between two checks.
 const MOST_LOOKS: u32 = 10_000;
 
-// Number 1000 of the publisher (RFC 3550, section 5.1), and the subscriber's first packet, whose number is the 7 of its line.
+// A packet with the publisher's sequence number 1000 (RFC 3550, section 5.1), and the subscriber's first packet, with the number 7 of its line.
 const COMES: &[u8] = b"\x80\x60\x03\xe8\0\0\0\0\x11\x11\x11\x11\xaa\xbb";
 
 const GOES: &[u8] = b"\x80\x60\0\x07\0\0\0\0\x22\x22\x22\x22\xaa\xbb";
 
-// The publisher's link brings one packet, and the subscriber's nothing.
+// The publisher's link receives one packet, the subscriber's link none.
 fn new_link(alloc: Global, is_publishers: bool) -> Result<MemLink, AllocError>
     ensures { IfOk result IsFresh }
 {
@@ -29,7 +29,7 @@ fn new_link(alloc: Global, is_publishers: bool) -> Result<MemLink, AllocError>
     }
 }
 
-// A link of the publisher, or of the subscriber. The publisher's second receive shows that what the first one brought was processed. The
+// A link of the publisher, or of the subscriber. The publisher's second receive shows that the packet of the first one was processed. The
 // subscriber's first receive waits for this.
 #[derive(Drop)]
 struct GatedLink<'a, R> {
@@ -75,7 +75,7 @@ impl<'a, R: Clock> Link for GatedLink<'a, R> {
     }
 }
 
-// The port that is bound first is the publisher's, and any other the subscriber's. Those that came back are kept.
+// The port that is bound first is the publisher's, any other the subscriber's. The released ports are kept.
 #[derive(Drop)]
 struct GatedPorts<'a, R> {
     alloc: Global,

@@ -1,4 +1,4 @@
-// Three sessions that are at work at the same time.
+// Three sessions that run at the same time.
 ghost use Rattle.std.specs.Prelude.{◌≤◌, None};
 
 use super::serve::{CONFIGURATION, served};
@@ -8,7 +8,7 @@ use std::test::Fail;
 use std::thread;
 use std::time::{Clock, Duration};
 
-// How often a link looks for the other ones, with a millisecond between.
+// How often a link checks for the other links, with a millisecond between two checks.
 const MOST_LOOKS: u32 = 10_000;
 
 // A flag of each link.
@@ -23,7 +23,7 @@ fn are_up(flags: &Flags) -> bool {
     true
 }
 
-// A link whose first receive raises its flag and waits until the other links' are up. It brings nothing.
+// A link whose first receive sets its flag and waits until the other links' flags are set. It receives no datagram.
 #[derive(Drop)]
 struct MeetingLink<'a, R> {
     clock: &'a R,
@@ -35,7 +35,7 @@ struct MeetingLink<'a, R> {
 }
 
 impl<'a, R: Clock> MeetingLink<'a, R> {
-    // Raises the flag and waits for the other ones; whether they came up.
+    // Sets the flag and waits for the others; returns whether all were set.
     fn meet(&self) -> bool {
         let flags = self.flags;
         if let Some(own) = flags.get(self.place) {
@@ -78,7 +78,7 @@ fn is_local(address: Address, port: u64) -> bool {
     address.ip == 0x7f00_0001 && u64::from(address.port) == port
 }
 
-// Ports of three links that meet. The first is bound at 127.0.0.1:5000 for 127.0.0.1:6000, and each other one port further; any other fails.
+// Ports of links that meet. The first is bound at 127.0.0.1:5000 for 127.0.0.1:6000, each later one at the next port numbers; others fail.
 #[derive(Drop)]
 struct MeetingPorts<'a, R> {
     clock: &'a R,

@@ -1,4 +1,4 @@
-// Scripts of records, and the command that writes them.
+// Scripts of records, and the command that converts lines to them.
 use super::faults::ByteSource;
 use super::run::words;
 use crate::alone::sfu_alone;
@@ -6,14 +6,14 @@ use sfu_base::{MemSink, MemSource};
 use std::alloc::{AllocError, Global};
 use std::test::Fail;
 
-// A script of lines with packets, whose replies hold each kind of text.
+// A script of lines with packets, whose replies contain each kind of text.
 const SCRIPT: &str =
     "publish 1 layered 11111111 100 4\n# a comment\njoin 1 1 22222222 65535 0 0\n\n\
 packet 1 0 90e003e80000000011111111bede000348c0000180003a4101000000183000\r\n\
 packet 1 33 90e003e90000000011111111bede000142c10002103000\ntake 1\ntake 1\ntake 1\nresend 1 65535\n\
 missing 1\nkey 1\nplead 1\nwhy 1 2\naim 1 0 0\ntick 1 99\nleave 1\nunpublish 1\npublish 1 plain 11111111 100";
 
-// The status of a command on these bytes, of which some reads fail, and what was written.
+// Runs a command on these bytes, where some reads fail; returns the status and the output.
 fn command(
     alloc: Global,
     word: &str,
@@ -27,7 +27,7 @@ fn command(
     Ok((status, sink.written().to_vec(alloc)?))
 }
 
-// The same where the bytes come one by one.
+// The same for a source that returns one byte for each read.
 fn command_by_bytes(alloc: Global, word: &str, input: &[u8]) -> Result<(u8, Vec<u8>), AllocError> {
     let words = words(alloc, &[word])?;
     let inner = MemSource::new(input.to_vec(alloc)?, Vec::new(alloc));
@@ -37,7 +37,7 @@ fn command_by_bytes(alloc: Global, word: &str, input: &[u8]) -> Result<(u8, Vec<
     Ok((status, sink.written().to_vec(alloc)?))
 }
 
-// A script of records that ends after the kind of its first record, whose length says `length` bytes.
+// A script of records that ends after the kind of its first record, whose length field is `length`.
 fn begun(alloc: Global, kind: u8, length: u16) -> Result<Vec<u8>, AllocError> {
     let [high, low] = length.to_be_bytes();
     [0, 83, 70, 50, high, low, kind].to_vec(alloc)
@@ -60,18 +60,18 @@ fn records_are_judged_as_soon_as_they_must_be(rt: HostRuntime) -> Result<(), Fai
         (b"\x00SF2\x00\x04", 5, "record 1\n"),
         (b"\x00SF2\x00\x00", 5, "record 1\n"),
         (b"\x00SF2\x08\x0e", 5, "record 1\n"),
-        // A record that is cut off after each of its bytes.
+        // A record that is truncated, after each of its bytes.
         (b"\x00SF2\x00", 5, "record 1\n"),
         (b"\x00SF2\x00\x05\x09", 5, "record 1\n"),
         (b"\x00SF2\x00\x05\x09\x00", 5, "record 1\n"),
         (b"\x00SF2\x00\x05\x09\x00\x00\x00", 5, "record 1\n"),
-        // The replies to the records before it are written.
+        // The replies to the records before the truncated one are written.
         (
             b"\x00SF2\x00\x05\x09\x00\x00\x00\x01\x00\x05\x0c\x00\x00\x00\x02\x00",
             5,
             "refused nosubscriber\nrefused notrack\nrecord 3\n",
         ),
-        // A number is read with its highest byte first.
+        // Numbers are big-endian.
         (
             b"\x00SF2\x00\x0d\x01\x00\x00\x00\x01\x11\x11\x11\x11\x00\x00\x00\x64\x00\x0d\x01\x00\x00\x00\x01\x11\x11\x11\x11\x00\x00\x00\x64",
             0,
@@ -86,7 +86,7 @@ fn records_are_judged_as_soon_as_they_must_be(rt: HostRuntime) -> Result<(), Fai
         assert_eq!(rt; got, status, "{input:?} by bytes");
         assert_eq!(rt; written.as_slice(), text.as_bytes(), "{input:?} by bytes");
     }
-    // A length that no record has is judged before a further read.
+    // A length that no record can have is refused before a further read.
     assert_eq!(rt; command(alloc, "run", b"\x00SF2\x08\x0e", &[1])?.0, 5);
     assert_eq!(rt; command(alloc, "run", b"\x00SF2\x08\x0d", &[1])?.0, 3);
     Ok(())
@@ -111,7 +111,7 @@ fn a_kind_has_its_own_length(rt: HostRuntime) -> Result<(), Fail> {
         (13, 5, 5),
         (14, 13, 13),
     ];
-    // A read after the kind fails; it comes first only where the record goes on.
+    // The read after the kind fails; it is made only if the record isn't refused before.
     for (kind, least, most) in kinds {
         for (length, status) in [
             (least.wrapping_sub(1), 5),
@@ -170,7 +170,7 @@ fn convert_writes_a_header_and_records(rt: HostRuntime) -> Result<(), Fail> {
             0,
             b"\x00SF2\x00\x05\x07\x00\x00\x01\x02",
         ),
-        // A line outside the grammar has no text.
+        // A line outside the grammar has no output.
         (
             b"take 1\ntake 01\ntake 2",
             &[],
@@ -179,7 +179,7 @@ fn convert_writes_a_header_and_records(rt: HostRuntime) -> Result<(), Fail> {
         ),
         // A script of records is outside the grammar at line 1.
         (b"\x00SF2\x00\x05\x09\x00\x00\x00\x01", &[], 5, b"\x00SF2"),
-        // The source fails before the first line, and after one that was judged.
+        // The source fails before the first line, and after one that was converted.
         (b"take 1\n", &[0], 3, b"\x00SF2"),
         (
             b"take 1\ntake",

@@ -13,7 +13,7 @@ const FIRST_REPLIES: &str = "ok\nok\nempty\nok\n";
 pub const USAGE: &str =
     "usage: run, together, trial, check, record, serve, convert, simulcast, cascade, help\n";
 
-/// Words of these texts.
+/// The words of these texts.
 pub fn words(alloc: Global, texts: &[&str]) -> Result<Vec<String>, AllocError> {
     let mut words = Vec::new(alloc);
     for text in texts {
@@ -22,7 +22,7 @@ pub fn words(alloc: Global, texts: &[&str]) -> Result<Vec<String>, AllocError> {
     Ok(words)
 }
 
-/// The status of a script, and what was written.
+/// Runs a script; returns the status and the output.
 pub fn run(alloc: Global, script: &str) -> Result<(u8, Vec<u8>), AllocError> {
     let words = words(alloc, &["run"])?;
     let mut source = MemSource::new(script.as_bytes().to_vec(alloc)?, Vec::new(alloc));
@@ -35,7 +35,7 @@ pub fn run(alloc: Global, script: &str) -> Result<(u8, Vec<u8>), AllocError> {
 fn scripts_get_their_replies_and_statuses(rt: HostRuntime) -> Result<(), Fail> {
     let alloc = rt.alloc();
     for (script, status, replies) in [
-        // The packet is forwarded under the subscriber's number and SSRC; then nothing is left.
+        // The packet is forwarded with the subscriber's number and SSRC; then the queue is empty.
         (
             "take 1\ntake 1\n",
             0,
@@ -44,7 +44,7 @@ fn scripts_get_their_replies_and_statuses(rt: HostRuntime) -> Result<(), Fail> {
         // A line outside the grammar, after the replies.
         ("packet 1 0 80605", 5, "line 5\n"),
         ("packet 1 0 80605\ntake 1\n", 5, "line 5\n"),
-        // A gap is waited for.
+        // A packet behind a gap is held.
         (
             "packet 1 0 806000030000000011111111cc\nmissing 1\npacket 1 0 806000020000000011111111cc\nmissing 1\n",
             0,
@@ -117,7 +117,7 @@ fn two_frames_of_a_layered_track_go_out_and_are_resent(rt: HostRuntime) -> Resul
 fn lines_are_skipped_and_end_as_they_should(rt: HostRuntime) -> Result<(), Fail> {
     let alloc = rt.alloc();
     for (script, status, text) in [
-        // Nothing is read, and nothing is written.
+        // An empty script has no output.
         ("", 0, ""),
         // The last line may lack its LF.
         ("take 1", 0, "refused nosubscriber\n"),
@@ -179,14 +179,14 @@ fn other_words_get_the_usage_line(rt: HostRuntime) -> Result<(), Fail> {
             2
         );
         assert_eq!(rt; sink.written(), USAGE.as_bytes());
-        // The status stays where the sink fails.
+        // The status is unchanged if the sink fails.
         let mut sink = MemSink::new(alloc, [0u64].to_vec(alloc)?);
         assert_eq!(rt;
             sfu_alone(alloc, words.as_slice(), &mut source, &mut sink),
             2
         );
         assert_eq!(rt; sink.written(), b"".as_slice());
-        // Nothing was read: the first read is still to come, and fails.
+        // Nothing was read: the failing first read is still to come.
         let mut buf = [0u8; 8];
         assert_eq!(rt; source.read(&mut buf), Err(Failed));
     }
@@ -224,8 +224,8 @@ fn hostile_packets_and_lines_are_refused(rt: HostRuntime) -> Result<(), Fail> {
 fn the_read_behind_a_whole_script_fails(rt: HostRuntime) -> Result<(), Fail> {
     let alloc = rt.alloc();
     let words = words(alloc, &["run"])?;
-    // The first read gives the whole script. All its lines have their replies, except a last one that has no LF. After a line outside the grammar no
-    // second read is made.
+    // The first read returns the whole script. All its lines have replies, except a last line without LF. After a line outside the grammar no second
+    // read is made.
     for (more, status, last) in [
         ("", 3, ""),
         (

@@ -1,4 +1,4 @@
-// Configurations with what `serve` writes, its statuses, and the ports that come back.
+// Configurations, what `serve` writes, its statuses, and the ports that it releases.
 ghost use Rattle.std.specs.Prelude.{◌≡◌, All, IfOk};
 ghost use Rattle.sfu_base.specs.Links.{IsFresh};
 
@@ -21,10 +21,10 @@ pub const WITH_RTX: &str =
 
 const REPLIES: &str = "ok\nok\n";
 
-/// What is written where both sessions make all their turns.
+/// The output if both sessions make all their turns.
 pub const ALL: &str = "ok\nok\nsession 1 all\nsession 2 all\n";
 
-/// The status and what was written, by this clock.
+/// Runs `serve` with this clock; returns the status and the output.
 pub fn served_by<W: Threads + Wait + Sync, P: Ports, C: Clock + Sync>(
     rt: &W,
     alloc: Global,
@@ -45,7 +45,7 @@ pub fn served_by<W: Threads + Wait + Sync, P: Ports, C: Clock + Sync>(
     Ok((status, sink.written().to_vec(alloc)?))
 }
 
-/// The same by a clock of 20 milliseconds a look.
+/// The same with a clock that advances by 20 milliseconds at each reading.
 pub fn served<W: Threads + Wait + Sync, P: Ports>(
     rt: &W,
     alloc: Global,
@@ -59,7 +59,7 @@ pub fn served<W: Threads + Wait + Sync, P: Ports>(
     served_by(rt, alloc, turns, configuration, ports, &clock)
 }
 
-/// A link that brings these datagrams and fails at these receives and sends.
+/// A link that receives these datagrams, and fails at these receives and sends.
 pub fn link(
     alloc: Global,
     datagrams: &[&[u8]],
@@ -84,7 +84,7 @@ pub fn link(
     ))
 }
 
-// Two links; the one at `place`, 0 or 1, fails its receive in the turn `turn`.
+// Two links; the link at index `place`, 0 or 1, fails its receive in the turn `turn`.
 fn links(alloc: Global, place: u64, turn: u64) -> Result<Vec<MemLink>, AllocError>
     ensures { IfOk result (λ links. All IsFresh links.items) }
 {
@@ -138,7 +138,7 @@ fn a_failed_receive_ends_its_session_alone(rt: HostRuntime) -> Result<(), Fail> 
     Ok(())
 }
 
-// A publisher's port of a plain track, that of a layered track with a subscriber, and a controller's.
+// Ports of the publisher of a plain track, of that of a layered track with a subscriber, and of a controller.
 const OF_PLAIN: &str =
     "publish 1 plain 11111111 100\nport 127.0.0.1:5000 127.0.0.1:6000 publisher 1 11111111\n";
 
@@ -147,13 +147,13 @@ const OF_LAYERED: &str =
 
 const OF_CONTROL: &str = "port 127.0.0.1:5002 127.0.0.1:6002 control\n";
 
-// RTP packets with the numbers 1000 and 1002 (RFC 3550, section 5.1).
+// RTP packets with the sequence numbers 1000 and 1002 (RFC 3550, section 5.1).
 const TWO: [&[u8]; 2] = [
     b"\x80\x60\x03\xe8\0\0\0\0\x11\x11\x11\x11\xaa\xbb",
     b"\x80\x60\x03\xea\0\0\0\0\x11\x11\x11\x11\xaa\xbb",
 ];
 
-// One generic NACK of 1001 (RFC 4585, section 6.2.1), and one picture loss indication (section 6.3.1).
+// A generic NACK of 1001 (RFC 4585, section 6.2.1), and a picture loss indication (section 6.3.1).
 const NACK: &[u8] = b"\x81\xcd\0\x03\0\0\0\x01\x11\x11\x11\x11\x03\xe9\0\0";
 
 const PLI: &[u8] = b"\x81\xce\0\x02\0\0\0\x01\x11\x11\x11\x11";
@@ -161,7 +161,7 @@ const PLI: &[u8] = b"\x81\xce\0\x02\0\0\0\x01\x11\x11\x11\x11";
 #[test]
 fn each_receive_and_each_send_of_a_session_fails_in_turn(rt: HostRuntime) -> Result<(), Fail> {
     let alloc = rt.alloc();
-    // The configuration, the turns, what comes, what is sent where nothing fails, the replies, and the turn of the one send.
+    // The configuration, the turns, the received datagrams, what is sent if nothing fails, the replies, and the turn of the one send.
     let rows: [(&str, &str, u64, &[&[u8]], &[u8], &str, u64); 3] = [
         (OF_PLAIN, "2", 2, &TWO, NACK, "ok\n", 1),
         (OF_LAYERED, "1", 1, &[], PLI, "ok\nok\n", 0),
@@ -176,7 +176,7 @@ fn each_receive_and_each_send_of_a_session_fails_in_turn(rt: HostRuntime) -> Res
         ),
     ];
     for (configuration, turns, receives, datagrams, sent, replies, sends_in) in rows {
-        // Each receive fails, then the send, and then nothing.
+        // Each receive fails in turn, then the send, and then nothing.
         for place in 0..receives.saturating_add(2) {
             let (failing, turn): (&[u64], u64) = if place == receives {
                 (&[0], sends_in)
@@ -217,7 +217,7 @@ fn each_receive_and_each_send_of_a_session_fails_in_turn(rt: HostRuntime) -> Res
 #[test]
 fn a_publisher_is_asked_by_the_clock_that_is_handed_in(rt: HostRuntime) -> Result<(), Fail> {
     let alloc = rt.alloc();
-    // 1001 is missing from turn 1 on, at 12 milliseconds, and is waited for until 112. The room is asked for missing numbers at least 20 milliseconds
+    // 1001 is missing from turn 1 on, at 12 milliseconds, until 112. The session requests the room's missing numbers at least 20 milliseconds
     // apart: in the turns 0, 3 and 6, at 5, 26 and 47.
     let rows: [(&str, usize); 4] = [("3", 0), ("4", 1), ("6", 1), ("7", 2)];
     for (turns, nacks) in rows {

@@ -6,7 +6,7 @@ use std::sync::Wait;
 use std::test::Fail;
 use std::thread::Threads;
 
-/// The status and what was written for a script.
+/// Runs a script of actors; returns the status and the output.
 pub fn played<W: Threads + Wait + Sync>(
     rt: &W,
     alloc: Global,

@@ -5,7 +5,7 @@ use sfu_base::{Failed, MemSink, MemSource, Source};
 use std::alloc::{AllocError, Global};
 use std::test::Fail;
 
-// By the rules of the stream: 500 units, of which 10 are key units.
+// Worked out from the rules of the stream: 500 units, 10 of them key units.
 const THOUSAND: &str = "made 1000 frames 1520 packets\nlost 0 repeated 0 swapped 0\n\
     subscriber 1 frames 1000 packets 1520 complaints 0\nsubscriber 2 frames 500 packets 770 complaints 0\n\
     subscriber 3 frames 250 packets 270 complaints 0\n";
@@ -15,7 +15,7 @@ pub const ONE_UNIT: &str = "made 2 frames 5 packets\nlost 0 repeated 0 swapped 0
     subscriber 1 frames 2 packets 5 complaints 0\nsubscriber 2 frames 2 packets 5 complaints 0\n\
     subscriber 3 frames 1 packets 3 complaints 0\n";
 
-// Worked out by `tests/models/trial_model.py`, which shares nothing with the program: here the last unit has no upper frame.
+// Computed by `tests/models/trial_model.py`, which shares no code with the program: the last unit has no upper frame.
 const SOME_LOST: &str = "made 401 frames 611 packets\nlost 23 repeated 11 swapped 26\n\
     subscriber 1 frames 280 packets 390 complaints 0\nsubscriber 2 frames 148 packets 212 complaints 0\n\
     subscriber 3 frames 94 packets 104 complaints 0\n";
@@ -24,7 +24,7 @@ const MANY_LOST: &str = "made 203 frames 310 packets\nlost 52 repeated 51 swappe
     subscriber 1 frames 12 packets 21 complaints 0\nsubscriber 2 frames 9 packets 17 complaints 0\n\
     subscriber 3 frames 5 packets 9 complaints 0\n";
 
-/// The words, at a source whose first read fails.
+/// The words, and a source whose first read fails.
 pub fn at_words(alloc: Global, texts: &[&str]) -> Result<(Vec<String>, MemSource), AllocError> {
     let mut words = Vec::new(alloc);
     for text in texts {
@@ -50,7 +50,7 @@ fn a_trial_writes_its_summary_and_reads_nothing(rt: HostRuntime) -> Result<(), F
             0
         );
         assert_eq!(rt; sink.written(), text.as_bytes(), "{frames} {start} {loss}");
-        // The first read is still to come, and fails.
+        // The failing first read is still to come.
         assert_eq!(rt; source.read(&mut [0u8; 8]), Err(Failed));
     }
     Ok(())
@@ -85,7 +85,7 @@ fn words_out_of_range_are_no_trial(rt: HostRuntime) -> Result<(), Fail> {
         );
         assert_eq!(rt; sink.written(), USAGE.as_bytes(), "{texts:?}");
     }
-    // The greatest numbers: of one frame three packets are made.
+    // The greatest seed and loss: one frame has three packets.
     let (words, mut source) = at_words(alloc, &["trial", "1", "18446744073709551615", "50"])?;
     let mut sink = MemSink::new(alloc, Vec::new(alloc));
     assert_eq!(rt;

@@ -5,7 +5,7 @@ use crate::alone::sfu_alone;
 use sfu_base::{Failed, MemSink, Source};
 use std::test::Fail;
 
-// By the rules of the stream: 500 units, of which 10 are key units.
+// Worked out from the rules of the stream: 500 units, 10 of them key units.
 const THOUSAND: &str = "made 1000 frames 1520 packets\nlost 0 repeated 0 swapped 0\n\
     subscriber 1 frames 1000 packets 1520 complaints 0\nsubscriber 2 frames 250 packets 270 complaints 0\n\
     subscriber 3 frames 1000 packets 1520 complaints 0\n";
@@ -26,7 +26,7 @@ fn a_cascade_writes_its_summary_and_reads_nothing(rt: HostRuntime) -> Result<(),
             0
         );
         assert_eq!(rt; sink.written(), text.as_bytes(), "{frames} {start} {loss}");
-        // The first read is still to come, and fails.
+        // The failing first read is still to come.
         assert_eq!(rt; source.read(&mut [0u8; 8]), Err(Failed));
     }
     Ok(())
