@@ -13,7 +13,7 @@ use Rattle.av1_payload.proofs.Groups.{none_left, ends_at, goes_on, some_groups, 
 abbrev pub groups_before : ℕ → List ℕ → List ℕ
 groups_before place bytes = map (λ (byte : ℕ). byte % 128) (take place bytes)
 
--- none of the bytes before the place is the last of the length, and their groups have this number
+-- none of the bytes before the place is the last byte of the length, and their groups encode this number
 pub record IsBegun (bytes : List ℕ) (place value scale : ℕ) : Type 0 where
   pub goes : groups_at bytes ≡ option_map (λ groups. groups_before place bytes ++ groups) (groups_at (drop place bytes))
   pub number : number_of (groups_before place bytes) ≡ value
@@ -37,7 +37,7 @@ begun bytes = record { goes = nothing (groups_at bytes); number = refl; scaled =
     nothing None = refl
     nothing (Some x) = refl
 
--- one group more
+-- one more group
 groups_before-suc : (place : ℕ) (bytes : List ℕ) → place < length bytes
     → groups_before (place + 1) bytes ≡ groups_before place bytes ++ (get_or bytes place 0 % 128) ∷ []
 groups_before-suc place bytes within =
@@ -64,7 +64,7 @@ term_below value scale group below small =
 behind_place : (bytes : List ℕ) (place : ℕ) → place < length bytes → drop place bytes ≡ get_or bytes place 0 ∷ drop (place + 1) bytes
 behind_place bytes place within = drop-cons bytes place 0 within ∙ ap (λ (n : ℕ). get_or bytes place 0 ∷ drop n bytes) (sym (add-one place))
 
--- what is read at a place is behind the groups before it
+-- the group that is read at a place follows the groups before it
 moved : (o : Option (List ℕ)) (front : List ℕ) (group : ℕ)
     → option_map (λ groups. front ++ groups) (option_map (λ groups. group ∷ groups) o) ≡ option_map (λ groups. (front ++ group ∷ []) ++ groups) o
 moved None front group = refl
@@ -89,7 +89,7 @@ more bytes place value scale is within high =
       within = omega arith;
     }
 
--- the numbers fit 64 bits, also one place further than a length goes
+-- the numbers fit 64 bits, also one place after the last possible byte of a length
 pub scale_fits : (bytes : List ℕ) (place value scale : ℕ) → IsBegun bytes place value scale → place ≤ 8 → scale ≤ 128 ^ 8
 scale_fits bytes place value scale is few =
     let most : 128 ^ place ≤ 128 ^ 8 = pow-le-pow_right {n = 128} (omega arith) {i = place} {j = 8} few in omega (arith, most, is.scaled)

@@ -1,4 +1,4 @@
--- Bytes have a fault exactly when they are put together as it says.
+-- Bytes have a fault exactly when they have the layout that the fault's definition describes.
 use Rattle.std.proofs.Common.{◌≡◌, ◌<◌, ℕ, zero, suc, ◌⊎◌, inl, inr, List, [], ◌∷◌, ◌++◌, length, Option, Some, None, Err, refl, ap, ◌∙◌, subst, length-append, arith}
 use Rattle.sfu_base.specs.Bytes.{AreBytes}
 use Rattle.av1_payload.specs.declared.fault.PayloadFault.{PayloadFault}
@@ -23,7 +23,7 @@ as_fault Length bytes rest due wrong = (rest, due, wrong)
 as_fault Empty bytes rest due wrong = absurd wrong
 as_fault NoElement bytes rest due wrong = absurd wrong
 
--- what is wrong where the elements stop
+-- the fault at the place where the elements stop
 wrong_here : (fault stop : PayloadFault) (header : ℕ) (bytes rest : List ℕ) (sized : List SizedElement) → AreBytes bytes → AreSized sized
     → bytes ≡ all_bytes sized ++ rest → IsDue (count_in header) (length sized) rest → sized_at rest ≡ Err stop → stop ≡ fault
     → HasFault fault (header ∷ bytes)
@@ -103,7 +103,7 @@ fault_found fault (header ∷ rest) are read = by_count (count_in header) refl r
     by_count zero count (byte ∷ behind) fit read = each_fault fault header (byte ∷ behind) fit count (omega arith) read
     by_count (suc n) count bytes fit read = counted_fault fault header n bytes fit count read
 
--- ---- a fault that is put together
+-- ---- bytes composed with a fault
 
 due_at_last : (header : ℕ) (sized : List SizedElement) (rest : List ℕ) (fault : PayloadFault) → AreSized sized → sized_at rest ≡ Err fault
     → (n : ℕ) → count_in header ≡ n → IsDue n (length sized) rest → first_fault (header ∷ (all_bytes sized ++ rest)) ≡ Some fault

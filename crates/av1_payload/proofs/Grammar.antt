@@ -1,4 +1,4 @@
--- A payload without a fault is in the grammar, and what is in the grammar is read.
+-- A payload without a fault is in the grammar, and a payload that is in the grammar is read.
 use Rattle.std.proofs.Common.{◌≡◌, ◌<◌, ℕ, zero, suc, ◌+◌, ◌-◌, ◌%◌, inl, inr, List, [], ◌∷◌, ◌++◌, length, Option, Some, None, Result, refl, sym, ap, ◌∙◌, append-nil, arith}
 use Rattle.sfu_base.specs.Bytes.{AreBytes}
 use Rattle.av1_payload.specs.declared.fault.PayloadFault.{PayloadFault}
@@ -10,7 +10,7 @@ use Rattle.av1_payload.proofs.Steps.{none_found, each_step, last_found, counted_
 use Rattle.av1_payload.proofs.Parts.{IsStopped, EachApart, each_apart, IsStoppedBefore, CountedApart, counted_apart}
 use Rattle.av1_payload.proofs.Headers.{header_again, count_read, flags_read, found_each, found_no_element, found_counted}
 
--- ---- what is in the grammar is read
+-- ---- a payload that is in the grammar is read
 
 abbrev whole : List (List ℕ) → Found
 whole elements = record { elements = elements; fault = None }
@@ -63,7 +63,7 @@ one_reading bytes flags more_flags elements more is also = (
   sym (payload_elements bytes flags elements is) ∙ payload_elements bytes more_flags more also,
 )
 
--- ---- what has no fault is in the grammar
+-- ---- a payload without a fault is in the grammar
 
 put_together : (header : ℕ) (rest : List ℕ) (laid : Laid) → header < 256 → LaidFits laid → count_in header ≡ count_said laid → rest ≡ laid_bytes laid
     → found_of (header ∷ rest) ≡ record { elements = elements_laid laid; fault = None }
@@ -80,7 +80,7 @@ put_together header rest laid small fits count put found = record {
   said = ap (λ (x : Found). x.elements) found;
 }
 
--- the fault where the elements stop, or none
+-- the fault at the place where the elements stop, or none
 pub each_found : (bytes : List ℕ) (apart : EachApart bytes) → sized_from 0 bytes ≡ with_all (elements_in apart.sized) (sized_from 0 apart.rest)
 each_found bytes apart = ap (sized_from 0) apart.put ∙ each_read apart.sized apart.rest apart.fit
 

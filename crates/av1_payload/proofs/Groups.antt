@@ -1,4 +1,4 @@
--- What is spelled as a length is read as it, and what is read was spelled so.
+-- An encoded length is read as that length, and a length that was read had this encoding.
 use Rattle.std.proofs.Common.{◌≡◌, ◌<◌, ◌≤◌, ℕ, suc, ◌+◌, ◌%◌, ◌^◌, Bool, true, false, List, [], ◌∷◌, ◌++◌, length, drop, Option, Some, None, nat_lt, refl, sym, ap, subst, ◌∙◌, arith}
 use Rattle.std.specs.Option.{option_map, option_and_then}
 use Rattle.std.proofs.lemmas.Bool.{lt-ltb, le-ltb, ltb-true, ltb-false}
@@ -22,7 +22,7 @@ pub goes_on : (byte : ℕ) (rest : List ℕ) → 128 ≤ byte → groups_at (byt
 unfolding groups_at
 goes_on byte rest more = rw (le-ltb byte 128 more) refl
 
--- there is a group at least
+-- there is at least one group
 pub some_groups : (bytes groups : List ℕ) → groups_at bytes ≡ Some groups → 0 < length groups
 some_groups [] groups read = let none = none_left in absurd (cc)
 some_groups (byte ∷ rest) groups read = by_test (nat_lt byte 128) refl (groups_at rest) refl
@@ -39,7 +39,7 @@ some_groups (byte ∷ rest) groups read = by_test (nat_lt byte 128) refl (groups
     by_test true last others at = among [] byte (sym (ends_at byte rest (ltb-true byte 128 last)) ∙ read)
     by_test false last others at = behind others at (ltb-false byte 128 last)
 
--- groups that are spelled are read
+-- groups that are encoded are read
 groups_read : (groups rest : List ℕ) → 0 < length groups → AreGroups groups → groups_at (leb_bytes groups ++ rest) ≡ Some groups
 groups_read [] rest some small = absurd (omega arith)
 groups_read (g ∷ []) rest some small = ends_at g rest small.0
@@ -58,7 +58,7 @@ leb_bytes-cons : (group : ℕ) (groups : List ℕ) → 0 < length groups → leb
 leb_bytes-cons group [] some = absurd (omega arith)
 leb_bytes-cons group (g ∷ gs) some = refl
 
--- groups that are read were spelled
+-- groups that are read were encoded
 record IsSpelled (groups bytes : List ℕ) : Type 0 where
   some : 0 < length groups
   small : AreGroups groups
@@ -116,7 +116,7 @@ length_too_long bytes groups many = rw (lt-ltb 8 (length groups) many) refl
 pub length_too_great : (bytes groups : List ℕ) → length groups ≤ 8 → 2 ^ 32 ≤ number_of groups → length_of bytes groups ≡ None
 length_too_great bytes groups few great = rw (le-ltb 8 (length groups) few, le-ltb (number_of groups) (2 ^ 32) great) refl
 
--- a length that is spelled is read
+-- a length that is encoded is read
 pub length_read : (groups rest : List ℕ) (n : ℕ) → IsLength groups n → length_at (leb_bytes groups ++ rest) ≡ Some (n, rest)
 length_read groups rest n is =
     let bytes = leb_bytes groups ++ rest in
@@ -128,7 +128,7 @@ length_read groups rest n is =
 same_length : (o : Option (ℕ × List ℕ)) (x y : ℕ × List ℕ) → o ≡ Some x → o ≡ Some y → x ≡ y
 same_length o x y at_x at_y = cc
 
--- a length that is read is that of the groups that are there
+-- a length that is read is the one that the groups encode
 record IsRead (bytes rest : List ℕ) (n : ℕ) : Type 0 where
   groups : List ℕ
   there : groups_at bytes ≡ Some groups
@@ -168,12 +168,12 @@ length_parts bytes rest n read = by_groups (groups_at bytes) refl
         by_tests (nat_lt 8 (length groups)) (nat_lt (number_of groups) (2 ^ 32)) groups refl refl at
         (sym (length_at_groups bytes (Some groups) at) ∙ read)
 
--- it takes a byte at least
+-- it takes at least one byte
 pub length_takes : (bytes rest : List ℕ) (n : ℕ) → length_at bytes ≡ Some (n, rest) → (m : ℕ) × (0 < m) × (drop m bytes ≡ rest)
 length_takes bytes rest n read =
     let is = length_parts bytes rest n read in (length is.groups, some_groups bytes is.groups is.there, is.behind)
 
--- and was spelled
+-- and was encoded
 pub record IsLengthAt (bytes rest : List ℕ) (n : ℕ) : Type 0 where
   pub groups : List ℕ
   pub is : IsLength groups n
@@ -189,7 +189,7 @@ length_found bytes rest n are read =
       put = is.put ∙ ap (λ (x : List ℕ). leb_bytes found.groups ++ x) found.behind;
     }
 
--- where none is read none is spelled, and the other way round
+-- no length is read exactly if none is encoded
 pub no_length_spelled : (bytes : List ℕ) → length_at bytes ≡ None → IsNoLength bytes
 no_length_spelled bytes none groups behind n is put =
     let e : length_at bytes ≡ Some (n, behind) = ap length_at put ∙ length_read groups behind n is in absurd (clash (length_at bytes) (n, behind) none e)

@@ -5,7 +5,7 @@ use Rattle.sfu_base.specs.Bytes.{bit}
 use Rattle.av1_payload.specs.Payloads.{Flags, header_byte}
 use Rattle.av1_payload.specs.Reading.{only_fault, sized_from, counted_from, count_in, found_behind, found_of, flags_of}
 
--- a bit that is read and put again
+-- a bit that is read and written back
 bit_again : (n : ℕ) → n < 2 → bit (n == 1) ≡ n
 bit_again zero below = refl
 bit_again (suc zero) below = refl
@@ -15,12 +15,12 @@ bit_below : (b : Bool) → bit b < 2
 bit_below true = omega arith
 bit_below false = omega arith
 
--- a bit that is put and read again
+-- a bit that is written and read back
 bit_read : (b : Bool) (n : ℕ) → n ≡ bit b → (n == 1) ≡ b
 bit_read true n at = ap (λ (x : ℕ). x == 1) at
 bit_read false n at = ap (λ (x : ℕ). x == 1) at
 
--- a header is put together of what is read from it
+-- a header is composed of the fields that are read from it
 pub header_again : (header : ℕ) (rest : List ℕ) → header < 256 → header ≡ header_byte (flags_of (header ∷ rest)) (count_in header) (header % 8)
 header_again header rest small =
     let z = bit_again (header / 128) (omega arith) in
@@ -28,7 +28,7 @@ header_again header rest small =
     let n = bit_again (header / 8 % 2) (omega arith) in
     omega (arith, z, y, n)
 
--- and what it is put together of is read
+-- and the fields of which it is composed are read
 pub count_read : (flags : Flags) (count reserved : ℕ) → count < 4 → reserved < 8 → count_in (header_byte flags count reserved) ≡ count
 count_read flags count reserved few ignored =
     omega (arith, bit_below flags.continues, bit_below flags.carries, bit_below flags.new_sequence)
@@ -48,7 +48,7 @@ flags_read flags count reserved rest few ignored =
     let n = bit_below flags.new_sequence in
     flags_of_bits flags (header_byte flags count reserved) rest (omega (arith, z, y, n)) (omega (arith, z, y, n)) (omega (arith, z, y, n))
 
--- ---- what is found behind it
+-- ---- what is found after it
 
 pub found_each : (header : ℕ) (rest : List ℕ) → count_in header ≡ 0 → 0 < length rest → found_of (header ∷ rest) ≡ sized_from 0 rest
 found_each header [] none some = absurd (omega arith)

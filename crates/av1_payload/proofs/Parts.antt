@@ -1,4 +1,4 @@
--- Bytes taken apart: whole elements with their lengths, and what stops them.
+-- Parsed bytes: whole elements with their lengths, and what follows them.
 use Rattle.std.proofs.Common.{◌≡◌, ◌<◌, ◌≤◌, ℕ, zero, suc, ◌⊎◌, inl, inr, List, [], ◌∷◌, ◌++◌, length, Result, Ok, Err, refl, sym, ap, subst, ◌∙◌, append_assoc, length-append, arith}
 use Rattle.sfu_base.specs.Bytes.{AreBytes}
 use Rattle.av1_payload.specs.declared.fault.PayloadFault.{PayloadFault}
@@ -20,7 +20,7 @@ shorter : (bytes element behind : List ℕ) → IsSizedAt bytes element behind �
 shorter bytes element behind is =
     omega (arith, ap (λ (x : List ℕ). length x) is.put, length-append (sized_bytes is.sized) behind, length-append (sized_bytes is.sized) [], some_byte is.sized [] is.is)
 
--- one more in front
+-- one more element before them
 first_of : (bytes element behind rest : List ℕ) (sized : List SizedElement) → (is : IsSizedAt bytes element behind) → behind ≡ all_bytes sized ++ rest
     → bytes ≡ all_bytes (is.sized ∷ sized) ++ rest
 first_of bytes element behind rest sized is put =
@@ -67,7 +67,7 @@ each_apart (suc n) (byte ∷ tail) few are = by_first (sized_at (byte ∷ tail))
           stop = others.stop;
         }
 
--- ---- so many with their lengths, and the last
+-- ---- this many elements with their lengths, and the last
 
 pub record IsStoppedBefore (n count : ℕ) (rest : List ℕ) : Type 0 where
   pub fault : PayloadFault

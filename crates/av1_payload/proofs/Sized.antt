@@ -1,4 +1,4 @@
--- One element with its length before it: what is put together so is read, and what is read was put together so.
+-- One element with its length before it: an element that is composed so is read, and an element that was read was composed so.
 use Rattle.std.proofs.Common.{◌≡◌, ◌<◌, ◌≤◌, ℕ, zero, suc, ◌+◌, Bool, true, false, List, ◌∷◌, ◌++◌, length, take, drop, Option, Some, None, Result, Ok, Err, nat_lt, refl, sym, ap, subst, ◌∙◌, append_assoc, length-append, arith}
 use Rattle.std.proofs.lemmas.Bool.{lt-ltb, le-ltb, ltb-true, ltb-false}
 use Rattle.std.proofs.lemmas.List.{take_at, drop_at, take-append-drop, length-take-le, drop-drop}
@@ -11,7 +11,7 @@ use Rattle.av1_payload.specs.Faults.{IsNoLength, IsTooLong}
 use Rattle.av1_payload.specs.Reading.{length_at, front_element, sized_at}
 use Rattle.av1_payload.proofs.Groups.{length-leb_bytes, length_read, length_takes, length_found, no_length_spelled, no_length_read}
 
--- one bytes, one answer
+-- the same bytes have one result
 
 never_both : (r : Result (List ℕ × List ℕ) PayloadFault) (fault : PayloadFault) (x : List ℕ × List ℕ) → r ≡ Err fault → r ≡ Ok x → ⊥
 never_both r fault x is_err is_ok = cc
@@ -30,7 +30,7 @@ cut_whole n rest long = rw (le-ltb (length rest) n long) refl
 cut_short : (n : ℕ) (rest : List ℕ) → length rest < n → front_element (Some (n, rest)) ≡ Err Length
 cut_short n rest short = rw (lt-ltb (length rest) n short) refl
 
--- an element with its length has a byte at least
+-- an element with its length has at least one byte
 pub some_byte : (s : SizedElement) (rest : List ℕ) → IsLength s.groups (length s.element) → 0 < length (sized_bytes s ++ rest)
 some_byte s rest is =
     omega (arith, length-append (sized_bytes s) rest, length-append (leb_bytes s.groups) s.element, length-leb_bytes s.groups, is.some)
@@ -45,7 +45,7 @@ sized_read s rest is =
     ∙ ap (λ (x : List ℕ). Ok (x, drop n behind)) (take_at s.element rest n refl)
     ∙ ap (λ (x : List ℕ). Ok (s.element, x)) (drop_at s.element rest n refl)
 
--- the length and the bytes behind it, of which an element that is read is the front
+-- the length and the bytes after it; an element that is read is a prefix of those bytes
 record IsCut (bytes element behind : List ℕ) : Type 0 where
   n : ℕ
   rest : List ℕ
@@ -76,7 +76,7 @@ cut_found bytes element behind read = by_length (length_at bytes) refl
     by_length None at = absurd (never_both (sized_at bytes) Leb (element, behind) (ap front_element at) read)
     by_length (Some (n, rest)) at = by_test n rest (nat_lt (length rest) n) at refl
 
--- it takes a byte at least
+-- it takes at least one byte
 pub sized_takes : (byte : ℕ) (rest element behind : List ℕ) → sized_at (byte ∷ rest) ≡ Ok (element, behind) → (m : ℕ) × (drop m rest ≡ behind)
 sized_takes byte rest element behind read =
     let found = cut_found (byte ∷ rest) element behind read in
@@ -111,7 +111,7 @@ sized_found bytes element behind are read =
           ∙ sym (append_assoc (leb_bytes at.groups) front behind);
     }
 
--- what is wrong where no element is read
+-- the fault if no element is read
 abbrev pub IsWrong : PayloadFault → List ℕ → Type 0
 IsWrong Leb bytes = IsNoLength bytes
 IsWrong Length bytes = IsTooLong bytes

@@ -22,7 +22,7 @@ skipped zero xs = refl
 skipped (suc k) [] = refl
 skipped (suc k) (x ∷ xs) = skipped k xs
 
--- as many bytes as are in front of the last m are in front of them
+-- the bytes after the first m are also those after the first `length xs - length (drop m xs)`
 left_over : (m : ℕ) (xs : List ℕ) → drop (length xs - length (drop m xs)) xs ≡ drop m xs
 left_over m xs =
     elim (cases_lt (length xs) m) [
@@ -47,7 +47,7 @@ each_step (byte ∷ rest) some = by_first (sized_at (byte ∷ rest)) refl
         ap (λ (x : List ℕ). drop (length rest - length x) rest) (sym taken.1) ∙ left_over taken.0 rest ∙ taken.1 in
         ap (with_element element) (skipped (length rest - length behind) rest ∙ ap (sized_from 0) over)
 
--- ---- so many with their lengths, and the last
+-- ---- this many elements with their lengths, and the last
 
 pub last_found : (bytes : List ℕ) → counted_from 0 bytes ≡ record { elements = bytes ∷ []; fault = None }
 unfolding counted_from
@@ -57,9 +57,9 @@ pub counted_step : (n : ℕ) (bytes : List ℕ) → counted_from (suc n) bytes �
 unfolding counted_from
 counted_step n bytes = refl
 
--- ---- whole elements in front
+-- ---- whole elements at the start
 
--- these elements, and what is found behind them
+-- these elements, and what is found after them
 abbrev pub with_all : List (List ℕ) → Found → Found
 with_all elements others = record { elements = elements ++ others.elements; fault = others.fault }
 

@@ -1,4 +1,4 @@
--- What the code knows of a payload that it took apart.
+-- What the code knows of a payload that it parsed.
 use Rattle.std.proofs.Common.{◌≡◌, ℕ, zero, suc, List, [], ◌∷◌, Option, None, refl, sym, ap, subst, ◌∙◌}
 use Rattle.sfu_base.specs.Bytes.{AreBytes}
 use Rattle.av1_payload.specs.declared.fault.PayloadFault.{PayloadFault}
@@ -9,7 +9,7 @@ use Rattle.av1_payload.specs.Reading.{Found, found_behind, found_of, first_fault
 use Rattle.av1_payload.specs.Seen.{layout_with, found_in, found_in_all}
 use Rattle.av1_payload.proofs.Grammar.{is_payload}
 
--- an aggregation header, how elements are laid behind it, and their bytes
+-- an aggregation header, the layout of the elements after it, and their bytes
 pub record IsTaken (bytes : List ℕ) (header : ℕ) (layout : Layout) (rest : List ℕ) : Type 0 where
   pub put : bytes ≡ header ∷ rest
   pub laid : layout ≡ layout_with (count_in header)
@@ -27,7 +27,7 @@ pub taken_fault : (bytes : List ℕ) (header : ℕ) (layout : Layout) (rest : Li
     → (found_in_all layout rest).fault ≡ fault → first_fault bytes ≡ fault
 taken_fault bytes header layout rest fault is read = ap (λ (x : Found). x.fault) (taken_found bytes header layout rest is) ∙ read
 
--- without a fault there is an element, and the elements are what is left
+-- without a fault there is an element, and the elements are the remaining ones
 elements_behind : (layout : Layout) (rest : List ℕ) → (found_in_all layout rest).fault ≡ None → (found_in layout rest).elements ≡ (found_in_all layout rest).elements
 elements_behind EachSized [] none = cc
 elements_behind EachSized (byte ∷ rest) none = refl

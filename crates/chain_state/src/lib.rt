@@ -1,4 +1,4 @@
-//! Decides, for the chain that protects a decode target, whether the chain's previous frame was forwarded (AV1 RTP payload format, App. A).
+//! Whether the previous frame in the chain that protects a decode target was forwarded (AV1 RTP payload format, Appendix A).
 #![tactic(auto)]
 
 ghost use Rattle.std.specs.Prelude.{◌≡◌, ◌<◌, List, true};

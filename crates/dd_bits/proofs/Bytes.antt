@@ -24,13 +24,13 @@ bits_of_bytes-one : (b : ℕ) → bits_of_bytes (b ∷ []) ≡ bits_of 8 b
 unfolding bits_of_bytes
 bits_of_bytes-one b = append-nil (bits_of 8 b)
 
--- ---- what a reader has left
+-- ---- the remaining bits of a reader
 
 pub length-bits_left : (r : BitReader) → length (bits_left r) ≡ 8 * length r.rest.now - r.used
 unfolding bits_left
 length-bits_left r = omega (arith, length-drop r.used (bits_of_bytes r.rest.now), length-bits_of_bytes r.rest.now)
 
--- the number in bits that one byte has
+-- the number in bits that are all in one byte
 pub value_in_byte : (used count : ℕ) (bytes : List ℕ) → used + count ≤ 8 → 1 ≤ length bytes → value (take count (drop used (bits_of_bytes bytes))) ≡ get_or bytes 0 0 / 2 ^ (8 - used - count) % 2 ^ count
 unfolding bits_of_bytes
 value_in_byte used count [] fits some = absurd (omega arith)
@@ -44,27 +44,27 @@ value_in_byte used count (b ∷ bs) fits some =
     ap value (ap (take count) (drop-append-le used (bits_of 8 b) (bits_of_bytes bs) (omega arith)) ∙ take-append-le count (drop used (bits_of 8 b)) (bits_of_bytes bs) (omega arith))
     ∙ value-take count (drop used (bits_of 8 b)) (omega arith) ∙ rw (len, unread) (rw behind at (field_of b count (8 - used - count)))
 
--- what follows the first byte
+-- the bits after the first byte
 pub drop_byte : (used count : ℕ) (bytes : List ℕ) → used + count ≡ 8 → 1 ≤ length bytes → drop count (drop used (bits_of_bytes bytes)) ≡ bits_of_bytes (drop 1 bytes)
 unfolding bits_of_bytes
 drop_byte used count [] all some = absurd (omega arith)
 drop_byte used count (b ∷ bs) all some =
     drop-drop count used (bits_of 8 b ++ bits_of_bytes bs) ∙ rw all (drop_at (bits_of 8 b) (bits_of_bytes bs) 8 (length-bits_of 8 b))
 
--- ---- what was written
+-- ---- the written bits
 
 pub length-written : (w : BitWriter) → length (written w) ≡ 8 * w.len + w.used
 unfolding written
 length-written w = omega (arith, w.whole, w.within, length-append (bits_of_bytes (take w.len w.bytes)) (bits_of w.used w.pending), length-bits_of_bytes (take w.len w.bytes), length-bits_of w.used w.pending, length-take w.len w.bytes)
 
--- no writer holds more than its room
+-- no writer has more bits than its capacity
 pub written_within : (w : BitWriter) → length (written w) ≤ room
 written_within w = omega (arith, length-written w, w.within)
 
 whole_byte : (used count p x y : ℕ) → x < 2 ^ count → used + count ≡ 8 → y ≡ p * 2 ^ count + x → bits_of 8 y ≡ bits_of used p ++ bits_of count x
 whole_byte used count p x y small eight is = rw is (rw eight at (bits_of-join used count p x small))
 
--- a byte gets full
+-- a byte becomes full
 pub put_whole : (bytes : List ℕ) (len used count p x y : ℕ) → len < length bytes → x < 2 ^ count → used + count ≡ 8 → y ≡ p * 2 ^ count + x
     → bits_of_bytes (take (len + 1) (set bytes len y)) ++ bits_of 0 0 ≡ (bits_of_bytes (take len bytes) ++ bits_of used p) ++ bits_of count x
 unfolding bits_of
@@ -72,13 +72,13 @@ put_whole bytes len used count p x y lt small eight is =
     append-nil _ ∙ ap bits_of_bytes (take_more_set bytes len y lt) ∙ bits_of_bytes-append (take len bytes) (y ∷ [])
     ∙ ap (λ (t : List Bool). bits_of_bytes (take len bytes) ++ t) (bits_of_bytes-one y ∙ whole_byte used count p x y small eight is) ∙ sym (append_assoc (bits_of_bytes (take len bytes)) (bits_of used p) (bits_of count x))
 
--- a byte gets fuller
+-- more bits in a byte that doesn't become full
 pub put_part : (bytes : List ℕ) (len used count p x y : ℕ) → x < 2 ^ count
     → bits_of_bytes (take len (set bytes len y)) ++ bits_of (used + count) (p * 2 ^ count + x) ≡ (bits_of_bytes (take len bytes) ++ bits_of used p) ++ bits_of count x
 put_part bytes len used count p x y small =
     rw (take-set bytes len y, bits_of-join used count p x small) (sym (append_assoc (bits_of_bytes (take len bytes)) (bits_of used p) (bits_of count x)))
 
--- the bits of the bytes that a writer shows
+-- the bits of the bytes that a writer returns
 pub shown_full : (bytes : List ℕ) (len p : ℕ) → bits_of_bytes (take len bytes) ≡ (bits_of_bytes (take len bytes) ++ bits_of 0 p) ++ replicate 0 false
 unfolding bits_of
 shown_full bytes len p = sym (append-nil _ ∙ append-nil _)
@@ -91,7 +91,7 @@ shown_part bytes len used p lt in_byte shown =
     ap bits_of_bytes (take_more bytes len 0 lt) ∙ rw shown (bits_of_bytes-append (take len bytes) (p * 2 ^ (8 - used) ∷ []))
     ∙ ap (λ (t : List Bool). bits_of_bytes (take len bytes) ++ t) (bits_of_bytes-one (p * 2 ^ (8 - used)) ∙ last) ∙ sym (append_assoc (bits_of_bytes (take len bytes)) (bits_of used p) (replicate (8 - used) false))
 
--- the next digits of a number that is put
+-- the next digits of a number that is written
 pub put_more : (missing count v x : ℕ) (old new total : List Bool) → count ≤ missing → x ≡ v / 2 ^ (missing - count) % 2 ^ count → new ≡ old ++ bits_of count x → old ++ bits_of missing v ≡ total → new ++ bits_of (missing - count) v ≡ total
 put_more missing count v x old new total le is e so_far =
     let all : count + (missing - count) ≡ missing = omega arith in

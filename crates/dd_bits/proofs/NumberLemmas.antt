@@ -1,4 +1,4 @@
--- f(n) and ns(n), by the forms that they have.
+-- Lemmas about f(n) and ns(n), by the cases of their encodings.
 use Rattle.std.proofs.Common.{◌≡◌, ℕ, zero, suc, Bool, ◌+◌, ◌-◌, ◌*◌, ◌/◌, ◌%◌, ◌^◌, ◌<◌, ◌≤◌, List, length, take, drop, Some, None, refl, arith, inl, inr}
 use Rattle.std.proofs.lemmas.Nat.{leading_top, one_shl, mul-le, pow-add, shl_below}
 use Rattle.std.proofs.lemmas.Bool.{lt-ltb, le-ltb, cases_lt}
@@ -99,7 +99,7 @@ no_digits v place count small le =
     let none : v / 2 ^ place ≡ 0 = div-eq_of_lt (omega arith) in
     rw none (zero-mod (2 ^ count))
 
--- more digits fit behind a number
+-- more digits fit after a number
 pub digits_fit : (number done count : ℕ) → number < 2 ^ done → done + count ≤ 32 → (number + 1) * 2 ^ count ≤ 2 ^ 32
 digits_fit number done count small few =
     let more : 2 ^ (done + count) ≤ 2 ^ 32 = pow-le-pow_right (omega arith) few in

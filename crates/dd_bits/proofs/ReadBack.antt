@@ -1,4 +1,4 @@
--- What was put is read again, whatever bits follow it, and what is read was spelled so.
+-- A written number is read back, whatever bits follow it, and the bits of a number that was read are its encoding.
 use Rattle.std.proofs.Common.{◌≡◌, ℕ, Bool, Option, Some, None, ltb, refl, sym, ap, ◌∙◌, append_assoc, ◌+◌, ◌-◌, ◌*◌, ◌/◌, ◌%◌, ◌^◌, ◌<◌, ◌≤◌, List, ◌++◌, length, take, drop, arith, inl, inr}
 use Rattle.std.proofs.lemmas.Bool.{cases_lt, cond-true, cond-false, lt-ltb, le-ltb}
 use Rattle.std.proofs.lemmas.List.{take_at, drop_at, take-append-drop, length-append, length-take}
@@ -23,7 +23,7 @@ found_number v w bits rest e = let p : (v, bits) ≡ (w, rest) = cc in ap (λ (p
 found_rest : (v w : ℕ) (bits rest : List Bool) → found v bits ≡ found w rest → bits ≡ rest
 found_rest v w bits rest e = let p : (v, bits) ≡ (w, rest) = cc in ap (λ (p : ℕ × List Bool). p.1) p
 
--- these are the bits of the number, which is below 2 ^ n, and then the rest
+-- the number is below 2 ^ n, and the bits are its n bits and then the rest
 pub record IsFixed (n v : ℕ) (bits rest : List Bool) : Type 0 where
   pub spelled : bits ≡ bits_of n v ++ rest
   pub small : v < 2 ^ n

@@ -1,9 +1,9 @@
--- Reading items one after another, as a loop does: the items so far, before what is still to be read, are all of them.
+-- Reading items one after another, as a loop does: the items so far, followed by those that are still to be read, are all items.
 use Rattle.std.proofs.Common.{◌≡◌, ℕ, zero, suc, length, take, set, map, ◌-◌, ◌+◌, ◌≤◌, ◌<◌, List, [], ◌∷◌, ◌++◌, Option, Some, None, Result, Ok, Err, refl, sym, ap, ◌∙◌, append_assoc, arith}
 use Rattle.std.proofs.lemmas.List.{append-nil, take_more_set, map_push}
 use Rattle.dd_bits.specs.Sequences.{◌>>=◌, repeat_at, until_at}
 
--- what was read before, and what is still read
+-- the items that were read before, and those that are still read
 abbrev pub with_front : {A E S : Type 0} → List A → Result (List A × S) E → Result (List A × S) E
 with_front front read = read >>= λ x. Ok (front ++ x.0, x.1)
 
@@ -15,7 +15,7 @@ regroup : {A E S : Type 0} (front : List A) (n : A) (read : Result (List A × S)
 regroup {A = A} front n (Ok x) = ap (λ (ns : List A). Ok (ns, x.1)) (sym (append_assoc front (n ∷ []) x.0))
 regroup front n (Err f) = refl
 
--- ---- so many items
+-- ---- a given number of items
 
 pub repeat_more : {A E S : Type 0} (item : S → Result (A × S) E) (front : List A) (count i : ℕ) (input : S) (x : A) (after : S) (total : Result (List A × S) E) → i < count → item input ≡ Ok (x, after)
     → with_front front (repeat_at item (count - i) input) ≡ total → with_front (front ++ x ∷ []) (repeat_at item (count - (i + 1)) after) ≡ total
@@ -41,7 +41,7 @@ repeat_done {A = A} item front count i input total le so_far =
     let one : with_front front (repeat_at item (count - i) input) ≡ Ok (front, input) = rw k (ap (λ (ns : List A). Ok (ns, input)) (append-nil front)) in
     sym so_far ∙ one
 
--- the same where the items go into an array
+-- the same if the items go into an array
 pub array_more : {A E S : Type 0} (item : S → Result (A × S) E) (xs : List A) (count i : ℕ) (input : S) (x : A) (after : S) (total : Result (List A × S) E) → i < length xs → i < count → item input ≡ Ok (x, after)
     → with_front (take i xs) (repeat_at item (count - i) input) ≡ total → with_front (take (i + 1) (set xs i x)) (repeat_at item (count - (i + 1)) after) ≡ total
 array_more item xs count i input x after total within lt h so_far = rw (take_more_set xs i x within) (repeat_more item (take i xs) count i input x after total lt h so_far)
@@ -50,7 +50,7 @@ pub array_done : {A E S : Type 0} (item : S → Result (A × S) E) (xs : List A)
     → with_front (take i xs) (repeat_at item (count - i) input) ≡ total → total ≡ Ok (take count xs, input)
 array_done item xs count i input total le ge so_far = let e : count ≡ i = omega arith in repeat_done item (take i xs) count i input total le so_far ∙ rw e refl
 
--- the same where the array's items are seen by a view
+-- the same if the array's items are seen by a view
 pub shown_more : {X A E S : Type 0} (view : X → A) (item : S → Result (A × S) E) (xs : List X) (count i : ℕ) (input : S) (x : X) (after : S) (total : Result (List A × S) E) → i < length xs → i < count → item input ≡ Ok (view x, after)
     → with_front (map view (take i xs)) (repeat_at item (count - i) input) ≡ total → with_front (map view (take (i + 1) (set xs i x))) (repeat_at item (count - (i + 1)) after) ≡ total
 shown_more view item xs count i input x after total within lt h so_far = rw (take_more_set xs i x within, map_push view (take i xs) x) (repeat_more item (map view (take i xs)) count i input (view x) after total lt h so_far)

@@ -1,4 +1,4 @@
--- What is spelled is read again, whatever follows it, and what is read was spelled so: from the items to the whole.
+-- What is encoded is read back, whatever follows it, and what was read had this encoding: from the items to the whole.
 use Rattle.std.proofs.Common.{◌≡◌, ℕ, zero, suc, ◌≤◌, Bool, true, false, cond, List, [], ◌∷◌, ◌++◌, length, Option, Some, None, Result, Ok, Err, refl, sym, ap, subst, ◌∙◌, append_assoc, ◌⊎◌, inl, inr, arith}
 use Rattle.std.specs.List.{flat_map, AllByRecursion}
 use Rattle.dd_bits.specs.Sequences.{◌>>=◌, or_fault, repeat_at, until_at, going_on, until_spelled, EachAfter}
@@ -9,7 +9,7 @@ pub bind_ok : {A B E : Type 0} (r : Result A E) (f : A → Result B E) (y : B) �
 bind_ok (Ok x) f y e = (x, refl, e)
 bind_ok (Err d) f y e = absurd cc
 
--- the same for what follows, which is cheaper where many steps follow each other
+-- the same for the parts that follow, which is cheaper if many steps follow each other
 pub bind_then : {A B E Q : Type 0} (r : Result A E) (f : A → Result B E) (y : B) → (r >>= f) ≡ Ok y → ((x : A) → r ≡ Ok x → f x ≡ Ok y → Q) → Q
 bind_then (Ok x) f y e go = go x refl e
 bind_then (Err d) f y e go = absurd cc
@@ -38,7 +38,7 @@ pub or_fault_ok : {A E : Type 0} (e : E) (o : Option A) (x : A) → or_fault e o
 or_fault_ok e None x h = absurd cc
 or_fault_ok {E = E} e (Some y) x h = ap given (ok_is {E = E} y x h)
 
--- ---- what is spelled is read again
+-- ---- what is encoded is read back
 
 pub repeat_again : {A E T : Type 0} (P : A → Type 0) (item : List T → Result (A × List T) E) (spell : A → List T) → ((x : A) (rest : List T) → P x → item (spell x ++ rest) ≡ Ok (x, rest))
     → (xs : List A) (rest : List T) → AllByRecursion P xs → repeat_at item (length xs) (flat_map spell xs ++ rest) ≡ Ok (xs, rest)
@@ -63,9 +63,9 @@ until_again R next full step mark each ends (suc room) before (x ∷ xs) rest fe
     ap (until_at next full (suc room) before) (append_assoc (step before x) (until_spelled step mark x xs) rest)
     ∙ rw (each before x (until_spelled step mark x xs ++ rest) steps.0, until_again R next full step mark each ends room x xs rest (omega arith) steps.1) refl
 
--- ---- what is read was spelled so
+-- ---- what was read had this encoding
 
--- x is as P says, and these were its bits, or bytes, and then the rest
+-- P holds of x, and the input was the bits or bytes of x and then the rest
 abbrev pub Takes : {A T : Type 0} → (A → Type 0) → (A → List T) → List T → A × List T → Type 0
 Takes P spell input x = P x.0 × (input ≡ spell x.0 ++ x.1)
 

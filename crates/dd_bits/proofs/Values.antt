@@ -1,4 +1,4 @@
--- Bits and the numbers that they spell.
+-- Bits and the numbers that they encode.
 use Rattle.std.proofs.Common.{◌≡◌, ℕ, zero, suc, ◌+◌, ◌-◌, ◌*◌, ◌/◌, ◌%◌, ◌^◌, ◌<◌, ◌≤◌, Bool, true, false, eqb, replicate, List, [], ◌∷◌, ◌++◌, length, take, drop, refl, sym, ap, ◌∙◌, arith}
 use Rattle.std.proofs.lemmas.List.{length-append, length-take, length-drop, take-append-drop, take-take, drop-take, drop-drop}
 use Rattle.std.proofs.lemmas.Nat.{pow-add, mod-pow-add, shr_high, mod_low, pow_pos}
@@ -24,7 +24,7 @@ value-append (x ∷ xs) ys =
     let e : 2 ^ length (xs ++ ys) ≡ 2 ^ length xs * 2 ^ length ys = rw length-append (pow-add 2 (length xs) (length ys)) in
     rw (e, value-append xs ys) (omega arith)
 
--- the digits of the number that bits spell, with any number before them
+-- the digits of the number that bits encode, with any number before them
 bits_of-above : (bits : List Bool) (above : ℕ) → bits_of (length bits) (above * 2 ^ length bits + value bits) ≡ bits
 unfolding bits_of
 bits_of-above [] above = refl
@@ -51,7 +51,7 @@ value-bits_of (suc n) v =
     let one : suc n ≡ 1 + n = omega arith in
     rw (length-bits_of n v, value-bits_of n v, bit-eqb (v / 2 ^ n % 2) (omega arith), one) (sym (mod-pow-add v 1 n))
 
--- bits_of reads the lowest digits alone
+-- `bits_of` reads only the lowest digits
 pub bits_of-mod : (n v : ℕ) → bits_of n (v % 2 ^ n) ≡ bits_of n v
 bits_of-mod n v = rw (length-bits_of n v, value-bits_of n v) at (bits_of-value (bits_of n v))
 
@@ -71,7 +71,7 @@ unfolding bits_of
 bits_of-zero zero = refl
 bits_of-zero (suc n) = let h : 0 / 2 ^ n ≡ 0 = zero-div (2 ^ n) in rw (h, bits_of-zero n) refl
 
--- zeros behind a number
+-- zeros after a number
 pub bits_of-shifted : (n k p : ℕ) → bits_of (n + k) (p * 2 ^ k) ≡ bits_of n p ++ replicate k false
 bits_of-shifted n k p =
     let e : p * 2 ^ k ≡ p * 2 ^ k + 0 = omega arith in

@@ -1,4 +1,4 @@
--- Writing items one after another, as a loop does: what was written, and the spelling of what is left, is what is to stand.
+-- Writing items one after another, as a loop does: the written bits, and then the encoding of the remaining items, are the result.
 use Rattle.std.proofs.Common.{◌≡◌, ℕ, ◌+◌, ◌-◌, ◌<◌, ◌≤◌, Bool, List, ◌++◌, length, get_or, take, drop, Result, Ok, Err, sym, ap, ◌∙◌, append_assoc, arith}
 use Rattle.std.specs.List.{flat_map}
 use Rattle.std.proofs.lemmas.List.{length-append, length-take, at_drop_more, at_drop_all}
@@ -10,7 +10,7 @@ use Rattle.dd_bits.specs.declared.writer.BitWriter.{BitWriter}
 use Rattle.dd_bits.specs.declared.writer.NoRoom.{NoRoom}
 use Rattle.dd_bits.proofs.Values.{bits_of-value}
 
--- where a part doesn't fit, the whole doesn't
+-- if a part doesn't fit, the whole doesn't fit
 pub no_room : (old item more start whole : List Bool) → old ++ (item ++ more) ≡ start ++ whole → room < length old + length item → room < length start + length whole
 no_room old item more start whole e full = omega (arith, ap length e, length-append old (item ++ more), length-append item more, length-append start whole)
 
@@ -40,7 +40,7 @@ until_put item mark before xs i d old new total lt e here =
 pub until_end : {A : Type 0} (item : A → A → List Bool) (mark : List Bool) (before : A) (xs : List A) (i : ℕ) (old total : List Bool) → length xs ≤ i → old ++ until_spelled item mark before (drop i xs) ≡ total → old ++ mark ≡ total
 until_end item mark before xs i old total le e = ap (λ (t : List Bool). old ++ t) (sym (at_drop_all (until_spelled item mark before) xs i le)) ∙ e
 
--- so many bits off the front of others
+-- this many bits from the start of others
 pub front_step : (missing n v : ℕ) (xs ys old mid total : List Bool) → n ≤ missing → missing ≤ length xs → v ≡ value (take n xs) → ys ≡ drop n xs → mid ≡ old ++ bits_of n v → old ++ take missing xs ≡ total → mid ++ take (missing - n) ys ≡ total
 front_step missing n v xs ys old mid total few enough number rest here e =
     let all : n + (missing - n) ≡ missing = omega arith in

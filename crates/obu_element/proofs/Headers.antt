@@ -1,4 +1,4 @@
--- Bytes with no fault begin with a header, and bytes that begin with one have no fault.
+-- Bytes with no fault begin with a header, and bytes that begin with a header have no fault.
 use Rattle.std.proofs.Common.{◌≡◌, ◌<◌, ℕ, ◌+◌, ◌*◌, ◌/◌, ◌%◌, ◌==◌, nat_le, Bool, true, false, cond, List, [], ◌∷◌, ◌++◌, Option, Some, None, IfSome, Result, Ok, Err, IfOk, IfErr, refl, sym, ◌∙◌, ap, subst, arith}
 use Rattle.std.proofs.lemmas.Bool.Decides.{nat_tests}
 use Rattle.sfu_base.specs.Bytes.{AreBytes}

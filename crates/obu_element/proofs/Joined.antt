@@ -1,4 +1,4 @@
--- One packet more at the end of a list of packets.
+-- One more packet at the end of a list of packets.
 use Rattle.std.proofs.Common.{◌≡◌, ◌⊎◌, Bool, true, false, not, List, [], ◌∷◌, ◌++◌, refl, sym, ◌∙◌, ap, inl, inr}
 use Rattle.obu_element.specs.Joins.{Flags, AreJoined, EndsWith, IsAfter, Join}
 
@@ -30,7 +30,7 @@ same_last [] (f ∷ front) p q e = let rest : [] ≡ front ++ q ∷ [] = cc in a
 same_last (x ∷ ps) [] p q e = let rest : ps ++ p ∷ [] ≡ [] = cc in absurd (nothing_last ps p rest)
 same_last (x ∷ ps) (f ∷ front) p q e = same_last ps front p q cc
 
--- two neighbours stand among the former packets, or are the former last one and the new one
+-- two consecutive packets are both among the earlier packets, or are the last earlier packet and the new one
 record AreFormer (ps front more : List Flags) (a b : Flags) : Type 0 where
   rest : List Flags
   same : ps ≡ front ++ a ∷ b ∷ rest

@@ -6,15 +6,15 @@ ghost use Rattle.obu_element.specs.Reading.{first_fault, header_of};
 
 use thiserror::Error;
 
-/// What the header of an OBU says (AV1 Bitstream Specification, sections 5.3.2 and 5.3.3).
+/// The fields of an OBU header (AV1 Bitstream Specification, sections 5.3.2 and 5.3.3).
 #[derive(Clone, Copy, Debug, PartialEq, Eq)]
 pub struct ObuHeader {
     /// obu_type, below 16 (section 6.2.2): 1 is a sequence header, 2 a temporal delimiter, 3 a frame header, 4 a tile group,
     /// 5 metadata, 6 a frame, 7 a redundant frame header, 8 a tile list, 15 padding.
     pub kind: u8,
-    /// temporal_id, below 8, and 0 where there is no extension byte.
+    /// temporal_id, below 8; it is 0 if there is no extension byte.
     pub temporal: u8,
-    /// spatial_id, below 4, and 0 where there is no extension byte.
+    /// spatial_id, below 4; it is 0 if there is no extension byte.
     pub spatial: u8,
     /// Whether the size of the OBU follows the header.
     pub has_size: bool,

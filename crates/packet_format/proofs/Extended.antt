@@ -1,4 +1,4 @@
--- A packet with another header extension has that extension, and is else the same.
+-- A packet with another header extension has that extension, and is otherwise the same.
 use Rattle.std.proofs.Common.{◌≡◌, ◌<◌, ◌≤◌, ℕ, ◌+◌, ◌*◌, ◌/◌, ◌%◌, ◌==◌, Bool, true, false, List, ◌∷◌, ◌++◌, length, take, drop, slice_index, Some, None, refl, sym, ap, ◌∙◌, arith, length-append}
 use Rattle.std.proofs.lemmas.Bool.{le-ltb}
 use Rattle.std.proofs.lemmas.List.{drop-drop, drop_at, take_at, length-take-le}
@@ -30,7 +30,7 @@ same_front extension (a ∷ b ∷ c ∷ d ∷ e ∷ f ∷ g ∷ h ∷ i ∷ j �
     record { first = refl; front = refl; marker = refl; payload_type = refl; sequence = refl; timestamp = refl; ssrc = refl }
 same_front extension bytes long = absurd (omega arith)
 
--- behind the CSRC words stands the new extension
+-- the new extension follows the CSRC list
 new_behind : (extension bytes : List ℕ) → 12 + 4 * csrc_count bytes ≤ length bytes
     → behind_csrcs (with_extension extension bytes) ≡ extension ++ behind_header bytes
 new_behind extension (a ∷ b ∷ c ∷ d ∷ e ∷ f ∷ g ∷ h ∷ i ∷ j ∷ k ∷ l ∷ rest) long =
@@ -53,7 +53,7 @@ length-with_extension extension (a ∷ b ∷ c ∷ d ∷ e ∷ f ∷ g ∷ h ∷
     )
 length-with_extension extension bytes long = absurd (omega arith)
 
--- what is said of a packet with this extension in place of its own
+-- the properties of a packet with this extension in place of its own
 pub record IsExtended (its_profile : ℕ) (its_block bytes new : List ℕ) : Type 0 where
   pub reads : first_fault bytes ≡ None → first_fault new ≡ None
   pub front : take 12 new ≡ take 12 bytes
@@ -114,7 +114,7 @@ extended profile block bytes long x small few whole =
       payload = at_both payload_in (is_padded new) (is_padded bytes) (behind_header new) tail p_new behind;
     }
 
--- another extension under another sequence number, SSRC and marker
+-- another extension, with another sequence number, SSRC and marker
 
 tail_rewritten : (s r : ℕ) (m : Bool) (bytes : List ℕ) → 12 ≤ length bytes → behind_header (rewritten s r m bytes) ≡ behind_header bytes
 unfolding rewritten

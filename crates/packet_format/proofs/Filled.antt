@@ -1,4 +1,4 @@
--- What the code fills in is the remasked packet.
+-- The code writes the remasked packet.
 use Rattle.std.proofs.Common.{◌≡◌, ◌<◌, ◌≤◌, ℕ, ◌+◌, ◌-◌, ◌*◌, Bool, true, false, List, [], ◌++◌, length, take, drop, Option, Some, None, Result, Ok, Err, refl, sym, ap, ap₂, subst, ◌∙◌, arith, append_assoc}
 use Rattle.std.specs.Prelude.{OnErr}
 use Rattle.std.proofs.lemmas.Bool.{le-ltb, lt-ltb, ltb-false}
@@ -64,7 +64,7 @@ value_between force mask descriptor value e =
         let same : whole_bytes (with_mask parts mask) ≡ value = cc in
         subst (λ (xs : List ℕ). 1 ≤ length xs) same (omega (arith, length-whole (with_mask parts mask), some_bits parts mask))
 
--- ---- where the old extension stands
+-- ---- the place of the old extension
 
 block_there : (x : Bool) (rest : List ℕ) → x ≡ true → lacks_extension x rest ≡ false
     → (4 + length (block_in x rest) ≤ length rest) × (behind_extension x rest ≡ drop (4 + length (block_in x rest)) rest)
@@ -121,6 +121,6 @@ extension_too_long id force mask bytes descriptor value block p is_p found is sa
     by : (extension : List ℕ) → (length extension ≤ 2048 → ⊥) → 1536 < length (with_extension extension bytes)
     by extension so = omega (arith, so, length-with_extension extension bytes (header_before id bytes descriptor found))
 
--- a call that says that something would have fitted, where it says too that it didn't
+-- a call whose contract says both that something would have fitted and that it didn't fit
 pub not_fitting : (old : List ℕ) (n : ℕ) → old ≡ [] → (length old + n ≤ 2048 → false ≡ true) → n ≤ 2048 → ⊥
 not_fitting old n none fits few = let e = fits (omega (arith, few, ap length none)) in cc

@@ -1,4 +1,4 @@
--- The format of each id has the facts on which the laws of forwarding rest.
+-- The format of each id has the properties that the laws of forwarding require.
 use Rattle.std.proofs.Common.{◌≡◌, ℕ, ◌<◌, ◌^◌, true, List, Option, Some, None, Result, Ok, Err, refl, sym, subst, ap, ◌∙◌, arith}
 use Rattle.std.specs.Prelude.{IfSome}
 use Rattle.sfu_base.specs.Frame.{IsDistance}
@@ -19,7 +19,7 @@ use Rattle.dd_layout.proofs.Layouts.{at_front, is_layout, same_structure}
 use Rattle.dd_descriptor.proofs.OwnStructure.{own_structure}
 use Rattle.packet_format.specs.Formats.{descriptor_in, element_of, format_of, reading_of}
 
--- a descriptor that reads is what the element's bytes say
+-- a descriptor that can be parsed is the one that the element's bytes encode
 pub record IsRead (id : ℕ) (force : Option TemplateStructure) (rest : List ℕ) (d : Descriptor TemplateStructure) : Type 0 where
   pub bytes : List ℕ
   pub found : element_of id rest ≡ Some bytes

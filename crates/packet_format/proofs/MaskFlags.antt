@@ -1,4 +1,4 @@
--- A descriptor that tells which decode targets there are has a mask; and a new value is a descriptor with another mask.
+-- A descriptor that says which decode targets are active has a mask; and a new value is a descriptor with another mask.
 use Rattle.std.proofs.Common.{◌≡◌, ◌<◌, ◌≤◌, ℕ, suc, ◌+◌, ◌-◌, ◌*◌, ◌/◌, ◌%◌, ◌^◌, Bool, true, false, if◌then◌else◌, eqb, List, [], ◌∷◌, ◌++◌, length, drop, Option, None, Some, Result, Ok, Err, refl, sym, ap, subst, ◌∙◌, inl, inr, ◌⊎◌, arith}
 use Rattle.std.specs.Prelude.{◌||◌, is_some, nat_le, nat_lt, slice_index}
 use Rattle.std.proofs.lemmas.Bool.{cases_Bool, cases_lt, eq-eqb, eqb-false, le-leb, lt-leb, lt-ltb, ne_eqb}
@@ -102,7 +102,7 @@ behind_head bits x e =
     ) in
     sym (ap (drop 24) (head_laid bits x e ∙ same) ∙ drop_at front x.1 24 len)
 
--- what is told is one of the first two flags
+-- a structure or a mask is carried exactly if one of the first two flags is set
 flags_tell : (bytes : List ℕ) (x : Head × List Bool) (f : Flags × List Bool) → AreBytes bytes → head_at (bits_of_bytes bytes) ≡ Ok x → flags_in (length bytes) x.1 ≡ Ok f
     → tells_in (Some bytes) ≡ (f.0.mask || f.0.structure)
 unfolding flags_in bits_of bits_of_bytes

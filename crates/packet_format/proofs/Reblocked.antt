@@ -1,4 +1,4 @@
--- A new block has the old elements but one, whatever numbers stand in the old block: the law of the extension's crate asks for bytes.
+-- A new block has the old elements except one, for any numbers in the old block: the law of `rtp_extension` requires bytes.
 use Rattle.std.proofs.Common.{◌≡◌, ◌≢◌, ◌==◌, ◌<◌, ◌≤◌, ℕ, zero, suc, ◌+◌, ◌-◌, ◌*◌, ◌/◌, ◌%◌, ◌||◌, Bool, true, false, cond, inl, inr, List, [], ◌∷◌, ◌++◌, length, take, drop, nat_lt, Option, Some, None, IsSome, refl, sym, ap, subst, ◌∙◌, arith, append_assoc, append-nil, length-append}
 use Rattle.std.proofs.lemmas.Bool.{ltb-false, eqb-true, eqb-false, eq-eqb, ne_eqb, cases_eq}
 use Rattle.std.proofs.lemmas.List.{take_at, drop_at, length-take-le}
@@ -9,7 +9,7 @@ use Rattle.rtp_extension.specs.Reading.{elements_in, elements_if, elements_of, e
 use Rattle.rtp_extension.specs.Reblocked.{block_if, block_in, block_with, elements_laid, profile_for, replaced, word_padding, zeros}
 use Rattle.rtp_extension.proofs.Steps.{goes_on, none_in, one_more, pads, two_more}
 
--- What is read from a form, and reads back.
+-- Elements that are read in a form are read back from their encoding.
 
 abbrev IsSaid : Form → PlainElement → Type 0
 IsSaid OneByte e = (1 ≤ e.id) × (e.id ≢ 15) × (1 ≤ length e.value) × (length e.value ≤ 16)
@@ -106,7 +106,7 @@ block_read form es are =
     let behind = zeros (word_padding (length (elements_laid form es))) in
     laid_read form es behind are ∙ ap (λ (x : List PlainElement). es ++ x) (zeros_read form (word_padding (length (elements_laid form es)))) ∙ append-nil es
 
--- The new value can be said, and the old values can.
+-- The form can encode the new value and the old values.
 
 replaced_said : (form wide : Form) (id : ℕ) (value : List ℕ) (es : List PlainElement) → ((e : PlainElement) → IsSaid form e → IsSaid wide e)
     → ((e : PlainElement) → IsSaid form e → IsSaid wide (record { id = e.id; value = value })) → AreSaid form es → AreSaid wide es × AreSaid wide (replaced id value es)
@@ -183,7 +183,7 @@ new_elements profile id block value found within =
     let are = widened_said forms.form forms.wide id value es forms.widens (subst (AreSaid forms.form) (sym same) (all_said forms.form block)) in
     ap (λ (x : Option Form). elements_if x (block_if x (replaced id value es))) forms.new ∙ block_read forms.wide (replaced id value es) are
 
--- A profile that names a form has 16 bits.
+-- A profile that selects a form has 16 bits.
 
 named_small : (profile : ℕ) (form : Form) → form_of profile ≡ Some form → profile < 65536
 named_small profile form named =

@@ -1,4 +1,4 @@
--- A remasked packet is the same but for its header extension, and shows the same descriptor but for its mask.
+-- A remasked packet is the same except for its header extension, and has the same descriptor except for the mask.
 use Rattle.std.proofs.Common.{◌≡◌, ◌<◌, ◌≤◌, ℕ, ◌+◌, ◌*◌, ◌^◌, nat_lt, Bool, true, false, cond, inl, inr, List, [], ◌++◌, length, Option, Some, None, IsSome, Result, Ok, Err, refl, sym, ap, ap₂, subst, ◌∙◌, arith, length-append}
 use Rattle.std.specs.Prelude.{◌⊎◌}
 use Rattle.std.proofs.lemmas.Bool.{ltb-false, ltb-true, or_cases}
@@ -105,7 +105,7 @@ extended_of : (x : Bool) (rest : List ℕ) (p : ℕ) → profile_in x rest ≡ S
 extended_of true rest p e = refl
 extended_of false rest p e = absurd cc
 
--- where nothing is behind the CSRC words the profile counts as 0, which names no form
+-- if nothing follows the CSRC list, the profile counts as 0, which selects no form
 none_in_nothing : (id : ℕ) (x : Bool) (rest value : List ℕ) → rest ≡ [] → element_in id (profile_in x rest) (block_in x rest) ≡ Some value → ⊥
 none_in_nothing id false rest value none e = cc
 none_in_nothing id true rest value none e =
@@ -261,7 +261,7 @@ remasked_shows id mask s force rest new d payload carried small e by e_shown =
     ap₂ (shown_by (format_of id) force) (ap payload_in is.packet.payload ∙ old.payload) descriptor
     ∙ ap (λ (b : Bool). cond b (Shows (telling mask d) payload) Unread) old.obeys
 
--- where the frame isn't a key frame its first packet carries its structure or none
+-- if the frame isn't a key frame, its first packet carries its structure or none
 structure_first : (id : ℕ) (s : TemplateStructure) (force : Option TemplateStructure) (key : Bool) (d : Descriptor TemplateStructure) → is_key_start d ≡ key → (key ≡ true → d.structure ≡ Some s)
     → obeys_structure (format_of id) force d ≡ true → (key ≡ true) ⊎ (force ≡ Some s) → read_by force d.structure ≡ Some s
 structure_first id s force key d is owns obeys (inl begins) = ap (read_by force) (owns begins)

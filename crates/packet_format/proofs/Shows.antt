@@ -1,4 +1,4 @@
--- What a packet shows, case by case.
+-- What is read from a packet, case by case.
 use Rattle.std.proofs.Common.{◌≡◌, ℕ, Bool, true, false, cond, ◌||◌, ◌≤◌, take, List, Option, Some, None, Result, Ok, Err, sym, ap, ap₂, ◌∙◌}
 use Rattle.std.specs.Bool.{Decides}
 use Rattle.std.proofs.lemmas.Bool.Decides.{same_from_decides}

@@ -47,12 +47,12 @@ impl Remasker {
         }
     }
 
-    /// Copies the packet into `out`, in place of its contents, with another mask in the dependency descriptor (AV1 RTP payload format,
-    /// Appendix A). Bit i of the mask says whether decode target i is active; bit 0 is the lowest, and bits past the last decode target are
-    /// left out. The descriptor is the value of the first header extension element with this id (RFC 8285). The elements keep their order;
-    /// a new descriptor of more than 16 bytes turns the one-byte form into the two-byte form. Fixed header, CSRC identifiers, payload and
-    /// padding (RFC 3550, section 5.1) are copied bit by bit. Returns `NoFit` if there is no descriptor, if it can't be parsed with the
-    /// structure `force`, if the new descriptor would pass 255 bytes, or if the new packet would pass 1,536 bytes; `out` is then as it was.
+    /// Replaces the contents of `out` with the packet, but with another mask in its dependency descriptor (AV1 RTP payload format, Appendix
+    /// A). Bit i of the mask says whether decode target i is active; bit 0 is the lowest, and bits past the last decode target are left
+    /// out. The descriptor is the value of the first header extension element with this id (RFC 8285). The elements keep their order; a new
+    /// descriptor of more than 16 bytes turns the one-byte form into the two-byte form. Fixed header, CSRC identifiers, payload and padding
+    /// (RFC 3550, section 5.1) are copied bit by bit. Returns `NoFit` if there is no descriptor, if it can't be parsed with the structure
+    /// `force`, if the new descriptor would pass 255 bytes, or if the new packet would pass 1,536 bytes; `out` is then as it was.
     ///
     /// The packet must be an RTP packet.
     pub fn remask(
@@ -115,7 +115,7 @@ fn lemma_are_bytes(bytes: &[u8])
     let _ = bytes;
 }
 
-/// Copies the packet into `out`, in place of its contents, with `extension` in place of the packet's header extension of `old` bytes.
+/// Replaces the contents of `out` with the packet, but with `extension` in place of the packet's header extension of `old` bytes.
 fn fill_packet(
     packet: &[u8],
     old: usize,

@@ -1,4 +1,4 @@
--- Elements appended one by one, and the rest of a header extension round them.
+-- Elements appended one by one, and the parts of a header extension before and after them.
 use Rattle.std.proofs.Common.{◌≡◌, ◌≤◌, ℕ, ◌+◌, ◌-◌, ◌*◌, ◌/◌, ◌%◌, min, List, [], ◌∷◌, ◌++◌, length, take, Option, Some, sym, ap, ◌∙◌, arith, append_assoc, length-append}
 use Rattle.std.specs.Int.{bytes_high_first}
 use Rattle.rtp_extension.specs.declared.form.Form.{Form}
@@ -7,7 +7,7 @@ use Rattle.rtp_extension.specs.Reading.{elements_in, elements_if, elements_of}
 use Rattle.rtp_extension.specs.Reblocked.{block_if, block_in, block_with, elements_laid, extension_with, profile_for, replaced, word_padding, zeros}
 use Rattle.rtp_extension.proofs.Reblocking.{length-block_in, zeros_taken}
 
--- the next element has room where all of them have
+-- the next element fits if all of them fit
 pub room_left : (form : Form) (out all start : List ℕ) (left es : List PlainElement) (e : PlainElement) → out ++ elements_laid form left ≡ start ++ all
     → length start + length all ≤ 2048 → left ≡ e ∷ es → length out + length (element_bytes form e) ≤ 2048
 room_left form out all start left es e written room first =
@@ -21,7 +21,7 @@ block_is profile id block value form wide named widened =
     ap (λ (x : Option Form). block_if x (replaced id value (elements_of profile block))) widened
     ∙ ap (λ (x : Option Form). block_in wide (replaced id value (elements_if x block))) named
 
--- so many words hold so many bytes and their padding
+-- the bytes and their padding fill exactly this many words
 pub words_hold : (n w : ℕ) → w ≡ n / 4 + min 1 (n % 4) → 4 * w ≡ n + word_padding n
 words_hold n w is = omega (arith, is)
 

@@ -11,7 +11,7 @@ use Rattle.rtp_extension.specs.Blocks.{Piece, PaddingByte, AnElement, piece_byte
 use Rattle.rtp_extension.specs.Reading.{elements_in, one_byte_from, two_byte_from, ends_one}
 use Rattle.rtp_extension.proofs.Steps.{one_skips, two_skips, one_ends, one_more, two_ends, two_ends_at_id, two_more, none_in, pads, ends_at_zero, ends_at_reserved, ends_past, goes_on}
 
--- A piece in front of a block.
+-- A piece before a block.
 
 empty_whole : (form : Form) → IsWhole form [] []
 empty_whole form = record { pieces = []; fit = tt; laid = refl; said = refl }
@@ -211,7 +211,7 @@ block_read form block es b =
 pub one_reading : (form : Form) (block : List ℕ) (es fs : List PlainElement) → IsBlock form block es → IsBlock form block fs → es ≡ fs
 one_reading form block es fs is_es is_fs = sym (block_read form block es is_es) ∙ block_read form block fs is_fs
 
--- the same where processing ends with the last byte
+-- the same if processing ends with the last byte
 pub whole_read : (form : Form) (block : List ℕ) (es : List PlainElement) → IsWhole form block es → elements_in form block ≡ es
 whole_read form block es whole =
     block_read form block es (record { front = block; rest = []; laid = sym (append-nil block); whole = whole; ends = tt })

@@ -1,4 +1,4 @@
--- What is elements and padding to its end stays so where more of the same comes behind it.
+-- Bytes that are elements and padding up to their end remain so when more elements and padding are appended.
 use Rattle.std.proofs.Common.{◌≡◌, ℕ, List, [], ◌∷◌, ◌++◌, refl, sym, ap, ◌∙◌, append_assoc, append-nil}
 use Rattle.std.proofs.lemmas.Grind.{flat_map-append}
 use Rattle.std.specs.List.{flat_map}
@@ -39,7 +39,7 @@ element_whole form e fits = record {
 pub padding_whole : (form : Form) → IsWhole form (0 ∷ []) []
 padding_whole form = record { pieces = PaddingByte ∷ []; fit = (tt, tt); laid = refl; said = refl }
 
--- an element behind whatever stood in the buffer
+-- an element after any earlier contents of the buffer
 pub adds : (form : Form) (old new : List ℕ) (e : PlainElement) → Fits form e → new ≡ old ++ element_bytes form e → AddsElement form old new e
 adds form old new e fits at_new = record {
   reads = λ front block es split whole. (

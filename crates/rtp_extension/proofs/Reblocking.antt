@@ -1,4 +1,4 @@
--- The new block has the old elements but for one value, and its own count of words.
+-- The new block has the old elements except for one value, and its own length in words.
 use Rattle.std.proofs.Common.{◌≡◌, ◌≢◌, ◌==◌, ◌≤◌, ℕ, zero, suc, ◌+◌, ◌*◌, ◌/◌, Bool, true, false, cond, inl, inr, List, [], ◌∷◌, ◌++◌, length, take, nat_lt, Option, Some, None, IsSome, refl, sym, ap, subst, ◌∙◌, arith, append-nil, length-append}
 use Rattle.std.proofs.lemmas.Bool.{ltb-false, eq-eqb, ne_eqb, cases_eq}
 use Rattle.sfu_base.specs.Bytes.{AreBytes}
@@ -23,7 +23,7 @@ elements_fit form block bytes =
     let b = each_block form block bytes in
     subst (ElementsFit form) (sym b.whole.said) (among_fit form b.whole.pieces b.whole.fit)
 
--- What is laid reads back.
+-- Concatenated elements are read back.
 
 empty_whole : (form : Form) → IsWhole form [] []
 empty_whole form = record { pieces = []; fit = tt; laid = refl; said = refl }
@@ -100,7 +100,7 @@ new_elements_fit profile form wide id value es named widened within fit =
           subst (λ (x : Form). ElementsFit x (replaced id value es)) alike (two_byte_fits form id value es two within fit)
     ]
 
--- What `find` gives.
+-- What `find` returns.
 
 pub new_value : (id : ℕ) (value : List ℕ) (es : List PlainElement) → IsSome (value_of id es) → value_of id (replaced id value es) ≡ Some value
 new_value id value [] found = cc

@@ -1,4 +1,4 @@
--- What holds of bytes with no fault, and that nothing else is asked of them.
+-- The properties of bytes with no fault, and that these properties suffice.
 use Rattle.std.proofs.Common.{◌≡◌, ◌≤◌, ℕ, ◌+◌, ◌*◌, Bool, true, false, cond, not, List, length, Option, Some, None, refl}
 use Rattle.std.proofs.lemmas.Bool.{ltb-false, eqb-true, eq-eqb, le-ltb}
 use Rattle.sfu_base.specs.declared.call.RtpFault.{RtpFault}
@@ -13,7 +13,7 @@ pub record HasNoFault (bytes : List ℕ) : Type 0 where
   pub extension : lacks_extension (is_extended bytes) (behind_csrcs bytes) ≡ false
   pub padding : has_bad_padding (is_padded bytes) (behind_header bytes) ≡ false
 
--- a chain of tests ends in none only where no test holds
+-- a chain of tests ends in none only if no test holds
 abbrev AllFalse : Bool → Bool → Bool → Bool → Bool → Type 0
 AllFalse a b c d e = (a ≡ false) × (b ≡ false) × (c ≡ false) × (d ≡ false) × (e ≡ false)
 

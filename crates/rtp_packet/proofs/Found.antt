@@ -1,4 +1,4 @@
--- Bytes with no fault are a packet: each piece that a field names, laid behind the one before, gives the bytes again.
+-- Bytes with no fault are a packet: the pieces that the fields determine, concatenated, are the bytes again.
 use Rattle.std.proofs.Common.{◌≡◌, ◌<◌, ◌≤◌, ℕ, ◌+◌, ◌-◌, ◌*◌, ◌/◌, ◌%◌, ◌^◌, ◌==◌, ◌||◌, nat_lt, Bool, true, false, cond, List, [], ◌∷◌, ◌++◌, length, get_or, take, drop, slice_index, Option, Some, None, is_some, IfSome, IfNone, lit<, refl, sym, ap, ◌∙◌, arith, append_assoc, append-nil, length-drop}
 use Rattle.std.proofs.lemmas.Bool.{ltb-false, eqb-false}
 use Rattle.std.proofs.lemmas.Bool.Decides.{nat_tests}
@@ -47,7 +47,7 @@ header_laid (a ∷ b ∷ c ∷ d ∷ e ∷ f ∷ g ∷ h ∷ i ∷ j ∷ k ∷ l
     cc
 header_laid bytes fits long version = absurd (omega arith)
 
--- how many words the extension has, where there is one
+-- how many words the extension has, if there is one
 abbrev words_in : Bool → List ℕ → ℕ
 words_in extended rest = cond extended (block_words rest) 0
 
@@ -91,7 +91,7 @@ behind_bytes : (extended : Bool) (rest : List ℕ) → AreBytes rest → AreByte
 behind_bytes false rest fits = fits
 behind_bytes true rest fits = drop_bytes (4 + 4 * block_words rest) rest fits
 
--- what stands before the count of the padding
+-- the bytes before the padding count
 abbrev filler_in : Bool → List ℕ → Option (List ℕ)
 filler_in padded rest = cond padded (Some (take (last_byte rest - 1) (drop (length rest - last_byte rest) rest))) None
 
@@ -99,7 +99,7 @@ neither : (x y : Bool) → (x || y) ≡ false → (x ≡ false) × (y ≡ false)
 neither false y h = (refl, h)
 neither true y h = cc
 
--- a list that ends in its own length is its front and that length
+-- a list that ends in its own length is the concatenation of a prefix and that length
 ends_in_length : (tail : List ℕ) (c : ℕ) → length tail ≡ c → 0 < c → get_or tail (c - 1) 0 ≡ c
     → tail ≡ take (c - 1) tail ++ (length (take (c - 1) tail) + 1) ∷ []
 ends_in_length tail c len some last =

@@ -1,4 +1,4 @@
--- A write over a packet's timestamp gives the restamped packet, which has the same faults and the same parts but one.
+-- Overwriting a packet's timestamp gives the restamped packet, which has the same faults, and the same parts except one.
 use Rattle.std.proofs.Common.{◌≡◌, ◌<◌, ◌≤◌, ℕ, ◌+◌, ◌*◌, ◌%◌, ◌^◌, List, [], ◌∷◌, ◌++◌, length, take, drop, slice_index, refl, sym, ap, ◌∙◌, arith}
 use Rattle.std.proofs.lemmas.List.{drop-drop}
 use Rattle.byteorder.specs.Endian.{big_bytes}
@@ -14,7 +14,7 @@ pub written_over : (old new field : List ℕ) (timestamp : ℕ) → field ≡ bi
 unfolding restamped
 written_over old new field timestamp ef en = en ∙ ap (λ (x : List ℕ). take 4 old ++ x ++ drop (4 + length x) old) ef
 
--- what follows the CSRC words stays
+-- the bytes after the CSRC list stay
 same_behind : (bytes : List ℕ) (t : ℕ) → 12 ≤ length bytes → behind_csrcs (restamped t bytes) ≡ behind_csrcs bytes
 unfolding restamped
 same_behind (a ∷ b ∷ c ∷ d ∷ e ∷ f ∷ g ∷ h ∷ i ∷ j ∷ k ∷ l ∷ rest) t long =
@@ -32,7 +32,7 @@ unfolding restamped
 same_length (a ∷ b ∷ c ∷ d ∷ e ∷ f ∷ g ∷ h ∷ i ∷ j ∷ k ∷ l ∷ rest) t long = refl
 same_length bytes t long = absurd (omega arith)
 
--- the faults are found in the length, the first byte and what follows the CSRC words
+-- the faults depend on the length, the first byte and the bytes after the CSRC list
 pub same_fault : (bytes : List ℕ) (t : ℕ) → 12 ≤ length bytes → first_fault (restamped t bytes) ≡ first_fault bytes
 unfolding first_fault
 same_fault bytes t long =

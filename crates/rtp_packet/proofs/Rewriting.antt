@@ -1,4 +1,4 @@
--- Two writes over a packet's bytes give the rewritten packet, which has the same faults and the same parts but three.
+-- Overwriting a packet's bytes twice gives the rewritten packet, which has the same faults, and the same parts except three.
 use Rattle.std.proofs.Common.{◌≡◌, ◌<◌, ◌≤◌, ℕ, suc, ◌+◌, ◌*◌, ◌%◌, ◌^◌, Bool, true, false, List, [], ◌∷◌, ◌++◌, length, take, drop, slice_index, refl, sym, ap, ◌∙◌, arith}
 use Rattle.std.proofs.lemmas.List.{drop-drop}
 use Rattle.byteorder.specs.Endian.{big_bytes}
@@ -23,7 +23,7 @@ overwritten (a ∷ b ∷ c ∷ d ∷ e ∷ f ∷ g ∷ h ∷ i ∷ j ∷ k ∷ l
     ∙ ap (λ (x : List ℕ). take 8 x ++ big_bytes 4 ssrc ++ drop 12 x) after_first
 overwritten old mid new field source second sequence ssrc marker long ef es e2 em en = absurd (omega arith)
 
--- what follows the CSRC words stays
+-- the bytes after the CSRC list stay
 pub same_behind : (bytes : List ℕ) (s r : ℕ) (m : Bool) → 12 ≤ length bytes → behind_csrcs (rewritten s r m bytes) ≡ behind_csrcs bytes
 unfolding rewritten
 same_behind (a ∷ b ∷ c ∷ d ∷ e ∷ f ∷ g ∷ h ∷ i ∷ j ∷ k ∷ l ∷ rest) s r m long =
@@ -41,7 +41,7 @@ unfolding rewritten
 same_length (a ∷ b ∷ c ∷ d ∷ e ∷ f ∷ g ∷ h ∷ i ∷ j ∷ k ∷ l ∷ rest) s r m long = refl
 same_length bytes s r m long = absurd (omega arith)
 
--- the faults are found in the length, the first byte and what follows the CSRC words
+-- the faults depend on the length, the first byte and the bytes after the CSRC list
 pub same_fault : (bytes : List ℕ) (s r : ℕ) (m : Bool) → 12 ≤ length bytes → first_fault (rewritten s r m bytes) ≡ first_fault bytes
 unfolding first_fault
 same_fault bytes s r m long =

@@ -1,4 +1,4 @@
--- A packet laid end to end has no fault, and its fields say what it says.
+-- The bytes of a composed packet have no fault, and the fields that are read from them are the packet's.
 use Rattle.std.proofs.Common.{◌≡◌, ◌<◌, ℕ, ◌+◌, ◌-◌, ◌*◌, ◌/◌, ◌%◌, ◌^◌, ◌==◌, ◌||◌, nat_lt, Bool, true, false, List, [], ◌∷◌, ◌++◌, length, take, drop, slice_index, Option, Some, None, is_some, IfSome, IfNone, refl, sym, ap, ◌∙◌, arith, append_assoc, append-nil, length-append}
 use Rattle.std.proofs.lemmas.Bool.{le-ltb, ne_eqb}
 use Rattle.std.proofs.lemmas.Bool.Decides.{nat_tests}
@@ -50,7 +50,7 @@ two_back n rest h = omega arith
 pub four_back : (n : ℕ) (rest : List ℕ) → n < 2 ^ 32 → big_number 4 (big_bytes 4 n ++ rest) ≡ n
 four_back n rest h = omega arith
 
--- The extension at the front of its bytes and those behind it.
+-- The extension at the start of its bytes, and the bytes after it.
 
 abbrev Extended : Option ℕ → ℕ → List ℕ → List ℕ → List ℕ
 Extended profile words block tail = extension_bytes profile words block ++ tail
@@ -84,7 +84,7 @@ extension_there (Some n) words block tail few whole =
     le-ltb (length (Extended (Some n) words block tail)) (4 + 4 * block_words (Extended (Some n) words block tail))
     (omega (arith, words_back n words block tail few, length-append block tail))
 
--- The payload and the padding behind it.
+-- The payload and the padding after it.
 
 -- the list, with its end put together first
 at_end : (payload filler : List ℕ) → payload ++ padding_bytes (Some filler) ≡ (payload ++ filler) ++ (length filler + 1) ∷ []

@@ -1,4 +1,4 @@
--- Links on which no call was made yet: the first one tells no traffic and has no faults, and one more may be put behind them.
+-- Links on which no call was made yet: the first one has no recorded traffic and no faults, and one more may be appended to them.
 use Rattle.std.proofs.Common.{◌≡◌, List, [], ◌∷◌, ◌++◌, All, refl, ap, arith}
 use Rattle.std.proofs.lemmas.List.Elements.{All-append, All-cons, All-nil}
 use Rattle.sfu_base.specs.Links.{IsFresh, LinkInMemory, no_traffic}

@@ -35,7 +35,7 @@ pub enum Call {
         moment: u64,
         bytes: PacketBuf,
     },
-    /// Time has reached `moment`, in milliseconds. The lowest gaps are given up, while the packet after each was held for the full `hold`.
+    /// Time has reached `moment`, in milliseconds. The lowest gaps are given up, while the packet after each was buffered for `hold`.
     Tick {
         track: u32,
         moment: u64,
@@ -138,7 +138,7 @@ pub enum Refusal {
     NotKept { oldest: u16, next: u16 },
     /// The frame number is above `newest`, the newest frame's number. `None` means that no frame has arrived.
     Ahead { newest: Option<u64> },
-    /// The frame number is 4,096 or more below the newest frame's. `oldest` is the lowest number that may be given.
+    /// The frame number is 4,096 or more below the newest frame's. `oldest` is the lowest number that the call accepts.
     TooOld { oldest: u64 },
     /// The subscriber's track is plain.
     Plain,

@@ -21,7 +21,7 @@ distance_when_above a b d over = grind (arith, ints)
 abbrev IsResidue : ℤ → ℕ → Type 0
 IsResidue m r = int_rem_euclid m (pos 65536) ≡ pos r
 
--- two numbers with one remainder are one, or a turn or more apart
+-- two numbers with the same remainder are equal, or 65,536 or more apart
 apart : (a b : ℤ) (n : ℕ) → IsResidue a n → IsResidue b n → (a ≡ b) ⊎ (((a +ℤ pos 65536) ≤ℤ b) ⊎ ((b +ℤ pos 65536) ≤ℤ a))
 apart (pos a) (pos b) n here there = grind (arith, ints)
 apart (pos a) (negsuc b) n here there = grind (arith, ints)
@@ -30,7 +30,7 @@ apart (negsuc a) (negsuc b) n here there = grind (arith, ints)
 
 -- ---- the nearest number
 
--- the number is so far ahead, or a turn behind that
+-- the number is this far ahead, or 65,536 below that
 record IsPlaced (newest : ℤ) (ahead : ℕ) (m : ℤ) : Type 0 where
   low : (newest -ℤ pos 32768) ≤ℤ m
   high : m ≤ℤ (newest +ℤ pos 32767)
@@ -54,7 +54,7 @@ congruent_behind (pos r) (negsuc a) n fits e = grind (arith, ints)
 congruent_behind (negsuc r) (pos a) n fits e = grind (arith, ints)
 congruent_behind (negsuc r) (negsuc a) n fits e = grind (arith, ints)
 
--- one that lies within half a turn is the nearest, the lower end included
+-- a number from 32,768 below `newest` to 32,767 above it is the nearest
 within : (newest m : ℤ) (n : ℕ) → IsCongruent m n → (newest -ℤ pos 32768) ≤ℤ m → m ≤ℤ (newest +ℤ pos 32767) → IsNearest newest n m
 within newest m n same low high =
     let near : distance m newest ≤ 32768 = distance_at_most m newest 32768 (grind (arith, ints)) (grind (arith, ints)) in
@@ -72,7 +72,7 @@ within newest m n same low high =
       ];
     }
 
--- numbers that are the same modulo 65,536 lie as far ahead
+-- numbers that are the same modulo 65,536 lie equally far ahead
 ahead_of_rest : (newest : ℤ) (n : ℕ) → ahead_of newest (n % 65536) ≡ ahead_of newest n
 ahead_of_rest (pos a) n = omega arith
 ahead_of_rest (negsuc a) n = omega arith
@@ -108,7 +108,7 @@ above_is newest n up =
       above = omega arith;
     }
 
--- it lies less than half a turn above
+-- it lies less than 32,768 above
 less_than_half : (newest n m : ℕ) → IsNearestAbove newest n m → m < newest + 32768
 less_than_half newest n m h = elim (cases_lt m (newest + 32768)) [
   | inl low ↦ low
@@ -136,7 +136,7 @@ found_above newest n m h =
       omega arith,
     )
 
--- ---- less than half a turn above
+-- ---- less than 32,768 above
 
 near_is_nearest : (newest n m : ℕ) → IsNearAbove newest n m → IsNearestAbove newest n m
 near_is_nearest newest n m h =

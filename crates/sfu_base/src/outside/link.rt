@@ -10,7 +10,7 @@ pub trait Link {
     /// The link's receives and sent datagrams, in order, or `None` if it doesn't record them.
     ghost told: { Self → Option Traffic };
 
-    /// The link's name: the number of links that its ports had bound before it. No call changes it, so proofs can tell links apart.
+    /// The link's name: the number of links that its ports had bound before it. No call changes the name, so it identifies the link.
     ghost name: { Self → ℕ };
 
     /// How many calls have failed, at most 2^64 - 1.

@@ -1,4 +1,4 @@
--- A trace owns nothing, so it may go to another thread.
+-- A trace owns nothing, so it may be sent to another thread.
 use denote.RattleType.{RattleType}
 use denote.Param.Send.{IsSend, owning_send, sendable}
 use Rattle.sfu_base.specs.contracts.trace.Trace.{the_row, the_type}
