@@ -20,7 +20,7 @@ use Rattle.dd_descriptor.specs.Spelling.{flag_bits}
 use Rattle.dd_descriptor.proofs.Found.{head_found}
 use Rattle.dd_descriptor.proofs.LaidFound.{head_laid, content_from, length-flag_bits}
 
--- ---- where there are enough bits
+-- ---- if there are enough bits
 
 -- something is read that takes n of the bits
 pub record Reads {A : Type 0} (n : ℕ) (bits : List Bool) (r : Result (A × List Bool) DdFault) : Type 0 where
@@ -92,7 +92,7 @@ edges_in h = record { start = h.start; end = h.end; number = h.number }
 pub front_begins : (bytes : List ℕ) (x : Head × List Bool) → head_at (bits_of_bytes bytes) ≡ Ok x → BeginsWith bytes (edges_in x.0)
 front_begins bytes x e = record { template = x.0.template; behind = x.1; small = (head_found (bits_of_bytes bytes) x e).0; bits = head_laid (bits_of_bytes bytes) x e }
 
--- ---- in a descriptor that reads
+-- ---- in a descriptor that can be read
 
 pub front_of : (bytes : List ℕ) (force : Option TemplateStructure) (c : Content) (x : Head × List Bool) → head_at (bits_of_bytes bytes) ≡ Ok x → descriptor_at bytes force ≡ Ok c → edges_in x.0 ≡ edges_of c
 unfolding descriptor_at

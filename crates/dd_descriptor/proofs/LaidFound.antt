@@ -1,4 +1,4 @@
--- A descriptor that is read is laid out as one.
+-- A descriptor that was read is laid out as one.
 use Rattle.std.proofs.Common.{◌≡◌, ℕ, zero, suc, ◌+◌, ◌-◌, ◌*◌, ◌≤◌, ◌<◌, ◌^◌, Bool, true, false, cond, ltb, eqb, List, [], ◌∷◌, ◌++◌, length, Option, Some, None, Result, Ok, Err, refl, sym, ap, subst, ◌∙◌, append_assoc, inl, inr, arith}
 use Rattle.std.specs.Prelude.{is_some, IfSome}
 use Rattle.std.specs.List.{flat_map}
@@ -258,7 +258,7 @@ holding_same : (carried force : Option TemplateStructure) (s : TemplateStructure
 holding_same None force s holds t is = absurd cc
 holding_same (Some u) force s holds t is = let same : s ≡ t = cc in ap (λ (x : TemplateStructure). x.target_count) same
 
--- the flags of a descriptor of so many bytes: they stand, or nothing does
+-- the flags of a descriptor of `len` bytes: they are there, or nothing is
 record HasFlags (len : ℕ) (bits : List Bool) (x : Flags × List Bool) : Type 0 where
   is_long : Bool
   long : is_long ≡ true → bits ≡ flag_parts x.0 x.1
@@ -296,7 +296,7 @@ none_is : {A : Type 0} (o : Option A) → is_some o ≡ false → o ≡ None
 none_is None e = refl
 none_is (Some x) e = absurd cc
 
--- nothing is left behind where nothing was
+-- no bits are left over where there were none
 last_empty : (a b c d : List Bool) → [] ≡ a ++ (b ++ (c ++ d)) → d ≡ []
 last_empty a b c d e = empty_is d (omega (arith, ap length e, length-append a (b ++ (c ++ d)), length-append b (c ++ d), length-append c d))
 
@@ -304,7 +304,7 @@ pub length-flag_bits : (b : Bool) → length (flag_bits b) ≡ 1
 length-flag_bits true = length-bits_of 1 1
 length-flag_bits false = length-bits_of 1 0
 
--- after three bytes nothing is left
+-- nothing follows three bytes
 rest_empty : (bytes : List ℕ) (a b : Bool) (template number : ℕ) (rest : List Bool) → length bytes ≤ 3 → bits_of_bytes bytes ≡ flag_bits a ++ (flag_bits b ++ (bits_of 6 template ++ (bits_of 16 number ++ rest))) → rest ≡ []
 rest_empty bytes a b template number rest few is =
     empty_is rest (omega (

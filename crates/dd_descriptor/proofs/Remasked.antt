@@ -1,4 +1,4 @@
--- A remasked descriptor has the parts of the old one, and reads as the old one but for its mask.
+-- A remasked descriptor has the parts of the old one, and reads as the old one except for its mask.
 use Rattle.std.proofs.Common.{◌≡◌, ℕ, ◌+◌, ◌-◌, ◌*◌, ◌<◌, ◌^◌, Bool, true, false, List, ◌++◌, length, replicate, Option, Some, None, Result, Ok, Err, refl, sym, ap, subst, ◌∙◌, append_assoc, arith}
 use Rattle.std.specs.Prelude.{is_some, IfSome, IsErr, OnErr, OnOk, ◌↔◌, ◌≤◌}
 use Rattle.std.proofs.lemmas.List.{length-append, take_at}
@@ -118,7 +118,7 @@ none_is_long bytes force mask c d none =
     let here = at_parts (λ r. MakesNone r mask) bytes force c d none in
     subst (λ (bits : List Bool). 8 * 255 < length bits) (with_mask-laid d.by d.layout c mask) here
 
--- it fails exactly where they would be too long
+-- remasking fails exactly if the bits would be too many
 pub fails_where_long : {E : Type 0} (bytes out : List ℕ) (force : Option TemplateStructure) (mask : ℕ) (c : Content) (r : Result (Unit {0}) E) → OnOk r (MakesBytes (parts_at bytes force) mask out) → OnErr r (MakesNone (parts_at bytes force) mask)
     → (d : IsDescriptor bytes force c) → IsErr r ↔ (8 * 255 < length (remasked d mask))
 fails_where_long bytes out force mask c (Ok x) made none d = (λ yes. absurd cc, λ long. absurd (omega (arith, made_fits bytes out force mask c d made, long)))
@@ -129,7 +129,7 @@ pub all_made : {E : Type 0} (bytes out : List ℕ) (force : Option TemplateStruc
 all_made bytes out force mask c (Ok x) made d = made_is bytes out force mask c d made
 all_made bytes out force mask c (Err e) made d = tt
 
--- what was filled in reads as the same content but for its mask
+-- what was filled in reads as the same content except for its mask
 pub made_reads : {E : Type 0} (bytes out : List ℕ) (force : Option TemplateStructure) (mask : ℕ) (c : Content) (r : Result (Unit {0}) E) → IfSome force IsWellFormed → TakesMask bytes force mask
     → OnOk r (MakesBytes (parts_at bytes force) mask out) → descriptor_at bytes force ≡ Ok c → OnOk r (descriptor_at out force ≡ Ok (with_new_mask c mask))
 made_reads bytes out force mask c (Err e) well takes made reads = tt

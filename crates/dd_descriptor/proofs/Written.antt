@@ -1,4 +1,4 @@
--- What is written is laid out as a descriptor, with the least sizes and zeros behind it.
+-- What is written is laid out as a descriptor, with the least sizes and zeros after it.
 use Rattle.std.proofs.Common.{◌≡◌, ℕ, ◌-◌, ◌<◌, ◌^◌, Bool, false, cond, List, [], ◌∷◌, ◌++◌, length, map, replicate, Option, Some, None, Ok, refl, sym, ap, subst, ◌∙◌, append_assoc, inl, inr, arith}
 use Rattle.std.specs.Prelude.{is_some, IfSome, ◌||◌}
 use Rattle.std.specs.List.{flat_map, AllByRecursion}
@@ -76,7 +76,7 @@ mask_small (Some t) force s None holds small =
     let same : s ≡ t = cc in
     subst (λ (x : TemplateStructure). 2 ^ x.target_count - 1 < 2 ^ s.target_count) same (omega (arith, pow_pos s.target_count))
 
--- ---- where nothing more stands
+-- ---- if nothing more follows
 
 none_is : {A : Type 0} (o : Option A) → is_some o ≡ false → o ≡ None
 none_is None e = refl

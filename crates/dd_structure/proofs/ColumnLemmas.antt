@@ -1,4 +1,4 @@
--- What the arrays of a structure show.
+-- What the arrays of a structure contain, as contracts see it.
 use Rattle.std.proofs.Common.{◌≡◌, ℕ, ◌<◌, ◌≤◌, List, length, get_or, take, map, ap, ◌∙◌, arith}
 use Rattle.std.proofs.lemmas.List.{length-take, length-map, get_or-map, get_or-take, get_or_default}
 use Rattle.sfu_base.specs.declared.frame.Dti.{Dti}
@@ -43,7 +43,7 @@ at : (c : Columns) (i : ℕ) (t : Template) → IsWithin c → i < c.template_co
     → get_or (structure_of c).templates i t ≡ record { layer = get_or (layer_column c) i t.layer; indications = get_or (indication_column c) i t.indications; distances = get_or (distance_column c) i t.distances; links = get_or (link_column c) i t.links }
 at c i t w lt = get_or-templates_of (layer_column c) (indication_column c) (distance_column c) (link_column c) i t (columns_aligned c w) (omega (arith, length-layer_column c w))
 
--- a row of a column that is seen by a view
+-- a row of a column, seen through a view
 row : {X A : Type 0} (view : X → A) (xs : List X) (n i : ℕ) (d : X) (e : A) → i < n → n ≤ length xs → get_or (map view (take n xs)) i e ≡ view (get_or xs i d)
 row view xs n i d e lt le = get_or-map view (take n xs) i d e (omega (arith, length-take n xs)) ∙ ap view (get_or-take n xs i d lt)
 

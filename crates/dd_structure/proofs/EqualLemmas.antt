@@ -1,4 +1,4 @@
--- Structures that are the same have equal counts and columns.
+-- Equal structures have equal counts and columns.
 use Rattle.std.proofs.Common.{◌≡◌, ℕ, ◌<◌, ◌≤◌, List, length, get_or, take, map, sym, ap, ◌∙◌, arith}
 use Rattle.std.proofs.lemmas.List.{get_or-map, length-take}
 use Rattle.dd_structure.specs.declared.columns.Columns.{Columns}
@@ -9,7 +9,7 @@ use Rattle.dd_structure.proofs.ColumnLemmas.{layers-are, indications-are, distan
 pub map_differs : {A B : Type 0} (f : A → B) (xs ys : List A) (i : ℕ) (d : A) (e : A) → i < length xs → i < length ys → map f xs ≡ map f ys → f (get_or xs i d) ≡ f (get_or ys i e)
 map_differs {B = B} f xs ys i d e lx ly h = sym (get_or-map f xs i d (f d) lx) ∙ ap (λ (zs : List B). get_or zs i (f d)) h ∙ get_or-map f ys i e (f d) ly
 
--- the counts of two structures that are the same
+-- the counts of two equal structures
 pub same_count : {A : Type 0} (n m : ℕ) (xs ys : List A) → n ≤ length xs → m ≤ length ys → take n xs ≡ take m ys → n ≡ m
 same_count n m xs ys le ge e = omega (arith, ap length e, length-take n xs, length-take m ys)
 

@@ -1,4 +1,4 @@
--- Columns of one template that says nothing, whatever stands behind it.
+-- Columns of one blank template, whatever the entries after it are.
 use Rattle.std.proofs.Common.{◌≡◌, ℕ, List, [], ◌∷◌, length, take, set, refl, arith}
 use Rattle.sfu_base.specs.declared.frame.Dti.{Dti}
 use Rattle.dd_structure.specs.declared.layer.Layer.{Layer}

@@ -1,4 +1,4 @@
--- A structure that is read is well formed, and its bits were read.
+-- A structure that was read is well formed, and its bits are those that were read.
 use Rattle.std.proofs.Common.{◌≡◌, ℕ, zero, suc, ◌+◌, ◌-◌, ◌≤◌, ◌<◌, ◌^◌, Bool, true, false, cond, ltb, eqb, List, [], ◌∷◌, ◌++◌, length, Option, Some, None, Result, Ok, Err, refl, sym, ap, subst, ◌∙◌, append_assoc, inl, inr, arith}
 use Rattle.std.specs.List.{flat_map, AllByRecursion}
 use Rattle.std.proofs.lemmas.Bool.{ltb-true, lt-ltb, le-ltb, ne_eqb}
@@ -33,7 +33,7 @@ made x = Ok (Some x)
 pub same_layer : (x y : Layer) → made x ≡ made y → x ≡ y
 same_layer x y e = cc
 
--- the code that a layer was read from is the one that spells it
+-- the code from which a layer was read is the code in which it is written
 pub code_is : (a b : Layer) (code : ℕ) → layer_after a code ≡ made b → layer_code a b ≡ code
 code_is a b zero e = subst (λ (x : Layer). layer_code a x ≡ 0) (same_layer a b e) (rw (le-ltb a.spatial a.spatial (omega arith), le-ltb a.temporal a.temporal (omega arith)) refl)
 code_is a b (suc zero) e =

@@ -67,7 +67,7 @@ get_or-templates_of (l ∷ ls) (i ∷ is) (d ∷ ds) [] n t a lt = absurd (omega
 get_or-templates_of (l ∷ ls) (i ∷ is) (d ∷ ds) (k ∷ ks) zero t a lt = refl
 get_or-templates_of (l ∷ ls) (i ∷ is) (d ∷ ds) (k ∷ ks) (suc n) t a lt = get_or-templates_of ls is ds ks n t (less ls is ds ks l i d k a) (omega arith)
 
--- ---- what holds of each template
+-- ---- a property of each template
 
 pub all_mapped : {X Y : Type 0} (P : X → Type 0) (Q : Y → Type 0) (f : X → Y) → ((x : X) → P x → Q (f x)) → (xs : List X) → AllByRecursion P xs → AllByRecursion Q (map f xs)
 all_mapped P Q f each [] all = tt

@@ -1,11 +1,11 @@
--- What is forgotten is never wanted.
+-- A forgotten number is never needed.
 use Rattle.std.proofs.Common.{◌≡◌, ◌⊎◌, inl, inr, ◌+◌, ◌-◌, ◌<◌, ◌≤◌, ℕ, arith, Bool, true, false, cond, ◌||◌, List, [], ◌∷◌, refl, sym, ap, ◌∙◌}
 use Rattle.std.specs.Prelude.{◌==◌, filter}
 use Rattle.std.proofs.lemmas.Bool.{cases_eq, leb-true, le-leb, eqb-true, eq-eqb, ne_eqb}
 use Rattle.std.proofs.lemmas.Map.Views.{any-filter_same}
 use Rattle.ref_window.specs.Numbers.{is_near, held_of, is_among, has_below, IsAboveAll}
 
--- two numbers, the greater later: what is near the later one is near the former
+-- a number that is near `newer` is near `older` too, if `older` is below `newer`
 filter_near_twice : (newer older : ℕ) (numbers : List ℕ) → older < newer → filter (is_near newer) (filter (is_near older) numbers) ≡ filter (is_near newer) numbers
 filter_near_twice newer older [] lt = refl
 filter_near_twice newer older (n ∷ ns) lt = go (is_near older n) (is_near newer n) refl refl (filter_near_twice newer older ns lt)

@@ -1,4 +1,4 @@
--- What is held, by a test on the numbers below the greatest.
+-- The numbers in a window, by a test on the numbers below the greatest.
 use Rattle.std.proofs.Common.{◌≡◌, ◌+◌, ◌<◌, ◌≤◌, ◌/◌, ◌%◌, ℕ, zero, suc, arith, Bool, true, false, cond, ◌&&◌, ◌||◌, List, [], ◌∷◌, refl, sym, subst, ap, ◌∙◌, inl, inr, get_or}
 use Rattle.std.specs.Prelude.{◌==◌, filter, nat_lt}
 use Rattle.std.specs.declared.option.Option.{Option}
@@ -86,7 +86,7 @@ below_all p (suc n) number le = go (p n) (below_all p n number (omega arith))
     go true rest = (omega arith, rest)
     go false rest = rest
 
--- ---- what a window holds
+-- ---- what a window contains
 
 abbrev held_test : ℕ → List ℕ → ℕ → Bool
 held_test greatest words n = is_near greatest n && has_bit words n
@@ -129,7 +129,7 @@ far_among greatest words n far =
     ∙ ap (λ b. b && (is_near greatest n && has_bit words n)) (lt-ltb n greatest (omega arith))
     ∙ ap (λ b. b && has_bit words n) (lt-leb greatest (n + 4096) far)
 
--- ---- what it holds after a number was inserted
+-- ---- what a window contains after a number was inserted
 
 pub above_held : (greatest : ℕ) (words : List ℕ) (number : ℕ) → greatest < number → IsAboveAll number (held_in (Some greatest) words)
 unfolding held_in

@@ -1,4 +1,4 @@
--- The numbers right below one, as a mask.
+-- The numbers right below a number, as a mask.
 use Rattle.std.proofs.Common.{◌≡◌, ◌⊎◌, inl, inr, ◌+◌, ◌-◌, ◌*◌, ◌/◌, ◌%◌, ◌^◌, ◌<◌, ◌≤◌, ℕ, arith, Bool, true, false, ◌||◌, List, [], ◌∷◌, refl, sym, ap, subst, ◌∙◌}
 use Rattle.std.specs.Prelude.{◌==◌, bit_or, filter}
 use Rattle.std.specs.Int.{bit_at}
@@ -20,7 +20,7 @@ moved (m ∷ ms) n d k = ap (λ b. b || has_below ms (n + k) (d + k)) (same (cas
     same (inl e) = eq-eqb (m + (d + k)) (n + k) (omega arith) ∙ sym (eq-eqb (m + d) n e)
     same (inr ne) = ne_eqb (m + (d + k)) (n + k) (λ e. ne (omega arith)) ∙ sym (ne_eqb (m + d) n ne)
 
--- the bits of a word that was moved up
+-- the bits of a word that was shifted to the left
 low_bit : (x k d : ℕ) → d < 64 → bit_at (x * 2 ^ k % 2 ^ 64) d ≡ bit_at (x * 2 ^ k) d
 low_bit x k d low =
     let y : ℕ = x * 2 ^ k in
