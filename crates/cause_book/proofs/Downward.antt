@@ -40,7 +40,7 @@ module _ (slots : List (Option Step)) where
   pub none_left : (low top : ℕ) → top ≤ low → steps_down slots low (top - low) ≡ []
   none_left low top le = ap (steps_down slots low) (let e : top - low ≡ 0 = omega (arith, le) in e)
 
-  -- those less than 4,096 below a number begin 4,095 below it
+  -- the numbers less than 4,096 below a number begin 4,095 below it
   pub near_steps : (number low count : ℕ) → low ≤ number - 4095 → near number (steps_down slots low count) ≡ steps_down slots (number - 4095) (low + count - (number - 4095))
   near_steps number low zero le = sym (none_left (number - 4095) (low + 0) (omega arith))
   near_steps number low (suc count) le = go (nat_lt (low + count) (number - 4095)) refl (near_steps number low count le)

@@ -1,4 +1,4 @@
--- What is answered about a number, by what is seen.
+-- What a book returns for a number, from what contracts see of the book.
 use Rattle.std.proofs.Common.{◌≡◌, ◌<◌, ◌≤◌, ℕ, ◌+◌, ◌-◌, Bool, true, false, cond, List, refl, sym, ap, ◌∙◌, arith, Option, Some, None, Result, Ok, Err, is_some, true≢false}
 use Rattle.std.specs.Prelude.{nat_lt, nat_le}
 use Rattle.std.specs.Option.{option_map}
@@ -15,7 +15,7 @@ use Rattle.cause_book.specs.Slots.{IsNextAbove, IsNextBelow, step_at}
 use Rattle.cause_book.proofs.Downward.{above_is, below_is, below_none, verdict_of}
 use Rattle.cause_book.proofs.Writing.{newest_seen}
 
--- the answer where this is the newest number
+-- the result if this is the newest number
 abbrev judged_at : Option ℕ → List Step → ℕ → Result Verdict Refusal
 judged_at o steps n =
     cond (is_ahead o n) (Err (Ahead o)) (cond (is_too_old o n) (Err (TooOld (oldest_asked (number_or o 0))))
@@ -63,7 +63,7 @@ module _ (m : ℕ) (slots : List (Option Step)) (n : ℕ) (h : IsNewest (Some m)
       let lt = h.1 in
       below_is slots (m - 4095) (m + 1 - (m - 4095)) m n b ge (omega (arith, lt, low)) lt (omega (arith, ge)) h.2 h.3
 
-  -- no step stands above the newest
+  -- no step has a number above the newest
   within : (k : ℕ) → is_some (step_at slots k) ≡ true → k ≤ m
   within k there = go (nat_lt m k) refl
     where

@@ -1,4 +1,4 @@
--- The verdicts of a timeline fall, and a book tells its causes.
+-- The verdicts of a timeline have falling numbers, and a book of them returns the causes of the timeline.
 use Rattle.std.proofs.Common.{◌≡◌, ◌≤◌, ◌<◌, ℕ, ◌+◌, List, [], ◌∷◌, ap, ◌∙◌, Option, Some, Ok, Err, Bool, cond}
 use Rattle.std.specs.Prelude.{nat_le}
 use Rattle.std.specs.List.{AllByRecursion}

@@ -1,4 +1,4 @@
--- A path from one step on, and that its test tells it.
+-- A path from one step on, and that the test is exact for it.
 use Rattle.std.proofs.Common.{◌≡◌, ◌↔◌, ◌+◌, ◌-◌, ◌<◌, ◌≤◌, ℕ, suc, true, ◌&&◌, List, [], ◌∷◌, length, drop, get_or, drop-cons, ap, arith, refl, sym, ◌∙◌, true≢false}
 use Rattle.std.specs.Prelude.{nat_lt}
 use Rattle.std.proofs.lemmas.Bool.{and_parts, eqb-true, ltb-true, eq-eqb, lt-ltb}

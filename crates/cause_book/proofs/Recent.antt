@@ -1,4 +1,4 @@
--- What the last verdicts tell is what all of them tell.
+-- The last verdicts lead to the same results as all of them do.
 use Rattle.std.proofs.Common.{◌≡◌, ◌≤◌, ◌<◌, ℕ, ◌+◌, Bool, true, false, cond, List, [], ◌∷◌, refl, sym, ap, ◌∙◌, arith, Option, Some, None, Result, Ok, Err, eqb, leb}
 use Rattle.std.specs.Prelude.{nat_lt}
 use Rattle.std.specs.List.{AllByRecursion}
@@ -37,7 +37,7 @@ pub recent_again : (step : Step) (steps : List Step) → AllByRecursion (λ othe
 recent_again step steps h =
     ap (λ (rest : List Step). cond (nat_lt step.number (step.number + 4096)) (step ∷ rest) []) (near_near step.number (number_or (newest_number steps) 0) steps (newest_le step.number steps h))
 
--- ---- what is told
+-- ---- results
 
 none_among : (bound n : ℕ) (steps : List Step) → AllByRecursion (λ step. step.number < bound) steps → bound ≤ n → verdict_among steps n ≡ None
 none_among bound n [] h le = refl
@@ -86,7 +86,7 @@ newest_same [] = refl
 newest_same (x ∷ past) =
     ap (λ (b : Bool). newest_number (cond b (x ∷ near x.number past) [])) (lt-ltb x.number (x.number + 4096) (omega arith))
 
--- what is asked of the last verdicts is answered as of all
+-- for each request, the last verdicts lead to the same result as all of them
 pub judged_recent : (steps : List Step) (n : ℕ) → AreFalling steps → judged (recent steps) n ≡ judged steps n
 judged_recent steps n h =
     ap (λ (o : Option ℕ). judged_at o (recent steps) n) (newest_same steps) ∙ go (newest_number steps) refl

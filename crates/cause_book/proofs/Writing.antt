@@ -1,4 +1,4 @@
--- What a write makes of the steps that are seen.
+-- How a write changes the steps that contracts see.
 use Rattle.std.proofs.Common.{◌≡◌, ◌<◌, ◌≤◌, ℕ, suc, ◌+◌, ◌-◌, ◌%◌, Bool, true, cond, List, [], ◌∷◌, length, refl, sym, ap, ◌∙◌, arith, Option, Some, None, is_some}
 use Rattle.std.specs.Prelude.{slice_set}
 use Rattle.std.proofs.lemmas.Bool.{lt-ltb, ltb-true}
@@ -10,7 +10,7 @@ use Rattle.cause_book.specs.Slots.{and_step, step_at, steps_down}
 use Rattle.cause_book.proofs.Downward.{near_steps, newest_there, none_more, one_more, same_steps}
 use Rattle.cause_book.proofs.Places.{written_apart, written_here, written_nowhere}
 
--- the newest number that is seen
+-- the newest number in what contracts see
 pub newest_seen : (newest : Option ℕ) (slots : List (Option Step)) → IsNewest newest slots → newest_number (steps_to newest slots) ≡ newest
 newest_seen None slots h = refl
 newest_seen (Some m) slots h =
@@ -25,12 +25,12 @@ pub above_newest : (number m : ℕ) (steps : List Step) → IsAboveAll number st
 above_newest number m [] h e = absurd (cc e)
 above_newest number m (step ∷ past) h e = let same : step.number ≡ m = cc e in let lt = h.0 in omega (arith, same, lt)
 
--- no step stands at or above a number that is above the newest
+-- no step has a number that is above the newest, or a greater one
 none_from : (newest : Option ℕ) (slots : List (Option Step)) (number n : ℕ) → IsNewest newest slots → is_ahead newest number ≡ true → number ≤ n → step_at slots n ≡ None
 none_from None slots number n h ahead le = h n
 none_from (Some m) slots number n h ahead le = let lt = ltb-true m number ahead in h.1 n (omega (arith, lt, le))
 
--- what was seen, as far as it is still recent
+-- the earlier steps that are still recent
 seen_before : (newest : Option ℕ) (slots : List (Option Step)) (number : ℕ) → IsNewest newest slots → is_ahead newest number ≡ true
     → steps_down slots (number - 4095) (number - (number - 4095)) ≡ near number (steps_to newest slots)
 seen_before None slots number h ahead =

@@ -1,4 +1,4 @@
--- From what is answered to the cuts of the list of marks.
+-- The outcomes that calls return, and the cuts of the list of marks.
 use Rattle.std.proofs.Common.{◌≡◌, ◌↔◌, ℕ, List, [], ◌∷◌, map, refl, sym, ap, ◌∙◌}
 use Rattle.forwarding_model.specs.frames.Cuts.{Part, Mark as CutMark, Outcome as CutOutcome, parts_of, run_of, outcome, IsWholeCut, IsUnfinishedCut, EndsIn}
 use Rattle.forwarding_model.specs.frames.Cuts.Mark.{Padding}

@@ -1,4 +1,4 @@
--- What is seen after one mark more is what the longer list of marks says.
+-- What contracts see after one more mark is what follows from the longer list of marks.
 use Rattle.std.proofs.Common.{◌≡◌, ◌+◌, ℕ, arith, Bool, true, false, ◌&&◌, List, [], ◌∷◌, ◌++◌, map, length, cond, Option, Some, None, refl, sym, ap, ◌∙◌, subst}
 use Rattle.std.specs.Prelude.{◌==◌, nat_lt}
 use Rattle.std.specs.Bool.{beq}
@@ -124,7 +124,7 @@ made a past (Read part) is =
     let h = ends part (extended (run_of past) (Read part)) (newest (run_of past) part) in
     ap (answered part.end) same ∙ h.made
 
--- ---- what a call leaves and answers
+-- ---- the state and the outcome after a call
 
 pub stands : (a b : Seen) (past : List (CutMark (List ℕ))) (mark : CutMark (List ℕ)) → IsAfter a past → b ≡ pushed a mark → IsAfter b (mark ∷ past)
 stands a b past mark is e = subst (λ x. IsAfter x (mark ∷ past)) (sym e) (after a past mark is)

@@ -1,4 +1,4 @@
--- An array whose places are written one by one: in front the items of a row that count, and one value behind them.
+-- An array whose places are written one by one: first the items of a row that count, then one value at every place after them.
 use Rattle.std.proofs.Common.{◌≡◌, inl, inr, ℕ, ◌+◌, ◌-◌, ◌<◌, ◌≤◌, [], ◌∷◌, ◌++◌, List, length, get_or, set, take, drop, replicate}
 use Rattle.std.proofs.Common.{Bool, true, false, refl, sym, ap, ◌∙◌, arith, length-append}
 use Rattle.std.proofs.lemmas.List.{drop-replicate, get_or-append_right, get_or-replicate, get_or-take, length-drop, length-replicate}
@@ -8,7 +8,7 @@ use Rattle.std.proofs.lemmas.Bool.{agree_below_at, cases_lt, le-ltb, lt-ltb}
 use Rattle.dd_layout.specs.Layouts.{filled_up}
 use Rattle.dd_layout.proofs.Layouts.{at_front}
 
--- the first so many places of a row, filled up
+-- the first `count` places of a row, filled up
 abbrev pub front : {A : Type 0} → ℕ → A → ℕ → List A → List A
 front n d count row = filled_up n d (take count row)
 
@@ -19,7 +19,7 @@ front_length n d count row len few =
     let taken : length xs ≡ count = length-take-le count row (omega (arith, len)) in
     omega (arith, length-append xs behind, length-drop (length xs) (replicate n d), length-replicate n d, taken)
 
--- what is written at a place is what the filled row has there
+-- the value that is written at a place is that of the filled row there
 placed_item : {A : Type 0} (n : ℕ) (d : A) (count : ℕ) (row : List A) (k : ℕ) (x : A) → length row ≡ n → count ≤ n → k < n
     → x ≡ (if nat_lt k count then get_or row k d else d) → x ≡ get_or (front n d count row) k d
 placed_item {A = A} n d count row k x len few lt is =
@@ -33,7 +33,7 @@ placed_item {A = A} n d count row k x len few lt is =
           ∙ get_or-replicate (n - length xs) (k - count) d d (omega (arith, taken, over))))
     ]
 
--- one place more
+-- with one more place written
 pub front_more : {A : Type 0} (n : ℕ) (d : A) (count : ℕ) (row out : List A) (k : ℕ) (x : A) → length row ≡ n → count ≤ n → length out ≡ n → k < n
     → take k out ≡ take k (front n d count row) → x ≡ (if nat_lt k count then get_or row k d else d)
     → take (k + 1) (set out k x) ≡ take (k + 1) (front n d count row)

@@ -1,4 +1,4 @@
--- What a descriptor makes of what is in force, case by case.
+-- How a descriptor changes what is in force, case by case.
 use Rattle.std.proofs.Common.{◌≡◌, ℕ, Bool, true, false, cond, Option, Some, None, refl, sym, subst, ap, ◌∙◌}
 use Rattle.std.specs.Prelude.{IfSome, is_some}
 use Rattle.forwarding_model.specs.frames.Reading.{is_key_start, keeps_structure}

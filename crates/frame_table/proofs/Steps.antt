@@ -1,4 +1,4 @@
--- What the steps of a table make.
+-- The results of a table's steps.
 use Rattle.std.proofs.Common.{◌≡◌, ◌⊎◌, inl, inr, ℕ, zero, suc, [], ◌∷◌, length-append, ◌+◌, ◌-◌, ◌%◌, ◌<◌, ◌≤◌, ◌^◌, ◌++◌, Bool, true, false, cond, not, List, length, take, drop, replicate, set, Option, Some, None, Result, Ok, Err, refl, sym, subst, ap, ◌∙◌, arith}
 use Rattle.std.specs.Prelude.{pos, ◌&&◌, ◌==◌, nat_lt, IfSome, is_some, slice_index}
 use Rattle.std.specs.Bool.{Decides}
@@ -125,7 +125,7 @@ meant_same_with : (s : TemplateStructure) (force : Force TemplateStructure) (d :
 meant_same_with s force d None = refl
 meant_same_with s force d (Some n) = refl
 
--- by its head a frame means what it means by its first descriptor
+-- a frame's meaning by its head is its meaning by its first descriptor
 pub meant_same : (s : TemplateStructure) (force : Force TemplateStructure) (d : Descriptor) (head : FrameHead) → head ≡ head_of (said_of force.structure d)
     → meant_at s force head ≡ meant s force d
 meant_same s force d head is =
