@@ -1,4 +1,4 @@
--- What goes out only grows, is numbered in order, and is resent as it was.
+-- The forwarded packets only grow, are numbered in order, and are retransmitted as they were.
 use Rattle.std.proofs.Common.{◌≡◌, inl, inr, ◌+◌, ◌-◌, ◌%◌, ◌<◌, ◌≤◌, ℕ, zero, suc, arith, Bool, true, false, List, [], ◌∷◌, ◌++◌, refl, sym, subst, ap, ◌∙◌, cond, map, length, length-append, length-drop, append_assoc, append-nil, take, drop}
 use Rattle.std.specs.Prelude.{◌==◌}
 use Rattle.std.proofs.lemmas.Bool.{eqb-true, eq-eqb, ne_eqb}
@@ -61,11 +61,11 @@ drop-numbered (suc i) n ssrc [] = refl
 drop-numbered (suc i) n ssrc (p ∷ ps) =
     drop-numbered i (n + 1) ssrc ps ∙ ap (λ k. numbered k ssrc (drop i ps)) (let e : (n + 1) + i ≡ n + suc i = omega arith in e)
 
--- the first packet from a place on
+-- the packet with sequence number n, modulo 65,536, and this SSRC
 abbrev pub numbered_as : ℕ → ℕ → Packet → Packet
 numbered_as n ssrc p = record { sequence_number = n % 65536; ssrc = ssrc; marker = p.marker; rest = p.rest }
 
--- of fewer than 65,536 packets, the number of one finds that one
+-- among fewer than 65,536 packets, a packet's number finds that packet
 pub find-numbered : (ps : List Packet) (n ssrc j : ℕ) (q : Packet) (rest : List Packet) → drop j ps ≡ q ∷ rest → j < 65536
     → find (λ p. p.sequence_number == ((n + j) % 65536)) (numbered n ssrc ps) ≡ Some (numbered_as (n + j) ssrc q)
 find-numbered [] n ssrc zero q rest e lt = absurd (grind arith)
@@ -84,7 +84,7 @@ find-numbered (p ∷ ps) n ssrc (suc j) q rest e lt =
     ∙ subst (λ k. find (λ x. x.sequence_number == (k % 65536)) (numbered (n + 1) ssrc ps) ≡ Some (numbered_as k ssrc q)) number
     (find-numbered ps (n + 1) ssrc j q rest e (omega arith))
 
--- ---- what goes out grows
+-- ---- the forwarded packets grow
 
 pub record Grows (before after : List Packet) : Type 0 where
   pub more : List Packet
@@ -126,7 +126,7 @@ takes_grow (PlainPacket p ∷ since) past = takes_grow since past
 takes_grow (WishChange w ∷ since) past = takes_grow since past
 takes_grow (Take ∷ since) past = let h = takes_grow since past in omega arith
 
--- ---- a resend
+-- ---- a retransmission
 
 -- what stands first from a place on stands there still in a longer list, and in the part of it up to a later place
 drop_longer : (i : ℕ) (xs ys rest : List Packet) (q : Packet) → drop i xs ≡ q ∷ rest → drop i (xs ++ ys) ≡ q ∷ (rest ++ ys)
@@ -201,7 +201,7 @@ resent_first send subscriber past since p h near =
     subst (λ x. resent send subscriber (since ++ Take ∷ past) x.sequence_number ≡ Some x) (sym first.3)
     (find_kept i t n subscriber.ssrc (forwarded send subscriber.wish (since ++ Take ∷ past)) (first.1 ++ grown.more) first.0 stands (omega arith) near)
 
--- and only what is kept is resent
+-- and only kept packets are retransmitted
 find-member : (test : Packet → Bool) (ps : List Packet) (p : Packet) → find test ps ≡ Some p → IsMember p ps × (test p ≡ true)
 find-member test [] p h = absurd (grind arith)
 find-member test (x ∷ xs) p h = go (test x) refl h (find-member test xs p)
