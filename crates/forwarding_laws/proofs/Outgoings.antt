@@ -128,7 +128,7 @@ takes_grow (Take ∷ since) past = let h = takes_grow since past in omega arith
 
 -- ---- a retransmission
 
--- what stands first from a place on stands there still in a longer list, and in the part of it up to a later place
+-- the first packet at or after a place is still there in a longer list, and in the part of that up to a later place
 drop_longer : (i : ℕ) (xs ys rest : List Packet) (q : Packet) → drop i xs ≡ q ∷ rest → drop i (xs ++ ys) ≡ q ∷ (rest ++ ys)
 drop_longer zero [] ys rest q e = absurd (grind arith)
 drop_longer zero (x ∷ xs) ys rest q e = ap (λ l. l ++ ys) e
@@ -153,7 +153,7 @@ length_le_take zero xs = omega arith
 length_le_take (suc t) [] = omega arith
 length_le_take (suc t) (x ∷ xs) = let h = length_le_take t xs in omega arith
 
--- what is numbered and stands first from a place on was numbered there
+-- the first numbered packet at or after a place was numbered there
 pub first_numbered : (i n ssrc : ℕ) (ps : List Packet) (p : Packet) → first_of (drop i (numbered n ssrc ps)) ≡ Some p
     → (q : Packet) × (rest : List Packet) × (drop i ps ≡ q ∷ rest) × (p ≡ numbered_as (n + i) ssrc q)
 first_numbered i n ssrc ps p h = go (drop i ps) refl (sym (ap first_of (drop-numbered i n ssrc ps)) ∙ h)
