@@ -25,7 +25,7 @@ pub above_newest : (number m : ℕ) (steps : List Step) → IsAboveAll number st
 above_newest number m [] h e = absurd (cc e)
 above_newest number m (step ∷ past) h e = let same : step.number ≡ m = cc e in let lt = h.0 in omega (arith, same, lt)
 
--- no step has a number that is above the newest, or a greater one
+-- if `number` is above the newest, no step has `number` or a greater number
 none_from : (newest : Option ℕ) (slots : List (Option Step)) (number n : ℕ) → IsNewest newest slots → is_ahead newest number ≡ true → number ≤ n → step_at slots n ≡ None
 none_from None slots number n h ahead le = h n
 none_from (Some m) slots number n h ahead le = let lt = ltb-true m number ahead in h.1 n (omega (arith, lt, le))

@@ -125,7 +125,7 @@ fn lowest(mask: u32, count: u8) -> u32
     }
 }
 
-/// Appends the parts, with `mask` in the place of the mask.
+/// Appends the parts, with `mask` as the mask.
 fn put_parts(out: &mut BitWriter, parts: &Parts<'_>, mask: u32) -> Result<(), NoRoom>
     ensures { Puts result out.old out.new (with_mask (parts_of parts.now) mask) }
 {

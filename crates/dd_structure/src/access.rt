@@ -84,8 +84,8 @@ impl Structure {
         &distances.items[..distances.count as usize]
     }
 
-    /// How many frame differences a template has, at most 16, and an array that begins with them. The
-    /// other entries don't count.
+    /// How many frame differences a template has, at most 16, and an array that begins with the differences.
+    /// The other entries don't count.
     pub fn distance_row(&self, template: u8) -> (u8, &[u8; 16])
         requires { template < length self.now.templates }
         ensures value { take result.0 result.1.now ≡ (template_at self.now template).distances }

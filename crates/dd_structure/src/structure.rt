@@ -31,7 +31,7 @@ ghost use Rattle.dd_bits.specs.Reader.{bits_left};
 ghost use Rattle.dd_bits.specs.Sequences.{Gives};
 ghost use Rattle.dd_structure.specs.Reading.{some_structure_at};
 
-/// Does [`Structure::read_into`] for an `out` without a structure: stores a blank one there, then reads over it.
+/// Does what [`Structure::read_into`] does, for an `out` without a structure: stores a blank one there, then reads over it.
 #[tactic(auto, unfolding(crate::specs::Reading::some_structure_at))]
 #[inline(never)]
 fn read_anew(bits: &mut BitReader<'_>, out: &mut Option<Structure>) -> Result<(), StructureFault>

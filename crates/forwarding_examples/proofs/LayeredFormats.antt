@@ -1,4 +1,4 @@
--- The format with templates has the facts on which the laws rest.
+-- All facts on which the laws rest hold for the format with templates.
 use Rattle.std.proofs.Common.{◌≡◌, ◌-◌, ◌^◌, ◌<◌, ◌≤◌, ℕ, zero, suc, arith, Bool, true, false, List, [], ◌∷◌, refl, sym, subst, ap, ◌∙◌, cond, true≢false, length}
 use Rattle.std.specs.Prelude.{◌==◌, nat_lt, nat_le, slice_get, slice_index}
 use Rattle.std.specs.List.{list_all}
@@ -11,7 +11,7 @@ use Rattle.forwarding_examples.specs.WorkedFormat.{WorkedFields, carried_structu
 use Rattle.forwarding_examples.specs.LayeredFormat.{Template, are_distances, by_structure, fit, layered_descriptor, layered_format, layered_layout, layered_reading, of_structure, one_layer, own_or, templates, two_layers, with_template}
 use Rattle.forwarding_examples.proofs.WorkedFormats.{distance_at}
 
--- a descriptor that reads was put together of these fields, by this structure and a template of it
+-- a descriptor that can be read was made from these fields, with this structure and a template of it
 record IsRead (force : Option ℕ) (rest : List ℕ) (d : Descriptor ℕ) : Type 0 where
   fields : WorkedFields
   found : worked_fields rest ≡ Some fields

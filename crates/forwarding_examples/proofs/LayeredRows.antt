@@ -1,4 +1,4 @@
--- The rows compute.
+-- The rows hold by computation.
 use Rattle.std.proofs.Common.{refl}
 use Rattle.forwarding_examples.specs.LayeredRows.{BrokenChain, BrokenChainSent, UpperLost, UpperLostSent, MaskSent, WishedCauses, WishedSent, WishedUnmet, OtherTemplate, NewStructureSent, LateJoinCausesOfTwo, LateJoinCausesOfOne}
 

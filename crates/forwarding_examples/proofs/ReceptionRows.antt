@@ -1,4 +1,4 @@
--- The rows compute.
+-- The rows hold by computation.
 use Rattle.std.proofs.Common.{refl}
 use Rattle.forwarding_examples.specs.ReceptionRows.{OtherNumberAtOnce, BrokenJoinAtOnce, SecondStartAtOnce, BrokenPayloadAtOnce, TooManyAtOnce, ReferenceAtTheEnd, FirstReference, FarthestReference, NotRtpFirst, NoDescriptor, LongKeyFrameAccepted, OpenEndFirst, BrokenPayloadFirst, OtherStructureFirst, StructureWithoutKey, WrappedFrameNumber, NoStructureBeforeBroken}
 

@@ -1,4 +1,4 @@
--- What the words of the laws refuse.
+-- What the definitions in the laws reject.
 use Rattle.std.proofs.Common.{◌≡◌, ◌⊎◌, inl, inr, ℕ, List, [], ◌∷◌, arith, true, false, refl, ap, ◌+◌, subst}
 use Rattle.std.specs.List.{list_any}
 use Rattle.forwarding_model.specs.forwarding.Standing.{is_key}

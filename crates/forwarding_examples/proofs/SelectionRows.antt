@@ -1,4 +1,4 @@
--- The worked timelines for single rules compute.
+-- The rows of the timelines for single rules hold by computation.
 use Rattle.std.proofs.Common.{refl}
 use Rattle.forwarding_examples.specs.SelectionRows.{PassingOpensNothing, NewEpochGivesTheReason, WithheldFramesBeginEpochs, TemporalWishIsKept, DiscardableFramesPass, DiscardableFramesOpenNothing, FourthBitIsTargetThree, AbsenceComesFirst, NoTargetComesFirst, GreatestBelowIsTold, OldFramesKeepTheirCauses, KeyFramesArentForgotten, LowerMarkersAreKept, FirstNumbers, SpatialComesFirst, FirstOfEquals, BrokenChainPath, GreaterLayersFirst}
 

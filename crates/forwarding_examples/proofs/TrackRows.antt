@@ -1,4 +1,4 @@
--- The rows compute.
+-- The rows hold by computation.
 use Rattle.std.proofs.Common.{refl}
 use Rattle.forwarding_examples.specs.TrackRows.{TornNumber, EqualNumber, OwnMask, ThreeTargets, LongKeyFrame, EpochsAndStarts, StructureInside, StructureFirst, GapTears, PaddingIsPassedOver, StartBeginsAnew, PaddingFirst, PartsOfAFrame, ThirdSubscriberMarkers, OnlyTheSecondTook, OneCallNumbers, OneCallCauses, PlainContents, PlainQueue, PlainHistory, PlainTaken, LongStore, LongStoreResends}
 

@@ -1,4 +1,4 @@
--- The worked packets compute.
+-- The rows on packets hold by computation.
 use Rattle.std.proofs.Common.{refl}
 use Rattle.forwarding_examples.specs.WorkedPackets.{UnreadInside, BrokenInside, OtherStructureInside, BrokenKeyStart, TornKeyFrame, BrokenMask, PaddingSaysNothing, LastMask, MaskAgain, FirstNumberZero, FarthestAbove, NearestBehind, LongFrame, TooLongFrame, FirstSubscriber, FirstSubscriberMarkers, SecondSubscriber, SecondSubscriberTaken, ThirdSubscriber, ThirdSubscriberCauses, HistoryNumbers, HistoryTaken, HistoryCauses, PaddedFrame, TornFrame, EarlyStart, WrappedNumbers, StaleNumber, NewMask, OtherStructure, Accepted, AcceptedCounts, NotRtp, OtherSource, RepeatedNumber, WrappedSequence, LacksKeyFrame, EmptyPayload, LacksStart, SecondStart, BrokenJoin, LacksReference, LostReference, OtherNumber, EndCarries, StartContinues, LongestFrame, TooManyPackets, FaultyDescriptor, BrokenPayload, StructureRule, SameStructure, NoStructureFirst, SourceFirst, NumberBeforeContent, FirstComplaintStays, StaleEmpties, StaleCounts}
 

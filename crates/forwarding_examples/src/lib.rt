@@ -1,4 +1,4 @@
-//! Worked examples of forwarding: what the definitions of `forwarding_model` give for packets, timelines and histories that were worked
+//! Worked examples of forwarding: what the definitions of `forwarding_model` yield for packets, timelines and histories that were worked
 //! out by hand, and what the definitions in `forwarding_laws` reject. Each table of rows is the contract of a function that does nothing.
 #![tactic(auto)]
 

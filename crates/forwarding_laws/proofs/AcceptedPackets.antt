@@ -1,4 +1,4 @@
--- A strict receiver has no complaint of packets that are accepted in words.
+-- A strict receiver has no complaint about packets that are accepted as the words define it.
 use Rattle.std.proofs.Common.{◌≡◌, ◌⊎◌, inl, inr, ◌+◌, ◌%◌, ◌<◌, ◌≤◌, ℕ, arith, Bool, true, false, List, [], ◌∷◌, ◌++◌, refl, sym, subst, ap, ◌∙◌, cond, true≢false, ◌&&◌, map, not, length}
 use Rattle.std.specs.Prelude.{pos, ◌==◌, nat_lt}
 use Rattle.std.specs.Bool.{beq}
@@ -26,7 +26,7 @@ use Rattle.forwarding_laws.proofs.StrictReceiver.{complaint-packets, receive_on}
 
 -- ---- packets in order, of one source
 
--- a packet, of which neither source nor number is looked at
+-- a packet, without a check of its source or number
 abbrev pub take_packet : {S : Type 0} → Format S → Receiver S → Packet → Receiver S
 take_packet format Waiting packet = accepted format (new_reception packet.ssrc) packet
 take_packet format (Receiving r) packet = accepted format r packet
@@ -110,7 +110,7 @@ Covers (g ∷ past) received =
     (received.newest % 65536 ≡ g.number % 65536)
     × AllByRecursion (λ c. IsReceivedAs received.numbers received.newest g.number c.number) (counted (g ∷ past))
 
--- so too where the next frame is placed, of the frames that count before it
+-- and likewise after the next frame is placed, for the frames that count before it
 record IsPlacedAs {S : Type 0} (counts : List (ReceivedFrame S)) (n : ℕ) (before : Received) : Type 0 where
   same : before.newest % 65536 ≡ n % 65536
   known : AllByRecursion (λ c. IsReceivedAs before.numbers before.newest n c.number) counts
@@ -118,7 +118,7 @@ record IsPlacedAs {S : Type 0} (counts : List (ReceivedFrame S)) (n : ℕ) (befo
 congruent : (r n : ℕ) → (number_above r n) % 65536 ≡ n % 65536
 congruent r n = omega arith
 
--- a number next to the newest is as far ahead of what stands for it
+-- a number next to the newest frame's is as far above that as its remainder is ahead of the receiver's newest number
 ahead : (r g m n : ℕ) → r % 65536 ≡ g % 65536 → n % 65536 ≡ m % 65536 → g < n → n < g + 32768 → g + ahead_of (pos r) m ≡ n
 ahead r g m n same numbered low high = omega arith
 
@@ -161,7 +161,7 @@ placed_as {S} frames received h n covers numbered = go h.key (is_next_to frames 
     go false false false beside up = record { same = sym numbered; known = tt }
     go false true above beside up = near frames above covers beside up
 
--- what a frame refers to counts as received
+-- the references of a frame count as received
 references_found : {S : Type 0} (counts : List (ReceivedFrame S)) (n : ℕ) (before : Received) (references : List ℕ) → IsPlacedAs counts n before
     → AllByRecursion (IsThere counts n) references
     → judged_at before references ≡ Complete (record { newest = before.newest; numbers = before.newest ∷ before.numbers })
@@ -208,7 +208,7 @@ abbrev pub between : {S : Type 0} → ℕ → ℕ → Option S → Received → 
 between ssrc last force received =
     Receiving (record { ssrc = ssrc; sequence_number = last; structure = force; frame = None; received = received })
 
--- once the newest part of a frame came
+-- after the newest part of a frame came
 abbrev pub after_part : {S : Type 0} → ℕ → ℕ → Option S → Option OpenFrame → Received → OpenFrame → Part (ReadPacket S) → Receiver S
 after_part ssrc last force before received frame part =
     with_frame (record { ssrc = ssrc; sequence_number = last; structure = force; frame = before; received = received }) frame part.end
@@ -238,7 +238,7 @@ next_taken format ssrc last force frame received part is starts number continues
       sym is.end,
     ) refl
 
--- what the parts after the newest are, of a frame that has begun
+-- the parts after the newest, of a frame that has begun
 pub record AreNext {S : Type 0} (format : Format S) (force : Option S) (frame : OpenFrame) (more : List (Part (ReadPacket S))) : Type 0 where
   pub few : frame.packets + length more ≤ 512
   pub starts : AllByRecursion (λ p. p.start ≡ false) more
@@ -268,7 +268,7 @@ ends_taken {S} format ssrc last force before received k frame part (next ∷ mor
           ∙ rest.1,
     )
 
--- parts of which none ends the frame are no ground for a complaint
+-- parts of which none ends the frame cause no complaint
 none_ends_taken : {S : Type 0} (format : Format S) (ssrc last : ℕ) (force : Option S) (before : Option OpenFrame) (received : Received)
     (frame : OpenFrame) (part : Part (ReadPacket S)) (more : List (Part (ReadPacket S)))
     → AreNext format force frame more → AllByRecursion (λ p. p.end ≡ false) (part ∷ more) → JoinSoFar frame.carries more

@@ -1,4 +1,4 @@
--- What a strict receiver has seen when it has no complaint.
+-- What a strict receiver without a complaint has seen.
 use Rattle.std.proofs.Common.{◌≡◌, ◌⊎◌, inl, inr, ◌+◌, ◌-◌, ◌%◌, ◌<◌, ℕ, arith, Bool, true, false, List, [], ◌∷◌, ◌++◌, refl, sym, subst, ap, ◌∙◌, cond, true≢false, ◌&&◌, map, not, length, append_assoc, append-nil}
 use Rattle.std.specs.Prelude.{pos, ◌==◌, nat_lt}
 use Rattle.std.specs.Bool.{beq}
@@ -26,7 +26,7 @@ use Rattle.forwarding_model.proofs.WholeCuts.{open_run_is_unfinished, IsRunFound
 use Rattle.forwarding_laws.proofs.Receiving.{receive_packets, not_key}
 use Rattle.forwarding_laws.proofs.StrictReceiver.{complaint-packets}
 
--- ---- what is received stands for the frames since the newest key frame
+-- ---- the received numbers are those of the frames since the newest key frame
 
 abbrev IsOneOf : {S : Type 0} → List (ReceivedFrame S) → ℕ → Type 0
 IsOneOf frames m = (g : ReceivedFrame _) × IsMember g frames × (g.number ≡ m)
@@ -59,7 +59,7 @@ next_to g past received n same up =
     let from : g.number < number_above received.newest n = omega arith in
     both _ _ (lt-ltb g.number (number_above received.newest n) from) (lt-ltb (number_above received.newest n) (g.number + 32768) up_to)
 
--- a number next to the newest is as far ahead of it as its remainder
+-- a number 1 to 32,767 above r is read from its remainder as 1 to 32,767 ahead of r
 ahead_by : (r m n : ℕ) → m % 65536 ≡ n % 65536 → r < m → m < r + 32768 → (0 < ahead_of (pos r) n) × (ahead_of (pos r) n < 32768)
 ahead_by r m n same low high =
     let d : ahead_of (pos r) n ≡ m - r = omega arith in
@@ -84,7 +84,7 @@ congruent r n = omega arith
 is_placed : {S : Type 0} (frames : List (ReceivedFrame S)) (received : Received) (h : FrameHeader) → StandsFor frames received → IsPlaced frames h (placed received h)
 is_placed {S} frames received h stands = by_key h.key refl
   where
-    -- a number that lies above the newest
+    -- a number above the newest
     above : (frames : List (ReceivedFrame S)) → StandsFor frames received → is_above received.newest h.number ≡ true → h.key ≡ false
         → IsPlaced frames h (record { newest = number_above received.newest h.number; numbers = received.numbers })
     above [] stands up k =

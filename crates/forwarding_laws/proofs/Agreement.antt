@@ -1,4 +1,4 @@
--- A test that is exact for the distances that a frame names decides as an exact one.
+-- A test that is exact for the distances that a frame names leads to the same decisions as an exact one.
 use Rattle.std.proofs.Common.{◌≡◌, ◌+◌, ◌-◌, ℕ, Bool, true, false, ◌||◌, ◌&&◌, not, List, [], ◌∷◌, ap, refl, ◌∙◌, cond}
 use Rattle.std.specs.Prelude.{nat_lt, nat_le}
 use Rattle.std.proofs.lemmas.Bool.{ltb-true}

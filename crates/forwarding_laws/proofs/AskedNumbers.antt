@@ -1,4 +1,4 @@
--- Which numbers can be asked for.
+-- The numbers whose causes are known.
 use Rattle.std.proofs.Common.{◌≡◌, ◌+◌, ◌<◌, ◌≤◌, ℕ, arith, true, false}
 use Rattle.std.proofs.lemmas.Bool.{ltb-true, ltb-false, leb-true, leb-false}
 use Rattle.std.specs.declared.option.Option.TheVariants.{Some}

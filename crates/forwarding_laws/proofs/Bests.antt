@@ -93,7 +93,7 @@ best_is f test pairs (suc n) = go (best_below f test n) (test n) refl (best_is f
     go (Some u) false e h = (let l : u < n = h.0 in omega arith, h.1, λ t lt k. elim (below_or t n lt) [ inl l ↦ h.2 t l k | inr s ↦ absurd (not_n e t s k) ])
     go (Some u) true e h = chosen u e h (is_better f n u) refl
 
--- what is allowed has a pair
+-- an allowed target has a pair
 allowed_layers : (wish : Wish) (f : FrameMeaning) (t : ℕ) → is_allowed wish f t ≡ true → (p : Wish) × (layers f t ≡ Some p)
 allowed_layers wish f t h = go (layers f t) refl (and_parts (is_active f t) _ h).1
   where

@@ -1,4 +1,4 @@
--- A frame's number has the frame's verdict as its cause, and any other number a hole.
+-- The cause of a frame's number is the frame's verdict, and that of any other number is a hole.
 use Rattle.std.proofs.Common.{◌≡◌, inl, inr, ◌+◌, ◌<◌, ◌≤◌, ℕ, arith, Bool, true, false, List, [], ◌∷◌, ◌++◌, refl, sym, subst, ap, ◌∙◌, cond, map, length}
 use Rattle.std.specs.Prelude.{◌==◌, nat_lt}
 use Rattle.std.proofs.lemmas.Bool.{eq-eqb, ne_eqb, ltb-true, ltb-false}
@@ -20,7 +20,7 @@ use Rattle.forwarding_laws.specs.forwarding.CauseWords.{frame_numbers, IsNextAbo
 use Rattle.forwarding_laws.proofs.Members.{each_member}
 use Rattle.forwarding_laws.proofs.Claimed.{claimed}
 
--- ---- over verdicts that were written down
+-- ---- for recorded verdicts
 
 abbrev step_numbers : List Step → List ℕ
 step_numbers steps = map (λ step. step.number) steps

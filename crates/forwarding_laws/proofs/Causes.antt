@@ -1,4 +1,4 @@
--- What a standing keeps of the causes, and that what a cause names lies below and was not passed.
+-- What a standing keeps of the causes, and that a number that a cause names is lower and wasn't passed.
 use Rattle.std.proofs.Common.{◌≡◌, ◌≢◌, inl, inr, ◌+◌, ◌-◌, ◌<◌, ◌≤◌, ℕ, arith, Bool, true, false, List, [], ◌∷◌, ◌++◌, refl, sym, subst, ap, ◌∙◌, cond, true≢false, not, length}
 use Rattle.std.specs.Prelude.{◌==◌, nat_lt, nat_le}
 use Rattle.std.proofs.lemmas.Bool.{eqb-true, eq-eqb, ne_eqb, and_parts, ltb-true, leb-true, not-true}
@@ -51,7 +51,7 @@ pub record IsTold (past : List FrameMeaning) (steps : List Step) (s : Standing) 
   pub cut : AtBroken s.target (λ m. (m < newest_of past) × (verdict_among steps m ≡ Some Passed → ⊥))
   pub told : (m : ℕ) → verdict_among steps m ≡ Some Passed → (g : FrameMeaning) × IsMember g s.passed × (g.number ≡ m)
 
--- the frames of one epoch lie side by side
+-- the frames of one epoch follow one another without others between them
 pub epoch_apart : (past : List FrameMeaning) (f g : FrameMeaning) (epoch : Option ℕ) → IsOneTrack (f ∷ past) → IsEpochOf past epoch → IsMember g past
     → g.epoch ≡ f.epoch → is_epoch epoch f.epoch ≡ false → ⊥
 epoch_apart [] f g epoch track e m same other = elim m [ ]
@@ -199,7 +199,7 @@ linked_cut past steps s f (Open t opened) track told known one opening h = go (i
 
 -- ---- the invariant is kept
 
--- a cause below f's number is that of before
+-- the cause of a number below f's is the same as before
 older_cause : (steps : List Step) (f : FrameMeaning) (v : Verdict) (m : ℕ) → m < f.number
     → verdict_among (record { number = f.number; verdict = v } ∷ steps) m ≡ verdict_among steps m
 older_cause steps f v m lt = rw (ne_eqb f.number m (λ e. omega arith)) refl
@@ -312,7 +312,7 @@ verdict_frame wish (PlainPacket p ∷ past) n v h = verdict_frame wish past n v 
 verdict_frame wish (WishChange w ∷ past) n v h = verdict_frame wish past n v h
 verdict_frame wish (Take ∷ past) n v h = verdict_frame wish past n v h
 
--- the number that a cause names lies below, and has another cause than Passed
+-- the number that a cause names is lower, and its cause isn't Passed
 pub names_unpassed : {S : Type 0} (wish : Wish) (events : List (Event S)) (n : ℕ) (v : Verdict) → IsOneTrack (meanings_of events)
     → verdict_among (verdicts wish events) n ≡ Some v → AtSome (followed v) (IsUnpassed (verdicts wish events) n)
 names_unpassed wish [] n v track h = absurd (grind arith)

@@ -1,4 +1,4 @@
--- What each verdict says is so, and no other verdict says what is so.
+-- What the verdict on a frame says is true, and what any other verdict says is false.
 use Rattle.std.proofs.Common.{◌≡◌, ◌↔◌, inl, inr, ◌+◌, ◌-◌, ◌<◌, ◌≤◌, ℕ, arith, Bool, true, false, List, [], ◌∷◌, ◌++◌, refl, sym, subst, ap, ◌∙◌, cond}
 use Rattle.std.specs.Prelude.{nat_lt}
 use Rattle.std.proofs.lemmas.Bool.{ltb-true, ltb-false, leb-true, leb-false, lt-ltb, le-leb}
@@ -109,7 +109,7 @@ verdict_says s f packets = go (candidate_at s f) refl
 pub claimed : (s : Standing) (f : FrameMeaning) (packets : ℕ) (v : Verdict) → verdict_at s f packets ≡ v → Says s f packets v
 claimed s f packets v e = subst (Says s f packets) e (verdict_says s f packets)
 
--- ---- and no other verdict says what is so
+-- ---- and what any other verdict says is false
 
 first_missing : (has : ℕ → Bool) (before behind : List ℕ) (d : ℕ) → AllByRecursion (λ e. has e ≡ true) before → has d ≡ false → first_failing has (before ++ d ∷ behind) ≡ Some d
 first_missing has [] behind d passed lost = ap (λ b. cond b (first_failing has behind) (Some d)) lost

@@ -1,4 +1,4 @@
--- The place of a complaint is how many packets came before what it is of.
+-- The place of a complaint is the number of packets that came before the one that it is about.
 use Rattle.std.proofs.Common.{◌≡◌, ◌+◌, arith, true, List, [], ◌∷◌, ◌++◌, refl, sym, ap, ◌∙◌, cond, length, map}
 use Rattle.std.specs.declared.option.Option.{Option}
 use Rattle.std.specs.declared.option.Option.TheVariants.{None, Some}
@@ -53,7 +53,7 @@ pub no_complaint_is_of_packets : {S : Type 0} (format : Format S) (came : List (
     → (packets : List Packet) × (came ≡ map Some packets)
 no_complaint_is_of_packets format came h = packets_from format came Waiting h
 
--- what a receiver complains of, which has no complaint yet
+-- the complaint of a receiver that had none before these packets
 record IsComplaintFrom {S : Type 0} (format : Format S) (r : Receiver S) (came : List (Option Packet)) (c : Complaint) : Type 0 where
   before : List (Option Packet)
   next : Option Packet

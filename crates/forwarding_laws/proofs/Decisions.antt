@@ -1,4 +1,4 @@
--- The rules of selection are the words.
+-- The rules of selection agree with the words.
 use Rattle.std.proofs.Common.{◌≡◌, ◌≢◌, ◌⊎◌, inl, inr, ◌+◌, ◌-◌, ◌<◌, ◌≤◌, ℕ, arith, Bool, true, false, List, [], ◌∷◌, refl, sym, subst, ap, ◌∙◌, cond, true≢false, ◌&&◌, ◌||◌, not, length}
 use Rattle.std.specs.Prelude.{◌==◌, nat_lt, nat_le}
 use Rattle.std.proofs.lemmas.Bool.{and_parts, or_cases, not-true, ltb-true, leb-true, lt-ltb, le-leb, eq-eqb}
@@ -78,7 +78,7 @@ broken_links_break s f target opened o active b =
 
 -- ---- why a target is closed
 
--- it is closed at this frame, or was before
+-- the target is closed at this frame, or was closed before
 pub kept_closed : (s : Standing) (f : FrameMeaning) (reason : Reason) → kept_target_at s f ≡ Closed reason
     → ClosesAt s f reason ⊎ ((s.epoch ≡ Some f.epoch) × (s.target ≡ Closed reason))
 kept_closed s f reason h = by_epoch (is_epoch s.epoch f.epoch) refl h
@@ -137,7 +137,7 @@ no_frames-no_epoch wish (PlainPacket p ∷ past) e = go (plain_passes (standing 
 no_frames-no_epoch wish (WishChange w ∷ past) e = no_frames-no_epoch wish past e
 no_frames-no_epoch wish (Take ∷ past) e = no_frames-no_epoch wish past e
 
--- where a target is closed already, and no other epoch begins, no frame closes one
+-- if a target is closed already, and no other epoch begins, no frame closes a target
 closed_closes_none : (s : Standing) (f : FrameMeaning) (reason : Reason) → s.epoch ≡ Some f.epoch → s.target ≡ Closed reason → ClosesNone s f
 closed_closes_none s f reason here shut (BrokenLink at number) c = let o = c.3.target_is in let both : Closed reason ≡ Open c.1 c.2 = sym shut ∙ o in cc
 closed_closes_none s f reason here shut (NotOpened since) c = elim c.1 [
@@ -305,7 +305,7 @@ pub opens_what_it_can : (has : ℕ → Bool) (key_passed : Bool) (wish : Wish) (
 opens_what_it_can has key_passed wish f current target e c =
     opening_best has key_passed wish f current None e target c.below (can_open_test has key_passed wish f current target c)
 
--- ---- what passes is present in a target that the mask has
+-- ---- a frame that passes is present in a target that its mask has
 
 kept_active : (has : ℕ → Bool) (f : FrameMeaning) (current : CurrentTarget) (target opened : ℕ) → kept_target has f current ≡ Open target opened → is_active f target ≡ true
 kept_active has f (Closed reason) target opened h = absurd (cc)

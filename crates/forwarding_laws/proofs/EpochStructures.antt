@@ -1,4 +1,4 @@
--- The structure of each epoch, of frames that have one for each.
+-- A structure for each epoch, if all frames of an epoch have the same.
 use Rattle.std.proofs.Common.{◌≡◌, inl, inr, ℕ, Bool, true, false, List, [], ◌∷◌, refl, sym, ap, cond}
 use Rattle.std.specs.Prelude.{◌==◌}
 use Rattle.std.proofs.lemmas.Bool.{eqb-true, eq-eqb}

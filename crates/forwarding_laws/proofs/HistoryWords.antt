@@ -222,7 +222,7 @@ pub joins_begin : {S : Type 0} (released : List Item → List Item → List (Eve
     → timeline_by released send number (Joined number subscriber ∷ past) ≡ []
 joins_begin released send number subscriber past = ap (λ b. cond b [] (timeline_by released send number past)) (eq-eqb number number refl)
 
--- ---- how somebody joined
+-- ---- the join of a subscriber
 
 pub joins_are_known : (number : ℕ) (subscriber : Subscriber) (since past : List Entry) → NoneJoins number since
     → subscriber_of number (since ++ Joined number subscriber ∷ past) ≡ Some subscriber

@@ -1,4 +1,4 @@
--- A frame that passes opens its target, or the chain's link in it was passed.
+-- A frame that passes opens its target, or the frame that its link in the target's chain names was passed.
 use Rattle.std.proofs.Common.{◌≡◌, inl, inr, ◌+◌, ◌-◌, ℕ, Bool, true, false, refl, sym, ap, ◌∙◌, cond, true≢false}
 use Rattle.std.proofs.lemmas.Bool.{and_parts, lt-ltb, le-leb}
 use Rattle.std.specs.declared.option.Option.{Option}
@@ -12,7 +12,7 @@ use Rattle.forwarding_model.specs.forwarding.Targets.{is_active}
 use Rattle.forwarding_model.specs.forwarding.Selection.{candidate, chain_link, is_link_broken, is_present_in, kept_target, opened_or, opening, passes, target_after_link}
 use Rattle.forwarding_laws.specs.forwarding.Restart.{IsLinked, IsOpenAndLinked}
 
--- what isn't broken is linked
+-- if the link isn't broken, the target is linked
 unbroken_linked : (has : ℕ → Bool) (f : FrameMeaning) (target opened : ℕ) → is_link_broken has f target opened ≡ false → IsLinked has f target opened
 unbroken_linked has f target opened whole chains linked late = go (has (chain_link f target)) refl
   where
@@ -31,7 +31,7 @@ kept_linked has f target opened h = go (is_link_broken has f target opened) refl
     go true e k = absurd (cc)
     go false e k = unbroken_linked has f target opened e
 
--- what mask and link leave open was open before
+-- a target that the mask and the link leave open was open before
 pub kept_open : (has : ℕ → Bool) (f : FrameMeaning) (current : CurrentTarget) (target opened : ℕ) → kept_target has f current ≡ Open target opened
     → (current ≡ Open target opened) × IsLinked has f target opened
 kept_open has f (Closed reason) target opened h = absurd (cc)

@@ -1,4 +1,4 @@
--- The frames that come out of items are one track's frames, and whole, each under the structure of its epoch.
+-- The frames that items make are one track's frames, and whole, each with the structure of its epoch.
 use Rattle.std.proofs.Common.{◌≡◌, ◌⊎◌, inl, inr, ◌%◌, ◌<◌, ◌≤◌, ℕ, arith, Bool, true, false, List, [], ◌∷◌, refl, sym, subst, ap, ◌∙◌, cond, true≢false, ◌&&◌, ◌||◌, map, not}
 use Rattle.std.proofs.lemmas.Bool.{and_parts, not-true}
 use Rattle.std.specs.List.{AllByRecursion}
@@ -213,7 +213,7 @@ forced_run format force frames (Some run) h k = go (run.newest.end && not run.ne
         subst (λ o. IsForcedWith format force frames (framed format force run o (number_of force run.first.brings.descriptor))) (sym k.head.has)
         (forced_number format force frames run h k (k.ends a.0 (not-true run.newest.carries a.1)))
 
--- ---- an open run stays open when a frame is added, or more is in force
+-- ---- an open run stays open if a frame is added, or if what is in force changes
 
 open_framed : {S : Type 0} (format : Format S) (force : Force S) (frames : List (Frame S)) (newest : ℕ) (o : Option (Run (ReadPacket S))) → KeepsOpen format force frames o
     → KeepsOpen format (record force { newest = newest }) frames o
@@ -261,7 +261,7 @@ open_other format force frames d (Some run) k = λ l.
       opens = old.opens;
     }
 
--- where a frame was made, the run has ended
+-- if a frame was made, the run has ended
 ended_closed : {S : Type 0} (format : Format S) (force : Force S) (frames : List (Frame S)) (o : Option (Run (ReadPacket S))) → KeepsRun format force frames o
     → KeepsOpen format (with_frame force (frame_of format force (whole o))) (in_front (frame_of format force (whole o)) frames) o
 ended_closed format force frames None k = tt

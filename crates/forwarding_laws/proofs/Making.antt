@@ -141,7 +141,7 @@ forced_by {S} format ds force (Arrived p) h = go (format.payload p.rest)
     go Broken = by_showing (shown format force.structure p.rest)
     go (Elements joins) = by_showing (shown format force.structure p.rest)
 
--- with what the item says, and before the frame that it makes
+-- the same after one more item, before the frame that the item makes
 force_at : {S : Type 0} (format : Format S) (item : Item) (past : List Item) → IsBy format (said format past) (state_after format past).force
     → IsBy format (said format (item ∷ past)) (force_by format (state_after format past).force item)
 force_at format item past h =
@@ -161,7 +161,7 @@ in_force_by format items = let h = all_by format items in record { structure = h
 pub start_is : {S : Type 0} (format : Format S) (item : Item) (past : List Item) → start_number format (item ∷ past) ≡ (force_by format (state_after format past).force item).start
 start_is {S} format item past = ap (λ (m : Made S). m.state.force.start) (made_as format (state_after format past) item)
 
--- what an item says was seen
+-- the descriptor that an item carries took effect
 pub said_seen : {S : Type 0} (format : Format S) (force : Force S) (item : Item) (d : Descriptor S) → said_by format force.structure item ≡ Some d
     → force_by format force item ≡ after_descriptor format force d
 said_seen format force Missing d h = absurd (cc)
@@ -236,7 +236,7 @@ whole_begun {X} part run h = go part.continues h
     go true k = absurd (cc)
     go false k = ended (part.end && _) k
 
--- where the frame that ends isn't a key frame, its last packet is no key start
+-- if the frame that ends isn't a key frame, its last packet is no key start
 newest_kept : {S : Type 0} (format : Format S) (force : Force S) (o : Option (Run (ReadPacket S))) (item : Item) (run : Run (ReadPacket S))
     → cut_by o (item_mark format force.structure item) ≡ Some run → is_key_start run.first.brings.descriptor ≡ false → (force_by format force item).newest ≡ force.newest
 newest_kept format force o Missing run h k = absurd (cc)

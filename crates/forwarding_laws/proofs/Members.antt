@@ -34,7 +34,7 @@ member_any test (y ∷ ys) x (inr m) t = go (test y) refl (member_any test ys x 
     go true e r = rw e refl
     go false e r = rw e r
 
--- no one fails where each passes
+-- none fails if each passes
 pub none_failing : (test : ℕ → Bool) (xs : List ℕ) → AllByRecursion (λ x. test x ≡ true) xs → first_failing test xs ≡ None
 none_failing test [] a = refl
 none_failing test (x ∷ xs) a = rw a.0 (none_failing test xs a.1)
@@ -47,7 +47,7 @@ failing_none test (x ∷ xs) h = go (test x) refl (failing_none test xs)
     go true e rec = (e, rec (rw e at h))
     go false e rec = let no : Some x ≡ None = rw e at h in absurd (grind arith)
 
--- one that fails is among them, and fails
+-- one that fails is in the list, and fails the test
 pub failing_some : (test : ℕ → Bool) (xs : List ℕ) (x : ℕ) → first_failing test xs ≡ Some x → IsMember x xs × (test x ≡ false)
 failing_some test [] x h = absurd (grind arith)
 failing_some test (y ∷ ys) x h = go (test y) refl (failing_some test ys x)

@@ -1,4 +1,4 @@
--- What an item makes of the newest number, and what of the mask.
+-- How an item changes the newest number, and how the mask.
 use Rattle.std.proofs.Common.{◌≡◌, ◌-◌, ◌*◌, ◌/◌, ◌%◌, ◌^◌, ◌<◌, ℕ, zero, suc, arith, Bool, true, false, List, [], ◌∷◌, refl, sym, ap, ◌∙◌, cond}
 use native.Mathlib.Nat.{div-div-eq-div-mul}
 use Rattle.std.proofs.lemmas.Nat.{pow_pos}
@@ -17,7 +17,7 @@ use Rattle.forwarding_laws.proofs.Making.{all_by, force_by, item_mark, made_as, 
 
 -- ---- numbers
 
--- what begins no epoch changes no number
+-- an item that begins no epoch changes no number
 record Keeps {S : Type 0} (before after : Force S) : Type 0 where
   newest : after.newest ≡ before.newest
   start : after.start ≡ before.start

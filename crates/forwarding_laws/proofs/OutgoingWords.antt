@@ -1,4 +1,4 @@
--- What goes out at a frame, its markers and its numbers are the words.
+-- What is forwarded at a frame, with its markers and numbers, agrees with the words.
 use Rattle.std.proofs.Common.{◌≡◌, ◌↔◌, ◌+◌, ◌%◌, ℕ, zero, suc, arith, Bool, true, false, List, [], ◌∷◌, ◌++◌, refl, sym, ap, ◌∙◌, cond, true≢false, length, slice_get, option_map}
 use Rattle.std.proofs.lemmas.Bool.{eqb-true, eq-eqb}
 use Rattle.std.proofs.lemmas.List.{length-take-le}
@@ -57,7 +57,7 @@ pub next_numbers_count_takes : {S : Type 0} (send : Sender S) (subscriber : Subs
 next_numbers_count_takes send subscriber events found =
     ap (λ k. (subscriber.first + k) % 65536) (length-take-le (takes_of events) (outgoing send subscriber events) (takes_fit send subscriber events found))
 
--- ---- what goes out at a frame
+-- ---- what is forwarded at a frame
 
 at_frame : {S : Type 0} (send : Sender S) (subscriber : Subscriber) (frame : Frame S) (past : List (Event S)) (b : Bool)
     → passes_at (standing subscriber.wish past) frame.meaning (length frame.packets) ≡ b

@@ -1,4 +1,4 @@
--- What goes out only grows, is numbered in order, and is resent as it was.
+-- The forwarded packets only grow, are numbered in order, and are retransmitted as they were.
 use Rattle.std.proofs.Common.{◌≡◌, inl, inr, ◌+◌, ◌-◌, ◌%◌, ◌<◌, ◌≤◌, ℕ, zero, suc, arith, Bool, true, false, List, [], ◌∷◌, ◌++◌, refl, sym, subst, ap, ◌∙◌, cond, map, length, length-append, length-drop, append_assoc, append-nil, take, drop}
 use Rattle.std.specs.Prelude.{◌==◌}
 use Rattle.std.proofs.lemmas.Bool.{eqb-true, eq-eqb, ne_eqb}
@@ -61,11 +61,11 @@ drop-numbered (suc i) n ssrc [] = refl
 drop-numbered (suc i) n ssrc (p ∷ ps) =
     drop-numbered i (n + 1) ssrc ps ∙ ap (λ k. numbered k ssrc (drop i ps)) (let e : (n + 1) + i ≡ n + suc i = omega arith in e)
 
--- the first packet from a place on
+-- the packet with sequence number n, modulo 65,536, and this SSRC
 abbrev pub numbered_as : ℕ → ℕ → Packet → Packet
 numbered_as n ssrc p = record { sequence_number = n % 65536; ssrc = ssrc; marker = p.marker; rest = p.rest }
 
--- of fewer than 65,536 packets, the number of one finds that one
+-- among fewer than 65,536 packets, a packet's number finds that packet
 pub find-numbered : (ps : List Packet) (n ssrc j : ℕ) (q : Packet) (rest : List Packet) → drop j ps ≡ q ∷ rest → j < 65536
     → find (λ p. p.sequence_number == ((n + j) % 65536)) (numbered n ssrc ps) ≡ Some (numbered_as (n + j) ssrc q)
 find-numbered [] n ssrc zero q rest e lt = absurd (grind arith)
@@ -84,7 +84,7 @@ find-numbered (p ∷ ps) n ssrc (suc j) q rest e lt =
     ∙ subst (λ k. find (λ x. x.sequence_number == (k % 65536)) (numbered (n + 1) ssrc ps) ≡ Some (numbered_as k ssrc q)) number
     (find-numbered ps (n + 1) ssrc j q rest e (omega arith))
 
--- ---- what goes out grows
+-- ---- the forwarded packets grow
 
 pub record Grows (before after : List Packet) : Type 0 where
   pub more : List Packet
@@ -126,9 +126,9 @@ takes_grow (PlainPacket p ∷ since) past = takes_grow since past
 takes_grow (WishChange w ∷ since) past = takes_grow since past
 takes_grow (Take ∷ since) past = let h = takes_grow since past in omega arith
 
--- ---- a resend
+-- ---- a retransmission
 
--- what stands first from a place on stands there still in a longer list, and in the part of it up to a later place
+-- the first packet at or after a place is still there in a longer list, and in the part of that up to a later place
 drop_longer : (i : ℕ) (xs ys rest : List Packet) (q : Packet) → drop i xs ≡ q ∷ rest → drop i (xs ++ ys) ≡ q ∷ (rest ++ ys)
 drop_longer zero [] ys rest q e = absurd (grind arith)
 drop_longer zero (x ∷ xs) ys rest q e = ap (λ l. l ++ ys) e
@@ -153,7 +153,7 @@ length_le_take zero xs = omega arith
 length_le_take (suc t) [] = omega arith
 length_le_take (suc t) (x ∷ xs) = let h = length_le_take t xs in omega arith
 
--- what is numbered and stands first from a place on was numbered there
+-- the first numbered packet at or after a place was numbered there
 pub first_numbered : (i n ssrc : ℕ) (ps : List Packet) (p : Packet) → first_of (drop i (numbered n ssrc ps)) ≡ Some p
     → (q : Packet) × (rest : List Packet) × (drop i ps ≡ q ∷ rest) × (p ≡ numbered_as (n + i) ssrc q)
 first_numbered i n ssrc ps p h = go (drop i ps) refl (sym (ap first_of (drop-numbered i n ssrc ps)) ∙ h)
@@ -201,7 +201,7 @@ resent_first send subscriber past since p h near =
     subst (λ x. resent send subscriber (since ++ Take ∷ past) x.sequence_number ≡ Some x) (sym first.3)
     (find_kept i t n subscriber.ssrc (forwarded send subscriber.wish (since ++ Take ∷ past)) (first.1 ++ grown.more) first.0 stands (omega arith) near)
 
--- and only what is kept is resent
+-- and only kept packets are retransmitted
 find-member : (test : Packet → Bool) (ps : List Packet) (p : Packet) → find test ps ≡ Some p → IsMember p ps × (test p ≡ true)
 find-member test [] p h = absurd (grind arith)
 find-member test (x ∷ xs) p h = go (test x) refl h (find-member test xs p)

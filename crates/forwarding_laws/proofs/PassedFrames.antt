@@ -1,4 +1,4 @@
--- The frames that count as passed at a frame are all that passed of its epoch.
+-- The frames that count as passed at a frame are all passed frames of its epoch.
 use Rattle.std.proofs.Common.{◌≡◌, ◌↔◌, ◌+◌, ℕ, Bool, true, false, List, [], ◌∷◌, refl, sym, subst, ap, ◌∙◌, cond, length}
 use Rattle.std.specs.Prelude.{◌==◌}
 use Rattle.std.proofs.lemmas.Bool.{eqb-true, eq-eqb, ne_eqb}

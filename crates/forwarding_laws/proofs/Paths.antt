@@ -12,7 +12,7 @@ use Rattle.forwarding_model.specs.forwarding.Causes.{verdict_among, verdicts, ca
 use Rattle.forwarding_laws.proofs.Causes.{names_unpassed, withheld_verdict}
 use Rattle.forwarding_laws.proofs.Verdicts.{AtSome, some_weaker}
 
--- a path whose numbers fall ends at a root, whatever the causes
+-- a path with falling numbers ends at a root, whatever the causes
 path_falls : (causes : ℕ → Verdict) → ((n : ℕ) → AtSome (followed (causes n)) (λ m. (m < n) × (causes m ≢ Passed)))
     → (fuel n : ℕ) → n < fuel → causes n ≢ Passed → IsPath (path_within fuel causes n)
 path_falls causes falls zero n lt unpassed = absurd (omega arith)
@@ -61,7 +61,7 @@ tells causes (suc limit) n = (refl, go (followed (causes n)) (tells causes limit
 pub path_tells : (causes : ℕ → Verdict) (n : ℕ) → TellsCauses causes (path causes n)
 path_tells causes n = tells causes (n + 1) n
 
--- of each number whose cause isn't Passed, frame or hole
+-- for each number whose cause isn't Passed, a frame's or a hole
 pub unpassed_path : {S : Type 0} (wish : Wish) (events : List (Event S)) (n : ℕ) → IsOneTrack (meanings_of events) → cause wish events n ≢ Passed
     → IsPath (path (cause wish events) n)
 unpassed_path wish events n track unpassed =

@@ -9,7 +9,7 @@ use Rattle.forwarding_model.specs.frames.Reading.DescriptorReading.{NeedsStructu
 use Rattle.forwarding_model.specs.frames.Reading.Showing.{Unread, Shows}
 use Rattle.forwarding_model.specs.frames.Frames.{all_targets, mask_by}
 
--- what a packet shows was read, and obeys the structure rule
+-- what a packet shows was read, and satisfies the structure rule
 pub record IsShown {S : Type 0} (format : Format S) (force : Option S) (rest : List ℕ) (d : Descriptor S) (payload : Payload) : Type 0 where
   pub reads : format.descriptor force rest ≡ Reads d
   pub obeys : obeys_structure format force d ≡ true
@@ -84,7 +84,7 @@ shown_carried format force rest d payload s facts h has =
       carries = has;
     }
 
--- the structure in force was carried, and is a layout that the mask fits
+-- the structure in force was carried, and the mask fits its layout
 pub record IsInForce {S : Type 0} (format : Format S) (s : S) (mask : ℕ) : Type 0 where
   pub carried : IsCarried format s
   pub layout : IsLayout (format.layout s)

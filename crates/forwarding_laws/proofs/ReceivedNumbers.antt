@@ -1,4 +1,4 @@
--- One frame that passes, at a receiver: it keeps the numbers of the passed frames of the epoch, all moved by one multiple of 65,536.
+-- One frame that passes, at a receiver: it keeps the numbers of the epoch's passed frames, all shifted by one multiple of 65,536.
 use Rattle.std.proofs.Common.{◌≡◌, ◌⊎◌, inl, inr, ◌+◌, ◌-◌, ◌%◌, ◌<◌, ◌≤◌, ℕ, arith, Bool, true, false, List, [], ◌∷◌, refl, sym, subst, ap, ◌∙◌}
 use Rattle.std.specs.Prelude.{pos, ◌==◌}
 use Rattle.std.proofs.lemmas.Bool.{eqb-true, eq-eqb, lt-ltb, cases_lt}
@@ -16,7 +16,7 @@ use Rattle.forwarding_model.specs.Receiver.Judged.{Complete, Lacks}
 use Rattle.forwarding_laws.proofs.WrapNumbers.{ahead_of_same, number_above-mod}
 use Rattle.forwarding_laws.proofs.Members.{each_member, each_of, any_member, member_any, none_failing, failing_none}
 
--- what the first packet of a frame says to a receiver
+-- what a receiver sees in the first packet of a frame
 abbrev pub header : FrameMeaning → FrameHeader
 header f = record { number = f.number % 65536; key = f.key; references = references f }
 
@@ -37,7 +37,7 @@ IsComplete (Lacks fdiff) = ⊥
 abbrev pub IsReceivedAs : List ℕ → ℕ → ℕ → ℕ → Type 0
 IsReceivedAs numbers r l x = (m : ℕ) × IsMember m numbers × (m + l ≡ x + r)
 
--- the numbers r and `numbers` stand for the frame l and the frames less than 4,097 below it
+-- the numbers r and `numbers` correspond to the frame l and the frames less than 4,097 below it
 pub record IsTracking (frames : List FrameMeaning) (l : FrameMeaning) (r : ℕ) (numbers : List ℕ) : Type 0 where
   pub newest : r % 65536 ≡ l.number % 65536
   pub known : AllByRecursion (λ g. l.number ≤ g.number + 4096 → IsReceivedAs numbers r l.number g.number) frames
@@ -132,7 +132,7 @@ tracks_near ls l f received t k distances lt near found =
       );
     })
 
--- f is further above it: it has no references, and whatever number is read, only f itself is near
+-- f is further above it: it has no references, and whatever its number is read as, only f itself is near
 no_references : (ls : List FrameMeaning) (l n : ℕ) (ds : List ℕ) → AllByRecursion (λ g. g.number ≤ l) ls → l + 4096 < n
     → AllByRecursion IsDistance ds → AllByRecursion (λ d. has_below ls n d ≡ true) ds → ds ≡ []
 no_references ls l n [] below far distances has = refl

@@ -61,7 +61,7 @@ step_rest ssrc last n s b received x marker format d joins seq c count =
       lt-ltb b.packets 512 count,
     ) refl
 
--- what is received once the rest of a frame came
+-- what is received after the rest of a frame came
 abbrev pub IsThrough : {S : Type 0} → ℕ → ℕ → S → Received → Receiver S → Type 0
 IsThrough ssrc next s received r = (last : ℕ) × ((last + 1) % 65536 ≡ next % 65536) × (r ≡ between ssrc last s received)
 

@@ -38,7 +38,7 @@ closed_at s f h = after_steps (target_at s f) (go (is_epoch s.epoch f.epoch))
     after_steps (Open t opened) c = absurd c
     after_steps (Closed r) c = tt
 
--- what passes where no target is open
+-- which frames pass if no target is open
 restart : (s : Standing) (f : FrameMeaning) (packets : ℕ) → IsClosed (kept_target_at s f) → passes_at s f packets ≡ true → IsRestart s f
 restart s f packets closed p =
     let a = and_parts (is_present_in f (candidate_at s f)) _ p in
@@ -63,7 +63,7 @@ restart s f packets closed p =
     go None e present = absurd (shut (kept_target_at s f) closed present)
     go (Some t) e present = elim (opens t (best_passes f _ f.target_count t e)) [ inl k ↦ inl k | inr w ↦ inr (t, e, w) ]
 
--- frames only come to what passed, so where none did, none did on the way
+-- passed frames are only added, so if none passed up to here, none passed on the way
 grows : {S : Type 0} (wish : Wish) (since past : List (Event S)) → length (standing wish past).passed ≤ length (standing wish (since ++ past)).passed
 grows wish [] past = omega arith
 grows wish (WholeFrame x ∷ since) past = go (passes_at (standing wish (since ++ past)) x.meaning (length x.packets)) (grows wish since past)

@@ -93,7 +93,7 @@ abbrev pub KeepsRun : {S : Type 0} → Format S → Force S → List (Frame S) �
 KeepsRun format force frames None = Unit {0}
 KeepsRun format force frames (Some run) = IsRun format force frames run
 
--- only what is open is looked at by the next packet
+-- the next packet depends only on what is open
 abbrev pub KeepsOpen : {S : Type 0} → Format S → Force S → List (Frame S) → Option (Run (ReadPacket S)) → Type 0
 KeepsOpen format force frames None = Unit {0}
 KeepsOpen format force frames (Some run) = run.newest.end ≡ false → IsOpenRun format force frames run

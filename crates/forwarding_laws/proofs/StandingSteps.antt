@@ -1,4 +1,4 @@
--- The steps of a standing are the words.
+-- The steps of a standing agree with the words.
 use Rattle.std.proofs.Common.{◌≡◌, ◌≢◌, inl, inr, ◌+◌, ◌-◌, ◌<◌, ◌≤◌, ℕ, arith, Bool, true, false, List, [], ◌∷◌, refl, sym, subst, ap, ◌∙◌, cond, true≢false, length}
 use Rattle.std.specs.Prelude.{nat_lt}
 use Rattle.std.proofs.lemmas.Bool.{lt-ltb, ltb-true}
@@ -92,7 +92,7 @@ other_frames_keep s f none = by_epoch (is_epoch s.epoch f.epoch) refl
     by_epoch true e = by_target (is_epoch-true s.epoch f.epoch e) s.target refl
     by_epoch false e = absurd (none (NotOpened f.number) (refl, inl (λ here. true≢false (sym (epoch_test s.epoch f.epoch here) ∙ e))))
 
--- ---- what an event makes of a standing
+-- ---- how an event changes a standing
 
 takes_in : (s : Standing) (f : FrameMeaning) (packets : ℕ) → TakesIn s f packets (admitted true s f packets)
 takes_in s f packets = record { epoch = refl; epoch_passed = refl; target = refl; passed = refl; queued = refl; wish = refl }

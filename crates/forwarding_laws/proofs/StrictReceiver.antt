@@ -1,4 +1,4 @@
--- A strict receiver of the packets that go out has no complaint.
+-- A strict receiver of the forwarded packets has no complaint.
 use Rattle.std.proofs.Common.{◌≡◌, ◌⊎◌, inl, inr, ◌+◌, ◌%◌, ℕ, suc, arith, Bool, true, false, List, [], ◌∷◌, ◌++◌, refl, sym, subst, ap, ◌∙◌, cond, true≢false, map, length, length-append}
 use Rattle.std.proofs.lemmas.Bool.{eq-eqb}
 use Rattle.std.specs.List.{AllByRecursion, list_any}
@@ -36,13 +36,13 @@ pub record IsOn {S : Type 0} (structures : ℕ → Option S) (next ssrc : ℕ) (
   pub received : judge_all (map header passed) ≡ Complete r.received
   pub in_epoch : AllByRecursion (λ g. r.structure ≡ structures g.epoch) epoch_passed
 
--- the receiver after the packets so far, of which the next has the number next
+-- the receiver after the packets so far; the next packet has the number `next`
 abbrev pub IsReceiving : {S : Type 0} → (ℕ → Option S) → ℕ → ℕ → List FrameMeaning → List FrameMeaning → Receiver S → Type 0
 IsReceiving structures next ssrc epoch_passed passed Waiting = (epoch_passed ≡ []) × (passed ≡ [])
 IsReceiving structures next ssrc epoch_passed passed (Receiving r) = IsOn structures next ssrc epoch_passed passed r
 IsReceiving structures next ssrc epoch_passed passed (Complaining c) = ⊥
 
--- what is in force is the structure of f's epoch, where f isn't a key frame
+-- the structure in force is that of f's epoch, unless f is a key frame
 known_structure : {S : Type 0} (structures : ℕ → Option S) (next ssrc : ℕ) (epoch_passed passed : List FrameMeaning) (r : Reception S) (f : FrameMeaning) (s : S)
     → IsOn structures next ssrc epoch_passed passed r → AllByRecursion (λ g. Some f.epoch ≡ Some g.epoch) epoch_passed → structures f.epoch ≡ Some s
     → (f.key ≡ true) ⊎ (list_any is_key epoch_passed ≡ true) → (f.key ≡ true) ⊎ (r.structure ≡ Some s)
@@ -201,7 +201,7 @@ never_complains format send subscriber events sent_whole layered track =
     (received send format (structure_of (frames_of events)) subscriber.wish subscriber.first subscriber.ssrc events sent_whole layered track.numbers
     (epoch_structures (frames_of events) track.structures))
 
--- and so of each prefix
+-- and so it has none about each prefix
 pub prefix_never_complains : {S : Type 0} (format : Format S) (send : Sender S) (subscriber : Subscriber) (events : List (Event S)) (sent queued : List Packet)
     → AllByRecursion (IsSentWhole format send) (frames_of events) → IsLayered events → IsTrack format (frames_of events) → sent ++ queued ≡ outgoing send subscriber events
     → complaint format (map Some sent) ≡ None

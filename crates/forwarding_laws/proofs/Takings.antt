@@ -13,7 +13,7 @@ use Rattle.forwarding_model.specs.forwarding.Outgoing.{Sender, Subscriber, FindP
 use Rattle.forwarding_laws.specs.forwarding.Taken.{and_last, given}
 use Rattle.forwarding_laws.proofs.Outgoings.{drop_within, find-numbered, first_numbered, kept-numbered, length-numbered, numbered_as, outgoing_grows, take-numbered}
 
--- ---- what the takes gave
+-- ---- what the takes returned
 
 last_in_front : (p : Packet) (ps : List Packet) (o : Option Packet) → and_last (p ∷ ps) o ≡ p ∷ and_last ps o
 last_in_front p ps None = refl
@@ -41,7 +41,7 @@ takes_fit send subscriber (PlainPacket p ∷ past) found =
 takes_fit send subscriber (WishChange w ∷ past) found = takes_fit send subscriber past found
 takes_fit send subscriber (Take ∷ past) found = let h = found.0 in omega arith
 
--- what stood first stands there when an event came
+-- what was first in the list is still there after an event
 first_stand : {S : Type 0} (send : Sender S) (subscriber : Subscriber) (event : Event S) (past : List (Event S)) → takes_of past ≤ length (outgoing send subscriber past)
     → take (takes_of past) (outgoing send subscriber past) ≡ take (takes_of past) (outgoing send subscriber (event ∷ past))
 first_stand send subscriber event past fit =

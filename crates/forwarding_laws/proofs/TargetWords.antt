@@ -1,4 +1,4 @@
--- The tests on targets are the words.
+-- The tests on targets agree with the words.
 use Rattle.std.proofs.Common.{◌≡◌, ◌≢◌, ◌↔◌, ◌+◌, ◌*◌, ◌/◌, ◌%◌, ◌^◌, ◌<◌, ℕ, arith, true, refl, sym, ap, ◌∙◌, true≢false, ◌&&◌}
 use Rattle.std.specs.Prelude.{nat_lt, nat_le}
 use Rattle.std.proofs.lemmas.Bool.{and_parts, ltb-true, leb-true, lt-ltb, le-leb, eqb-true, eq-eqb}

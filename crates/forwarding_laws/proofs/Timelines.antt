@@ -27,7 +27,7 @@ in_front-append : {S : Type 0} (o : Option (Frame S)) (xs ys : List (Frame S)) �
 in_front-append None xs ys = refl
 in_front-append (Some x) xs ys = refl
 
--- the frames of a track are those of before, and those that more items made
+-- the frames of a track are those before, with those that more items made
 pub frames_after-append : {S : Type 0} (format : Format S) (items older : List Item)
     → frames_after format (items ++ older) ≡ frames_since format older items ++ frames_after format older
 frames_after-append format [] older = refl
@@ -139,7 +139,7 @@ all_sent_whole format send [] keeps numbers read whole = tt
 all_sent_whole format send (x ∷ xs) keeps numbers read whole =
     (keeps x numbers.0.valid read.0 whole.0, all_sent_whole format send xs keeps numbers.2 read.1 whole.1)
 
--- whatever the history, a strict receiver of what goes out to a subscriber, or of a prefix of it, has no complaint
+-- whatever the history, a strict receiver has no complaint about the packets forwarded to a subscriber, or about a prefix of them
 pub outgoing_never_complains : {S : Type 0} (format : Format S) (send : Sender S) (number : ℕ) (history : List Entry) (subscriber : Subscriber) (sent queued : List Packet)
     → IsFormat format → KeepsWhole format send → sent ++ queued ≡ outgoing send subscriber (timeline format send number history)
     → complaint format (map Some sent) ≡ None
@@ -150,7 +150,7 @@ outgoing_never_complains format send number history subscriber sent queued facts
     (all_sent_whole format send (frames_of events) keeps track.numbers (timeline_read format send number history facts) track.whole)
     (sees_newest format send number history).layered track e
 
--- and what it has taken is a prefix
+-- and the taken packets are a prefix
 pub taken_never_complains : {S : Type 0} (format : Format S) (send : Sender S) (number : ℕ) (history : List Entry) (subscriber : Subscriber)
     → IsFormat format → KeepsWhole format send → complaint format (map Some (taken send subscriber (timeline format send number history))) ≡ None
 taken_never_complains format send number history subscriber facts keeps =
@@ -166,7 +166,7 @@ withheld_path_in_history format send number history wish n facts w =
 
 -- ---- each take of a timeline found a packet
 
--- what is released adds no take
+-- released items add no take
 abbrev pub AddsNoTake : {S : Type 0} → Sender S → Subscriber → (List Item → List Item → List (Event S)) → Type 0
 AddsNoTake send subscriber released = (older items : List Item) (events : List (Event _)) → FindPackets send subscriber events
     → FindPackets send subscriber (released older items ++ events)

@@ -1,4 +1,4 @@
--- A verdict is Passed exactly when the frame passes, and what the other verdicts name.
+-- A verdict is Passed exactly if the frame passes; and what the other verdicts name.
 use Rattle.std.proofs.Common.{◌≡◌, ◌+◌, ◌-◌, ◌≤◌, ℕ, arith, Bool, true, false, refl, sym, cond, true≢false, ◌&&◌}
 use Rattle.std.specs.Prelude.{nat_lt}
 use Rattle.std.proofs.lemmas.Bool.{and_parts, ltb-false}
@@ -18,7 +18,7 @@ use Rattle.forwarding_model.specs.forwarding.Selection.{missing_reference, opene
 use Rattle.forwarding_model.specs.forwarding.Standing.{Standing, has_passed, kept_target_at, candidate_at, verdict_at}
 use Rattle.forwarding_model.specs.forwarding.Causes.{followed}
 
--- ---- a verdict is Passed just where the frame passes
+-- ---- a verdict is Passed exactly if the frame passes
 
 present_of : (f : FrameMeaning) (t : ℕ) (v : Verdict) → target_verdict f (Some t) v ≡ Passed → (is_present f t ≡ true) × (v ≡ Passed)
 present_of f t v h = go (is_present f t) refl h

@@ -1,4 +1,4 @@
--- What a mark makes of a run.
+-- How a mark changes a run.
 use Rattle.std.proofs.Common.{List, ◌∷◌, ◌≡◌, ◌⊎◌, inl, inr, Bool, true, false, refl, cond, ◌&&◌, not}
 use Rattle.std.specs.declared.option.Option.{Option}
 use Rattle.std.specs.declared.option.Option.TheVariants.{None, Some}

@@ -143,7 +143,7 @@ run_found (Read part ∷ past) = go part.start refl (run_found past)
     go true e h = begun_found past part e
     go false e h = continued_found past (run_of past) part e h
 
--- ---- a cut that is found is whole, and stands at the end
+-- ---- a cut that is found is whole, and is at the end
 
 cut_from_run : {X : Type 0} (marks : List (Mark X)) (o : Option (Run X)) (run : Run X) → IsRunFound marks o → NewestIsPart marks → whole o ≡ Some run
     → IsWholeCut (parts_of run) × EndsIn marks (parts_of run)
@@ -174,7 +174,7 @@ cut_is_whole (Padding ∷ past) run e = absurd (grind arith)
 cut_is_whole (Unreadable ∷ past) run e = absurd (grind arith)
 cut_is_whole (Read part ∷ past) run e = cut_from_run (Read part ∷ past) (run_of (Read part ∷ past)) run (run_found (Read part ∷ past)) tt e
 
--- ---- a whole cut that stands at the end is found
+-- ---- a whole cut at the end is found
 
 -- the parts of a run, the newest first
 abbrev IsRunBack : {X : Type 0} → List (Part X) → Type 0
@@ -335,7 +335,7 @@ whole_is_cut {X} marks part more at cut =
     back.last.0 back.last.1
     (ap oldest_first (sym back.is) ∙ oldest_first-onto (part ∷ []) more)
 
--- ---- and what goes on is an unfinished cut
+-- ---- and a run that goes on is an unfinished cut
 
 none_ends : {X : Type 0} (parts : List (Part X)) → EndsWith parts false → AllByRecursion (λ p. p.end ≡ false) parts
 none_ends [] h = absurd h

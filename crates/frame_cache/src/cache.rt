@@ -213,7 +213,7 @@ impl FrameCache {
     }
 }
 
-// One more reference to the packet, for another ring. `None` without a packet, or where its count of references is full.
+// One more reference to the packet, for another ring. `None` without a packet, or if its reference count is full.
 #[inline(always)]
 fn another(shared: Option<&SharedPacket>) -> Option<SharedPacket>
     ensures { IfSome result (λ packet. option_copied shared.entry ≡ Some packet) }

@@ -100,7 +100,7 @@ QueuesTheRest S = (send : Sender S) (subscriber : Subscriber) (events : List (Ev
 abbrev pub MarkingKeepsWhole : Type 0 → Type 0
 MarkingKeepsWhole S = (format : Format S) (frame : Frame S) → IsWholeFrame format frame → IsSentWhole format send_marked frame
 
--- so that it is a sender of which the laws over histories hold
+-- so it is a sender for which the laws over histories hold
 abbrev pub MarkingIsASender : Type 0 → Type 0
 MarkingIsASender S = (format : Format S) → KeepsWhole format send_marked
 

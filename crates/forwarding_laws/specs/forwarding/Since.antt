@@ -1,4 +1,4 @@
--- What holds of each frame of the newest part of a timeline. Own word.
+-- What is true of each frame in the newest part of a timeline. Own word.
 use Rattle.std.specs.Prelude.{List, [], ◌∷◌, ◌++◌}
 use Rattle.forwarding_model.specs.forwarding.Timeline.{Event, Frame}
 use Rattle.forwarding_model.specs.forwarding.Timeline.Event.{WholeFrame, PlainPacket, WishChange, Take}

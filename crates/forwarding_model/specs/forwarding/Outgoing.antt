@@ -1,5 +1,5 @@
 -- Which packets are forwarded to a subscriber, which of them were taken, and which are kept for retransmission.
--- Sequence number, SSRC and marker: RFC 3550, section 5.1. Own rules: which packets go out, and that the last packet of a frame of the
+-- Sequence number, SSRC and marker: RFC 3550, section 5.1. Own rules: which packets are forwarded, and that the last one of a frame of the
 -- target's spatial layer gets the marker, over AV1 RTP payload format, section 4.2 (the marker ends a temporal unit).
 -- The definitions have the list of all forwarded packets; the code has the packets that are queued and the last that were taken.
 use Rattle.std.specs.Prelude.{◌≡◌, ◌<◌, ◌+◌, ◌%◌, ℕ, List, [], ◌∷◌, ◌++◌, Bool, false, if◌then◌else◌, ◌==◌, ◌||◌, length, take, drop}

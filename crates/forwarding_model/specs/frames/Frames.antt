@@ -200,7 +200,7 @@ abbrev pub frames_after : {S : Type 0} → Format S → List Item → List (Fram
 frames_after format [] = []
 frames_after format (item ∷ past) = in_front (made_by_item format (state_after format past) item).frame (frames_after format past)
 
--- The frames that the newest items made; the older items had come before. So the frames of one call are told.
+-- The frames that the newest items made, after the older items had come. These are the frames of one call.
 abbrev pub frames_since : {S : Type 0} → Format S → List Item → List Item → List (Frame S)
 frames_since format older [] = []
 frames_since format older (item ∷ past) =
