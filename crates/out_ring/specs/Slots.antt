@@ -13,7 +13,7 @@ bytes_by None None = least_packet
 abbrev pub packet_by : Head → Option (List ℕ) → Pushed
 packet_by head own = record { bytes = bytes_by head.shared own; marker = head.marker }
 
--- the packets of these slots; the first slot's copy is at this place, and the other copies follow in order
+-- the packets of these slots; the copy of the first is at this place, the other copies follow it
 abbrev pub packets_from : ℕ → List Head → List (List ℕ) → List Pushed
 packets_from place [] own = []
 packets_from place (head ∷ heads) own = packet_by head (slice_get own (place % 1536)) ∷ packets_from (suc place) heads own

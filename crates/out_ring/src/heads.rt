@@ -38,7 +38,7 @@ impl Model for Heads {
 }
 
 impl Heads {
-    /// Heads without shared packets. All memory that they need is taken here; `NoMemory`: out of memory.
+    /// Heads without shared packets. All memory that they need is allocated here; `NoMemory`: out of memory.
     pub fn new(alloc: Global) -> Result<Heads, NoMemory>
         ensures size { IfOk result (λ heads. length heads ≡ 1536) }
         ensures unshared { IfOk result (λ heads. All (λ head. head.shared ≡ None) heads) }

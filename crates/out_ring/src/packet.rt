@@ -9,7 +9,7 @@ use std::marker::Model;
 /// The most bytes that a sent packet has (own rule).
 const MOST_BYTES: usize = 1536;
 
-/// An RTP packet of at most 1,536 bytes, as it was put in. Clauses see it as its bytes. No call takes memory.
+/// An RTP packet of at most 1,536 bytes, as it was put in. Clauses see it as its bytes. No call allocates memory.
 #[derive(Debug, Drop)]
 pub struct StoredPacket {
     buf: [u8; MOST_BYTES],

@@ -42,8 +42,8 @@ impl Model for OutRing {
 }
 
 impl OutRing {
-    /// A ring with nothing queued and nothing kept. Its packets will have this SSRC, and sequence numbers from `first` on. All memory is taken here: 1,536
-    /// slots of 1,536 bytes. `NoMemory`: out of memory.
+    /// A ring with nothing queued and nothing kept. Its packets will have this SSRC, and sequence numbers from `first` on. All memory is allocated here:
+    /// 1,536 slots of 1,536 bytes. `NoMemory`: out of memory.
     pub fn new(alloc: Global, ssrc: u32, first: u16) -> Result<OutRing, NoMemory>
         ensures begun { IfOk result (λ ring. ring ≡ begun ssrc first) }
         ensures stands { IfOk result (λ ring. IsAfter ring (nothing_done ssrc first)) }

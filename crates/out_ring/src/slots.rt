@@ -154,7 +154,7 @@ fn go_on(own: &mut Vec<StoredPacket>, place: usize)
     }
 }
 
-// The copy at this place, where there is one.
+// The copy at this place, if there is one.
 fn own_in(own: &[StoredPacket], place: usize) -> Option<&StoredPacket>
     ensures { option_copied result ≡ slice_get own.now place }
 {

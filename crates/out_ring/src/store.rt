@@ -67,7 +67,7 @@ impl Model for PacketStore {
 }
 
 impl PacketStore {
-    /// A store without buffers. It takes no memory.
+    /// A store without buffers. It allocates no memory.
     pub fn new(alloc: Global) -> PacketStore
         ensures { result ≡ record { all = 0; free = 0 } }
     {
@@ -109,7 +109,7 @@ impl PacketStore {
         Ok(())
     }
 
-    /// Deallocates free buffers until there are `all` buffers in total, or none is free. Where there are at most `all` already, nothing changes.
+    /// Deallocates free buffers until there are `all` buffers in total, or none is free. If there are at most `all` already, nothing changes.
     pub fn shrink(&mut self, all: usize)
         ensures all { self.new.all ≡ self.old.all - min self.old.free (self.old.all - all) }
         ensures free { self.new.free ≡ self.old.free - min self.old.free (self.old.all - all) }
@@ -119,7 +119,7 @@ impl PacketStore {
         }
     }
 
-    /// Copies an RTP packet of at most 1,536 bytes into a free buffer, if there is one. It takes no memory.
+    /// Copies an RTP packet of at most 1,536 bytes into a free buffer, if there is one. It allocates no memory.
     pub fn put(&mut self, packet: &[u8]) -> Option<SharedPacket>
         requires reads { first_fault packet.now ≡ None }
         requires fits { length packet.now ≤ 1536 }
@@ -137,7 +137,7 @@ impl PacketStore {
         Some(SharedPacket { packet: buf })
     }
 
-    /// Drops one reference to a packet; the last one returns the packet's buffer to the pool. It takes no memory. A `SharedPacket` that is dropped
+    /// Drops one reference to a packet; the last one returns the packet's buffer to the pool. It allocates no memory. A `SharedPacket` that is dropped
     /// without this call leaks its buffer from the pool.
     #[inline(always)]
     pub fn release(&mut self, packet: SharedPacket)

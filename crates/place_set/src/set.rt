@@ -12,7 +12,7 @@ const WORDS: usize = 4;
 
 const WORD_BITS: usize = 64;
 
-/// A set of places below 256. Clauses see its four words; `has_place` says which places these contain.
+/// A set of places below 256. Clauses see its four words; `has_place` says which places are in it.
 #[derive(Debug, Drop)]
 pub struct PlaceSet {
     words: [u64; WORDS],

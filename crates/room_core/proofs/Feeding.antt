@@ -87,7 +87,7 @@ packet_is_left_out feed bytes full kind to events h =
 
 -- ---- frames
 
--- the passed frames of the epoch lie below the next frame of the track
+-- the passed frames of the epoch are below the next frame of the track
 pub lies_above : (meaning : FrameMeaning) (wish : Wish) (events : List Happened) → IsOneTrack (meaning ∷ meanings_of events) → IsAboveAll meaning (standing wish events)
 lies_above meaning wish events track =
     each_weaker (λ g. IsMember g (meanings_of events)) (λ g. g.number < meaning.number) (standing wish events).epoch_passed

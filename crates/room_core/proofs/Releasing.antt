@@ -118,7 +118,7 @@ released_is track event past known p mid h brought idle =
     ∙ ap (λ (o : Order). and_pieces (added known.pipeline.value.window.hold o event) []) (order_is (events_of track past) known.pipeline.value (items_of (entries_of track past)) h.at)
     ∙ ap (λ (k : ℕ). and_pieces (added k (order_of k (events_of track past)) event) []) h.hold_is
 
--- and what was worked off
+-- and what was processed
 works_released : (track : ℕ) (event : Event) (past : List Call) (known now : LiveTrack) (p : Published) (mid : Seen) (f g : ℕ → Option LiveSubscriber) → IsTrackAfter past track known p
     → IsBrought event known.pipeline.value mid → known.pipeline.value.window.waiting ≡ [] → WorkedOff mid now.pipeline.value track f g known.pleaded now.pleaded
     → WorksOffFrom (event ∷ events_of track past) (kind_of track past) now.pipeline.value track f g known.pleaded now.pleaded (items_of (entries_of track past)) [] (released track past event)

@@ -21,7 +21,7 @@ use Rattle.room_core.specs.WellFormed.{AreWellFormed, IsValue}
 use Rattle.room_core.proofs.WellFormed.{well_formed_after}
 use Rattle.room_core.proofs.Promising.{headline}
 
--- a recorder that noted the call tells what the longer history keeps
+-- a recorder that noted the call shows what the longer history keeps
 keeps_more : (told told' : Option (List Noted)) (history : List Entry) (seat : ℕ) (call : Call) (starved : Bool) → starved ≡ false → Notes told told' seat call
     → IfSome told (λ notes. notes ≡ kept history) → IfSome told' (λ notes. notes ≡ kept (history ++ record { seat = seat; call = call; starved = starved } ∷ []))
 keeps_more None None history seat call starved fed notes h = tt

@@ -12,7 +12,7 @@ pub trait Recorder: Drop {
     /// The seats and calls noted so far, the oldest first, or none if the recorder doesn't show them.
     ghost noted: { Self → Option (List Noted) };
 
-    /// Appends a call with its seat. `NoMemory`: out of memory; what was noted before is unchanged then.
+    /// Appends a call with its seat. `NoMemory`: out of memory; earlier notes are unchanged then.
     fn note(&mut self, seat: u32, call: &Call) -> Result<(), NoMemory>
         ensures ok { OnOk result (Notes (noted self.old) (noted self.new) seat call.now) }
         ensures err { OnErr result (noted self.new ≡ noted self.old) }

@@ -27,7 +27,7 @@ impl Content {
         }
     }
 
-    /// Adds a packet to the track, and offers what the pipeline makes of it to the track's subscribers.
+    /// Adds a packet to the track, and offers what is made of it to the track's subscribers.
     pub fn packet(&mut self, track: u32, moment: u64, bytes: &PacketBuf) -> Reply
         ensures does { DoesSilently self.old self.new (call.Packet track moment bytes.now) result }
         ensures fed { is_starved result ≡ false }
@@ -57,7 +57,7 @@ impl Content {
         }
     }
 
-    /// Advances the track's time, and offers what the pipeline makes then to the track's subscribers.
+    /// Advances the track's time, and offers what is made then to the track's subscribers.
     pub fn tick(&mut self, track: u32, moment: u64) -> Reply
         ensures does { DoesSilently self.old self.new (call.Tick track moment) result }
         ensures fed { is_starved result ≡ false }

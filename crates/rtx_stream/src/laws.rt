@@ -15,7 +15,7 @@ pub fn a_packet_has_one_retransmission()
     rtp_packet::a_packet_is_read();
 }
 
-/// A packet has at most one form without padding. Where its padding bit is 0, that form is the packet itself.
+/// A packet has at most one form without padding. If its padding bit is 0, that form is the packet itself.
 pub fn a_packet_without_padding_is_bare()
     ensures one { (packet bare other : List ℕ) → IsBare packet bare → IsBare packet other → bare ≡ other }
     ensures same { (packet bare : List ℕ) → is_padded packet ≡ false → IsBare packet bare → bare ≡ packet }

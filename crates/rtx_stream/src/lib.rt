@@ -1,4 +1,4 @@
-//! Retransmission packets (RFC 4588, section 4): wraps a packet for a separate retransmission stream, and unwraps it again. No call takes
+//! Retransmission packets (RFC 4588, section 4): wraps a packet for a separate retransmission stream, and unwraps it again. No call allocates
 //! memory.
 #![tactic(auto)]
 

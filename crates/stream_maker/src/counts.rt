@@ -17,7 +17,7 @@ pub struct Counts {
     pub lost: u32,
     /// Packets that are sent twice.
     pub repeated: u32,
-    /// Packets that are held back until the next packet that isn't lost was sent, or until the stream ends.
+    /// Packets that are held back until the next one that isn't lost was sent, or the stream ends.
     pub swapped: u32,
 }
 

@@ -1,5 +1,5 @@
 //! One publisher's pipeline: packets arrive in any order, are put in order, and become plain packets or whole frames. Only the constructor
-//! takes memory.
+//! allocates memory.
 #![tactic(auto)]
 
 mod layers;
