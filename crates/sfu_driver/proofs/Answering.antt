@@ -75,11 +75,11 @@ same_why ending.Obu ending.Outside is = absurd (omega arith)
 same_why ending.Obu ending.Complaint is = absurd (omega arith)
 same_why ending.Obu ending.Obu is = refl
 
--- the count of a source whose first read went well is the one before it
+-- the count of a source whose first read succeeded is the one before it
 pub cause_since : (g0 g g' f f' : ℕ) (result : Result (Unit {0}) Interruption) → g ≡ g0 → CauseOf g g' f f' result → CauseOf g0 g' f f' result
 cause_since g0 g g' f f' result same cause = subst (λ (n : ℕ). CauseOf n g' f f' result) same cause
 
--- the told facts, whatever the source reports
+-- the facts about known bytes, for every source
 told_if : {U S T : Type 0} (stands : U → T → Type 0) (byte : S → ℕ → Outcome S) (ends : S → Outcome T) (s : S) (new : U) (left left' w w' : Option (List ℕ)) (f f' : ℕ) (result : Result (Unit {0}) Interruption)
     → Drove stands byte ends s new left left' w w' f f' result → IfSome left (λ b. ToldBy byte ends s b left' w w' f f' result)
 told_if stands byte ends s new None left' w w' f f' result d = tt
@@ -113,9 +113,9 @@ decided_by byte s taken why other left' same (inl bad) =
     inl (bad.0, ended_by (takes byte s taken).result (end_by why bad.0) bad.1 ∙ ap (λ (e : Ending). Some (end_by e bad.0)) same)
 decided_by byte s taken why other left' same (inr end) = inr end
 
--- ---- of every source
+-- ---- for every source
 
--- what a status says of the bytes that were taken
+-- what a status says about the bytes that were taken
 pub says_by : {U S T : Type 0} (stands : U → T → Type 0) (byte : S → ℕ → Outcome S) (ends : S → Outcome T) (s : S) (taken : List ℕ) (new : U) (left' w w' : Option (List ℕ)) (f f' : ℕ) (result : Result (Unit {0}) Interruption)
     → DroveBy stands byte ends s taken new left' w w' f f' result
     → SaysOf (λ bytes. due_of (then_due (takes byte s bytes) ends)) (λ bytes. due_of (takes byte s bytes)) taken left' w w' f f' (status_for result)
@@ -217,7 +217,7 @@ first_fault_by g g' f f' (Err (Halted (Ended why))) cause = record {
   ports = λ e. absurd (not_seven why e);
 }
 
--- the same where reads before it went well, or there were none
+-- the same if the reads before it succeeded, or there were none
 pub with_reads : (g g' f f' status : ℕ) → g' ≡ g → FirstFault 0 0 f f' status → FirstFault g g' f f' status
 with_reads g g' f f' status kept x = record {
   none = λ e. (kept, (x.none e).1);
@@ -231,7 +231,7 @@ with_reads g g' f f' status kept x = record {
     zero_isnt : 0 ≡ raised 0 → ⊥
     zero_isnt is = omega (arith, is)
 
--- words that are no command
+-- arguments that aren't a command
 pub at_two : (g f f' : ℕ) → KeptOrCut f f' → FirstFault g g f f' 2
 at_two g f f' once = record {
   none = λ e. absurd (neither 2 e (omega arith) (omega arith));

@@ -1,4 +1,4 @@
--- How the counts of faults go on, by what came of a call.
+-- How the counts of faults change, by the result of a call.
 use Rattle.std.proofs.Common.{◌≡◌, ◌≢◌, ◌<◌, ◌∙◌, ◌⊎◌, inl, inr, ℕ, Bool, true, false, cond, List, length, sym, ap, subst, arith, refl, Result, Ok, Err}
 use Rattle.std.proofs.lemmas.Bool.{eq-eqb, ne_eqb}
 use Rattle.std.specs.Prelude.{◌==◌, ◌&&◌, if◌then◌else◌, not, IsErrAnd, is_err}
@@ -13,11 +13,11 @@ rose_by before now is = omega (arith, is)
 
 -- ---- a write
 
--- one that took some bytes isn't stuck
+-- a call that took some bytes isn't stuck
 pub took_some : (count before now : ℕ) (piece : List ℕ) → 0 < count → now ≡ (if count == 0 && not (length piece == 0) then raised before else before) → now ≡ before
 took_some count before now piece some counts = counts ∙ ap (λ (b : Bool). cond (b && not (length piece == 0)) (raised before) before) (ne_eqb count 0 (λ none. omega (arith, none, some)))
 
--- one that took none of some bytes is
+-- a call that took none of some bytes is stuck
 pub took_none : (count before now : ℕ) (piece : List ℕ) → count ≡ 0 → 0 < length piece → now ≡ (if count == 0 && not (length piece == 0) then raised before else before) → now ≡ raised before
 took_none count before now piece none some counts =
     counts
@@ -53,7 +53,7 @@ kept_or_cut (Err e) f0 f1 f2 kept counts = inr (counts ∙ ap raised kept)
 
 -- ---- a source whose count stayed
 
--- no stop but that of a read raises it
+-- only a stop by a read raises it
 stop_kept : (stop : Interruption) (before now : ℕ) → stop ≢ SourceFault → now ≡ before → StopReads before now stop
 stop_kept SourceFault before now other kept = absurd (other refl)
 stop_kept SinkFault before now other kept = kept
@@ -68,7 +68,7 @@ pub reads_err : {T : Type 0} (r : Result T Interruption) (stop : Interruption) (
 reads_err (Ok x) stop before now is other kept = absurd is
 reads_err (Err x) stop before now is other kept = stop_kept x before now (λ same. other (sym is ∙ same)) kept
 
--- ---- a command that went well
+-- ---- a command that succeeded
 
 pub quiet_of : (r : Result (Unit {0}) Interruption) (g g' f f' : ℕ) → is_err r ≡ false → CauseOf g g' f f' r → (g' ≡ g) × (f' ≡ f)
 quiet_of (Ok x) g g' f f' is cause = (cause.reading, cause.writing)

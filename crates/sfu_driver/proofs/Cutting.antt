@@ -1,4 +1,4 @@
--- What bytes make of a unit.
+-- What bytes change in a unit.
 use Rattle.std.proofs.Common.{◌≡◌, ℕ, List, [], ◌∷◌, ◌++◌, take, refl, sym, ap, ◌∙◌, Result, Ok, Err, append_assoc, append-nil}
 use Rattle.sfu_driver.specs.Outcome.{End, Outcome, before, goes_on, takes, then_due}
 use Rattle.sfu_driver.specs.Scan.{AllMore, EndsAt, Scan, More, NoUnit, Whole}
@@ -13,7 +13,7 @@ pub by_scan : {S : Type 0} (rule : Rule S) (s : S) (n : ℕ) (kept : List ℕ) (
     → byte rule (at s n kept) b ≡ then_due (judged rule s n seen) (λ later. goes_on (moved (at s n kept) b seen later))
 by_scan rule s n kept b seen is = ap (λ (l : Scan). then_due (judged rule s n l) (λ later. goes_on (moved (at s n kept) b l later))) is
 
--- bytes that only go on with a unit
+-- bytes that only continue a unit
 pub all_more : {S : Type 0} (rule : Rule S) (s : S) (n : ℕ) (kept bytes : List ℕ) → AllMore (rule.scan n) kept bytes
     → takes (byte rule) (at s n kept) bytes ≡ goes_on (at s n (kept ++ bytes))
 all_more rule s n kept [] going = ap (λ (xs : List ℕ). goes_on (at s n xs)) (sym (append-nil kept))
@@ -22,7 +22,7 @@ all_more {S} rule s n kept (b ∷ bytes) going =
     ∙ all_more rule s n (kept ++ b ∷ []) bytes going.1
     ∙ ap (λ (xs : List ℕ). goes_on (at s n xs)) (append_assoc kept (b ∷ []) bytes)
 
--- a look that ends the unit
+-- a search that finds the end of the unit
 abbrev pub IsEnd : Scan → Type 0
 IsEnd More = ⊥
 IsEnd other = Unit {0}

@@ -65,9 +65,9 @@ ended_drove {U} {V} {S} {T} at stands byte ends s bytes u new r left' w0 w1 w2 f
       wrote = subst (Appends w0 w2) (append-nil (takes byte s bytes).text) (Appends-trans w0 w1 w2 (takes byte s bytes).text [] first e);
     }
 
--- ---- the whole input is told
+-- ---- the whole input is known
 
--- What is known of a command whose whole input is told, by why it stopped.
+-- What is known of a command whose whole input is known, by why it stopped.
 abbrev pub ToldBy : {S T : Type 0} → (S → ℕ → Outcome S) → (S → Outcome T) → S → List ℕ → Option (List ℕ) → Option (List ℕ) → Option (List ℕ) → ℕ → ℕ → Result (Unit {0}) Interruption → Type 0
 ToldBy {S} {T} byte ends s all left' w w' f f' (Ok _) = IsAtEnd left' × ((later : T) × ((then_due (takes byte s all) ends).result ≡ Ok later)) × Appends w w' (then_due (takes byte s all) ends).text
 ToldBy {S} {T} byte ends s all left' w w' f f' (Err SourceFault) = WritesFor byte s all [] w w'
@@ -148,7 +148,7 @@ told_begun {S} {T} byte ends s all left' w w' f f' result b =
         subst (λ (x : Result T End). WritesFront w w' (due.text ++ last_text (end_of x))) (sym b.1) (end_front w w' f f' due.text b.0 b.2)
     by_result (Err (Halted Starved)) b = longer (front_of_all byte ends s all w w' b)
 
--- the same of the bytes that were taken
+-- the same for the bytes that were taken
 taken_by : {U S T : Type 0} (stands : U → T → Type 0) (byte : S → ℕ → Outcome S) (ends : S → Outcome T) (s : S) (xs : List ℕ) (new : U) (left' w w' : Option (List ℕ)) (f f' : ℕ) (result : Result (Unit {0}) Interruption)
     → DroveBy stands byte ends s xs new left' w w' f f' result → ToldBy byte ends s xs left' w w' f f' result
 taken_by stands byte ends s xs new left' w w' f f' (Ok _) d = (d.0, (d.1.0, d.1.1), d.1.3)
@@ -180,7 +180,7 @@ drove_took {U} {V} {S} {T} wants at stands byte ends u u1 new r r1 left left' w0
       (subst (λ (xs : List ℕ). Stopped (wants u1) stop byte s (took.earlier ++ took.piece) xs w0 w1 f0 f1) none (took.feeds s stand));
 }
 
--- whatever came of the end, some text was written
+-- for every result of the end, some text was written
 pub some_end : {U T : Type 0} (stands : U → T → Type 0) (due : Outcome T) (new : U) (w w' : Option (List ℕ)) (f f' : ℕ) (result : Result (Unit {0}) Interruption) → EndsBy stands due new w w' f f' result → (text : List ℕ) × Appends w w' text
 some_end stands due new w w' f f' (Ok _) e = (due.text, e.3)
 some_end stands due new w w' f f' (Err SourceFault) e = absurd e

@@ -19,7 +19,7 @@ use Rattle.sfu_driver.proofs.Fronts.{end_after, part_after, part_longer, rose_si
 
 -- ---- bytes after others
 
--- the text for the first bytes stands before the text for the others
+-- the text for the first bytes comes before the text for the others
 whole_on : {S : Type 0} (byte : S → ℕ → Outcome S) (s q : S) (xs ys r0 r1 flushed : List ℕ) → (takes byte s xs).result ≡ Ok q → r0 ++ (takes byte s xs).text ≡ flushed ++ r1
     → r0 ++ (takes byte s (xs ++ ys)).text ≡ flushed ++ (r1 ++ (takes byte q ys).text)
 whole_on {S} byte s q xs ys r0 r1 flushed goes whole =
@@ -161,7 +161,7 @@ next_halts wants stands byte u u' piece r r' r2 mark w w' f f' why stop at here 
 
 -- ---- what was written
 
--- whatever comes of the bytes, some text was written
+-- for every result of the bytes, some text was written
 pub some_by : {U S : Type 0} (wants stands : U → S → Type 0) (byte : S → ℕ → Outcome S) (s : S) (bytes : List ℕ) (u' : U) (r r' : List ℕ) (w w' : Option (List ℕ)) (f f' : ℕ) (result : Result (Unit {0}) Interruption)
     → FeedsBy wants stands byte s bytes u' r r' w w' f f' result → (text : List ℕ) × Appends w w' text
 some_by wants stands byte s bytes u' r r' w w' f f' (Ok _) b = (b.flushed, b.wrote)
@@ -249,7 +249,7 @@ took_fails wants stands byte u0 u1 r0 r1 left left1 left2 w0 w1 f0 f1 empty took
       (goes_ok (takes byte s bytes).result a.later a.goes, subst (Appends w0 w1) (sym (a.whole ∙ ap (λ (xs : List ℕ). a.flushed ++ xs) empty ∙ append-nil a.flushed)) a.wrote);
 }
 
--- ---- a piece is what was taken of it and what is left
+-- ---- a piece is the bytes taken and the bytes left
 
 pub split_piece : (front rest piece : List ℕ) (n : ℕ) → front ++ rest ≡ piece → (front ++ take n rest) ++ take (length rest - n) (drop n rest) ≡ piece
 split_piece front rest piece n joined =

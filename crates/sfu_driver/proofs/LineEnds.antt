@@ -1,4 +1,4 @@
--- What a search for the line end tells.
+-- The result of a search for the line end.
 use Rattle.std.proofs.Common.{zero, suc, ◌≡◌, ◌<◌, ◌≤◌, ℕ, ◌+◌, Bool, true, false, not, ◌&&◌, eqb, List, [], ◌∷◌, ◌++◌, length, take, get_or, refl, ap, ◌∙◌, subst, arith, Some, None}
 use Rattle.std.proofs.lemmas.Grind.{take_at_read}
 use Rattle.std.proofs.Math.Seq.{take-length}
@@ -10,7 +10,7 @@ both : (a b : Bool) → (a ≡ true → ⊥) → b ≡ true → (not a && b) ≡
 both true b never h = absurd (never refl)
 both false b never h = h
 
--- bytes of which none up to a place is an LF
+-- bytes without an LF up to a place
 unended_by : (bytes : List ℕ) (n : ℕ) → ((k : ℕ) → k < n → eqb (get_or bytes k 0) 10 ≡ true → ⊥) → is_unended (take n bytes) ≡ true
 unended_by [] zero none = refl
 unended_by (b ∷ bytes) zero none = refl
@@ -18,7 +18,7 @@ unended_by [] (suc n) none = refl
 unended_by (b ∷ bytes) (suc n) none =
     both (eqb b 10) (is_unended (take n bytes)) (λ is. none 0 (omega arith) is) (unended_by bytes n (λ k below is. none (suc k) (omega arith) is))
 
--- an LF was found: what stands before it has none
+-- an LF was found: the bytes before it have none
 pub found_before : (bytes : List ℕ) (end n : ℕ) → n ≤ end → IsFirstByte (is_byte 10) bytes (Some end) → is_unended (take n bytes) ≡ true
 found_before bytes end n le first = unended_by bytes n (λ k below is. first.0.before k (omega arith) (omega arith) is)
 

@@ -67,7 +67,7 @@ unended_more [] b h e = rw e refl
 unended_more (x ∷ xs) b h e =
     let parts = and_parts (not (eqb x 10)) (is_unended xs) h in rw (parts.0, unended_more xs b parts.1 e) refl
 
--- ---- the looks
+-- ---- the searches
 
 never_more : (l text : List ℕ) → IsEnd (short_line l text)
 never_more l text = by_test (leb (length l) 4200)
@@ -85,7 +85,7 @@ long_said l text long = let e : leb (length l) 4200 ≡ false = grind (arith, na
 due_byte : {S : Type 0} (rule : Rule S) (p : Point S) (b : ℕ) (bytes : List ℕ) → due rule p (b ∷ bytes) ≡ then_due (byte rule p b) (λ q. due rule q bytes)
 due_byte rule p b bytes = then_assoc (byte rule p b) (λ q. takes (byte rule) q bytes) (λ q. ends rule q)
 
--- a byte that goes on
+-- a byte that continues a unit
 pub due_more : {S : Type 0} (rule : Rule S) (s : S) (n : ℕ) (kept : List ℕ) (b : ℕ) (bytes : List ℕ) → rule.scan n kept b ≡ More → due rule (at s n kept) (b ∷ bytes) ≡ due rule (at s n (kept ++ b ∷ [])) bytes
 due_more {S} rule s n kept b bytes is =
     due_byte rule (at s n kept) b bytes ∙ ap (λ (o : Outcome (Point S)). then_due o (λ q. due rule q bytes)) (by_scan rule s n kept b More is)
@@ -161,7 +161,7 @@ takes_end {S} rule s n kept b bytes seen end is =
     ap (λ (o : Outcome (Point S)). then_due o (λ q. takes (byte rule) q bytes)) (by_scan rule s n kept b seen is ∙ end_moves rule s n kept b seen end)
     ∙ then_assoc (judged rule s n seen) (λ later. goes_on (behind n later)) (λ q. takes (byte rule) q bytes)
 
--- what comes next may be exchanged for what is due as well
+-- what comes next may be replaced by what is also due
 pub then_same : {S T V : Type 0} (o : Outcome S) (f : S → Outcome T) (g : S → Outcome V) → ((s : S) → due_of (f s) ≡ due_of (g s)) → due_of (then_due o f) ≡ due_of (then_due o g)
 then_same {S} {T} {V} o f g same = by_result o.result
   where

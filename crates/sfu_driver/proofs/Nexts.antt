@@ -14,7 +14,7 @@ use Rattle.sfu_driver.specs.Units.{StandsAt}
 use Rattle.sfu_driver.proofs.Takes.{takes_err, then_ok}
 use Rattle.sfu_driver.proofs.Cutting.{IsEnd, all_more, at, ends_at}
 
--- the point is given by the state
+-- the state determines the point
 pub at_point : {C J S : Type 0} (stands : J → S → Type 0) (u : Units C J) (p : Point S) → StandsAt stands u p → p ≡ at p.state u.number u.kept
 at_point {C} {J} {S} stands u p stand = ap (λ (n : ℕ). at p.state n p.kept) (sym stand.number) ∙ ap (λ (xs : List ℕ). at p.state u.number xs) (sym stand.kept)
 
@@ -35,7 +35,7 @@ next_more {C} {J} {S} stands rule old new piece out going judge number kept p st
 pub judged_whole : {S : Type 0} (rule : Rule S) (s : S) (n : ℕ) (text : List ℕ) → n ≤ 4294967295 → judged rule s n (Whole text) ≡ rule.step s n text
 judged_whole rule s n text le = let e : leb n 4294967295 ≡ true = grind (arith, nat_tests) in ap (λ (t : Bool). cond t (rule.step s n text) (is_outside (rule.outside n))) e
 
--- the command goes on with the next unit
+-- the command continues with the next unit
 pub end_ok : {C J S : Type 0} (stands : J → S → Type 0) (rule : Rule S) (new : Units C J) (judge : J) (s : S) (n : ℕ) (seen : Scan) (o : Outcome S) (out out' : List ℕ) → judged rule s n seen ≡ o
     → Judges stands o judge out out' (Ok tt) → new.judge ≡ judge → new.number ≡ n + 1 → new.kept ≡ [] → Judges (StandsAt stands) (ended rule s n seen) new out out' (Ok tt)
 end_ok {C} {J} {S} stands rule new judge s n seen o out out' is j same number kept =

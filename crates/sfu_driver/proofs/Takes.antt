@@ -16,7 +16,7 @@ after_then t (Err end) f g = refl
 pub then_assoc : {S T V : Type 0} (o : Outcome S) (f : S → Outcome T) (g : T → Outcome V) → then_due (then_due o f) g ≡ then_due o (λ s. then_due (f s) g)
 then_assoc o f g = after_then o.text o.result f g
 
--- a rule for what comes next may be exchanged for another that gives the same
+-- a rule for what comes next may be replaced by another with the same results
 pub after_same : {S T : Type 0} (t : List ℕ) (r : Result S End) (f g : S → Outcome T) → ((s : S) → f s ≡ g s) → after t r f ≡ after t r g
 after_same t (Ok s) f g same = ap (before t) (same s)
 after_same t (Err end) f g same = refl

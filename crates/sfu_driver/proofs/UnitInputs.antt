@@ -1,4 +1,4 @@
--- What is due for bytes, one after another, is what is due for their units, however they are cut.
+-- What is due for bytes, one after another, is what is due for their units, for any way to cut.
 use Rattle.std.proofs.Common.{◌≡◌, ℕ, ◌+◌, List, [], ◌∷◌, ◌++◌, refl, ap, ◌∙◌}
 use Rattle.sfu_driver.specs.Outcome.{takes, then_due}
 use Rattle.sfu_driver.specs.Scan.{Scan, More, NoUnit, Whole}

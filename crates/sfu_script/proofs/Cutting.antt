@@ -4,7 +4,7 @@ use Rattle.std.proofs.lemmas.List.{drop_more}
 use Rattle.std.proofs.lemmas.Grind.{take_at_read}
 use Rattle.sfu_script.specs.Reading.{cut_at, onto_first}
 
--- the front before the first part
+-- the prefix before the first part
 abbrev pub onto : List ℕ → Option (List ℕ × List ℕ) → Option (List ℕ × List ℕ)
 onto front None = None
 onto front (Some p) = Some (front ++ p.0, p.1)
@@ -17,7 +17,7 @@ pub onto-nil : (o : Option (List ℕ × List ℕ)) → o ≡ onto [] o
 onto-nil None = refl
 onto-nil (Some p) = refl
 
--- the byte at i is no such byte
+-- the byte at i isn't such a byte
 pub cut_more : (mark : ℕ) (bytes : List ℕ) (i : ℕ) → i < length bytes → eqb (get_or bytes i 0) mark ≡ false → cut_at mark bytes ≡ onto (take i bytes) (cut_at mark (drop i bytes))
     → cut_at mark bytes ≡ onto (take (i + 1) bytes) (cut_at mark (drop (i + 1) bytes))
 cut_more mark bytes i lt differs h =

@@ -1,4 +1,4 @@
--- What a reader answers, by the grammar: what it reads is spelled, and where it reads nothing, nothing is.
+-- A reader's result by the grammar: what it reads is spelled, and if it reads nothing, nothing is spelled.
 use Rattle.std.proofs.Common.{◌≡◌, sym, Option, Some, None, Result, Ok, Err}
 use Rattle.std.specs.Prelude.{IfOk, OnErr, MatchResult}
 use Rattle.std.specs.Result.{result_ok}

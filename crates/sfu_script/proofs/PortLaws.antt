@@ -1,4 +1,4 @@
--- A line of a port is read exactly where the grammar says so.
+-- A line of a port is read exactly if the grammar says so.
 use Rattle.std.proofs.Common.{◌≡◌, ◌<◌, ℕ, ◌^◌, ◌/◌, ◌%◌, Bool, true, false, cond, List, [], ◌∷◌, ◌++◌, get_or, refl, sym, ap, ◌∙◌, arith, subst, Option, Some, None}
 use Rattle.std.specs.Prelude.{codes, decimal, IsTrue}
 use Rattle.std.specs.Int.{from_be_bytes, to_be_bytes, w32}

@@ -1,4 +1,4 @@
--- Words hold no space, and a text is cut at the first byte of a kind.
+-- Words contain no space, and a text is cut at the first byte of a kind.
 use Rattle.std.proofs.Common.{◌≡◌, ℕ, Bool, true, false, not, ◌&&◌, cond, eqb, eqb-true, eq-eqb, List, [], ◌∷◌, ◌++◌, Option, Some, None, refl, ap, ◌∙◌}
 use Rattle.std.proofs.lemmas.Bool.{and_parts}
 use Rattle.std.proofs.lemmas.List.Elements.{All-head, All-tail}
@@ -45,7 +45,7 @@ lacks_digits mark fails (b ∷ bs) h =
 pub no_space_digits : (word : List ℕ) → all_ascii_digits word ≡ true → no_space word ≡ true
 no_space_digits word h = lacks_digits 32 refl word h
 
--- two texts without the mark, laid end to end
+-- two texts without the mark, one after the other
 pub lacks_both : (mark : ℕ) (xs ys : List ℕ) → lacks mark xs ≡ true → lacks mark ys ≡ true → lacks mark (xs ++ ys) ≡ true
 lacks_both mark [] ys h k = k
 lacks_both mark (x ∷ xs) ys h k =

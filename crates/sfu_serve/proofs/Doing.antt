@@ -1,4 +1,4 @@
--- A deed goes on: by another part of it, and by one step.
+-- A deed continues: by another part of it, and by one step.
 use Rattle.std.proofs.Common.{◌≡◌, ◌⊎◌, inl, inr, ℕ, ◌+◌, ◌≤◌, Bool, if◌then◌else◌, List, [], ◌∷◌, ◌++◌, length, refl, ap, sym, subst, ◌∙◌, arith, append-nil, append_assoc, length-append, Option}
 use Rattle.sfu_base.specs.Links.{Traffic, with_more}
 use Rattle.turn_lock.specs.declared.history.Entry.{Entry}
@@ -97,7 +97,7 @@ module _ {C A D : Type 0} (reply : List (Entry C) → C → A) (starved : A) (Ma
     fits = fits;
   }
 
-  -- one call: its entry stands after a history, and the answer is the one of that history
+  -- one call: its entry follows a history, and its answer is the one of that history
   pub says : (call : C) (f : A → Deed C A D) (answer : A) (is_starved : Bool) (gives : List (Entry C) → Type 0) (place : ℕ) (old new : Known C) (told : Option Traffic) (faults : ℕ)
       → Fits old → MakesTurn old new (entry old.number call is_starved) place gives → ((h : List (Entry C)) → gives h → (if is_starved then starved else reply h call) ≡ answer)
       → ((h : List (Entry C)) → gives h → answer ≡ starved → MayStarve call) → ((h : List (Entry C)) → gives h → Holds (h ++ entry old.number call is_starved ∷ [])) → Fits new
@@ -126,7 +126,7 @@ module _ {C A D : Type 0} (reply : List (Entry C) → C → A) (starved : A) (Ma
         fits = fits';
       }
 
-  -- a call on the link that fails leaves what is told, and nothing that was done before it failed
+  -- a failing call on the link leaves its traffic, and nothing that was done before it failed
   pub still : (whole rest : Deed C A D) (old new : Known C) (told told' told'' : Option Traffic) (faults faults' turns : ℕ)
       → Done whole rest old new told told' faults faults' turns → told'' ≡ told' → Done whole rest old new told told'' faults faults turns
   still whole rest old new told told' told'' faults faults' turns d same = record {
@@ -144,7 +144,7 @@ module _ {C A D : Type 0} (reply : List (Entry C) → C → A) (starved : A) (Ma
     fits = d.fits;
   }
 
-  -- a turn that was worn leaves all but the number found
+  -- a turn that found all tickets drawn changes only the number found
   pub stays : (whole rest : Deed C A D) (old new new' : Known C) (told told' : Option Traffic) (faults faults' turns : ℕ)
       → Done whole rest old new told told' faults faults' turns → FindsWorn new new' → Fits new' → Done whole rest old new' told told' faults faults' turns
   stays whole rest old new new' told told' faults faults' turns d w fits =
@@ -172,7 +172,7 @@ module _ {C A D : Type 0} (reply : List (Entry C) → C → A) (starved : A) (Ma
       }
 
 module _ {C A D : Type 0} (reply : List (Entry C) → C → A) (starved : A) (MayStarve Wider : C → Type 0) (IsOne : D → List ℕ → Type 0) (Holds : List (Entry C) → Type 0) where
-  -- more calls may find no memory
+  -- more calls may run out of memory
   pub widens : (whole rest : Deed C A D) (old new : Known C) (told told' : Option Traffic) (faults faults' turns : ℕ) → ((call : C) → MayStarve call → Wider call)
       → IsDone reply starved MayStarve IsOne Holds whole rest old new told told' faults faults' turns → IsDone reply starved Wider IsOne Holds whole rest old new told told' faults faults' turns
   widens whole rest old new told told' faults faults' turns wide d = record {

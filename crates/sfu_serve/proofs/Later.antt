@@ -52,7 +52,7 @@ pub later_memory : (P : Call → Type 0) (whole : Doing) (limit : ℕ) (old new 
 later_memory P whole limit old new history told told' before after end k none pre own =
     subst (λ (l : List (Word Call Answer)). StarveWhereTheyMay (Refused NoMemory) P l) (sym (later_words P whole limit old new history told told' before after end k none pre own)) k.done.memory
 
--- a session of a seat with no entries stands in each later history in which the seat has no more
+-- a session of a seat with no entries is in each later history in which the seat has no more
 pub is_session : (P : Call → Type 0) (whole : Doing) (limit found : ℕ) (old new : Known Call) (history : List (Entry Call)) (told told' : Option Traffic) (before after : ℕ) (end : SessionEnd)
     → Keeps P whole limit old new told told' before after end → own_of old.number old.seen ≡ [] → IsPrefix new.seen history → own_of old.number history ≡ new.own → (new.found ≡ 2 ^ 63 → found ≡ 2 ^ 63)
     → AsksAtMost whole (10000 * limit) → IsSession whole limit old.number found history told told' before after end

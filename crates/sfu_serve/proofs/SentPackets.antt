@@ -1,4 +1,4 @@
--- What sessions of subscribers send are the packets that their takes and resends returned, as they go out.
+-- Sessions of subscribers send the packets that their takes and resends returned, as they are sent.
 use Rattle.std.proofs.Common.{◌≡◌, ℕ, zero, suc, ◌+◌, ◌%◌, Bool, true, false, if◌then◌else◌, cond, ◌==◌, List, [], ◌∷◌, ◌++◌, refl, ap, sym, subst, ◌∙◌, append-nil, map, arith, Option}
 use Rattle.std.proofs.lemmas.List.{map-append}
 use Rattle.std.specs.Prelude.{None, Some}
@@ -27,7 +27,7 @@ use Rattle.sfu_serve.specs.Packets.{AreSent, datagram_given, datagrams_given, pa
 use Rattle.sfu_serve.proofs.Words.{words_since}
 use Rattle.sfu_serve.proofs.Texts.{is_short, done_short, track_short, control_short}
 
--- ---- only takes and resends are answered packets
+-- ---- only takes and resends have packets as answers
 
 short_none : (a : Answer) → is_short a ≡ true → packet_of a ≡ []
 unfolding is_short
@@ -63,7 +63,7 @@ answered_only : (starved : Bool) (history : List (Entry Call)) (said : Call)
 answered_only true history said = none_starved said
 answered_only false history said = given_only (accepted (entries_of history)) said
 
--- ---- a packet that was given, as it goes out
+-- ---- a packet that was returned, in the form in which it is sent
 
 given_on : Option Rtx → ℕ → Call → Answer → List Datagram
 given_on way i (call.Take subscriber) (Sent bytes) = Bytes bytes ∷ []
@@ -79,7 +79,7 @@ all_given : Option Rtx → ℕ → List (Word Call Answer) → List Datagram
 all_given way i [] = []
 all_given way i (word ∷ words) = given_on way i word.call word.answer ++ all_given way (count_on i word.call word.answer) words
 
--- the two definitions tell the same of what the room answers
+-- the two definitions say the same of the room's answer
 no_packet : (way : Option Rtx) (i : ℕ) (said : Call) (a : Answer) → packet_of a ≡ packet_given said a
     → (given_on way i said a ≡ datagram_given way i said a) × (count_on i said a ≡ resent_then i said a)
 unfolding given_on count_on
@@ -106,9 +106,9 @@ words_only way i before n (e ∷ h) =
         ∙ ap (λ (l : List Datagram). datagram_given way i w.call w.answer ++ l) (ap (λ (j : ℕ). all_given way j ws) same.1 ∙ others (resent_then i w.call w.answer))
     if_word false w ws here others = others i
 
--- ---- each packet that is given is sent next, and nothing else is
+-- ---- each packet that is returned is sent next, and nothing else is
 
--- the deed sends first what is owed, where so many resent packets were given before
+-- the deed first sends what is owed, after this many resends returned packets
 Owes : Option Rtx → ℕ → Doing → List Datagram → Type 0
 Owes way i (Listen f) owed = (owed ≡ []) × ((got : Option (List ℕ)) (moment : ℕ) → Owes way i (f got moment) [])
 Owes way i (Ask call f) owed = (owed ≡ []) × ((answer : Answer) → Owes way (count_on i call answer) (f answer) (given_on way i call answer))
@@ -139,7 +139,7 @@ all_sent way i (Post what next) (Posted packet ∷ ss) rest owed p o =
     (p.1.0, all_sent way i p.0 ss rest [] p.2 (subst (λ (e : Doing). Owes way i e []) p.1.1 o.1))
 all_sent way i d (s ∷ ss) rest owed p o = absurd p.1
 
--- ---- so it is with sessions of subscribers
+-- ---- this is true of sessions of subscribers
 
 module _ (way : Option Rtx) where
   by_take : (i subscriber : ℕ) (answer : Answer) (more next : Doing) → Owes way i more [] → Owes way i next []
@@ -194,7 +194,7 @@ module _ (way : Option Rtx) where
         (λ j. takes_owe j subscriber 32 (outgoing_deed subscriber ssrc way left (j % 65536)) (deed_owes j subscriber ssrc left)),
   )
 
-  -- What such a session sent is what its seat's takes and resends returned in the history, in order; where its last send failed, that
+  -- What such a session sent is what its seat's takes and resends returned in the history, in order; if its last send failed, that
   -- datagram is unsent.
   pub sent_datagrams : (subscriber ssrc limit number found : ℕ) (history : List (Entry Call)) (told told' : Option Traffic) (before after : ℕ) (end : SessionEnd)
       → (s : IsSession (outgoing_deed subscriber ssrc way limit 0) limit number found history told told' before after end)
@@ -203,7 +203,7 @@ module _ (way : Option Rtx) where
       subst (λ (l : List Datagram). AreSent (sent_of s.steps) l (unsent_datagram s.rest)) (ap (all_given way 0) (sym s.words) ∙ words_only way 0 [] number history)
       (all_sent way 0 (outgoing_deed subscriber ssrc way limit 0) s.steps s.rest [] s.leads (deed_owes 0 subscriber ssrc limit))
 
-  -- The same of what a session on a seat keeps, of the entries that the seat has seen since it began.
+  -- The same for what a session leaves in a seat, for the entries that the seat saw since it began.
   pub sent_since : (MayStarve : Call → Type 0) (subscriber ssrc limit : ℕ) (old new : Known Call) (told told' : Option Traffic) (before after : ℕ) (end : SessionEnd)
       → (k : Keeps MayStarve (outgoing_deed subscriber ssrc way limit 0) limit old new told told' before after end) (added : List (Entry Call)) → new.seen ≡ old.seen ++ added
       → AreSent (sent_of k.done.steps) (datagrams_given way 0 (words_behind new.number old.seen added)) (unsent_datagram k.rest)
@@ -213,7 +213,7 @@ module _ (way : Option Rtx) where
       subst (λ (l : List Datagram). AreSent (sent_of k.done.steps) l (unsent_datagram k.rest)) (ap (all_given way 0) (sym said) ∙ words_only way 0 old.seen new.number added)
       (all_sent way 0 (outgoing_deed subscriber ssrc way limit 0) k.done.steps k.rest [] k.done.leads (deed_owes 0 subscriber ssrc limit))
 
--- ---- resent packets that go out as they were sent
+-- ---- retransmissions that are sent as the packets were first sent
 
 bytes_given : (i : ℕ) (said : Call) (a : Answer) → datagram_given None i said a ≡ map Bytes (packet_given said a)
 bytes_given i (call.Take subscriber) (Sent bytes) = refl
@@ -252,7 +252,7 @@ unsent_bytes (Post (PliFor media) next) = refl
 unsent_bytes (Post (Wrapped rtx number packet) next) = refl
 unsent_bytes rest = refl
 
--- What a subscriber's session sent are the packets that its seat's takes and resends returned in the history, in order; where its last send
+-- A subscriber's session sent the packets that its seat's takes and resends returned in the history, in order. If its last send
 -- failed, that packet is unsent.
 pub sent_packets : (subscriber ssrc limit number found : ℕ) (history : List (Entry Call)) (told told' : Option Traffic) (before after : ℕ) (end : SessionEnd)
     → (s : IsSession (subscriber_deed subscriber ssrc limit) limit number found history told told' before after end) → packets_given (words_of number history) ≡ sent_of s.steps ++ unsent s.rest

@@ -1,4 +1,4 @@
--- A session goes on step by step, and ends.
+-- A session continues step by step, and ends.
 use Rattle.std.proofs.Common.{◌≡◌, ℕ, suc, ◌+◌, ◌-◌, ◌<◌, ◌≤◌, Bool, true, false, List, [], ◌∷◌, length, Option, Result, Ok, Err, IfOk, IfErr, refl, ap, sym, subst, arith}
 use Rattle.sfu_base.specs.Answer.{Answer, Refused, answer_of, is_starved}
 use Rattle.sfu_base.specs.Faults.{HasCause}
@@ -24,7 +24,7 @@ use Rattle.sfu_serve.specs.Parts.{Done, FailedOnce, HasHeadline, Keeps, NoneMayS
 
 -- ---- what is left
 
--- what is left is told in another way
+-- what is left, in other words
 pub leaves : {P : Call → Type 0} {whole : Doing} {a b : Known Call} {told told' : Option Traffic} {x y n : ℕ} (mid rest : Doing) → mid ≡ rest → Done P whole mid a b told told' x y n → Done P whole rest a b told told' x y n
 leaves {P = P} {whole = whole} {a = a} {b = b} {told = told} {told' = told'} {x = x} {y = y} {n = n} mid rest same d = subst (λ (r : Doing). Done P whole r a b told told' x y n) same d
 
@@ -34,7 +34,7 @@ after {P = P} {whole = whole} {mid = mid} {rest = rest} {a = a} {b = b} {c = c} 
     let same : n + 0 ≡ n = omega arith in
     subst (λ (m : ℕ). Done P whole rest a c told told'' x z m) same (doing.joins reply_after (Refused NoMemory) P IsOne HasHeadline whole mid rest a b c told told' told'' x y z n 0 p q)
 
--- what is done without a call is done whatever calls may find no memory
+-- what is done without a call is done whichever calls may run out of memory
 silent : {P : Call → Type 0} {whole rest : Doing} {a b : Known Call} {told told' : Option Traffic} {x y n : ℕ} → Done NoneMayStarve whole rest a b told told' x y n → Done P whole rest a b told told' x y n
 silent {P = P} {whole = whole} {rest = rest} {a = a} {b = b} {told = told} {told' = told'} {x = x} {y = y} {n = n} d =
     doing.widens reply_after (Refused NoMemory) NoneMayStarve P IsOne HasHeadline whole rest a b told told' x y n (λ call none. absurd none) d

@@ -1,4 +1,4 @@
--- Steps one after another, and what they tell of a link.
+-- Steps one after another, and what a link reports of them.
 use Rattle.std.proofs.Common.{◌≡◌, ℕ, List, [], ◌∷◌, ◌++◌, refl, ap, sym, subst, append-nil, append_assoc, Option, Some, None}
 use Rattle.sfu_base.specs.Links.{Traffic, with_more}
 use Rattle.session_steps.specs.Deeds.{Deed, Step, Heard, Said, Posted, Word, Does, Leads, received_of, said_of, sent_of}

@@ -29,7 +29,7 @@ module _ {C A : Type 0} where
   none_if true w e xs os h f = absurd (cc h)
   none_if false w e xs os h f = f h
 
-  -- where a seat has no entry it has no word
+  -- a seat without an entry has no word
   pub words_none : (reply : List (Entry C) → C → A) (starved : A) (before : List (Entry C)) (n : ℕ) (h : List (Entry C)) → own_of n h ≡ [] → words_from reply starved before n h ≡ []
   words_none reply starved before n [] e = refl
   words_none reply starved before n (x ∷ h) e = none_if (eqb x.seat n) (word_at reply starved before x) x (words_from reply starved (before ++ x ∷ []) n h) (own_of n h) e (words_none reply starved (before ++ x ∷ []) n h)
@@ -64,7 +64,7 @@ module _ {C A : Type 0} where
       as_long (eqb e.seat n) (word_at reply starved before e) e (words_from reply starved (before ++ e ∷ []) n h) (own_of n h) (words_length reply starved (before ++ e ∷ []) n h)
 
 module _ {C A : Type 0} where
-  -- the words that a seat has more are those of the entries after what it had seen
+  -- the words that a seat gains are those of the entries after what it had seen
   pub words_since : (reply : List (Entry C) → C → A) (starved : A) (n m : ℕ) (seen seen' added : List (Entry C)) (said : List (Word C A)) → n ≡ m → seen' ≡ seen ++ added
       → words_from reply starved [] n seen' ≡ words_from reply starved [] m seen ++ said → words_from reply starved seen n added ≡ said
   words_since reply starved n m seen seen' added said same goes_on more =

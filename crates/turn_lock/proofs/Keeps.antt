@@ -74,7 +74,7 @@ module _ {S C : Type 0} (stands : S → List (Entry C) → Type 0) (first : ℕ)
       → (u : V) → get_elem? s.views 0 ≡ some u → AllJoined log' u.joined
   grown s r id v log' es grow at alive mine u e = joined_also r.log log' u.joined (λ i x f pos own. ap (own_of x.number) grow ∙ own_same x.number r.log es x.own own (mine x.number (apart s r id v at alive u i x e f))) (r.joined u e)
 
-  -- A live seat moves from the view v to the view w, and its own entries es are appended to the history
+  -- A live seat moves from the view v to the view w, and the history grows by its own entries es
   moves : (s : St) (r : Rule s) (ws : List ℕ) (hs : List (Maybe (Option S))) (id : ℕ) (v w : V) (log' es : List (Entry C)) (queue : List ℕ) (slot : Maybe (Option S))
       → get_elem? s.views id ≡ some v → IsLive v.stage → IsLive w.stage
       → log' ≡ r.log ++ es → w.number ≡ v.number → w.joined ≡ v.joined
@@ -585,7 +585,7 @@ module _ {S C : Type 0} (stands : S → List (Entry C) → Type 0) (first : ℕ)
     gone = λ u i x e f. absurd (some-ne-none x (sym (ap (λ (z : V). get_elem? z.joined i) (some-injective (first_seat first) u e) ∙ f)));
   }
 
-  -- if each other seat was joined, the value is in the slot and represents what the first seat has seen
+  -- if each other seat was joined, the value is in the slot and represents what the first seat saw
   pub closes : (id : ℕ) (v : V) (ws : List ℕ) (xs : List (Option S)) → v.number ≡ 0 → v.stage ≡ Idle → ((n : ℕ) → 0 < n → n < v.count → (i : ℕ) × (x : Joined C) × (get_elem? v.joined i ≡ some x) × (x.number ≡ n))
       → Final (Seen Rule id v) ws xs → (x : S) × (get_elem? xs 0 ≡ some (Some x)) × stands x v.seen × (v.found ≤ v.base + length v.seen)
   closes id v ws xs first_one idle all end =
