@@ -1,4 +1,4 @@
--- What a subscriber of a layered track was given is taken in, in order, by a track of another room, where the packets that came to it are short.
+-- What a subscriber of a layered track was given is accepted, in order, by a track of another room, if the packets that came to it are short.
 use Rattle.std.proofs.Common.{◌≡◌, ◌+◌, ◌*◌, ◌<◌, ◌≤◌, ◌^◌, ℕ, zero, suc, arith, Bool, true, false, cond, eqb, nat_lt, List, [], ◌∷◌, ◌++◌, length, map, take, refl, sym, ap, subst, ◌∙◌, Option, None, Some, Ok}
 use Rattle.std.specs.List.{AllByRecursion}
 use Rattle.std.proofs.lemmas.Bool.{cond-false, cond-true, eq-eqb, le-ltb}

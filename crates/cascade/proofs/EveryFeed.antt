@@ -94,7 +94,7 @@ record IsSecond (past : List Call) : Type 0 where
   three : joined 3 past ≡ Some third
   before : packets_on 2 (before_join 3 past) ≡ []
 
--- Both tracks are fed. So many packets at most were given to both subscribers of the first room, and wait for the third of the second.
+-- Both tracks are fed. At most this many packets were given to both subscribers of the first room, and are queued for the third of the second.
 record AreBetween (most1 most2 waits : ℕ) (first second : List Call) : Type 0 where
   layered : packets_on 1 second ≡ given_to 1 first
   plain : packets_on 2 second ≡ given_to 2 first
@@ -238,7 +238,7 @@ feed_layered (suc count) a b m first second h low =
 abbrev waiting_for_feed : List Call → ℕ
 waiting_for_feed past = (standing_of 2 to_plain past).queued
 
--- A packet for the plain track. What waits for the second subscriber of the first room, and for the third of the second, are 512 together.
+-- A packet for the plain track. The packets queued for subscriber 2 of the first room and for subscriber 3 of the second are 512 together.
 one_for_plain : (a b m : ℕ) (first second : List Call) (bytes : List ℕ) → Hold a b 512 first second → waiting_for_third second + waiting_for_feed first ≤ 512
     → b + 65536 < 2 ^ 46 → answer first (call.Take 2) ≡ Sent bytes
     → (answer second (call.Packet 2 m bytes) ≡ Done) × Hold a (b + 1) 512 (call.Take 2 ∷ first) (call.Packet 2 m bytes ∷ second)
@@ -354,7 +354,7 @@ first_ticked a b m both h =
       };
     }) h
 
--- where a call of the second room changes neither track, nor what the third subscriber sees
+-- a call of the second room that changes neither track, nor what the third subscriber sees
 same_between : (a b w : ℕ) (first past next : List Call) → AreBetween a b w first past → packets_on 1 next ≡ packets_on 1 past → packets_on 2 next ≡ packets_on 2 past
     → seen_by_third next ≡ seen_by_third past → AreBetween a b w first next
 same_between a b w first past next h one two seen = record {
@@ -468,7 +468,7 @@ tick_holds a b m both h low1 low2 =
     let full = two.between.waiting in
     third_takes 513 (a + 513) (b + 513) _ _ two (omega (arith, full))
 
--- only ticks give anything
+-- only ticks return anything
 event_holds : (a b : ℕ) (both : Both) (e : Event) (place : Option Place) → HoldOf a b 0 both → a + 70000 < 2 ^ 46 → b + 70000 < 2 ^ 46
     → HoldOf (a + 513 * ticks_in e) (b + 513 * ticks_in e) 0 (after_event both e place)
 unfolding after_event

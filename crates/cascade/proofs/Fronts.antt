@@ -1,4 +1,4 @@
--- A strict receiver that has no complaint of some packets has none of a front of them.
+-- A strict receiver that has no complaint about some packets has none about a prefix of them.
 use Rattle.std.proofs.Common.{◌≡◌, ℕ, List, [], ◌∷◌, ◌++◌, take, drop, map, refl, sym, ap, ◌∙◌, Option, None, Some}
 use Rattle.std.proofs.lemmas.List.{map-append, take-append-drop}
 use Rattle.forwarding_model.specs.declared.complaint.Complaint.{Complaint}
@@ -19,7 +19,7 @@ module _ {S : Type 0} (format : Format S) where
   front_pleases (Complaining c) [] ys h = absurd (let no : Some c ≡ None = sym (ap complaint_of (keeps_complaining c ys)) ∙ h in cc)
   front_pleases r (x ∷ xs) ys h = front_pleases (receive format r x) xs ys h
 
-  -- of the first packets, where there is none of all
+  -- about the first packets, if there is none about all
   pub first_please : (f : List ℕ → Option Packet) (k : ℕ) (came : List (List ℕ)) → complaint format (map f came) ≡ None → complaint format (map f (take k came)) ≡ None
   first_please f k came h =
       front_pleases Waiting (map f (take k came)) (map f (drop k came))

@@ -55,14 +55,14 @@ use Rattle.cascade.proofs.Taken.{GivesInOrder, IsRtp, all_rtp, all_small, gives_
 -- ---- packets of these bytes
 
 module _ (took : List (List ℕ)) where
-  -- the packet came in as these bytes
+  -- the packet arrived as these bytes
   pub record CameAs (p : Packet) : Type 0 where
     pub bytes : List ℕ
     pub member : IsMember bytes took
     pub reads : first_fault bytes ≡ None
     pub is : p ≡ packet_of bytes
 
-  -- the packet is that of these bytes, or of the same with another mask, but for its number, SSRC and marker
+  -- the packet has these bytes, or the same with another mask, but for its number, SSRC and marker
   record Carries (id : ℕ) (q : Packet) : Type 0 where
     bytes : List ℕ
     member : IsMember bytes took
@@ -174,7 +174,7 @@ module _ (took : List (List ℕ)) where
     out_carries id (n + 1) ssrc ps all.1,
   )
 
-  -- so where each of these has at most so many bytes, what goes out has
+  -- so if each of these has at most this many bytes, what goes out has
   out_short : (most : ℕ) → ((bytes : List ℕ) → IsMember bytes took → length bytes ≤ most) → (id n ssrc : ℕ) (ps : List Packet) → AllByRecursion (Carries id) ps
       → AllByRecursion (λ new. length new ≤ 276 + 4 * most) (map bytes_of (numbered n ssrc ps))
   out_short most each id n ssrc [] all = tt

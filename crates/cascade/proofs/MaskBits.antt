@@ -1,4 +1,4 @@
--- Which bits a mask has: that of all targets, and that of the targets that a subscriber gets.
+-- The bits of a mask: of that of all targets, and of that of the targets that a subscriber is sent.
 use Rattle.std.proofs.Common.{◌≡◌, ◌+◌, ◌-◌, ◌*◌, ◌/◌, ◌%◌, ◌^◌, ◌<◌, ◌≤◌, ℕ, zero, suc, arith, Bool, true, false, inl, inr, sym, ap, subst, ◌∙◌, cond, Option, Some}
 use Rattle.std.specs.Prelude.{◌==◌, nat_le}
 use Rattle.std.proofs.lemmas.Bool.{and_from, cases_lt, eqb-true, eq-eqb, le-leb}
@@ -13,16 +13,16 @@ use Rattle.forwarding_laws.proofs.Readings.{all_targets-lt}
 use Rattle.target_selector.specs.Masks.{mask_for, mask_within, targets_where}
 use Rattle.target_selector.proofs.TargetBits.{mask_small, targets_small}
 
--- the bit of a target stands in the mask
+-- the bit of a target is set in the mask
 abbrev pub HasBit : ℕ → ℕ → Type 0
 HasBit mask t = ((mask / 2 ^ t) % 2 == 1) ≡ true
 
--- the target's bit, and none but those of the first so many targets
+-- the target's bit is set, and only bits of the first targets, this many
 pub record IsMaskOf (count target mask : ℕ) : Type 0 where
   pub own : HasBit mask target
   pub few : (t : ℕ) → HasBit mask t → t < count
 
--- a mask of so many bits has no others
+-- a mask of this many bits has no others
 few_bits : (count mask t : ℕ) → mask < 2 ^ count → HasBit mask t → t < count
 few_bits count mask t small bit = elim (cases_lt t count) [
   | inl low ↦ low
@@ -57,7 +57,7 @@ all_active layout t low = eq-eqb (all_targets layout / 2 ^ t % 2) 1 (go (layout.
 
 -- ---- the targets that a subscriber gets
 
--- bits below are as they were, where a higher one is added
+-- lower bits are unchanged when a higher one is added
 bit_below : (x k t : ℕ) → t < k → HasBit x t → HasBit (x + 2 ^ k) t
 bit_below x k t low bit = eq-eqb ((x + 2 ^ k) / 2 ^ t % 2) 1 (go (k - t - 1) (omega arith))
   where

@@ -1,4 +1,4 @@
--- A packet with another mask keeps its CSRC words.
+-- A packet's CSRC words are the same with another mask.
 use Rattle.std.proofs.Common.{◌≡◌, ◌+◌, ◌*◌, ◌%◌, ◌≤◌, ℕ, List, ◌∷◌, ◌++◌, length, take, drop, Option, None, Some, arith, subst}
 use Rattle.std.proofs.lemmas.List.{length-take-le, take_at}
 use Rattle.dd_structure.specs.TemplateStructure.{TemplateStructure}

@@ -52,7 +52,7 @@ use Rattle.cascade.proofs.Taken.{GivesInOrder, all_back, all_small, gives_in_ord
 
 -- ---- lists
 
--- of two ways to lay a list in two parts, the shorter first part is a front of the longer
+-- if a list is split in two ways, the shorter first part is a prefix of the longer one
 front_of_front : {X : Type 0} (xs ys us vs : List X) → xs ++ ys ≡ us ++ vs → length xs ≤ length us → (w : List X) × (us ≡ xs ++ w)
 front_of_front [] ys us vs e short = (us, refl)
 front_of_front (x ∷ xs) ys [] vs e short = absurd (omega arith)
@@ -62,7 +62,7 @@ front_of_front (x ∷ xs) ys (u ∷ us) vs e short =
     let r = front_of_front xs ys us vs rest (omega arith) in
     (r.0, ap (λ (z : _). z ∷ us) (sym same) ∙ ap (λ l. x ∷ l) r.1)
 
--- taken so far that the first part is whole
+-- enough was taken that the first part is complete
 takes_front : {X : Type 0} (n : ℕ) (xs ys : List X) → length xs ≤ n → take n (xs ++ ys) ≡ xs ++ take (n - length xs) ys
 takes_front n [] ys few = ap (λ k. take k ys) (let e : n ≡ n - 0 = omega arith in e)
 takes_front zero (x ∷ xs) ys few = absurd (omega arith)
@@ -81,7 +81,7 @@ items_append (Asked other ∷ since) past = items_append since past
 
 -- ---- the run on the first track, as packets
 
--- the packets that were taken are those before the key frame, its own, those of the frames since, and others
+-- the packets that were taken are those before the key frame, its own, those of the frames since, and later ones
 record IsLaidOut (took : List Packet) (first ssrc : ℕ) (before key others : List Packet) : Type 0 where
   rest : List Packet
   is : took ≡ numbered first ssrc before

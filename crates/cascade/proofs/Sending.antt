@@ -1,4 +1,4 @@
--- What is sent of a frame, in an epoch without masks, is the frame again, with all targets active or those that the subscriber gets.
+-- What is sent of a frame, in an epoch without masks, is the same frame, with all targets active or those that the subscriber is sent.
 use Rattle.std.proofs.Common.{◌≡◌, ◌⊎◌, inl, inr, ◌+◌, ◌%◌, ◌<◌, ◌^◌, ℕ, Bool, true, false, ◌||◌, cond, List, [], ◌∷◌, map, Option, None, Some, refl, sym, ap, subst, ◌∙◌}
 use Rattle.std.specs.List.{AllByRecursion}
 use Rattle.sfu_base.specs.Frame.{IsValid}
@@ -62,7 +62,7 @@ module _ (id : ℕ) (s : TemplateStructure) (f : FrameMeaning) (facts : IsFormat
       (subst (λ (o : Option TemplateStructure). keeps_structure reader (Some s) o ≡ true) has
       (sym (ap (λ b. b || keeps_structure reader (Some s) d.structure) no_key) ∙ (shown_parts reader (Some s) rest d (Elements joins) reads).obeys))
 
-  -- a descriptor without a mask leaves the mask, or makes all targets active
+  -- a descriptor without a mask leaves the mask unchanged, or makes all targets active
   leaves_mask : (d : Descriptor TemplateStructure) (old : ℕ) → d.mask ≡ None → ((t : TemplateStructure) → d.structure ≡ Some t → t ≡ s) → Masks old → Masks (mask_by reader d.mask d.structure old)
   leaves_mask d old none same masked = subst (λ (m : Option ℕ). Masks (mask_by reader m d.structure old)) (sym none) (go d.structure same)
     where
@@ -100,7 +100,7 @@ module _ (id : ℕ) (s : TemplateStructure) (f : FrameMeaning) (facts : IsFormat
   tail_keeps d joins rests (inl last) none = subst (AllByRecursion (KeepsMask reader s Masks)) (sym last.2) tt
   tail_keeps d joins rests (inr more) none = rest_keeps (f.number % 65536) joins.carries 1 rests more.1 none
 
-  -- the first packet as it was
+  -- the first packet unchanged
   first_mask : (rest : List ℕ) (d : Descriptor TemplateStructure) (joins : Joins) → IsFirst reader s f rest d joins → SaysNoMask reader s rest → FirstMask reader s Masks f.key rest
   first_mask rest d joins first none = go f.key refl
     where

@@ -1,4 +1,4 @@
--- How long a packet is after its mask was written anew.
+-- The length of a packet after its mask was rewritten.
 use Rattle.std.proofs.Common.{◌≡◌, ◌+◌, ◌-◌, ◌*◌, ◌/◌, ◌%◌, ◌≤◌, ℕ, zero, suc, arith, Bool, true, false, cond, eqb, nat_lt, List, [], ◌∷◌, ◌++◌, length, length-append, length-drop, length-take, take, drop, refl, ap, Option, None, Some}
 use Rattle.std.proofs.lemmas.Bool.{ltb-false}
 use Rattle.rtp_packet.specs.Fields.{behind_csrcs, behind_extension, behind_header, block_in, block_of, block_words, csrc_count, is_extended, profile_of}
@@ -15,7 +15,7 @@ use Rattle.packet_format.specs.Remasked.{at_most, new_value, remasked, with_exte
 
 -- ---- elements
 
--- at most so many bytes in either form
+-- at most this many bytes in either form
 abbrev total : List PlainElement → ℕ
 total [] = 0
 total (e ∷ es) = 2 + length e.value + total es
@@ -149,7 +149,7 @@ remasked_short id mask force bytes new e =
         let block = cut_short (is_extended bytes) (behind_csrcs bytes) in
         omega (arith, ap length same, fits, whole, extension, block, length-drop (12 + 4 * csrc_count bytes) bytes)
 
--- Another sequence number, SSRC and marker keep the length.
+-- Another sequence number, SSRC and marker don't change the length.
 pub rewritten_short : (sequence ssrc : ℕ) (marker : Bool) (bytes : List ℕ) → 12 ≤ length bytes → length (rewritten sequence ssrc marker bytes) ≤ length bytes
 unfolding rewritten
 rewritten_short sequence ssrc marker bytes long = simp (length-append, length-take, length-drop) (omega arith)

@@ -83,19 +83,19 @@ takes_none old new endpoint n r bytes numbers past serves fed other s =
       fed = λ taken was. was;
     }
 
--- what a take gave is given
+-- what a take returned is given
 pub given_more : (n : ℕ) (past : List Call) (bytes : List ℕ) → answer past (call.Take n) ≡ Sent bytes → given_to n (call.Take n ∷ past) ≡ given_to n past ++ bytes ∷ []
 given_more n past bytes gave =
     ap (λ (b : Bool). cond b (and_sent (given_to n past) (answer past (call.Take n))) (given_to n past)) (eq-eqb n n refl) ∙ ap (and_sent (given_to n past)) gave
 
--- so far these calls were accepted, of those that are made in all, and the receiver was fed what they gave
+-- so far these calls were accepted, of all that are made, and the receiver was fed what they returned
 pub record HasTaken (count : ℕ) (room : Room KeepNone) (from endpoint : Endpoint) (n : ℕ) (past : List Call) : Type 0 where
   pub now : List Call
   pub room_is : StandsAfter room now
   pub fed : WasFed from (given_to n past) → WasFed endpoint (given_to n now)
   pub all : taken_on (513 - count) n now ≡ taken_on 513 n past
 
--- all were
+-- all calls were
 pub record TookAll (room : Room KeepNone) (from endpoint : Endpoint) (n : ℕ) (past : List Call) : Type 0 where
   pub room_is : StandsAfter room (all_taken n past)
   pub fed : WasFed from (given_to n past) → WasFed endpoint (given_to n (all_taken n past))
@@ -141,7 +141,7 @@ unfolding taken_on
 over_taking count room from endpoint n past over h =
     took_all room from endpoint n past h.now (sym (ap (λ (k : ℕ). taken_on k n h.now) (let e : 513 - count ≡ 0 = omega arith in e)) ∙ h.all) h.room_is h.fed
 
--- another's takes give it nothing
+-- a take of another subscriber gives it nothing
 pub given_other : (count n m : ℕ) (past : List Call) → eqb n m ≡ false → given_to m (taken_on count n past) ≡ given_to m past
 unfolding taken_on
 given_other zero n m past e = refl

@@ -1,4 +1,4 @@
--- How long the packets of a stream are, and how many ticks it gives.
+-- The length of a stream's packets, and the number of its ticks.
 use Rattle.std.proofs.Common.{◌≡◌, ◌+◌, ◌*◌, ◌≤◌, ℕ, zero, suc, arith, Bool, true, false, cond, List, [], ◌∷◌, ◌++◌, length, length-append, map, refl, ap, Option, None, Some}
 use Rattle.std.specs.Prelude.{flat_map}
 use Rattle.std.specs.List.{enumerate_from}

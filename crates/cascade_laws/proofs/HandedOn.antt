@@ -1,4 +1,4 @@
--- Each frame that passed to the one passes to the other, by induction on both timelines since the key frame.
+-- Each frame that passed to one subscriber passes to the other, by induction on both timelines since the key frame.
 use Rattle.std.proofs.Common.{◌≡◌, inl, inr, ◌<◌, ◌≤◌, ℕ, arith, Bool, true, false, List, [], ◌∷◌, ◌++◌, refl, sym, subst, ap, ◌∙◌, cond, map, length}
 use Rattle.std.specs.List.{AllByRecursion, list_any}
 use Rattle.std.specs.declared.option.Option.TheVariants.{None, Some}
@@ -125,7 +125,7 @@ module _ (by : Shift) (target opened reopened epoch : ℕ) (now : Wish) where
           (subst (λ (w : Wish). Ready u.epoch_passed (Open target reopened) w g target reopened) (sym a.same_wish)
           (ready_for_other s.epoch_passed u.epoch_passed f g a.passed openings r masked below here)))
 
-  -- a frame that is withheld from the one, and leaves its target open
+  -- a frame that is withheld from the first subscriber, and leaves its target open
   one_withheld : (s u : Standing) (f : FrameMeaning) (packets : ℕ) → StandAlike by target opened reopened epoch now s u → WasOpen s f target opened
       → kept_target_at s f ≡ Open target opened → StandAlike by target opened reopened epoch now (admitted false s f packets) u
   one_withheld s u f packets a w kept = record {
@@ -137,7 +137,7 @@ module _ (by : Shift) (target opened reopened epoch : ℕ) (now : Wish) where
     passed = subst (λ (l : List FrameMeaning). AreRelayed by l u.epoch_passed) (sym (passed_in s f w.in_epoch)) a.passed;
   }
 
-  -- what changes wish or queue alone
+  -- an event that changes only the wish or the queue
 
   plain_here : (s u : Standing) (b : Bool) → StandAlike by target opened reopened epoch now s u → StandAlike by target opened reopened epoch now (after_plain b s) u
   plain_here s u true a = record { wish = a.wish; same_wish = a.same_wish; target_is = a.target_is; same_target = a.same_target; epoch_is = a.epoch_is; passed = a.passed }
@@ -161,7 +161,7 @@ module _ (by : Shift) (target opened reopened epoch : ℕ) (now : Wish) where
 
 -- ---- the key frame
 
--- at a key frame of a track nothing passed of its epoch before
+-- at a key frame of a track nothing of its epoch passed before
 pub key_begins : {S : Type 0} (wish : Wish) (past : List (Event S)) (f : FrameMeaning) → IsOneTrack (f ∷ meanings_of past) → f.key ≡ true
     → is_epoch (standing wish past).epoch f.epoch ≡ false
 key_begins {S} wish past f track key = go (is_epoch (standing wish past).epoch f.epoch) refl
@@ -186,7 +186,7 @@ key_begins {S} wish past f track key = go (is_epoch (standing wish past).epoch f
     go true e = absurd (none (frames_of past) refl (is_epoch-true (standing wish past).epoch f.epoch e))
     go false e = e
 
--- before it nothing stands: neither what passed nor a target
+-- before it there is nothing: no frame passed, and no target is open
 begins : (s : Standing) (f : FrameMeaning) → is_epoch s.epoch f.epoch ≡ false → (passed_at s f ≡ []) × (target_at s f ≡ Closed (NotOpened f.number))
 begins s f e = (ap (λ b. cond b s.epoch_passed []) e, ap (λ b. cond b s.target (Closed (NotOpened f.number))) e)
 
@@ -253,7 +253,7 @@ module _ {S : Type 0} (by : Shift) (target : ℕ) (now wish second_wish : Wish) 
   abbrev Handed : List (Frame S) → List (Event S) → Type 0
   Handed frames second_since = AreHandedOn by target y.meaning.epoch frames (frames_of second_since)
 
-  -- where nothing more passed to the one, nothing more came to the other
+  -- if no further frame passed to the first subscriber, none came to the second
   none_more : (s : Standing) → Alike s (standing second_wish (WholeFrame y ∷ second_past)) → (second_since : List (Event S)) → KeepsWish now second_since → Handed [] second_since → Passed' second_since × Alike s (at' second_since)
   none_more s a [] keeps h = (tt, a)
   none_more s a (WholeFrame z ∷ second_since) keeps h = absurd h
@@ -267,7 +267,7 @@ module _ {S : Type 0} (by : Shift) (target : ℕ) (now wish second_wish : Wish) 
   abbrev After : Standing → List (Frame S) → Type 0
   After s frames = (second_since : List (Event S)) → KeepsWish now second_since → Handed frames second_since → Room' second_since → Passed' second_since × Alike s (at' second_since)
 
-  -- where one more passed to the one, one more passes to the other
+  -- if one more frame passed to the first subscriber, one more passes to the second
   one_passed : (s : Standing) (f : Frame S) (frames : List (Frame S)) → x.meaning.number < f.meaning.number → passes_at s f.meaning (length f.packets) ≡ true
       → candidate_at s f.meaning ≡ Open target x.meaning.number → After s frames → After (admitted true s f.meaning (length f.packets)) (f ∷ frames)
   one_passed s f frames below passed open_is before [] keeps h room = absurd h

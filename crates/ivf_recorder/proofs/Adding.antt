@@ -1,4 +1,4 @@
--- A frame more in a file, as the code puts it there.
+-- One more frame in a file, as the code appends it.
 use Rattle.std.proofs.Common.{◌≡◌, ℕ, ◌+◌, ◌-◌, ◌%◌, ◌^◌, ◌≤◌, Bool, true, List, [], ◌∷◌, ◌++◌, length, Option, Some, None, refl, sym, ap, subst, ◌∙◌}
 use Rattle.std.specs.Int.{to_le_bytes, w32, w64}
 use Rattle.ivf_recorder.specs.declared.file.Growth.TheVariants.{Grown, TooLong}
@@ -10,7 +10,7 @@ use Rattle.ivf_recorder.specs.Obus.{Obu, all_bytes}
 use Rattle.ivf_recorder.specs.Units.{RecordedFrame, Size, delimiter, most_unit}
 use Rattle.ivf_recorder.proofs.FileLemmas.{apart_file, joined_file, new_unit}
 
--- the newest unit of these numbers, where they are the file's
+-- the newest unit with these numbers, if they are the file's
 newest_of : (file : IvfFile) (timestamp time at : ℕ) (contents : List RecordedFrame) → file.begun ≡ true → file.timestamp ≡ timestamp → file.time ≡ time → file.at ≡ at
     → IsNewest timestamp time at contents → HasNewest file.begun file.timestamp file.time file.at contents
 newest_of file timestamp time at contents begun same_timestamp same_time same_at n =

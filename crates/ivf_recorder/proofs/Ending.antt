@@ -1,4 +1,4 @@
--- What a packet that was accepted makes of what a recorder stands for.
+-- What a recorder stands for after an accepted packet.
 use Rattle.std.proofs.Common.{◌≡◌, ℕ, zero, suc, ◌+◌, Bool, true, false, cond, ◌&&◌, List, [], ◌∷◌, ◌++◌, length, map, get_or, Option, Some, None, refl, sym, ap, ap₂, subst, ◌∙◌, arith}
 use Rattle.std.specs.Option.{option_map, is_some}
 use Rattle.forwarding_model.specs.Receiver.{OpenFrame as ModelFrame, Reception, Receiver, complaint_of, ends_frame, is_content, receive, receive_all}
@@ -171,7 +171,7 @@ module _ (mid : Recording) (history : List (List ℕ)) (packet : List ℕ) (fed 
   is_whole : 1 ≡ ends_frame mid.receiver.receiver → gathered_over id (history ++ packet ∷ []) ≡ with_whole g packet (structure_in mid.receiver.receiver)
   is_whole e = gathered_one id history packet ∙ gather_whole mid.receiver.receiver m g packet same receiving e
 
-  -- it leaves the frame open
+  -- the packet leaves its frame open
   pub stands_open : 0 ≡ ends_frame mid.receiver.receiver → StandsFor mid (history ++ packet ∷ []) × (fault_over id (history ++ packet ∷ []) ≡ None)
   stands_open e =
       let o = is_open e in
@@ -234,7 +234,7 @@ module _ (mid : Recording) (history : List (List ℕ)) (packet : List ℕ) (fed 
         append_nothing [] = refl
         append_nothing (c ∷ x) = ap (λ (y : List RecordedFrame). c ∷ y) (append_nothing x)
 
-  -- all of them are
+  -- all elements of its frame are OBUs
   module _ (e : 1 ≡ ends_frame mid.receiver.receiver) (obus : List Obu) (some : obus_in (segments_in mid.frame) ≡ Some obus) where
     has_content : content_of frame ≡ Some (content mid.frame.timestamp obus)
     has_content = content_is ∙ ap (option_map (content mid.frame.timestamp)) some
@@ -268,7 +268,7 @@ module _ (mid : Recording) (history : List (List ℕ)) (packet : List ℕ) (fed 
       short = fed.short;
     }
 
-    -- where there was a unit
+    -- there was a unit
     pub same_size : mid.file.begun ≡ true → size_over id history ≡ size_over id (history ++ packet ∷ [])
     same_size begun =
         sym (ap (λ (x : Gathered). size_in (structure_of x.frames)) (is_whole e)
@@ -281,6 +281,6 @@ module _ (mid : Recording) (history : List (List ℕ)) (packet : List ℕ) (fed 
         unit_there : HasNewest true mid.file.timestamp mid.file.time mid.file.at (contents_over id history) → contents_over id history ≡ [] → ⊥
         unit_there n none = empty n.closed n.unit (sym (ap units_of none) ∙ n.units)
 
-    -- and where there was none
+    -- there was no unit
     pub new_size : mid.file.begun ≡ false → size_in (structure_in mid.receiver.receiver) ≡ size_over id (history ++ packet ∷ [])
     new_size begun = sym (first_size (subst (λ (b : Bool). HasNewest b mid.file.timestamp mid.file.time mid.file.at (contents_over id history)) begun fed.file.newest))

@@ -1,4 +1,4 @@
--- One packet more, whatever a recorder stands for.
+-- A recorder after one more packet, in any state it stands for.
 use Rattle.std.proofs.Common.{◌≡◌, ℕ, ◌≤◌, Bool, true, false, ◌&&◌, List, [], ◌∷◌, ◌++◌, length, map, take, Option, Some, None, Err, refl, sym, ap, ap₂, subst, ◌∙◌}
 use Rattle.std.specs.Option.{is_some}
 use Rattle.std.proofs.lemmas.List.{map-append, take_at}
@@ -98,7 +98,7 @@ module _ (id : ℕ) (history : List (List ℕ)) (packet : List ℕ) where
   gathered_is : gathered_over id (history ++ packet ∷ []) ≡ gather m g packet
   gathered_is = gathered_one id history packet
 
-  -- a fault, and what is recorded, stay as they are
+  -- a fault, and what is recorded, are unchanged
   pub record Stays (f : RecordFault) : Type 0 where
     pub fault : fault_over id (history ++ packet ∷ []) ≡ Some f
     pub contents : contents_over id (history ++ packet ∷ []) ≡ contents_over id history
@@ -226,7 +226,7 @@ feeds_again now history packet f few at stands = go f (sym stands.fault ∙ at) 
     go (fault.Complaint c) e stays = (after (fault.Complaint c) (stands.fault ∙ e) stays, stays.fault)
     go fault.NoMemory e stays = absurd (never (are_sound (gathered_over now.receiver.id history).frames) (complaint_over now.receiver.id history) e)
 
--- the complaint that was answered
+-- the complaint that was returned
 pub feeds_complaint : (new : Recording) (old_fault : Option RecordFault) (id : ℕ) (history : List (List ℕ)) (packet : List ℕ) (c : Complaint) (f : RecordFault) → f ≡ fault.Complaint c
     → new.receiver.id ≡ id → new.fault ≡ Some f → IsFileOf new.file (size_over id history) (contents_over id history) → are_sound (gathered_over id history).frames ≡ true
     → complaint_over id (history ++ packet ∷ []) ≡ Some c → AreShort (history ++ packet ∷ []) → Feeds old_fault id new history packet (Err f)

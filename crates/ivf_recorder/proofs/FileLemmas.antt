@@ -1,4 +1,4 @@
--- The file with a frame more.
+-- The file after one more frame.
 use Rattle.std.proofs.Common.{◌≡◌, ℕ, ◌+◌, ◌-◌, ◌%◌, ◌^◌, ◌≤◌, ◌==◌, ◌&&◌, Bool, true, false, cond, List, [], ◌∷◌, ◌++◌, length, refl, sym, ap, ap₂, ◌∙◌, arith, append_assoc}
 use Rattle.std.specs.Prelude.{nat_le}
 use Rattle.std.specs.Int.{to_le_bytes, w16, w32, w64}
@@ -96,7 +96,7 @@ module _ (size : Size) (contents : List RecordedFrame) (content : RecordedFrame)
         count = count;
       }
 
-  -- it gets too long
+  -- the unit gets too long
   pub apart_if_long : most_unit + 1 ≤ length mid - at - 12 → BeginsUnit contents content
   apart_if_long long closed unit e =
       let s = same_from_push closed n.closed unit n.unit (sym e ∙ n.units) in

@@ -24,7 +24,7 @@ use Rattle.ivf_recorder.specs.Units.{RecordedFrame, no_size, size_in}
 
 -- ---- the structure in force stays
 
--- a receiver that goes on has this structure in force
+-- a receiver without a complaint has this structure in force
 abbrev HasStructure : Receiver TemplateStructure → Option TemplateStructure → Type 0
 HasStructure Waiting s = ⊥
 HasStructure (Receiving r) s = r.structure ≡ s

@@ -1,4 +1,4 @@
--- OBUs put one element after another.
+-- OBUs that are appended, one element after another.
 use Rattle.std.proofs.Common.{◌≡◌, ℕ, Bool, true, false, List, [], ◌∷◌, ◌++◌, Option, Some, None, refl, sym, ap, ◌∙◌, append_assoc}
 use Rattle.std.proofs.lemmas.List.{append-nil}
 use Rattle.ivf_recorder.specs.Laid.{Lays, LaysOr, laid_behind}
@@ -12,7 +12,7 @@ laid_both : (old : List ℕ) (obus : List Obu) (others : Option (List Obu)) → 
 laid_both old obus None = refl
 laid_both old obus (Some more) = ap (λ (x : List ℕ). Some x) (ap (λ (x : List ℕ). old ++ x) (all_more obus more) ∙ sym (append_assoc old (all_bytes obus) (all_bytes more)))
 
--- an element was put
+-- an element was appended
 pub laid_one : (element : List ℕ) (others : List (List ℕ)) (old new : List ℕ) → Lays true [] (obus_of element) old new
     → laid_behind new (obus_in others) ≡ laid_behind old (obus_in (element ∷ others))
 laid_one element others old new lays = go (obus_of element) lays
@@ -21,13 +21,13 @@ laid_one element others old new lays = go (obus_of element) lays
     go None h = absurd h
     go (Some obus) h = ap (λ (x : List ℕ). laid_behind x (obus_in others)) h ∙ sym (laid_both old obus (obus_in others))
 
--- it goes behind what was there
+-- it comes after what was there
 pub more_one : (o : Option (List Obu)) (start old new : List ℕ) → Lays true [] o old new → ((more : List ℕ) × (old ≡ start ++ more)) → (more : List ℕ) × (new ≡ start ++ more)
 more_one None start old new h before = absurd h
 more_one (Some obus) start old new h before =
     (before.0 ++ all_bytes obus, h ∙ (ap (λ (x : List ℕ). x ++ all_bytes obus) before.1 ∙ append_assoc start before.0 (all_bytes obus)))
 
--- an element wasn't one
+-- an element wasn't an OBU
 pub laid_none : (element : List ℕ) (others : List (List ℕ)) (start old new : List ℕ) (all : Option (List Obu)) → Lays false [] (obus_of element) old new
     → laid_behind old (obus_in (element ∷ others)) ≡ laid_behind start all → ((more : List ℕ) × (old ≡ start ++ more)) → LaysOr false all start new
 laid_none element others start old new all lays is before = go (obus_of element) lays all is

@@ -33,7 +33,7 @@ leb_short (suc more) n = by_test (leb_short more (n / 128)) (nat_lt n 128) refl
         let e = ap length (leb_more more (suc more) n refl le) in
         omega arith
 
--- how many bytes the OBUs of elements have at most
+-- an upper bound of the bytes of the OBUs of elements
 abbrev pub weight : List (List ℕ) → ℕ
 weight [] = 0
 weight (element ∷ others) = length element + 5 + weight others

@@ -28,7 +28,7 @@ use Rattle.ivf_recorder.proofs.Sizes.{frame_weighs}
 
 -- ---- how many packets a frame has
 
--- before a packet, where the open frame has so many
+-- before a packet, if the unfinished frame has this many packets
 abbrev OpenHas : Option OpenFrame → ℕ → Type 0
 OpenHas None n = n ≡ 0
 OpenHas (Some frame) n = (n ≡ frame.packets) × (n ≤ 512)
@@ -38,7 +38,7 @@ Has Waiting n = n ≡ 0
 Has (Receiving r) n = OpenHas r.frame n
 Has (Complaining c) n = Unit {0}
 
--- with a packet, of which the frame has so many then, whether it is open or has ended
+-- after a packet, if its frame has this many packets then, whether it is open or has ended
 abbrev OpenGot : Option OpenFrame → ℕ → Type 0
 OpenGot None n = n ≤ 512
 OpenGot (Some frame) n = (n ≡ frame.packets) × (n ≤ 512)
@@ -143,7 +143,7 @@ pub packet_pushed : (packets : List (List ℕ)) (p : List ℕ) → AreShort pack
 packet_pushed [] p all is = (is, tt)
 packet_pushed (q ∷ packets) p all is = (all.0, packet_pushed packets p all.1 is)
 
--- a packet more
+-- one more packet
 gathered_short : (m : Receiver TemplateStructure) (g : Gathered) (p : List ℕ) → length p ≤ 2048 → IsShort g → Got m (length g.unfinished + 1) → IsShort (gather m g p) × Has m (length (gather m g p).unfinished)
 gathered_short Waiting g p le is got = absurd got
 gathered_short (Complaining c) g p le is got = (is, tt)

@@ -1,8 +1,8 @@
--- One frame more in a file's units.
+-- A file's units after one more frame.
 use Rattle.std.proofs.Common.{◌≡◌, Bool, true, false, cond, List, [], ◌∷◌, ◌++◌, refl, sym, ap, ◌∙◌}
 use Rattle.ivf_recorder.specs.Units.{RecordedFrame, TemporalUnit, begins, grown, joins, next_time, units_from, units_of}
 
--- the units that a unit becomes with a frame more
+-- the units that a unit becomes with one more frame
 abbrev pub with_content : TemporalUnit → RecordedFrame → List TemporalUnit
 with_content unit content = cond (joins unit content) (grown unit content ∷ []) (unit ∷ begins (next_time unit content) content ∷ [])
 
@@ -44,7 +44,7 @@ extended_last [] unit content = refl
 extended_last (c ∷ []) unit content = refl
 extended_last (c ∷ d ∷ closed) unit content = ap (λ (x : List TemporalUnit). c ∷ x) (extended_last (d ∷ closed) unit content)
 
--- where these are the units, the newest the last
+-- these are the units, the newest last
 pub units_more : (contents : List RecordedFrame) (content : RecordedFrame) (closed : List TemporalUnit) (unit : TemporalUnit) → units_of contents ≡ closed ++ unit ∷ []
     → units_of (contents ++ content ∷ []) ≡ closed ++ with_content unit content
 units_more [] content [] unit e = absurd cc

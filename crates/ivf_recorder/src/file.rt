@@ -148,7 +148,7 @@ impl IvfFile {
         Growth::Grown
     }
 
-    // Appends a frame as a new unit. If an element isn't an OBU, returns false.
+    // Appends a frame as a new unit. If an element of the frame isn't an OBU, returns false.
     fn add_apart(&mut self, timestamp: u32, frame: &OpenFrame) -> bool
         requires room { vec_len self.old.bytes + (UNIT_FRONT + most_bytes frame.now) ≤ vec_capacity self.old.bytes }
         requires timestamp { timestamp_in frame.now.timestamp ≡ timestamp }

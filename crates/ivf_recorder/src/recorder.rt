@@ -53,7 +53,7 @@ impl IvfRecorder {
         self.recording.feed(packet)
     }
 
-    /// Returns the file of the frames so far, without an unfinished frame and a frame with an element that isn't an OBU. Allocates no memory.
+    /// Returns the file of the frames so far, but for an unfinished frame and a frame in which an element isn't an OBU. Allocates no memory.
     pub fn finish(self) -> Blob
         ensures file { (history : List (List ℕ)) → StandsFor self history → result ≡ ivf_over self.receiver.id history }
         ensures reads { (history : List (List ℕ)) → StandsFor self history → IsFileWith result (obus_over self.receiver.id history) }

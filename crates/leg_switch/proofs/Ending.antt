@@ -1,4 +1,4 @@
--- Each packet that is taken from the active leg goes out, so the last of them tells whether the last frame that goes out was ended.
+-- Each packet that is taken from the active leg goes out, so the last of them decides whether the last frame that goes out was ended.
 use Rattle.std.proofs.Common.{◌≡◌, ◌+◌, ◌%◌, ◌<◌, ◌^◌, ℕ, arith, Bool, true, false, List, [], ◌∷◌, ◌++◌, refl, sym, ap, ap₂, ◌∙◌, cond, true≢false, ◌&&◌, ◌||◌, eqb}
 use Rattle.std.specs.Prelude.{◌==◌}
 use Rattle.std.proofs.lemmas.Bool.{eq-eqb, eqb-true}
@@ -21,7 +21,7 @@ last_is {A} (v ∷ xs) (w ∷ ys) x y e = last_is xs ys x y (let same : xs ++ x 
 -- ---- the invariant
 
 module _ (marks : Marks) where
-  -- the last packet of these ended its frame exactly where this says so
+  -- the last of these packets ended its frame exactly if this flag is true
   abbrev Tells : Bool → List (List ℕ) → Type 0
   Tells ended packets = (front : List (List ℕ)) (last : List ℕ) → packets ≡ front ++ last ∷ [] → ended ≡ marks.end last
 
@@ -68,7 +68,7 @@ module _ (marks : Marks) where
   telling (Took leg packet ∷ past) =
       took (standing marks past) past leg packet (goes_out marks (standing marks past) leg packet) refl (telling past)
 
-  -- ---- the active leg gave a packet
+  -- ---- a packet of the active leg
 
   record HasLast (packets : List (List ℕ)) : Type 0 where
     pub front : List (List ℕ)

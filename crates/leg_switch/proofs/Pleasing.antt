@@ -1,4 +1,4 @@
--- A strict receiver of what a bundle sends agrees with that of what its active leg gave, but for source and number.
+-- A strict receiver of what a bundle sends agrees with that of its active leg's packets, but for source and number.
 use Rattle.std.proofs.Common.{◌≡◌, ◌⊎◌, inl, inr, ◌+◌, ◌%◌, ◌<◌, ◌^◌, ℕ, arith, Bool, true, false, List, [], ◌∷◌, ◌++◌, refl, sym, subst, ap, ◌∙◌, cond, true≢false, ◌&&◌, ◌||◌, map, length, eqb}
 use Rattle.std.specs.Prelude.{◌==◌}
 use Rattle.std.proofs.lemmas.Bool.{and_parts, eq-eqb, eqb-true, eqb-false}
@@ -37,7 +37,7 @@ module _ {S : Type 0} (format : Format S) (read : List ℕ → Option Packet) (m
   one_more : (xs : List (List ℕ)) (x : List ℕ) → after_all (xs ++ x ∷ []) ≡ receive format (after_all xs) (read x)
   one_more xs x = ap (receive_all format Waiting) (map-append read xs (x ∷ [])) ∙ receive_all-append format Waiting (map read xs) (read x ∷ [])
 
-  -- one more taken packet, where the test says so
+  -- one more taken packet, if the test holds
   leg_more : (b : Bool) (front xs : List (List ℕ)) (x : List ℕ) → b ≡ true → after_all (front ++ cond b (xs ++ x ∷ []) xs) ≡ receive format (after_all (front ++ xs)) (read x)
   leg_more true front xs x e = ap after_all (sym (append_assoc front xs (x ∷ []))) ∙ one_more (front ++ xs) x
   leg_more false front xs x e = absurd (true≢false (sym e))
@@ -48,7 +48,7 @@ module _ {S : Type 0} (format : Format S) (read : List ℕ → Option Packet) (m
 
   -- ---- the invariant
 
-  -- the receiver of what goes out, which is to have this number next, and that of the active leg
+  -- the receiver of what goes out, which expects this number next, and that of the active leg
   record IsLike (ended : Bool) (next : ℕ) (leg sends : Receiver S) : Type 0 where
     of_leg : Reception S
     of_sends : Reception S
@@ -115,7 +115,7 @@ module _ {S : Type 0} (format : Format S) (read : List ℕ → Option Packet) (m
       closed = λ e. g.agree.frame_is ∙ g.closed (sym ends ∙ e);
     }
 
-    -- the active leg goes on
+    -- a packet of the leg that is already active
     active_on : IsLike s.ended next (leg_after leg past) sends → IsLikeNow
     active_on h =
         let same : t.before ≡ h.of_leg = t.was h.of_leg h.leg_is in
@@ -148,7 +148,7 @@ module _ {S : Type 0} (format : Format S) (read : List ℕ → Option Packet) (m
             (ap (λ (r : Receiver S). receive format r (Some out.packet)) h.sends_is
             ∙ in_order format h.of_sends out.packet (out.ssrc_is ∙ sym h.ssrc_is) (out.number_is ∙ sym h.next_is))
 
-    -- a packet of a leg that isn't active is nothing to the active leg
+    -- a packet of a leg that isn't active doesn't change the active leg
     other_leg : (b : Bool) (k : ℕ) → b ≡ false → after_all (before k ++ cond b (taken_from k past ++ bytes ∷ []) (taken_from k past)) ≡ leg_after k past
     other_leg false k e = refl
     other_leg true k e = absurd (true≢false e)
@@ -184,7 +184,7 @@ module _ {S : Type 0} (format : Format S) (read : List ℕ → Option Packet) (m
   pleased None ended n legs r h = ap complaint_of h
   pleased (Some k) ended n legs r h = ap complaint_of h.sends_is
 
-  -- of all that goes out there is no complaint
+  -- there is no complaint about all that goes out
   pub all_pleases : (events : List LegEvent) → ((leg : ℕ) → complaint_of (leg_after leg events) ≡ None) → complaint_of (after_all (outgoing marks first ssrc events)) ≡ None
   all_pleases events calm =
       pleased (standing marks events).active (standing marks events).ended (first + length (passed marks events)) (λ k. leg_after k events)
@@ -197,7 +197,7 @@ module _ {S : Type 0} (format : Format S) (read : List ℕ → Option Packet) (m
       (ap complaint_of (sym (one_more xs y))
       ∙ front_calm (xs ++ y ∷ []) ys (ap (λ (l : List (List ℕ)). complaint_of (after_all l)) (append_assoc xs (y ∷ []) ys) ∙ h))
 
-  -- nor of any front of it
+  -- nor about any prefix of it
   pub fronts_please : (events : List LegEvent) → ((leg : ℕ) → complaint_of (leg_after leg events) ≡ None)
       → (sends queued : List (List ℕ)) → sends ++ queued ≡ outgoing marks first ssrc events → complaint_of (after_all sends) ≡ None
   fronts_please events calm sends queued e =

@@ -1,4 +1,4 @@
--- What is due may be said in other words of the bytes that are there, and a text may stand before all that is due.
+-- What is due may be stated in other terms for the bytes that are there, and a text may come before all that is due.
 use Rattle.std.proofs.Common.{◌≡◌, ◌⊎◌, ◌≤◌, ◌<◌, inl, inr, ℕ, List, [], ◌++◌, refl, sym, ap, ◌∙◌, subst, arith, Option, Some, None, Err, append_assoc}
 use Rattle.std.specs.Prelude.{IfSome}
 use Rattle.std.specs.Io.KnownBytes.{Appends, Consumes, IsAtEnd, Keeps}
@@ -27,18 +27,18 @@ no_ending n ending.Outside other is = omega arith
 no_ending n ending.Complaint other is = omega arith
 no_ending n ending.Obu other is = omega arith
 
--- the statuses that come where this is due
+-- the possible statuses if this is due
 abbrev pub IsDue : (List ℕ → Due) → ℕ → Type 0
 IsDue whole status = (status ≡ 0) ⊎ (status ≡ 3) ⊎ (status ≡ 4) ⊎ (status ≡ 6) ⊎ ((bytes : List ℕ) × (end : End) × ((whole bytes).end ≡ Some end) × (status ≡ status_of end.why))
 
 -- ---- other words
 
--- the bytes that were taken are a front of those that were there
+-- the bytes that were taken are a prefix of those that were there
 front_of : (bytes : List ℕ) (left' : Option (List ℕ)) (taken : List ℕ) → Consumes (Some bytes) left' taken → (rest : List ℕ) × (bytes ≡ taken ++ rest)
 front_of bytes None taken from = absurd from
 front_of bytes (Some rest) taken from = (rest, from)
 
--- what is due of these bytes, and of each front of them
+-- what is due for these bytes, and for each prefix of them
 pub statuses_alike : (whole part whole' part' : List ℕ → Due) (left left' w w' : Option (List ℕ)) (g g' f f' status : ℕ) → ((bytes : List ℕ) → left ≡ Some bytes → whole bytes ≡ whole' bytes)
     → ((bytes front rest : List ℕ) → left ≡ Some bytes → bytes ≡ front ++ rest → part front ≡ part' front) → IsDue whole' status
     → OfEvery whole' part' left left' w w' g g' f f' status → Statuses whole part left left' w w' g g' f f' status → Statuses whole' part' left left' w w' g g' f f' status
@@ -215,7 +215,7 @@ module _ (head : List ℕ) (whole part : List ℕ → Due) where
       le : f0 ≤ f1
       le = omega (arith, kept)
 
-  -- the sink failed before all of it was written
+  -- the sink failed before all of the text was written
   pub failed_before : (left w w' : Option (List ℕ)) (g f f' : ℕ) → (part []).end ≡ None → f' ≡ raised f → WritesPart w w' head
       → Statuses (λ bytes. text_before head (whole bytes)) (λ bytes. text_before head (part bytes)) left left w w' g g f f' 4
   failed_before left w w' g f f' goes once wrote = record {

@@ -1,5 +1,5 @@
 -- What is due for lines of packets, one after another, is the definition's complaint about the packets, or the fault of the first line that
--- is none, or the counts of what is accepted.
+-- isn't a packet, or the counts of accepted packets and frames.
 use Rattle.std.proofs.Common.{◌≡◌, ◌⊎◌, ◌≤◌, ◌<◌, inl, inr, ℕ, ◌+◌, min, Bool, true, false, cond, leb, leb-true, List, [], ◌∷◌, ◌++◌, length, map, get_or, refl, sym, ap, ap₂, ◌∙◌, arith, append_assoc, append-nil, Option, Some, None}
 use Rattle.std.proofs.Math.Seq.{get_or-append_seam}
 use Rattle.std.proofs.lemmas.List.{length-append, length-map, map-append}
@@ -40,7 +40,7 @@ module _ {S : Type 0} (format : Format S) where
   complaining_still c (None ∷ more) = complaining_still c more
   complaining_still c (Some packet ∷ more) = complaining_still c more
 
-  -- all before the first packet that is complained of are accepted, and no other
+  -- all packets before the first one with a complaint are accepted, and no other
   place_from : (m : Receiver S) (xs ys : List (Option Packet)) (y : Option Packet) → complaint_of (receive_all format m xs) ≡ None
       → is_content (receive format (receive_all format m xs) y) ≡ false → packets_accepted format m (xs ++ y ∷ ys) ≡ length xs
   place_from m [] ys y calm bad = ap (λ (b : Bool). cond b (packets_accepted format (receive format m y) ys + 1) 0) bad
@@ -54,7 +54,7 @@ module _ {S : Type 0} (format : Format S) where
       go (Receiving r) calm bad rec = let e = rec (Receiving r) calm bad in omega arith
       go (Complaining c) calm bad rec = let no : Some c ≡ None = sym (ap complaint_of (complaining_still c xs)) ∙ calm in absurd cc
 
-  -- at most all packets are accepted, and at most one frame with each
+  -- at most all packets are accepted, and at most one frame for each
   packets_few : (m : Receiver S) (came : List (Option Packet)) → packets_accepted format m came ≤ length came
   packets_few m [] = omega arith
   packets_few m (x ∷ more) = go (is_content (receive format m x)) (packets_few (receive format m x) more)
@@ -107,7 +107,7 @@ after past script = record { packets = past ++ script.packets; fault = script.fa
 bytes_more : (past others : List NumberedPacket) → bytes_in (past ++ others) ≡ bytes_in past ++ bytes_in others
 bytes_more past others = map-append (λ (p : NumberedPacket). p.bytes) past others
 
--- the next packet is complained of
+-- there is a complaint about the next packet
 module _ (id : ℕ) (past : List NumberedPacket) (n : ℕ) (bytes : List ℕ) (others : List NumberedPacket) (c : Complaint)
     (calm : complaint_over id (bytes_in past) ≡ None) (bad : complaint_over id (bytes_in past ++ bytes ∷ []) ≡ Some c) where
   complained : complaint_over id (bytes_in (past ++ numbered n bytes ∷ others)) ≡ Some c
@@ -130,7 +130,7 @@ module _ (id : ℕ) (past : List NumberedPacket) (n : ℕ) (bytes : List ℕ) (o
   refused_next : (fault : Option ℕ) → check_end id (record { packets = past ++ numbered n bytes ∷ others; fault = fault }) ≡ Some (end_by ending.Complaint (complaint_line n c))
   refused_next fault = ap₂ (λ (o : Option Complaint) (line : ℕ). first_end o line fault) complained at_line
 
--- nothing of what came is complained of
+-- there is no complaint about the packets that came
 calm_end : (id : ℕ) (past : List NumberedPacket) (fault : Option ℕ) → complaint_over id (bytes_in past) ≡ None
     → check_end id (record { packets = past ++ []; fault = fault }) ≡ outside_end fault_line fault
 calm_end id past fault calm =
@@ -179,7 +179,7 @@ module _ (id n : ℕ) (F : PacketScript → Due) (P : List NumberedPacket → Ty
 
 -- ---- all lines
 
--- no more packets than lines came
+-- there are at most as many packets as lines
 pub record IsFew (n : ℕ) (past : List NumberedPacket) : Type 0 where
   pub below : length past < n
   pub bounded : length past ≤ 4294967295
@@ -241,7 +241,7 @@ check_is_part id bytes =
 
 -- ---- a packet
 
--- a packet that a receiver has no complaint of
+-- a packet that a receiver has no complaint about
 module _ (now new : Seen) (reception : Reception) (number : ℕ) (line packet : List ℕ) (has : HasReceived now reception) (id : new.id ≡ now.id)
     (stands : (history : List (List ℕ)) → StandsFor now history → StandsFor new (history ++ packet ∷ []))
     (answer : (history : List (List ℕ)) → StandsFor now history → None ≡ complaint_over now.id (history ++ packet ∷ [])) where

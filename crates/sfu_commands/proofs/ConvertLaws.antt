@@ -52,7 +52,7 @@ units_end scan scan_end n piece rest text e =
     ∙ units_more scan scan_end n [] e.front (e.byte ∷ rest) e.going
     ∙ ap (λ (seen : Scan). with_unit seen (units_of scan scan_end n (e.front ++ e.byte ∷ []) rest) (units_of scan scan_end (n + 1) [] rest)) e.ends
 
--- a body behind two bytes that say its length
+-- a body after the two bytes of its length
 record_ends : (head body : List ℕ) (n : ℕ) → 0 < n → length head ≡ 2 → big_number 2 (head ++ body) ≡ length body → is_in_table body ≡ true
     → EndsAt (record_scan n) [] (head ++ body) (length (head ++ body)) (Whole body)
 record_ends [] body n above two len ok = absurd (omega arith)
@@ -83,7 +83,7 @@ unit_of n above c has rest =
 abbrev AllHaveLines : List Call → Type 0
 AllHaveLines calls = AllByRecursion HasLine calls
 
--- the number of the last is at most 4,294,967,295
+-- the number of the last line is at most 4,294,967,295
 abbrev AreFew : List Call → ℕ → Type 0
 AreFew calls n = 0 < length calls → length calls + n ≤ 4294967296
 
@@ -166,7 +166,7 @@ no_call more = go (call_of (0 ∷ more)) refl
     go None e = refl
     go (Some c) e = absurd (no_line c more (call_found (0 ∷ more) c e))
 
--- what a line says that begins with one begins with it too
+-- if a line begins with a zero byte, its text does too
 begins : (l : List ℕ) (ended : Bool) → (more : List ℕ) × (cond ended (without_cr (0 ∷ l)) (0 ∷ l) ≡ 0 ∷ more)
 begins l false = (l, refl)
 begins [] true = ([], refl)
@@ -211,7 +211,7 @@ no_fault (Some number) is = absurd cc
 with_fault : (s : Script) → s.fault ≡ None → s ≡ record { calls = s.calls; fault = None }
 with_fault s is = ap (λ (f : Option ℕ). let r : Script = record { calls = s.calls; fault = f } in r) is
 
--- a script of records is none of lines
+-- a script of records is no script of lines
 line_form : (bytes : List ℕ) (form : Form) → form_of bytes ≡ form → (convert_due bytes).end ≡ None → form_of bytes ≡ Lines
 line_form bytes Lines is calm = is
 line_form bytes Records is calm =

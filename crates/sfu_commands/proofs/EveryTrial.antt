@@ -1,4 +1,4 @@
--- What holds of the calls of every trial, whatever the room finds.
+-- What holds for the calls of every trial, in any state of the room.
 use Rattle.std.proofs.Common.{◌≡◌, ◌+◌, ℕ, zero, suc, arith, Bool, true, false, cond, List, [], ◌∷◌, fold, refl, sym, ap, ◌∙◌, Option, Some, None}
 use Rattle.sfu_base.specs.declared.call.Call.{Call}
 use Rattle.sfu_base.specs.declared.call.Call.TheVariants as call
@@ -25,7 +25,7 @@ use Rattle.sfu_commands.proofs.Staging.{all_joined, other_takes_all, own_takes_a
 
 -- ---- one call
 
--- an accepted call stands in front, and another changes nothing
+-- an accepted call is added, and another changes nothing
 by_answer : (P : List Call → Type 0) (past : List Call) (c : Call) → (is_accepted (answer past c) ≡ true → P (c ∷ past)) → P past → P (and_call past c)
 by_answer P past c accepted same = go (is_accepted (answer past c)) refl
   where
@@ -36,7 +36,7 @@ by_answer P past c accepted same = go (is_accepted (answer past c)) refl
 accepted_after : (past : List Call) (c : Call) → AreAccepted past → AreAccepted (and_call past c)
 accepted_after past c all = by_answer AreAccepted past c (λ e. (e, all)) all
 
--- what a packet, a tick or a take keeps
+-- what a packet, a tick or a take preserves
 record IsKept (past : List Call) : Type 0 where
   well : AreWellFormed past
   accepted : AreAccepted past

@@ -1,4 +1,4 @@
--- Each call that a line or record says is one that the code can be handed, so the accepted calls of a script are well formed.
+-- Each call of a line or record is one that the code can receive, so the accepted calls of a script are well formed.
 use Rattle.std.proofs.Common.{zero, suc, ◌≡◌, ◌<◌, ℕ, ◌+◌, Bool, true, false, cond, leb, eqb, List, [], ◌∷◌, ◌++◌, map, refl, sym, subst, arith, Option, Some, None}
 use Rattle.std.specs.Prelude.{fold}
 use Rattle.std.specs.List.{AllByRecursion}
@@ -77,7 +77,7 @@ front_bytes : (front rest : List ℕ) → AllBytes (front ++ rest) → AllBytes 
 front_bytes [] rest all = tt
 front_bytes (b ∷ front) rest all = (all.0, front_bytes front rest all.1)
 
--- what a unit says can be handed to the code
+-- the call of a unit is one that the code can receive
 abbrev Fits : Form → List ℕ → Type 0
 Fits Lines text = Unit {0}
 Fits Records text = AllBytes text
@@ -133,7 +133,7 @@ unit_fits n bytes all = by_test (eqb n 0)
     by_test true = header_fits bytes all
     by_test false = record_fits bytes all
 
--- the units of bytes, whatever the end of the input makes of the last
+-- the units of bytes, whatever the last unit is at the end of the input
 module _ (scan_end : ℕ → List ℕ → Scan) (last_fits : (n : ℕ) (kept : List ℕ) → FitsScan Records (scan_end n kept)) where
   last_one : (seen : Scan) → FitsScan Records seen → AllFit Records (last_unit seen)
   last_one More fits = tt
@@ -196,7 +196,7 @@ served_well : (calls past : List Call) → AreValues calls → AreWellFormed pas
 served_well [] past all well = well
 served_well (c ∷ calls) past all well = served_well calls (after_entry past (entry_of c)) all.1 (well_formed_after past c all.0 well)
 
--- a front of bytes is of bytes
+-- a prefix of bytes consists of bytes
 front_fits : (form : Form) (front rest : List ℕ) → IsOfBytes form (front ++ rest) → IsOfBytes form front
 front_fits Lines front rest are = tt
 front_fits Records front rest are = are_bytes front (front_bytes front rest (all_bytes (front ++ rest) are))

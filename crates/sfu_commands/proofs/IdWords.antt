@@ -13,7 +13,7 @@ use Rattle.sfu_commands.specs.IdWords.{IsWithId}
 decimal_is : (n : ℕ) → n < 2 ^ 8 → fields_of (Number8 ∷ []) (decimal n) ≡ Some (n ∷ [])
 decimal_is n small = fields_again (Number8 ∷ []) (n ∷ []) (decimal n) refl (omega arith) (small, refl)
 
--- what the second word of the command is read as
+-- the number that the second word of the command is read as
 id_read : (name word id : List ℕ) (n : ℕ) → IsWithId name (word ∷ id ∷ []) n → fields_of (Number8 ∷ []) id ≡ Some (n ∷ [])
 id_read name word id n is = let same : id ≡ decimal n = (let e = is.2 in cc) in ap (fields_of (Number8 ∷ [])) same ∙ decimal_is n (let small = is.1 in omega arith)
 
@@ -46,7 +46,7 @@ module _ (name word id text : List ℕ) (same : text ≡ id) where
         let small = h.0 in
         (omega arith, omega arith, ap₂ (λ (w i : List ℕ). w ∷ i ∷ []) said h.1)
 
-    -- the number is handed on as 8 bits
+    -- the number is passed on as 8 bits
     pub found : {E : Type 0} (tried : Result ℕ E) (result : Option ℕ) → word ≡ name → ¬ (get_or numbers 0 0 ≡ 0)
         → OkIff tried (get_or numbers 0 0 < 256) (get_or numbers 0 0) → result ≡ result_ok tried
         → MatchOption result ((n : ℕ) → ¬ (IsWithId name (word ∷ id ∷ []) n)) (λ n. IsWithId name (word ∷ id ∷ []) n)
@@ -57,7 +57,7 @@ module _ (name word id text : List ℕ) (same : text ≡ id) where
         go (Ok n) fits = subst (λ (n : ℕ). IsWithId name (word ∷ id ∷ []) n) (sym fits.1) (is_command said above)
         go (Err e) large = let small = (fields_found (Number8 ∷ []) id (get_or numbers 0 0 ∷ []) first).0 in absurd (large (omega arith))
 
--- words say one id
+-- words have at most one id
 pub one_id : (name : List ℕ) (words : List (List ℕ)) (m n : ℕ) → IsWithId name words m → IsWithId name words n → m ≡ n
 one_id name words m n a b =
     let same : decimal m ≡ decimal n = (let e = sym a.2 ∙ b.2 in cc) in

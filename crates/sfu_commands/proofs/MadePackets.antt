@@ -1,4 +1,4 @@
--- The packets of a stream, read.
+-- Reading the packets of a stream.
 use Rattle.std.proofs.Common.{◌≡◌, ◌+◌, ◌-◌, ◌*◌, ◌/◌, ◌%◌, ◌^◌, ◌<◌, ◌&&◌, not, ℕ, arith, Bool, true, false, cond, eqb, true≢false, List, [], ◌∷◌, ◌++◌, append_assoc, drop, replicate, refl, sym, ap, ◌∙◌, Some, None, Result, Ok}
 use Rattle.std.proofs.lemmas.Bool.{eqb-true}
 use Rattle.byteorder.specs.Endian.{big_bytes}

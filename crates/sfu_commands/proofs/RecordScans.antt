@@ -1,4 +1,4 @@
--- What the bytes of a record make of it, so many at a time.
+-- The outcome of a record's bytes, some at a time.
 use Rattle.std.proofs.Common.{zero, suc, ◌≡◌, ◌≤◌, ◌<◌, ℕ, ◌+◌, ◌-◌, Bool, true, false, cond, leb, eqb, List, [], ◌∷◌, ◌++◌, length, take, drop, refl, sym, ap, ◌∙◌, arith, Option, Some, None, append_assoc, length-append}
 use Rattle.std.specs.Prelude.{slice_index}
 use Rattle.std.specs.Option.{option_map_or}
@@ -13,7 +13,7 @@ use Rattle.sfu_commands.specs.Records.{header_so_far, is_header, is_length, leng
 
 -- ---- bytes behind others, so many at a time
 
--- what the bytes so far make of a unit, as what the newest does
+-- the outcome for a unit's bytes so far, as the outcome of the newest byte
 abbrev pub by_newest : (List ℕ → Scan) → List ℕ → ℕ → Scan
 by_newest so_far kept b = so_far (kept ++ b ∷ [])
 
@@ -93,7 +93,7 @@ small_is n e = (grind (arith, nat_tests), grind (arith, nat_tests))
 
 -- ---- a record
 
--- the length that its first bytes say
+-- the length in its first bytes
 abbrev pub said : List ℕ → ℕ
 said bytes = length_said (slice_index bytes 0) (slice_index bytes 1)
 
@@ -116,7 +116,7 @@ no_kind_by : (t : Bool) (code n : ℕ) → may_have code n ≡ t → is_length n
 no_kind_by false code n e none = refl
 no_kind_by true code n e none = let ok = may_small code n e in absurd cc
 
--- with one that none has
+-- with a length that no body has
 pub length_ends : (bytes : List ℕ) (n : ℕ) → is_length (said bytes) ≡ false → 2 ≤ n → n ≤ length bytes → record_so_far (take n bytes) ≡ NoUnit
 length_ends [] n none two le = absurd (omega arith)
 length_ends (a ∷ []) n none two le = absurd (omega arith)
@@ -128,7 +128,7 @@ length_ends (a ∷ b ∷ code ∷ bytes) (suc (suc (suc n))) none two le =
     let e : may_have code (length_said a b) ≡ false = no_kind_by (may_have code (length_said a b)) code (length_said a b) refl none in
     ap (λ (t : Bool). cond t (cond (leb (length_said a b) (length (code ∷ take n bytes))) (Whole (code ∷ take n bytes)) More) NoUnit) e
 
--- with a kind that has another length
+-- with a kind whose bodies have other lengths
 pub kind_ends : (bytes : List ℕ) (n : ℕ) → may_have (slice_index bytes 2) (said bytes) ≡ false → 3 ≤ n → n ≤ length bytes → record_so_far (take n bytes) ≡ NoUnit
 kind_ends [] n none three le = absurd (omega arith)
 kind_ends (a ∷ []) n none three le = absurd (omega arith)
@@ -139,7 +139,7 @@ kind_ends (a ∷ b ∷ code ∷ bytes) (suc (suc zero)) none three le = absurd (
 kind_ends (a ∷ b ∷ code ∷ bytes) (suc (suc (suc n))) none three le =
     ap (λ (t : Bool). cond t (cond (leb (length_said a b) (length (code ∷ take n bytes))) (Whole (code ∷ take n bytes)) More) NoUnit) none
 
--- with a kind that has its length
+-- with a kind whose bodies can have this length
 pub kind_goes : (bytes : List ℕ) (n : ℕ) → may_have (slice_index bytes 2) (said bytes) ≡ true → n < said bytes + 2 → n ≤ length bytes → 3 ≤ length bytes → record_so_far (take n bytes) ≡ More
 kind_goes [] n ok few le three = absurd (omega arith)
 kind_goes (a ∷ []) n ok few le three = absurd (omega arith)

@@ -1,4 +1,4 @@
--- What `record` makes of what a subscriber took.
+-- How `record` ends for packets that a subscriber took.
 use Rattle.std.proofs.Common.{◌≡◌, ℕ, Bool, true, false, List, [], ◌∷◌, ◌++◌, map, Option, Some, None, refl, sym, ap, subst, ◌∙◌, append_assoc}
 use Rattle.std.specs.Prelude.{IfSome}
 use Rattle.forwarding_model.specs.declared.complaint.Complaint.{Complaint}

@@ -1,5 +1,5 @@
--- What is due for lines of packets, one after another, is the file of the frames that a recorder takes of them, or its first fault, or the
--- fault of the first line that is none.
+-- What is due for lines of packets, one after another, is the file of the frames that a recorder takes from them, or its first fault, or the
+-- fault of the first line that isn't a packet.
 use Rattle.std.proofs.Common.{◌≡◌, ◌⊎◌, inl, inr, ℕ, ◌+◌, Bool, true, false, cond, leb, List, [], ◌∷◌, ◌++◌, map, refl, sym, ap, ◌∙◌, arith, append_assoc, append-nil, Option, Some, None}
 use Rattle.ivf_recorder.specs.declared.fault.RecordFault.{RecordFault}
 use Rattle.ivf_recorder.specs.Frames.{fault_over, ivf_over}
@@ -30,7 +30,7 @@ record_rule = rule_of line_scan line_scan_end recorded fault_line file_of
 abbrev came_so : ℕ → List (List ℕ) → Reception
 came_so id came = record { id = id; packets = came }
 
--- what is due for the rest of a script, where this text is due at its end
+-- what is due for the rest of a script, if this text is due at its end
 abbrev rest_due : (List (List ℕ) → List ℕ) → ℕ → List (List ℕ) → PacketScript → Due
 rest_due text id came script = unless_ended (end_from id came script.packets (outside_end fault_line script.fault)) (text (came ++ bytes_in script.packets))
 

@@ -1,5 +1,5 @@
--- What is due for the lines or records of a script, one after another, is the replies to their calls, and then the fault of the first that is
--- none.
+-- What is due for the lines or records of a script, one after another, is the replies to their calls, and then the fault of the first without a
+-- call.
 use Rattle.std.proofs.Common.{◌≡◌, inl, inr, ℕ, ◌+◌, Bool, true, false, cond, leb, List, [], ◌∷◌, ◌++◌, length, map, refl, sym, ap, ◌∙◌, arith, Option, Some, None}
 use Rattle.std.specs.Io.KnownBytes.{Consumes, IsAtEnd}
 use Rattle.sfu_driver.specs.Exchange.{exchange_by}
@@ -79,7 +79,7 @@ records_are_part bytes =
 
 -- ---- the form
 
--- the bytes that were read first say it
+-- the bytes that were read first decide it
 pub form_known : (form : Form) (piece : List ℕ) (left left' : Option (List ℕ)) → form_of piece ≡ form → Consumes left left' piece → (length piece ≡ 0 → IsAtEnd left')
     → (bytes : List ℕ) → left ≡ Some bytes → form_of bytes ≡ form
 form_known form piece None left' is from end bytes told = absurd cc
@@ -89,7 +89,7 @@ form_known form [] (Some all) (Some rest) is from end bytes told =
 form_known form (b ∷ piece) (Some all) (Some rest) is from end bytes told =
     let same : bytes ≡ all = cc in ap form_of (same ∙ from) ∙ is
 
--- the form of a script is that of each front of it, unless that is empty, and then nothing is due
+-- the form of a script is that of each prefix; for an empty prefix nothing is due
 pub same_part : (form : Form) (bytes front rest : List ℕ) → form_of bytes ≡ form → bytes ≡ front ++ rest → part_in form front ≡ run_part front
 same_part Lines bytes [] rest is split = refl
 same_part Records bytes [] rest is split = refl
@@ -113,7 +113,7 @@ run_only status (inr (inr (inl is))) = inr (inr (inl is))
 run_only status (inr (inr (inr (inl is)))) = inr (inr (inr (inr is)))
 run_only status (inr (inr (inr (inr x)))) = inr (inr (inr (inl (fault_status (form_of x.0) (script_of x.0).fault x.1 status x.2 x.3))))
 
--- a script of the byte 0 alone has a bad header
+-- a script that is only the byte 0 has a bad header
 pub due_statuses : (form : Form) (status : ℕ) → IsDue (due_in form) status → IsDue run_due status
 due_statuses form status (inl is) = inl is
 due_statuses form status (inr (inl is)) = inr (inl is)

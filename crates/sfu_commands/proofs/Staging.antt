@@ -28,7 +28,7 @@ use Rattle.sfu_commands.specs.declared.stream_trial.stage.Stage.{Stage}
 use Rattle.sfu_commands.specs.declared.stream_trial.viewer.Viewer.{Viewer}
 use Rattle.sfu_commands.proofs.Viewers.{Stays, other_stays, own_stays, packet_stays, queue_is_short, seen, take_finds, take_finds_none, take_is_answered, tick_stays, to_of}
 
--- a call that takes no memory finds it
+-- a call that takes no memory doesn't run out of it
 pub not_starved : (starved : Bool) (c : Call) → (TakesMemory c → ⊥) → (IsTrue starved → TakesMemory c ⊎ IsTrue false) → starved ≡ false
 not_starved false c free cause = refl
 not_starved true c free cause = by_cause (cause refl)
@@ -37,7 +37,7 @@ not_starved true c free cause = by_cause (cause refl)
     by_cause (inl takes_it) = absurd (free takes_it)
     by_cause (inr refuses) = sym refuses
 
--- the room after a call that found its memory
+-- the room after a call that didn't run out of memory
 pub stands_after : (old new : Room KeepNone) (c : Call) (r : Reply) (bytes numbers : List ℕ) (past : List Call)
     → Serves untold old new 0 c r bytes numbers → is_starved r ≡ false → StandsAfter old past → StandsAfter new (and_call past c)
 stands_after old new c r bytes numbers past serves fed s =
@@ -51,7 +51,7 @@ stands_after old new c r bytes numbers past serves fed s =
           ∙ ap (λ (starved : Bool). cond starved past (and_call past c)) fed;
     }
 
--- what it was answered
+-- the call's answer
 pub answered_after : (old new : Room KeepNone) (c : Call) (r : Reply) (bytes numbers : List ℕ) (past : List Call)
     → Serves untold old new 0 c r bytes numbers → is_starved r ≡ false → StandsAfter old past → answer_of r bytes numbers ≡ answer past c
 answered_after old new c r bytes numbers past serves fed s =
@@ -59,7 +59,7 @@ answered_after old new c r bytes numbers past serves fed s =
 
 -- ---- one take
 
--- the packet that a take's reply is, by what it was answered
+-- the packet in a take's reply, by the take's answer
 is_packet : (o : Option Packet) (bytes numbers : List ℕ) → answer_of reply.Packet bytes numbers ≡ sent_or o (Refused Empty) → (p : Packet) × (o ≡ Some p) × (bytes ≡ bytes_of p)
 is_packet None bytes numbers e = absurd (let none : Sent bytes ≡ Refused Empty = e in cc)
 is_packet (Some p) bytes numbers e = (p, refl, (let is : Sent bytes ≡ Sent (bytes_of p) = e in cc))
@@ -83,7 +83,7 @@ found_one old new viewer fed n bytes numbers past serves a feeds =
       queued = t.queued;
     }
 
--- a take that isn't answered with a packet finds none
+-- a take whose answer isn't a packet found none
 finds_no : (o : Option Packet) (r : Reply) (bytes numbers : List ℕ) → (r ≡ reply.Packet → ⊥) → answer_of r bytes numbers ≡ sent_or o (Refused Empty) → o ≡ None
 finds_no None r bytes numbers other e = refl
 finds_no (Some p) reply.Packet bytes numbers other e = absurd (other refl)
@@ -108,7 +108,7 @@ found_none old new viewer n r bytes numbers past serves fed other a =
 
 -- ---- takes until nothing waits
 
--- so many takes, each of which found a packet
+-- this many takes, each of which found a packet
 pub record TakesSome (count : ℕ) (room : Room KeepNone) (viewer : Viewer) (n : ℕ) (past : List Call) : Type 0 where
   pub after : IsFedAfter room viewer n (takes count n past)
   pub queued : queued_for n past ≡ count + queued_for n (takes count n past)
@@ -164,7 +164,7 @@ packet_staged stage room moment bytes past stands s =
       third = subst (WasFed stage.third) (sym third.same) s.third;
     }
 
--- another's takes change nothing
+-- another subscriber's takes change nothing
 pub others_take : (n m count : ℕ) (past : List Call) → eqb m n ≡ false → HasJoined n past → Stays n past (takes count m past)
 unfolding takes
 others_take n m zero past e v = record { joined_is = v; same = refl }
@@ -190,7 +190,7 @@ own_takes_all n past v = own_takes n (queued_for n past + 1) past v
 fed_on : (viewer : Viewer) (n : ℕ) (past next : List Call) → Stays n past next → WasFed viewer (received n past) → WasFed viewer (received n next)
 fed_on viewer n past next stays fed = subst (WasFed viewer) (sym stays.same) fed
 
--- one subscriber takes all
+-- one subscriber takes all its packets
 abbrev pub TakesAll : Room KeepNone → Room KeepNone → Viewer → Viewer → ℕ → Type 0
 TakesAll room new viewer fed n = (past : List Call) → IsFedAfter room viewer n past → IsFedAfter new fed n (after_takes n past)
 

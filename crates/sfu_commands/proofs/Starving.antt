@@ -1,4 +1,4 @@
--- A command that finds no memory before its first read.
+-- A command that runs out of memory before its first read.
 use Rattle.std.proofs.Common.{◌≡◌, inl, inr, ℕ, List, [], refl, sym, ap, subst, arith, Option, Some, None, Err}
 use Rattle.std.specs.Prelude.{IfSome}
 use Rattle.std.specs.Io.KnownBytes.{Appends}
@@ -24,7 +24,7 @@ completes : (end : Option End) → Completes end 6
 completes None = inr refl
 completes (Some end) = inr refl
 
--- what is due for no bytes is nothing
+-- nothing is due for no bytes
 pub starved_at_once : (whole part : List ℕ → Due) (left w : Option (List ℕ)) (g f : ℕ) → part [] ≡ record { text = []; end = None }
     → Statuses whole part left left w w g g f f 6
 starved_at_once whole part left w g f none = record {

@@ -1,4 +1,4 @@
--- The words of a command that makes a stream, and the numbers that they say.
+-- The words of a command that makes a stream, and the numbers in them.
 use Rattle.std.proofs.Common.{◌≡◌, ◌⊎◌, inl, inr, ◌≤◌, ◌<◌, ℕ, List, [], ◌∷◌, length, sym, ap, subst, ◌∙◌, arith, Option, Some, None, slice_index, get_or}
 use Rattle.std.specs.Prelude.{decimal}
 use Rattle.sfu_script.specs.Reading.{◌>>=◌, number_of}
@@ -29,7 +29,7 @@ number_is_none word n e h =
 pub same_number : (m n : ℕ) (word : List ℕ) → IsNumber m word → IsNumber n word → m ≡ n
 same_number m n word a b = some_same m n (sym (number_again 64 m word (omega arith) a).1 ∙ (number_again 64 n word (omega arith) b).1)
 
--- the numbers that the words of the command with this name say
+-- the numbers in the words of the command with this name
 pub record SayNumbers (command name frames start loss : List ℕ) (s : Stream) : Type 0 where
   pub name_is : name ≡ command
   pub frames_are : IsNumber s.frames frames
@@ -49,7 +49,7 @@ say_numbers command name frames start loss s t =
       loss_is = (omega arith, cc);
     }
 
--- numbers that are out of range say no stream
+-- numbers that are out of range are no stream
 pub out_of_range : (command name frames start loss : List ℕ) (f l : ℕ) → IsNumber f frames → IsNumber l loss → (f < 1) ⊎ (1000000 < f) ⊎ (50 < l)
     → (s : Stream) → ¬ (SaysStream command (name ∷ frames ∷ start ∷ loss ∷ []) s)
 out_of_range command name frames start loss f l is_f is_l out s t =
@@ -66,7 +66,7 @@ out_of_range command name frames start loss f l is_f is_l out s t =
     by_cause (inr (inl h)) a b some few small = omega arith
     by_cause (inr (inr h)) a b some few small = omega arith
 
--- the same words say one stream
+-- the same words are at most one stream
 pub same_stream : (command : List ℕ) (words : List (List ℕ)) (s t : Stream) → SaysStream command words s → SaysStream command words t → s ≡ t
 same_stream command words s t a b =
     let first = say_numbers command command (decimal s.frames) (decimal s.start) (decimal s.loss) s (subst (λ (w : List (List ℕ)). SaysStream command w s) a.words_are a) in

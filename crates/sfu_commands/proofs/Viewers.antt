@@ -1,4 +1,4 @@
--- What each call of a trial does to what a subscriber took, and to what waits for it.
+-- What each call of a trial does to the packets that a subscriber took, and to those queued for it.
 use Rattle.std.proofs.Common.{◌≡◌, ◌≤◌, ◌<◌, ◌+◌, ℕ, zero, suc, arith, Bool, true, false, cond, List, [], ◌∷◌, ◌++◌, length, map, take, drop, eqb, refl, sym, ap, subst, ◌∙◌, Option, Some, None, length-drop}
 use Rattle.std.proofs.lemmas.Bool.{eq-eqb, lt-ltb}
 use Rattle.std.proofs.lemmas.List.{map-append, take-append-le}
@@ -59,7 +59,7 @@ queue_is n past v =
 finds : (n : ℕ) (entries : List Entry) (to : Subscriber) → subscriber_of n entries ≡ Some to → FindPackets (sent (Layered 4)) to (seen n entries)
 finds n entries to known = timeline_finds (format_of 4) (sent (Layered 4)) n entries to known
 
--- a queue holds at most 512 packets
+-- a queue contains at most 512 packets
 pub queue_is_short : (n : ℕ) (past : List Call) → HasJoined n past → queued_for n past ≤ 512
 queue_is_short n past v =
     let to : Subscriber = to_of n past v in
@@ -76,7 +76,7 @@ no_more_takes : (frames : List (Frame TemplateStructure)) (events : List Happene
 no_more_takes [] events = refl
 no_more_takes (x ∷ xs) events = no_more_takes xs events
 
--- what was taken stays as it was where frames come
+-- what was taken is unchanged by new frames
 frames_come : (to : Subscriber) (frames : List (Frame TemplateStructure)) (events : List Happened) → FindPackets (sent (Layered 4)) to events
     → taken_bytes (Layered 4) to (frame_events frames ++ events) ≡ taken_bytes (Layered 4) to events
 frames_come to frames events found =
@@ -91,7 +91,7 @@ items_come n entries next items to is known =
     ap (λ (es : List Entry). taken_bytes (Layered 4) to (seen n es)) is
     ∙ frames_come to (frames_since (format_of 4) (items_of entries) items) (seen n entries) (finds n entries to known)
 
--- what a packet or a tick released, whatever it was, stands in front
+-- what a packet or a tick released is added, whatever it was
 pub record IsReleased (entries next : List Entry) : Type 0 where
   pub items : List Item
   pub is : next ≡ Released items ∷ entries
@@ -100,7 +100,7 @@ same_taken : (n : ℕ) (entries next : List Entry) (to : Subscriber) → IsRelea
     → taken_bytes (Layered 4) to (seen n next) ≡ taken_bytes (Layered 4) to (seen n entries)
 same_taken n entries next to r known = items_come n entries next r.items to r.is known
 
--- the subscriber is there after a call, and has taken what it had
+-- the subscriber still has its join after a call, and has taken what it had
 pub record Stays (n : ℕ) (past next : List Call) : Type 0 where
   pub joined_is : HasJoined n next
   pub same : received n next ≡ received n past
@@ -182,14 +182,14 @@ within k ps rest p e =
     let size : length (drop k ps) ≡ suc (length rest) = ap length e in
     omega (arith, length-drop k ps)
 
--- what a take is answered
+-- the answer to a take
 pub take_is_answered : (n : ℕ) (past : List Call) (v : HasJoined n past)
     → answer past (call.Take n) ≡ sent_or (next_packet (sent (Layered 4)) (to_of n past v) (seen n (entries_of 1 past))) (Refused Empty)
 take_is_answered n past v =
     ap (λ (o : Option Joined). of_subscriber o (λ j. take_answer (kind_of j.track past) (subscriber_by j) (timeline_as (kind_of j.track past) n (entries_of j.track past)))) v.how
     ∙ ap (λ (k : Kind). take_answer k (to_of n past v) (timeline_as k n (entries_of 1 past))) v.kind_is
 
--- a take that finds a packet
+-- a take with a queued packet
 pub record TakesNext (n : ℕ) (past next : List Call) (bytes : List ℕ) : Type 0 where
   pub joined_is : HasJoined n next
   pub more : received n next ≡ received n past ++ bytes ∷ []
@@ -236,7 +236,7 @@ take_finds n past v p found =
     let is : answer past (call.Take n) ≡ sent_or (Some p) (Refused Empty) = take_is_answered n past v ∙ ap (λ (o : Option Packet). sent_or o (Refused Empty)) found in
     subst (λ (a : Answer). TakesNext n past (cond (is_accepted a) (call.Take n ∷ past) past) (bytes_of p)) (sym is) (own_accepted n past v p found)
 
--- a take that finds none
+-- a take with an empty queue
 pub record TakesNone (n : ℕ) (past next : List Call) : Type 0 where
   pub same : next ≡ past
   pub queued : queued_for n past ≡ 0
@@ -250,7 +250,7 @@ take_finds_none n past v none =
       queued = queue_is n past v ∙ ap length (first_none (queue (sent (Layered 4)) (to_of n past v) (seen n (entries_of 1 past))) none);
     }
 
--- whatever a take finds, the subscriber stays
+-- the subscriber's join is unchanged by a take
 pub own_stays : (n : ℕ) (past : List Call) → HasJoined n past → HasJoined n (and_call past (call.Take n))
 own_stays n past v = by_packet (next_packet (sent (Layered 4)) (to_of n past v) (seen n (entries_of 1 past))) refl
   where

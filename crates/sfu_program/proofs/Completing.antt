@@ -1,4 +1,4 @@
--- Where nothing outside failed, what the clauses of each command leave.
+-- If nothing outside failed, what follows from the clauses of each command.
 use Rattle.std.proofs.Common.{◌≡◌, ◌⊎◌, inl, inr, ⊎_elim, ℕ, ◌+◌, ◌&&◌, Bool, true, List, [], ◌∷◌, ◌++◌, refl, sym, ap, ◌∙◌, subst, arith, append-nil, Option, Some, None}
 use Rattle.std.specs.Prelude.{IfSome}
 use Rattle.std.specs.Io.KnownBytes.{Appends, IsAtEnd}
@@ -136,7 +136,7 @@ read_nothing None text x status (inr (inl five)) h = absurd (let zero = h.0.0 in
 read_nothing None text x status (inr (inr six)) h = absurd (let zero = h.0.0 in omega arith)
 read_nothing (Some line) text x status only h = h
 
--- one was, and all was written
+-- a configuration was read, and all was written
 wrote_all : (fault : Option ℕ) (text : List ℕ) (x : Exchange) (status : ℕ) → fault ≡ None → status ≡ 0 → IsAtEnd x.left' → Appends x.written x.written' text
     → EndsAs (outside_end fault_line fault) x status × Appends x.written x.written' (unless_fault fault text ++ last_text (outside_end fault_line fault))
 wrote_all None text x status none zero end wrote = ((zero, end), subst (λ (t : List ℕ). Appends x.written x.written' t) (sym (append-nil text)) wrote)

@@ -1,4 +1,4 @@
--- What came of the ports, behind the replies that were written before them.
+-- The outcome for the ports, after the replies that were written before them.
 use Rattle.std.proofs.Common.{◌≡◌, ◌⊎◌, inl, inr, ◌+◌, ◌<◌, ◌≤◌, ℕ, suc, Bool, true, false, List, [], ◌∷◌, ◌++◌, length, map, refl, sym, ap, subst, ◌∙◌, arith, Option, Some, None, append-nil, append_assoc, Result, Ok, Err}
 use Rattle.std.specs.Prelude.{◌&&◌, OnOk, is_err}
 use Rattle.std.proofs.lemmas.List.{length-map}
@@ -48,11 +48,11 @@ rose_then a b c le r = omega arith
 
 -- ---- the first fault
 
--- at 6 none failed
+-- at status 6 none failed
 starved_once : {f f' : ℕ} → f' ≡ f → FirstFault 0 0 f f' 6
 starved_once {f} {f'} kept = first_fault_by 0 0 f f' (Err (Halted halt.Starved)) (record { reading = refl; writing = kept })
 
--- at 7 no write did
+-- at status 7 no write failed
 at_seven : {f f' : ℕ} → f' ≡ f → FirstFault 0 0 f f' 7
 at_seven kept = record {
   none = λ e. absurd (neither e);
@@ -88,7 +88,7 @@ link_failed after limit (Listen f) turns Worn h few = absurd h
 link_failed after limit (Post what next) turns Worn h few = absurd h
 link_failed after limit (Ask call f) turns Worn h few = absurd (let z = h.1 in omega arith)
 
--- a session that made all its turns has a link whose count is as it was
+-- a session that made all its turns has a link whose count is unchanged
 link_quiet : (before after limit : ℕ) (rest : Doing) (turns : ℕ) (end : SessionEnd) → MeetsEnd before after 0 limit rest turns end → is_all end ≡ true → after ≡ before
 link_quiet before after limit Over turns AllTurns h made = h.0
 link_quiet before after limit (Listen f) turns AllTurns h made = absurd h
@@ -110,7 +110,7 @@ module _ {L : Type 0} (told : L → Option Traffic) (faults name : L → ℕ) wh
       go true here rest few = inr (rest few)
       go false here rest few = inl (link_failed (faults e.link) limit all.0.rest (length (received_of all.0.steps)) e.end (subst (λ (n : ℕ). MeetsEnd n (faults e.link) 0 limit all.0.rest (length (received_of all.0.steps)) e.end) fresh.0.quiet all.0.ends) here)
 
-  -- where all made all their turns, no link has faults
+  -- if all sessions made all their turns, no link has faults
   pub none_failed : (limit : ℕ) (history : List (Entry Call)) (number : ℕ) (lines : List PortLine) (jobs : List Before) (ended : List (Ended L)) → AreFresh lines jobs
       → AreSessions limit 0 history number jobs (afters told faults ended) → all_made (ends_of ended) ≡ true → NoFault faults (map (λ session. session.link) ended)
   none_failed limit history number lines [] [] fresh all made = tt
@@ -126,7 +126,7 @@ module _ {L : Type 0} (told : L → Option Traffic) (faults name : L → ℕ) wh
   -- ---- statuses
 
   module _ (limit : ℕ) (calls : List Call) (lines : List PortLine) (w w' : Option (List ℕ)) (f f' : ℕ) (old new : PortsSeen L) where
-    -- memory was wanting
+    -- memory ran out
     pub ends_starved : Appends w w' [] → f' ≡ f → new.faults ≡ old.faults → Ends told faults name limit calls lines w w' f f' old new 6
     ends_starved none kept quiet = record {
       done = λ e. absurd (omega arith);
@@ -169,7 +169,7 @@ module _ {L : Type 0} (told : L → Option Traffic) (faults name : L → ℕ) wh
       calm = λ e. calm (none_failed limit served.served.history 1 lines served.jobs ended served.fresh served.served.each (ends.done e).0);
     }
 
-    -- memory was wanting for the first calls
+    -- memory ran out for the first calls
     pub acts_starved : new ≡ old → Appends w w' [] → f' ≡ f → Acts told faults name limit calls lines w w' f f' old new 6
     acts_starved same none kept = record {
       done = λ e. absurd (omega arith);
@@ -222,7 +222,7 @@ module _ {L : Type 0} (told : L → Option Traffic) (faults name : L → ℕ) wh
 -- ---- what came back of sessions
 
 module _ {L : Type 0} (told : L → Option Traffic) (faults : L → ℕ) where
-  -- each job came back
+  -- each job's port was released
   pub ended_count : (limit : ℕ) (calls : List Call) (jobs : List (Job L)) (ended : List (Ended L)) → HaveServed limit calls (befores told faults jobs) (afters told faults ended) → length ended ≡ length jobs
   ended_count limit calls jobs ended served =
       sym (length-map ended (λ session. job_after session.end (told session.link) (faults session.link)))
@@ -272,7 +272,7 @@ acts_before {L} told faults name limit calls lines w w1 w' f f1 f' old new statu
     by_failure (inl u) = inl (u.0, appends_behind w w1 w' (first_text calls) none u.1)
     by_failure (inr d) = inr (d.0, d.1, d.2, appends_behind w w1 w' (first_text calls ++ ends_text 1 (ends_of d.0)) none d.3)
 
--- the statuses of a configuration, and those where nothing fails
+-- the statuses of a configuration, and those if nothing fails
 pub acts_only : (status : ℕ) → (status ≡ 0) ⊎ (status ≡ 4) ⊎ (status ≡ 6) ⊎ (status ≡ 7) → (status ≡ 0) ⊎ (status ≡ 3) ⊎ (status ≡ 4) ⊎ (status ≡ 5) ⊎ (status ≡ 6) ⊎ (status ≡ 7)
 acts_only status (inl is) = inl is
 acts_only status (inr (inl is)) = inr (inr (inl is))

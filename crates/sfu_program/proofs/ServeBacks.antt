@@ -1,4 +1,4 @@
--- Ports that are bound and come back, one after another.
+-- Ports that are bound and released, one after another.
 use Rattle.std.proofs.Common.{◌≡◌, ◌⊎◌, inl, inr, ◌<◌, ◌≤◌, ◌+◌, ℕ, List, [], ◌∷◌, ◌++◌, length, map, refl, sym, ap, ◌∙◌, arith, Option, Some, None, append-nil, append_assoc}
 use Rattle.sfu_base.specs.Faults.{Rose}
 use Rattle.sfu_base.specs.Ports.{CountsBack, after_back}
@@ -8,7 +8,7 @@ use Rattle.sfu_serve.specs.declared.run.Job.{Job}
 use Rattle.sfu_serve.specs.Runs.{Before}
 use Rattle.sfu_program.specs.ServePorts.{AreFresh, AreNamedFrom, IsFresh, NoFault, SomeFault, after_backs, befores}
 
--- one line more, and its job
+-- one more line, and its job
 pub fresh_more : (lines : List PortLine) (jobs : List Before) (line : PortLine) (job : Before) → AreFresh lines jobs → IsFresh line job → AreFresh (lines ++ line ∷ []) (jobs ++ job ∷ [])
 fresh_more [] [] line job all one = (one, tt)
 fresh_more [] (j ∷ js) line job all one = absurd all
@@ -16,7 +16,7 @@ fresh_more (l ∷ ls) [] line job all one = absurd all
 fresh_more (l ∷ ls) (j ∷ js) line job all one = (all.0, fresh_more ls js line job all.1 one)
 
 module _ {L : Type 0} (name : L → ℕ) where
-  -- one port more was bound
+  -- one more port was bound
   pub named_more : (n : ℕ) (links : List L) (link : L) → AreNamedFrom name n links → name link ≡ n + length links → AreNamedFrom name n (links ++ link ∷ [])
   named_more n [] link all is = (omega (arith, is), tt)
   named_more n (l ∷ ls) link all is = (all.0, named_more (n + 1) ls link all.1 (omega (arith, is)))
@@ -36,7 +36,7 @@ module _ {L : Type 0} where
   backs_none None = refl
   backs_none (Some others) = ap (λ (x : List L). Some x) (sym (append-nil others))
 
-  -- one port more came back
+  -- one more port was released
   pub backs_more : (ports : List L) (port : L) (told : Option (List L)) → after_back port (after_backs ports told) ≡ after_backs (ports ++ port ∷ []) told
   backs_more ports port None = refl
   backs_more ports port (Some others) = ap (λ (x : List L). Some x) (append_assoc others ports (port ∷ []))
@@ -51,7 +51,7 @@ module _ {L : Type 0} where
       go (inl some) = inl (inr some)
       go (inr here) = inr here
 
-  -- the count rose where one of the links has faults
+  -- the count rose if one of the links has faults
   pub rose_more : (faults : L → ℕ) (links : List L) (link : L) (first before now : ℕ) → first ≤ before → (SomeFault faults links → Rose first before) → CountsBack (faults link) before now
       → SomeFault faults (links ++ link ∷ []) → Rose first now
   rose_more faults links link first before now le rose counts some = go (fault_last faults links link some)
@@ -64,7 +64,7 @@ module _ {L : Type 0} where
   no_fault_last faults [] link none = (tt, none.0)
   no_fault_last faults (l ∷ ls) link none = let rest = no_fault_last faults ls link none.1 in ((none.0, rest.0), rest.1)
 
-  -- the count stays where none of them has
+  -- the count is unchanged if none of them has
   pub calm_more : (faults : L → ℕ) (links : List L) (link : L) (first before now : ℕ) → (NoFault faults links → before ≡ first) → CountsBack (faults link) before now → NoFault faults (links ++ link ∷ []) → now ≡ first
   calm_more faults links link first before now calm counts none = let both = no_fault_last faults links link none in counts.stays both.1 ∙ calm both.0
 

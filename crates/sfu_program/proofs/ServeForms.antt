@@ -64,7 +64,7 @@ not_said words (Cascade frames start loss) s is = not_cascade words _ s is
 pub not_form : (words : List (List ℕ)) → IsServing words → IsForm words → ⊥
 not_form words s is = not_said words is.0 s is.1
 
--- the words say one number of turns
+-- the words have at most one number of turns
 pub one_number : (words : List (List ℕ)) (m n : ℕ) → IsServe words m → IsServe words n → m ≡ n
 one_number words m n a b =
     let same : decimal m ≡ decimal n = (let e = sym a.words_are ∙ b.words_are in cc) in
@@ -76,7 +76,7 @@ no_command words t s f (inl is) = f is
 no_command words t s f (inr (inl is)) = t is
 no_command words t s f (inr (inr is)) = s is
 
--- the statuses of `serve` are among those of the program, and not the one of other words
+-- the statuses of `serve` are among the program's, without that of words that are no command
 pub is_end : (status : ℕ) → (status ≡ 0) ⊎ (status ≡ 3) ⊎ (status ≡ 4) ⊎ (status ≡ 5) ⊎ (status ≡ 6) ⊎ (status ≡ 7) → IsEnd status
 is_end status (inl a) = inl (inl a)
 is_end status (inr (inl a)) = inl (inr (inr (inl a)))

@@ -1,4 +1,4 @@
--- The lines of sessions, one session more at a time.
+-- The lines of sessions, with one more session at a time.
 use Rattle.std.proofs.Common.{◌≡◌, ◌+◌, ◌<◌, ℕ, zero, suc, Bool, true, false, List, [], ◌∷◌, ◌++◌, length, take, get_or, refl, sym, ap, ◌∙◌, arith, append-nil, append_assoc}
 use Rattle.std.specs.Prelude.{◌&&◌}
 use Rattle.std.proofs.lemmas.List.{map-append, take_more}
@@ -23,7 +23,7 @@ module _ {L : Type 0} where
   not_all (e ∷ es) zero d lt few = ap (λ (b : Bool). b && all_made (ends_of es)) few
   not_all (e ∷ es) (suc i) d lt few = ap (λ (b : Bool). is_all e.end && b) (not_all es i d (omega arith) few) ∙ and_later (is_all e.end)
 
-  -- one session more
+  -- one more session
   pub ends_of-more : (es : List (Ended L)) (i : ℕ) (e : Ended L) → i < length es → e ≡ get_or es i e → ends_of (take (i + 1) es) ≡ ends_of (take i es) ++ e.end ∷ []
   ends_of-more es i e lt is =
       ap ends_of (take_more es i e lt ∙ ap (λ (x : Ended L). take i es ++ x ∷ []) (sym is)) ∙ map-append (λ x. x.end) (take i es) (e ∷ [])
@@ -36,7 +36,7 @@ all_made-more (x ∷ xs) e all one = go (is_all x) all (all_made-more xs e)
     go true all rest = rest all one
     go false all rest = all
 
--- the text of one session more
+-- the text of one more session
 pub ends_text-more : (xs : List SessionEnd) (e : SessionEnd) (n : ℕ) → ends_text n (xs ++ e ∷ []) ≡ ends_text n xs ++ end_line (n + length xs) e
 ends_text-more [] e n = append-nil (end_line n e) ∙ ap (λ (m : ℕ). end_line m e) (let s : n ≡ n + length {A = SessionEnd} [] = omega arith in s)
 ends_text-more (x ∷ xs) e n =

@@ -1,4 +1,4 @@
--- The sessions of the ports of a configuration can be.
+-- The sessions of a configuration's ports have possible roles.
 use Rattle.std.proofs.Common.{◌≡◌, ◌≢◌, ◌<◌, ℕ, zero, suc, Bool, true, false, ltb, List, [], ◌∷◌, length, get_or, refl, sym, subst, arith, eq-eqb, Option}
 use Rattle.std.specs.Prelude.{◌==◌, ◌&&◌, ◌||◌, not, nat_lt, nat_le, IsTrue}
 use Rattle.std.proofs.lemmas.Bool.{ltb-true}

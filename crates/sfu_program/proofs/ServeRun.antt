@@ -1,4 +1,4 @@
--- Sessions that ran behind the first calls: none found the lock worn, since the history is shorter than the tickets are many.
+-- Sessions that ran after the first calls: none found the lock worn, since the history is shorter than the number of tickets.
 use Rattle.std.proofs.Common.{◌≡◌, ◌+◌, ◌*◌, ◌<◌, ◌≤◌, ◌^◌, ℕ, Bool, false, List, [], ◌∷◌, ◌++◌, length, map, ap, sym, subst, ◌∙◌, arith, length-append}
 use Rattle.std.proofs.Math.Nat.{mul-le-mul_left}
 use Rattle.std.proofs.lemmas.List.{length-map}
@@ -63,11 +63,11 @@ sessions_unworn limit found history number (j ∷ js) (e ∷ es) low all =
       (one.1, rest.1),
     )
 
--- what so many sessions of so many turns call at most
+-- the most calls that this many sessions of this many turns make
 few_entries : (jobs limit : ℕ) → jobs ≤ 64 → limit ≤ 1000000000000 → jobs * (10000 * limit) ≤ 640000000000000000
 few_entries jobs limit few short = let each : 10000 * limit ≤ 10000000000000000 = omega arith in let all = mul-le-mul_left jobs each in omega arith
 
--- the first calls found memory
+-- the first calls didn't run out of memory
 made_may : (calls : List Call) (added : List (Entry Call)) → AllMayStarve TakesMemory added → AllMayStarve TakesMemory (made_first calls ++ added)
 made_may [] added all = all
 made_may (call ∷ calls) added all = (λ starved. absurd (cc starved), made_may calls added all)

@@ -11,7 +11,7 @@ use Rattle.sfu_serve.specs.History.{entries_of}
 use Rattle.sfu_commands.specs.Script.{entry_of, reply_line, run_text}
 use Rattle.sfu_program.specs.ServeOpening.{HasMade, first_text, made_first, next_line}
 
--- a history of seat 0 alone is its own
+-- a history of seat 0 alone is that seat's own list
 own_whole : (h : List (Entry Call)) → AllBelow 1 h → own_of 0 h ≡ h
 own_whole [] low = refl
 own_whole (e ∷ es) low =
@@ -19,7 +19,7 @@ own_whole (e ∷ es) low =
     let z : e.seat ≡ 0 = omega arith in
     ap (λ (b : Bool). cond b (e ∷ own_of 0 es) (own_of 0 es)) (eq-eqb e.seat 0 z) ∙ ap (λ (l : List (Entry Call)). e ∷ l) (own_whole es low.1)
 
--- where seat 0 is the only one, it has seen its own entries alone
+-- if seat 0 is the only one, it has seen only its own entries
 own_seen : (k : Known Call) → Fits k → k.number ≡ 0 → k.count ≡ 1 → k.seen ≡ k.own
 own_seen k fits number count =
     let low : AllBelow 1 k.seen = subst (λ (n : ℕ). AllBelow n k.seen) count (fits.below number) in
@@ -44,7 +44,7 @@ module _ (lock : TableId) (calls : List Call) (k l : Known Call) (fits : Fits k)
     seen_made : l.seen ≡ made_first calls ++ entry k.number call starved ∷ []
     seen_made = own_seen l fits' (turn.0.2 ∙ made.number_is) (turn.0.3 ∙ made.count_is) ∙ (turn.2 ∙ ap (λ (own : List (Entry Call)). own ++ entry k.number call starved ∷ []) own_made)
 
-    -- the seat made one call more
+    -- the seat made one more call
     pub made_one : HasMade lock (calls ++ call ∷ []) l
     made_one = record {
       lock_is = turn.0.0 ∙ made.lock_is;
@@ -83,6 +83,6 @@ text_more (c ∷ cs) call h =
     ap (λ (text : List ℕ). reply_line h c ++ text) (text_more cs call (h ++ entry_of c ∷ []) ∙ ap (λ (past : List RoomEntry). run_text cs (h ++ entry_of c ∷ []) ++ reply_line past call) (append_assoc h (entry_of c ∷ []) (map entry_of cs)))
     ∙ sym (append_assoc (reply_line h c) (run_text cs (h ++ entry_of c ∷ [])) (reply_line (h ++ map entry_of (c ∷ cs)) call))
 
--- one line more is due for one call more
+-- one more line is due for one more call
 pub first_more : (calls : List Call) (call : Call) → first_text (calls ++ call ∷ []) ≡ first_text calls ++ next_line calls call
 first_more calls call = text_more calls call []

@@ -1,4 +1,4 @@
--- Each line of a script can be handed to the code, so what the lines leave is kept, and pleases.
+-- Each line of a script is one that the code can receive, so the guarantees hold after the lines.
 use Rattle.std.proofs.Common.{◌≡◌, ◌<◌, ℕ, ◌+◌, Bool, true, false, cond, leb, List, [], ◌∷◌, map, take, refl, Option, Some, None}
 use Rattle.std.specs.Prelude.{◌^◌}
 use Rattle.std.specs.List.{AllByRecursion}
@@ -19,7 +19,7 @@ use Rattle.sfu_program.specs.SimulcastScript.{BundleScript, bundle_script, bundl
 use Rattle.sfu_program.specs.SimulcastTexts.{line_told}
 use Rattle.sfu_program.specs.SimulcastPromise.{AreBundlesServed, after_lines, left_by}
 
--- what is true of each line that the code can be handed
+-- what holds for each line that the code can receive
 abbrev IsLineValue : BundleLine → Type 0
 IsLineValue (line.Room call) = IsValue call
 IsLineValue (line.Bundle bundle id ssrc first legs count) = ssrc < 2 ^ 32

@@ -1,4 +1,4 @@
--- What is due for the lines of a script with bundles, one after another, is the replies to them, and then the fault of the first that says nothing.
+-- What is due for the lines of a script with bundles, one after another, is the replies to them, and then the fault of the first that is no call.
 use Rattle.std.proofs.Common.{◌≡◌, inl, inr, ℕ, ◌+◌, Bool, true, false, cond, leb, List, [], ◌∷◌, map, refl, sym, ap, ◌∙◌, arith, Option, Some, None}
 use Rattle.sfu_driver.specs.declared.halt.Ending.TheVariants.{Outside}
 use Rattle.sfu_driver.specs.Drive.{outside_end}

@@ -1,4 +1,4 @@
--- What a server makes of what its bundles answered.
+-- What a server does with the results of its bundles.
 use Rattle.std.proofs.Common.{◌≡◌, inl, inr, ℕ, ◌≤◌, Bool, true, false, List, [], ◌∷◌, ◌++◌, length, refl, sym, ap, subst, ◌∙◌, Result, Ok, Err, arith, length-append}
 use Rattle.std.specs.Prelude.{OnErr, OnOk}
 use Rattle.sfu_base.specs.Answer.{answer_of, is_starved}
@@ -22,7 +22,7 @@ use Rattle.sfu_program.specs.declared.bundling.server.BundleServer.{BundleServer
 use Rattle.sfu_program.specs.SimulcastServing.{ServesLine}
 use Rattle.sfu_program.specs.SimulcastTexts.{answered_text, fault_text, told}
 
--- a text was put behind those that were ready, or memory was wanting and nothing was
+-- a text was appended to the output so far, or memory ran out and nothing was
 pub record IsPut (text ready ready' : List ℕ) (result : Result (Unit {0}) Halt) : Type 0 where
   pub ok : OnOk result (ready' ≡ ready ++ (text ++ 10 ∷ []))
   pub err : OnErr result (ready' ≡ ready)
@@ -38,7 +38,7 @@ grown : (text ready ready' : List ℕ) (result : Result (Unit {0}) Halt) → IsP
 grown text ready ready' (Ok x) put = let longer = ap length put.ok in let sum = length-append ready (text ++ 10 ∷ []) in omega (arith, longer, sum)
 grown text ready ready' (Err why) put = let same = ap length put.err in omega (arith, same)
 
--- the bundles answered so, and the answer's text was put
+-- the bundles had this result, and its text was appended
 module _ {A : Type 0} (call : Simulcast → Answered A) (text : A → List ℕ) (old new : BundleServer) (mid : Bundles KeepNone) (same : new.bundles ≡ mid) (ready ready' : List ℕ) where
   judged : (h : Simulcast) (came : Result A BundleFault) (result : Result (Unit {0}) Halt) → HasAnswered untold mid (call h) came → IsPut (answered_text text came) ready ready' result
       → Judges (λ (server : BundleServer) (h : Simulcast). StandsFor untold server.bundles h) (writes (told text (call h)).reply (told text (call h)).after) new ready ready' result

@@ -57,7 +57,7 @@ not_trial words s t is = clash 1 4 (ap length (sym t ∙ is.words_are)) (omega a
 pub not_cascade : (words : List (List ℕ)) (s : Stream) → IsTogether words → IsCascade words s → ⊥
 not_cascade words s t is = clash 1 4 (ap length (sym t ∙ is.words_are)) (omega arith)
 
--- the statuses of `together` are among those of the program, and not the one of other words
+-- the statuses of `together` are among the program's, without that of words that are no command
 pub is_status : (status : ℕ) → (status ≡ 0) ⊎ (status ≡ 3) ⊎ (status ≡ 4) ⊎ (status ≡ 5) ⊎ (status ≡ 6) → IsStatus status
 is_status status (inl a) = inl a
 is_status status (inr (inl a)) = inr (inr (inl a))

@@ -1,4 +1,4 @@
--- From the seats' own promises to the one history of a script, and to its journal.
+-- From the seats' own contracts to the one history of a script, and to its journal.
 use Rattle.std.proofs.Common.{◌≡◌, ℕ, zero, suc, ◌+◌, ◌-◌, ◌*◌, ◌^◌, ◌<◌, ◌≤◌, List, [], ◌∷◌, ◌++◌, length, map, refl, ap, sym, subst, ◌∙◌, ⊎_elim, arith, append-nil, append_assoc}
 use Rattle.std.specs.Prelude.{IsPermutation, sum_by}
 use Rattle.std.proofs.lemmas.List.{append_cancel_left, map-append}
@@ -231,7 +231,7 @@ module _ {lock : TableId} {script : Actors} {root joined last : Known Call} {don
       let joint : parts 1 ps ++ kept_by dones ≡ parts (1 + length dones) ps = parts_kept ps dones 1 (λ i d at. mine_done e i d at ∙ ap (λ (m : ℕ). mine m ps) (let q : i + 1 ≡ 1 + i = omega arith in q)) in
       sym (joint ∙ ap (λ (m : ℕ). parts m ps) nine) ∙ ap (λ (l : List Placed). l ++ kept_by dones) (mine_first e)
 
-  -- what was kept are the turns of the history, in another order
+  -- what was stored are the turns of the history, in another order
   pub is_kept : (e : Ended lock script root joined last dones first_kept last_kept) → IsPermutation (placed last.seen) ((first_kept ++ kept_by dones) ++ last_kept)
   is_kept e =
       let moved : IsPermutation (placed last.seen) ((first_kept ++ last_kept) ++ kept_by dones) = subst (IsPermutation (placed last.seen)) (all_parts e) (parts_all 9 (placed last.seen) (placed_below [] last.seen (last_below e))) in

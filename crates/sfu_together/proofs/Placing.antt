@@ -1,4 +1,4 @@
--- What is kept of a seat's turns, as the history grows.
+-- What is stored of a seat's turns, as the history grows.
 use Rattle.std.proofs.Common.{◌≡◌, ℕ, ◌+◌, Bool, true, false, cond, eqb, List, [], ◌∷◌, ◌++◌, length, map, refl, ap, sym, ◌∙◌, arith, append-nil, append_assoc, eq-eqb, length-append}
 use Rattle.std.proofs.lemmas.List.{append_cancel_right, map-append}
 use mathlib.Core.List.{IsPrefix}
@@ -32,7 +32,7 @@ none_if : (b : Bool) (p : Placed) (e : Entry Call) (xs : List Placed) (os : List
 none_if true p e xs os h f = absurd (cc h)
 none_if false p e xs os h f = f h
 
--- where a seat has no entry it has kept nothing
+-- if a seat has no entry, nothing is stored for it
 pub mine_none : (past : List (Entry Call)) (n : ℕ) (h : List (Entry Call)) → own_of n h ≡ [] → mine n (placed_from past h) ≡ []
 mine_none past n [] e = refl
 mine_none past n (x ∷ h) e = none_if (eqb x.seat n) (placed_at past x) x (mine n (placed_from (past ++ x ∷ []) h)) (own_of n h) e (mine_none (past ++ x ∷ []) n h)
@@ -41,14 +41,14 @@ pub nothing : {A : Type 0} (o b : List A) → o ++ b ≡ o → b ≡ []
 nothing [] b e = e
 nothing (x ∷ o) b e = nothing o b (cc e)
 
--- what a seat has kept stays the same where others go on
+-- what is stored for a seat is unchanged by the others' turns
 pub mine_same : (n : ℕ) (a b : List (Entry Call)) → IsPrefix a b → own_of n b ≡ own_of n a → mine n (placed b) ≡ mine n (placed a)
 mine_same n a b pre same =
     let rest : own_of n pre.0 ≡ [] = nothing (own_of n a) (own_of n pre.0) (sym (own_append n a pre.0) ∙ (ap (own_of n) pre.1 ∙ same)) in
     ap (λ (l : List (Entry Call)). mine n (placed l)) (sym pre.1)
     ∙ (ap (mine n) (placed_append [] a pre.0) ∙ (mine_append n (placed a) (placed_from a pre.0) ∙ (ap (λ (l : List Placed). mine n (placed a) ++ l) (mine_none a n pre.0 rest) ∙ append-nil (mine n (placed a)))))
 
--- a turn adds to what a seat has kept
+-- a turn adds to what is stored for a seat
 pub mine_turn : (n : ℕ) (seen h seen' : List (Entry Call)) (e : Entry Call) (own : List (Entry Call)) → IsPrefix seen h → seen' ≡ h ++ e ∷ [] → e.seat ≡ n → own_of n seen ≡ own → own_of n seen' ≡ own ++ e ∷ []
     → mine n (placed seen') ≡ mine n (placed seen) ++ placed_at h e ∷ []
 mine_turn n seen h seen' e own pre is by had has =
@@ -71,7 +71,7 @@ at_places : (past h : List (Entry Call)) (n : ℕ) → length past ≡ n → AtP
 at_places past [] n is = tt
 at_places past (e ∷ h) n is = (is, at_places (past ++ e ∷ []) h (n + 1) (let k = length-append past (e ∷ []) in omega arith))
 
--- the turns of a history stand at places that count up from 0
+-- the places of a history's turns count up from 0
 pub all_at_places : (h : List (Entry Call)) → AtPlaces 0 (placed h)
 all_at_places h = at_places [] h 0 refl
 

@@ -102,7 +102,7 @@ done_at root lists i job done is acted =
       record { acts = subst (λ (k : Known Call). Acts k done.seat acted.calls done.kept.items) is.seat acted.acts; fits = acted.fits },
     )
 
--- where each job gave something, and all gave an Ok, each is done
+-- if each job returned something, and all returned an Ok, each is done
 pub all_came : (root : Known Call) (lists : List (List Call)) (jobs : List Job) (dones : List Done) (ended : List (Result Done NoMemory)) → AreJobs root jobs → map Ok dones ≡ ended → length ended ≡ length jobs
     → ((i : ℕ) (d : Result Done NoMemory) → i < length jobs → (job : Job) × (job ≡ get_or jobs i job) × IfOk (get_or ended i d) (λ done. HasActed lists job done)) → AreDone root lists dones
 all_came root lists jobs dones ended are ok long gives = λ i done at.
@@ -133,7 +133,7 @@ pub if_ok : {A E : Type 0} (P Q : A → Type 0) (r : Result A E) → ((a : A) �
 if_ok P Q (Ok a) f p = f a p
 if_ok P Q (Err e) f p = tt
 
--- no list of a script has more calls than all
+-- no list of a script has more calls than all lists together
 pub part_few : (script : Actors) (i : ℕ) (calls : List Call) → count_of script ≤ 100000 → get_elem? script.actors i ≡ some calls → length calls ≤ 100000
 part_few script i calls few at = let k = no_longer script.actors i calls at in omega arith
 

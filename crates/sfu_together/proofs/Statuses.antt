@@ -1,4 +1,4 @@
--- What each status of `together` says, once its script was read or wasn't.
+-- What each status of `together` means, after its script was read or wasn't.
 use Rattle.std.proofs.Common.{◌≡◌, ◌⊎◌, inl, inr, ⊎_elim, ℕ, List, [], ◌++◌, refl, sym, ap, ◌∙◌, subst, arith, append-nil, Option, Some, None, Ok, Err}
 use Rattle.std.specs.Prelude.{IfSome}
 use Rattle.std.specs.Io.KnownBytes.{Appends, Consumes, IsAtEnd}
@@ -87,7 +87,7 @@ module _ (left left' w w1 : Option (List ℕ)) (g g' f f1 : ℕ) (actors : Actor
   quiet : (g' ≡ g) × (f1 ≡ f)
   quiet = reads.statuses.every.first_fault.none (inl refl)
 
-  -- the same of the bytes that were taken
+  -- the same for the bytes that were taken
   abbrev prompt : IsPrompt read_part left left' w w1
   prompt = reads.statuses.every.prompt
 
@@ -100,11 +100,11 @@ module _ (left left' w w1 : Option (List ℕ)) (g g' f f1 : ℕ) (actors : Actor
   taken_whole : (together_script taken).fault ≡ None
   taken_whole = let x = reads.statuses.every.says.done refl in no_fault (together_script taken).fault x.1
 
-  -- and of what was written behind them
+  -- and for what was written after them
   abbrev prompt_on : (w2 : Option (List ℕ)) (text : List ℕ) → Appends w w2 text → IsPrompt read_part left left' w w2
   prompt_on w2 text all = record { earlier = prompt.earlier; piece = prompt.piece; consumed = prompt.consumed; small = prompt.small; goes = prompt.goes; wrote = λ _. (text, all) }
 
-  -- memory was wanting behind it
+  -- memory ran out after it
   pub plays_starved : Plays (exchange_by left left' w w1 g g' f f1) 6
   plays_starved = record {
     history = [];

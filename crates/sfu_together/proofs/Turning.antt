@@ -15,7 +15,7 @@ use Rattle.sfu_together.specs.Acting.{Acts, placed, placed_at, turn_of}
 use Rattle.actor_script.specs.Places.{mine}
 use Rattle.sfu_together.proofs.Placing.{mine_turn}
 
--- the seat has made the first calls, and kept its turns
+-- the seat has made the first calls, and stored its turns
 pub record Turned (o k : Known Call) (calls : List Call) (i : ℕ) (kept : List Placed) : Type 0 where
   pub fits : Fits k
   pub keeps : KeepsSeat o k

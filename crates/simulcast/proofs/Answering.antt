@@ -1,4 +1,4 @@
--- What a call answers that is made on one bundle of those that there are.
+-- The result of a call on one of the bundles.
 use Rattle.std.proofs.Common.{◌≡◌, ◌≤◌, ℕ, zero, suc, Bool, true, false, cond, List, [], ◌∷◌, length, get_or, refl, sym, ap, subst, ◌∙◌, Option, Some, None, Result, Ok, Err, slice_get, slice_set}
 use Rattle.std.specs.Prelude.{◌==◌, position}
 use Rattle.sfu_base.specs.Answer.{is_starved}
@@ -38,7 +38,7 @@ gives o = Ok o
 abbrev none_of : BundleFault → Result (Option ℕ) BundleFault
 none_of why = Err why
 
--- a plea is nothing to legs
+-- a plea doesn't change the legs
 plead_legs : (history : List Entry) (n : ℕ) (starved : Bool) (p : Made) → AreLegs (accepted history) p → AreLegs (accepted (called starved (call.Plead n) history)) p
 plead_legs history n starved p legs = subst (λ (x : List Call). AreLegs x p) (sym (called_accepted history (call.Plead n) starved)) (by starved)
   where
@@ -202,7 +202,7 @@ module _ {R : Type 0} (noted : R → Option (List Noted)) (old new : Bundles R) 
             go m at None done = ((let same : why ≡ fault.NoLeg (length m.legs) = (let e : Err why ≡ none_of (fault.NoLeg (length m.legs)) = done.0 in cc) in ap Err same), same_there m at done.1)
             go m at (Some n) done = absurd (let other : Err why ≡ gives (cond (is_active_in leg m) None (Some n)) = done.0 in cc)
 
-      -- ---- a choice that asks
+      -- ---- a choice that requests a key frame
 
       module _ (leg subscriber : ℕ) (reply : Reply) (serves : (bytes numbers : List ℕ) → Serves noted old.room new.room 0 (call.Plead subscriber) reply bytes numbers)
           (does : (m : Made) → IsBundle found m → ChoosesTo c leg m (leg_at leg m.legs) (Ok (Some subscriber))) where

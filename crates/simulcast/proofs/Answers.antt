@@ -1,4 +1,4 @@
--- The calls answer, and leave, what the functions say, wherever memory is found.
+-- The calls' results and states are those of the functions, unless memory runs out.
 use Rattle.std.proofs.Common.{◌≡◌, ◌⊎◌, inl, inr, ℕ, Bool, false, List, length, refl, sym, ap, ap₂, subst, Option, Some, None, Result, Ok, Err, slice_get, arith}
 use Rattle.std.proofs.lemmas.Option.{slice_get_within}
 use Rattle.sfu_base.specs.Answer.{answer_of, is_starved}
@@ -17,17 +17,17 @@ use Rattle.simulcast.specs.Drawn.{outgoing_of}
 use Rattle.simulcast.specs.Answers.{Answered, bundle_made, bundle_pumped, called_unless, choice_of, counts_of, draw_of, leg_chosen, made_at, made_unless, packet_drawn, packet_redrawn, pump_of, redraw_of, room_called, with_found}
 use Rattle.simulcast.proofs.Together.{made_there}
 
--- the object stands for what the call leaves, and the call answered so
+-- the object stands for the state after the call, and the call has this result
 pub record HasAnswered {R A : Type 0} (noted : R → Option (List Noted)) (b : Bundles R) (a : Answered A) (result : Result A BundleFault) : Type 0 where
   pub stands : StandsFor noted b a.after
   pub is : result ≡ a.answer
 
--- the result of a call that hands out these bytes
+-- the result of a call that returns these bytes
 abbrev pub handed : {A : Type 0} → List ℕ → Result A BundleFault → Result (List ℕ) BundleFault
 handed bytes (Ok x) = Ok bytes
 handed bytes (Err why) = Err why
 
--- want of memory, or that
+-- memory ran out, or the call has this result
 abbrev pub Answers : {R A : Type 0} → (R → Option (List Noted)) → Bundles R → Answered A → Result A BundleFault → Type 0
 Answers noted b a result = (result ≡ Err fault.NoMemory) ⊎ HasAnswered noted b a result
 

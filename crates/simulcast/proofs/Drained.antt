@@ -19,7 +19,7 @@ use Rattle.simulcast.proofs.Waiting.{IsLive, called_accepted, dry_answer, given_
 
 -- ---- one take
 
--- what waits for another subscriber is as before
+-- what is queued for another subscriber is unchanged
 waits_on : (past : List Call) (m n : ℕ) → eqb m n ≡ false → waiting n (call.Take m ∷ past) ≡ waiting n past
 unfolding waiting
 waits_on past m n e = go (joined n past)
@@ -34,11 +34,11 @@ is_live s n j queue formed live waits = record { live = live; numbered = (headli
 
 -- ---- one leg
 
--- Nothing waits, or no more may be queued.
+-- nothing is queued for the subscriber, or the bundle's queue is full
 abbrev pub IsDone : ℕ → Pumping → Type 0
 IsDone n s = (is_full s.made ≡ true) ⊎ (waiting n (accepted s.history) ≡ [])
 
--- the subscriber n was taken from until it was done
+-- packets of subscriber n were taken until this holds
 record Drains (n : ℕ) (s now : Pumping) : Type 0 where
   formed : AreWellFormed (accepted now.history)
   legs_are : now.made.legs ≡ s.made.legs
@@ -97,7 +97,7 @@ drain_ends k n (p ∷ queue) s j formed live waits =
 abbrev AreAlive : Pumping → Type 0
 AreAlive s = (k n : ℕ) → leg_at k s.made.legs ≡ Some n → (j : Joined) × (joined n (accepted s.history) ≡ Some j)
 
--- what is done stays so
+-- what is done remains done
 record Pumps (s now : Pumping) : Type 0 where
   formed : AreWellFormed (accepted now.history)
   legs_are : now.made.legs ≡ s.made.legs

@@ -1,4 +1,4 @@
--- What a bundle's ring gives.
+-- What a bundle's ring returns.
 use Rattle.std.proofs.Common.{◌≡◌, ℕ, List, [], ◌∷◌, length, refl, sym, ap, ap₂, subst, ◌∙◌, Option, Some, None, Result, Ok, Err}
 use Rattle.std.specs.Prelude.{◌==◌, IfOk, OnErr, OnOk, ◌↔◌}
 use Rattle.std.specs.List.{find}
@@ -85,7 +85,7 @@ redrawn b m n (Err why) before bytes is resends lately none = (
   same_again b m n is ∙ none_kept (find (λ packet. packet.number == n) b.ring.kept) b.ring why before bytes resends,
 )
 
--- ---- a buffer stays where nothing is handed out
+-- ---- a buffer is unchanged if nothing is returned
 
 pub draw_keeps : (queue : List (List ℕ)) (old new : Ring) (result : Result ℕ Refusal) (before bytes : List ℕ) → TakesFrom queue old new result before bytes → OnErr result (bytes ≡ before)
 draw_keeps [] old new (Ok n) before bytes h = tt

@@ -1,4 +1,4 @@
--- What was drawn is a front of all that goes out.
+-- What was drawn is a prefix of all that goes out.
 use Rattle.std.proofs.Common.{◌≡◌, ℕ, zero, suc, List, [], ◌∷◌, ◌++◌, take, ap, ◌∙◌, Some, slice_get, add-one}
 use Rattle.std.proofs.lemmas.List.{take-append-le}
 use Rattle.leg_switch.specs.Marks.{marks_of}

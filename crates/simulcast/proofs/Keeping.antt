@@ -1,4 +1,4 @@
--- What each call keeps, by the history and the bundles alone.
+-- What each call preserves, by the history and the bundles alone.
 use Rattle.std.proofs.Common.{is_some, ◌≡◌, ◌≤◌, ◌<◌, ℕ, Bool, true, false, cond, List, [], ◌∷◌, length, max, eqb, refl, sym, ap, subst, ◌∙◌, arith, Option, Some, None, slice_get, slice_set}
 use Rattle.std.specs.Prelude.{◌^◌}
 use Rattle.std.proofs.lemmas.Bool.{eqb-true}
@@ -36,7 +36,7 @@ use Rattle.simulcast.proofs.WholePump.{pumped_alone, takes_nothing}
 held : (h : Simulcast) → IsKept h → AreHeld h
 held h kept = record { legs = kept.legs; apart = kept.apart; strays = kept.strays }
 
--- ---- what is promised
+-- ---- what is guaranteed
 
 pub kept_pleases : (h : Simulcast) → IsKept h → IsPleasing h
 kept_pleases h kept = record {
@@ -76,7 +76,7 @@ track_known (call.KeyWanted track ∷ past) all n j e = track_known past all.1 n
 track_known (call.Plead subscriber ∷ past) all n j e = track_known past all.1 n j e
 track_known (call.Why subscriber number ∷ past) all n j e = track_known past all.1 n j e
 
--- one that isn't forbidden
+-- a call that isn't forbidden
 call_keeps : (h : Simulcast) (c : Call) → IsValue c → IsKept h → forbids c h.made ≡ None → IsKept (record { history = called false c h.history; made = h.made })
 call_keeps h c value kept free = record {
   formed = subst AreWellFormed (sym past_is) (well_formed_after (accepted h.history) c value kept.formed);
@@ -115,7 +115,7 @@ bundle_keeps h number id ssrc first legs small kept = go (bundle_refusal h numbe
         let now = one_held number id ssrc first legs h (held h kept) (sym is) in
         record { formed = kept.formed; legs = now.legs; apart = now.apart; strays = now.strays; fits = ssrcs_held number id ssrc first legs h (held h kept) (sym is) small kept.fits }
 
--- ---- a bundle that is there
+-- ---- a call on an existing bundle
 
 found_keeps : {A : Type 0} (h : Simulcast) (number : ℕ) (does : ℕ → Made → Answered A) → IsKept h → ((i : ℕ) (m : Made) → slice_get h.made i ≡ Some m → IsKept (does i m).after)
     → IsKept (with_number number h does).after

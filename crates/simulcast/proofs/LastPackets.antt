@@ -190,7 +190,7 @@ module _ (id n : ℕ) (to : Subscriber) (entries : List Entry) (fits : to.ssrc <
       (ap (λ (format : Format TemplateStructure). shown format shows.force end.last.rest) (sym (format_is id)) ∙ shows.shows)
       ∙ shows.ends
 
--- whatever well-formed calls there were
+-- after any well-formed calls
 pub last_ends : (past : List Call) → AreWellFormed past → (id n : ℕ) (j : Joined) → joined n past ≡ Some j → kind_of j.track past ≡ Layered id
     → (front : List (List ℕ)) (last : List ℕ) → going_out n j past ≡ front ++ last ∷ [] → ends_frame id last ≡ true
 last_ends past well id n j is kind front last e =

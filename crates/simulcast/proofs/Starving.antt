@@ -1,4 +1,4 @@
--- Want of memory at a call that takes none is the recorder's.
+-- If a call that takes no memory runs out of memory, the recorder did.
 use Rattle.std.proofs.Common.{◌≡◌, ◌⊎◌, inl, inr, Bool, true}
 use Rattle.std.specs.Prelude.{IsTrue}
 use Rattle.sfu_base.specs.Answer.{is_starved}

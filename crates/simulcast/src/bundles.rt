@@ -170,8 +170,8 @@ impl<R: Recorder> Bundles<R> {
 
     /// Creates a bundle of two or three legs, which are subscribers of layered tracks with this header extension id. The bundle sends with this
     /// SSRC, and sequence numbers from `first` on; leg 1 is chosen. `NumberUsed`: the number isn't above the highest number of a bundle (0 if
-    /// there is none). `TooMany`: there are 64 bundles. `Room(NoSubscriber)`: a leg isn't live. `Bound`: a leg belongs to that bundle, or is
-    /// listed twice and that bundle is this one. `WrongKind`: a leg's track isn't layered with this id. `NoMemory` is checked last.
+    /// there is none). `TooMany`: there are 64 bundles. `Room(NoSubscriber)`: a leg isn't live. `Bound`: a leg belongs to bundle `bundle`, or is
+    /// listed twice (`bundle` is then `number`). `WrongKind`: a leg's track isn't layered with this id. `NoMemory` is checked last.
     pub fn bundle(
         &mut self,
         number: u32,

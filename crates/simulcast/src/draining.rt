@@ -11,7 +11,7 @@ use dd_descriptor::NewestDescriptor;
 use room_core::{Recorder, Room};
 use sfu_base::{NoMemory, Scratch};
 
-/// One more than the 512 packets of a full subscriber's queue: after this many takes it is empty.
+/// One more than the 512 packets of a subscriber's full queue: after this many takes it is empty.
 const MOST_TAKES: u32 = 513;
 
 // Takes the packets queued for a leg, until its queue is empty or the bundle has 512 packets queued. Returns how many packets were taken.

@@ -2,7 +2,7 @@
 ghost use Rattle.std.specs.Prelude.{◌≡◌};
 ghost use Rattle.simulcast.specs.Pumping.{unless};
 
-/// This leg, or `None` if it `is_taken`: it comes earlier in the order.
+/// This leg, or `None` if it comes earlier in the order (`is_taken`).
 pub fn unless(is_taken: bool, leg: u8) -> Option<u8>
     ensures { result ≡ unless is_taken leg }
 {

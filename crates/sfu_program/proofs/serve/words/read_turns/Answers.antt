@@ -6,7 +6,7 @@ use Rattle.sfu_program.specs.ServeWords.{IsServe}
 use Rattle.sfu_program.proofs.serve.words.read_turns.Goals as goal
 use Rattle.sfu_program.proofs.serve.words.read_turns.Goals.{then-turns-lt1-via-then-turns-lt1, then-turns-lt1-via-else-turns-lt1+then-turns-gt-MOST_TURNS}
 
--- a number that is out of range is no number of turns
+-- a number that is out of range isn't a number of turns
 out_of_range : (name turns : List ℕ) (m : ℕ) → IsNumber m turns → (m < 1) ⊎ (1000000000000 < m) → (n : ℕ) → IsServe (name ∷ turns ∷ []) n → ⊥
 out_of_range name turns m is out n serve =
     let words = serve.words_are in
