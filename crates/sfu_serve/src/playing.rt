@@ -1,6 +1,7 @@
 // Jobs that run at the same time, each with its own seat.
 ghost use Rattle.std.specs.Prelude.{◌≡◌, ◌++◌, ◌∷◌, [], ◌≤◌, ◌<◌, ◌+◌, IfOk, OnOk, length, map};
 ghost use Rattle.std.specs.List.{All};
+ghost use mathlib.Core.List.{IsPrefix};
 ghost use Rattle.turn_lock.specs.Known.{Fits};
 ghost use Rattle.sfu_serve.specs.Parts.{Keeps};
 ghost use Rattle.sfu_serve.specs.Runs.{CanBe, deed_of, job_after, job_before};
@@ -57,7 +58,7 @@ pub fn cast<R: Recorder, L: Link + Drop>(
     requires number { seat.old.number ≡ 0 }
     requires alone { seat.old.count ≡ 1 }
     requires few { length jobs.items ≤ 64 }
-    ensures kept { (seat.new.lock ≡ seat.old.lock) × (seat.new.number ≡ seat.old.number) }
+    ensures kept { (seat.new.lock ≡ seat.old.lock) × (seat.new.number ≡ seat.old.number) × (seat.new.seen ≡ seat.old.seen) × (seat.new.found ≡ seat.old.found) }
     ensures split { IfOk result (λ seated. seat.new ≡ counting seat.old (1 + length jobs.items)) }
     ensures fits { IfOk result (λ seated. Fits seat.new) }
     ensures seated { IfOk result (λ seated. map (λ s. seated_job s.seat (job_before s.job.role (L.told s.job.link) (L.faults s.job.link))) seated.items
@@ -173,6 +174,7 @@ pub fn gather<R: Recorder, L: Link + Drop>(
     requires locks { All (λ p. p.seat.lock ≡ turns.now) played.items }
     requires others { All (λ p. 0 < p.seat.number) played.items }
     ensures kept { (seat.new.lock ≡ seat.old.lock) × (seat.new.number ≡ seat.old.number) }
+    ensures grows { IsPrefix seat.old.seen seat.new.seen × (seat.old.found ≤ seat.new.found) }
     ensures fits { IfOk result (λ ended. Fits seat.new) }
     ensures joined { IfOk result (λ ended. HaveJoined seat.old (map (λ p. p.seat) played.items) seat.new) }
     ensures ended { IfOk result (λ ended. map (λ e. job_after e.end (L.told e.link) (L.faults e.link)) ended.items
