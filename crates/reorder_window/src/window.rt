@@ -1,6 +1,7 @@
 // The window over a track's packets.
 ghost use Rattle.std.specs.Prelude.{◌≡◌, ◌<◌, ◌≤◌, ◌+◌, ◌∷◌, ◌^◌, [], IfOk, IsNone, List, None, ℕ, ◌↔◌, max, OnErr, OnOk, drop, length, slice_get};
 ghost use Rattle.std.specs.Option.{option_map};
+ghost use Rattle.reorder_window.specs.Due.{due_of};
 ghost use Rattle.reorder_window.specs.Events.{Event, Arrives, Ticks};
 ghost use Rattle.reorder_window.specs.Missing.{missing_sequences};
 ghost use Rattle.reorder_window.specs.Order.{added, after, before_all, judged_sequence, number_of};
@@ -136,6 +137,15 @@ impl Window {
             buf.fill(self.copied.bytes());
         }
         Some(item)
+    }
+
+    /// The least moment, in milliseconds, at which a tick gives up a gap: that of the lowest held packet plus the hold. None where no packet is
+    /// held, or where the sum is 2^64 or more.
+    pub fn due(&self) -> Option<u64>
+        ensures { result ≡ due_of self.now.hold self.now.order }
+    {
+        let lowest = self.ring.lowest_moment(self.next, self.end)?;
+        lowest.checked_add(u64::from(self.hold))
     }
 
     /// Replaces the contents of `out` by the missing sequence numbers: those from `next` up to the

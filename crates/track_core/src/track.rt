@@ -1,6 +1,7 @@
 // One publisher's pipeline.
 
 ghost use Rattle.std.specs.Prelude.{◌≡◌, ◌≤◌, ◌<◌, ◌-◌, ◌^◌, ◌+◌, ◌∷◌, ◌↔◌, [], ℕ, true, IfOk, IfSome, IsOk, List, None, Some, OnErr, drop, length, map, option_copied, slice_get};
+ghost use Rattle.reorder_window.specs.Due.{due_of};
 ghost use Rattle.reorder_window.specs.Events.{Arrives, Event, Piece, Ticks};
 ghost use Rattle.reorder_window.specs.Missing.{missing_sequences};
 ghost use Rattle.rtp_packet.specs.Faults.{first_fault};
@@ -144,6 +145,14 @@ impl Track {
         ensures packets { self.new.packets ≡ self.old.packets }
     {
         self.window.tick(moment);
+    }
+
+    /// The least moment, in milliseconds, at which a tick gives up a gap: that of the lowest held packet plus the hold. None where no packet is
+    /// held, or where the sum is 2^64 or more.
+    pub fn due(&self) -> Option<u64>
+        ensures { result ≡ due_of self.now.window.hold self.now.window.order }
+    {
+        self.window.due()
     }
 
     /// Replaces the contents of `out` with the missing sequence numbers, in ascending order of their unwrapped numbers.

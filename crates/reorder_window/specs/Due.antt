@@ -1,0 +1,28 @@
+-- When a tick gives up a gap.
+use Rattle.std.specs.Prelude.{ℕ, ◌+◌, ◌<◌, ◌≤◌, ◌^◌, ◌↔◌, max, if◌then◌else◌, nat_lt, List, [], ◌∷◌, Option, None, Some}
+use Rattle.reorder_window.specs.Events.{Event, Held}
+use Rattle.reorder_window.specs.Order.{Order, order_of, ticked, next_ticked}
+
+-- the moment of the lowest of packets in ascending order
+abbrev pub lowest_moment : List Held → Option ℕ
+lowest_moment [] = None
+lowest_moment (h ∷ rest) = Some h.moment
+
+-- a moment plus the hold, where that is a 64-bit moment
+abbrev pub due_after : ℕ → Option ℕ → Option ℕ
+due_after hold None = None
+due_after hold (Some moment) = if nat_lt (moment + hold) (2 ^ 64) then Some (moment + hold) else None
+
+-- The least moment at which a tick gives up a gap: the moment of the lowest held packet plus the hold. Own rule.
+abbrev pub due_of : ℕ → Order → Option ℕ
+due_of hold order = due_after hold (lowest_moment order.held)
+
+abbrev pub IsReached : Option ℕ → ℕ → Type 0
+IsReached None moment = ⊥
+IsReached (Some due) moment = due ≤ moment
+
+-- After any list of events, a tick passes over a number exactly where it brings the track's moment, a 64-bit one, to the due moment.
+abbrev pub TellsTheTick : Type 0
+TellsTheTick = (hold : ℕ) (past : List Event) (moment : ℕ) → max (order_of hold past).moment moment < 2 ^ 64
+    → ((order_of hold past).next < next_ticked hold (ticked (order_of hold past) moment))
+    ↔ IsReached (due_of hold (order_of hold past)) (max (order_of hold past).moment moment)
