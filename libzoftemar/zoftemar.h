@@ -44,7 +44,7 @@
 #include <stddef.h>
 #include <stdint.h>
 
-/* The version of this header. The archive doesn't know its own: header and archive are those of one install. */
+/* The version of this header; zoftemar_version() says the archive's. Header and archive are those of one install. */
 #define ZOFTEMAR_VERSION "0.1.0"
 #define ZOFTEMAR_VERSION_MAJOR 0
 #define ZOFTEMAR_VERSION_MINOR 1
