@@ -95,6 +95,8 @@ enum zoftemar_code {
     ZOFTEMAR_KEY = 3,               /* has: whether the publisher is to be asked for a key frame */
     ZOFTEMAR_REACHED = 4,           /* has: whether the wish is reached */
     ZOFTEMAR_TARGET = 5,            /* has: whether the subscriber has a decode target, which was then written to `out` */
+    ZOFTEMAR_DUE = 6,               /* has, first: the moment at which a tick of the track is due, if there is one */
+    ZOFTEMAR_NEWEST = 7,            /* has, first: the number of the track's newest frame, if there is one */
 
     /* Why a frame was or wasn't passed on to a subscriber. Frame numbers are without the wrap at 65,536. */
     ZOFTEMAR_PASSED = 16,
@@ -139,8 +141,8 @@ enum zoftemar_code {
 
 /* X(name) of each code. */
 #define ZOFTEMAR_EACH_CODE(X) \
-    X(ZOFTEMAR_DONE) X(ZOFTEMAR_PACKET) X(ZOFTEMAR_NAMES) X(ZOFTEMAR_KEY) X(ZOFTEMAR_REACHED) X(ZOFTEMAR_TARGET) X(ZOFTEMAR_PASSED) \
-    X(ZOFTEMAR_NOT_OF_TARGET) X(ZOFTEMAR_BEHIND) X(ZOFTEMAR_REFERENCE) X(ZOFTEMAR_FULL) X(ZOFTEMAR_LINK) X(ZOFTEMAR_UNOPENED) \
+    X(ZOFTEMAR_DONE) X(ZOFTEMAR_PACKET) X(ZOFTEMAR_NAMES) X(ZOFTEMAR_KEY) X(ZOFTEMAR_REACHED) X(ZOFTEMAR_TARGET) X(ZOFTEMAR_DUE) \
+    X(ZOFTEMAR_NEWEST) X(ZOFTEMAR_PASSED) X(ZOFTEMAR_NOT_OF_TARGET) X(ZOFTEMAR_BEHIND) X(ZOFTEMAR_REFERENCE) X(ZOFTEMAR_FULL) X(ZOFTEMAR_LINK) X(ZOFTEMAR_UNOPENED) \
     X(ZOFTEMAR_HOLE) X(ZOFTEMAR_NO_TRACK) X(ZOFTEMAR_NO_SUBSCRIBER) X(ZOFTEMAR_NUMBER_USED) X(ZOFTEMAR_TOO_MANY) \
     X(ZOFTEMAR_BAD_EXTENSION_ID) X(ZOFTEMAR_TOO_BIG) X(ZOFTEMAR_UNREADABLE) X(ZOFTEMAR_WRONG_SSRC) X(ZOFTEMAR_SPENT) X(ZOFTEMAR_LATE) \
     X(ZOFTEMAR_REPEAT) X(ZOFTEMAR_EMPTY) X(ZOFTEMAR_NOT_KEPT) X(ZOFTEMAR_AHEAD) X(ZOFTEMAR_TOO_OLD) X(ZOFTEMAR_PLAIN) \
@@ -224,6 +226,11 @@ typedef struct zoftemar_target {
  * up at a key frame alone, and make none unasked. A subscriber of a plain track has no target. */
 ZOFTEMAR_USE ZOFTEMAR_NONNULL(1, 3) zoftemar_reply zoftemar_target_of(zoftemar_room *room, uint32_t subscriber, zoftemar_target *out);
 ZOFTEMAR_USE ZOFTEMAR_NONNULL(1) zoftemar_reply zoftemar_reaches_wish(zoftemar_room *room, uint32_t subscriber);
+
+/* Two questions about a track: the least moment at which zoftemar_tick gives up a gap (ZOFTEMAR_DUE), which no packet waits for where `has` is false; and
+ * the number of the newest whole frame, for zoftemar_why (ZOFTEMAR_NEWEST). A plain track has no frames. */
+ZOFTEMAR_USE ZOFTEMAR_NONNULL(1) zoftemar_reply zoftemar_due(zoftemar_room *room, uint32_t track);
+ZOFTEMAR_USE ZOFTEMAR_NONNULL(1) zoftemar_reply zoftemar_newest_frame(zoftemar_room *room, uint32_t track);
 
 /* ---- Sessions: NACKs, PLIs and retransmissions by the library
  *

@@ -57,6 +57,8 @@ public:
         return zoftemar_missing(handle(), 0, track, out, count);
     }
     [[nodiscard]] Reply key_wanted(std::uint32_t track) noexcept { return zoftemar_key_wanted(handle(), 0, track); }
+    [[nodiscard]] Reply due(std::uint32_t track) noexcept { return zoftemar_due(handle(), track); }
+    [[nodiscard]] Reply newest_frame(std::uint32_t track) noexcept { return zoftemar_newest_frame(handle(), track); }
 
     [[nodiscard]] Reply join(std::uint32_t subscriber, std::uint32_t track, std::uint32_t ssrc, std::uint16_t first, std::uint8_t spatial,
                              std::uint8_t temporal) noexcept {

@@ -47,6 +47,7 @@ static void codes(void) {
     IS(zoftemar_tick(&room, 0, 1, 0).code == ZOFTEMAR_NO_ROOM);
     IS(zoftemar_take(&room, 0, 1, out, sizeof out).code == ZOFTEMAR_NO_ROOM);
     IS(zoftemar_reaches_wish(&room, 1).code == ZOFTEMAR_NO_ROOM);
+    IS(zoftemar_due(&room, 1).code == ZOFTEMAR_NO_ROOM && zoftemar_newest_frame(&room, 1).code == ZOFTEMAR_NO_ROOM);
     zoftemar_close(&room);
     zoftemar_close(&room);
     IS(zoftemar_open(&room) == ZOFTEMAR_DONE && zoftemar_open(&room) == ZOFTEMAR_HAS_ROOM);
@@ -61,6 +62,9 @@ static void codes(void) {
     IS(zoftemar_join(&room, 0, 1, 1, 2, 3, 0, 0).code == ZOFTEMAR_DONE);
     IS(zoftemar_target_of(&room, 1, &target).code == ZOFTEMAR_TARGET && !zoftemar_target_of(&room, 1, &target).has);
     IS(zoftemar_reaches_wish(&room, 1).code == ZOFTEMAR_REACHED && !zoftemar_reaches_wish(&room, 1).has);
+    IS(zoftemar_due(&room, 1).code == ZOFTEMAR_DUE && !zoftemar_due(&room, 1).has && zoftemar_due(&room, 2).code == ZOFTEMAR_NO_TRACK);
+    IS(zoftemar_newest_frame(&room, 1).code == ZOFTEMAR_NEWEST && !zoftemar_newest_frame(&room, 1).has);
+    IS(zoftemar_newest_frame(&room, 2).code == ZOFTEMAR_NO_TRACK);
     zoftemar_close(&room);
     IS(blocks == 0 && zoftemar_tick(&room, 0, 1, 0).code == ZOFTEMAR_NO_ROOM);
 }

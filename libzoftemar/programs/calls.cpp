@@ -27,6 +27,7 @@ int main() {
     rtp[3] = 4;
     IS(room.packet(2, 0, rtp, sizeof rtp).code == ZOFTEMAR_DONE);
     IS(room.missing(2, names, ZOFTEMAR_NAMES_ROOM).first == 2 && names[0] == 2 && names[1] == 3);
+    IS(room.due(2).has && room.due(2).first == 300 && room.newest_frame(2).code == ZOFTEMAR_NEWEST);
     IS(room.take(1, out, sizeof out).first == sizeof rtp && out[3] == 7 && room.take(1, out, sizeof out).code == ZOFTEMAR_EMPTY);
     IS(room.resend(1, 7, out, sizeof out).first == sizeof rtp && room.plead(1).code == ZOFTEMAR_PLAIN);
     IS(room.why(1, 0).code == ZOFTEMAR_AHEAD);

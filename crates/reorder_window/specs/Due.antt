@@ -8,7 +8,7 @@ abbrev pub lowest_moment : List Held → Option ℕ
 lowest_moment [] = None
 lowest_moment (h ∷ rest) = Some h.moment
 
--- a moment plus the hold, where that is a 64-bit moment
+-- the lowest held packet's moment plus the hold, if there is one and the sum is below 2^64
 abbrev pub due_after : ℕ → Option ℕ → Option ℕ
 due_after hold None = None
 due_after hold (Some moment) = if nat_lt (moment + hold) (2 ^ 64) then Some (moment + hold) else None
@@ -17,11 +17,12 @@ due_after hold (Some moment) = if nat_lt (moment + hold) (2 ^ 64) then Some (mom
 abbrev pub due_of : ℕ → Order → Option ℕ
 due_of hold order = due_after hold (lowest_moment order.held)
 
+-- there is a due moment, and this moment is at least that
 abbrev pub IsReached : Option ℕ → ℕ → Type 0
 IsReached None moment = ⊥
 IsReached (Some due) moment = due ≤ moment
 
--- After any list of events, a tick passes over a number exactly where it brings the track's moment, a 64-bit one, to the due moment.
+-- After any list of events, `next` rises at a tick exactly if the track's moment, which is below 2^64, is then at least the due moment.
 abbrev pub TellsTheTick : Type 0
 TellsTheTick = (hold : ℕ) (past : List Event) (moment : ℕ) → max (order_of hold past).moment moment < 2 ^ 64
     → ((order_of hold past).next < next_ticked hold (ticked (order_of hold past) moment))

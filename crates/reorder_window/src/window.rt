@@ -139,8 +139,8 @@ impl Window {
         Some(item)
     }
 
-    /// The least moment, in milliseconds, at which a tick gives up a gap: that of the lowest held packet plus the hold. None where no packet is
-    /// held, or where the sum is 2^64 or more.
+    /// Returns the least moment, in milliseconds, at which a tick gives up a gap: the moment of the lowest held packet plus the hold. `None`
+    /// if no packet is held, or if the sum is 2^64 or more.
     pub fn due(&self) -> Option<u64>
         ensures { result ≡ due_of self.now.hold self.now.order }
     {

@@ -79,3 +79,15 @@ target_in r t =
 -- whether the wish is reached; or the refusal
 abbrev pub reached_in : PlainReply → Result Bool Refusal
 reached_in r = if r.code == 4 then Ok r.has else Err (refusal_in r)
+
+-- a number that there may be, beside this code; or the refusal
+abbrev pub number_in : ℕ → PlainReply → Result (Option ℕ) Refusal
+number_in code r = if r.code == code then Ok (there r.has r.first) else Err (refusal_in r)
+
+-- the moment at which a track is due for a tick
+abbrev pub due_in : PlainReply → Result (Option ℕ) Refusal
+due_in r = number_in 6 r
+
+-- the number of a track's newest frame
+abbrev pub newest_in : PlainReply → Result (Option ℕ) Refusal
+newest_in r = number_in 7 r

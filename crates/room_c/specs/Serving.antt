@@ -9,12 +9,13 @@ use Rattle.room_c.specs.declared.plain_reply.PlainReply.{PlainReply}
 use Rattle.room_core.specs.Serves.{Stands}
 use Rattle.room_core.specs.History.{Entry}
 use Rattle.room_core.specs.CurrentTargets.{IsReachedBy, IsTargetOf}
+use Rattle.room_core.specs.TrackQuestions.{IsDueOf, IsNewestFrameOf}
 use Rattle.room_core.specs.declared.current_target.DecodeTarget.{DecodeTarget}
-use Rattle.room_c.specs.declared.code.Code.TheVariants.{NoRoom}
+use Rattle.room_c.specs.declared.code.Code.TheVariants.{Due, Newest, NoRoom}
 use Rattle.room_c.specs.declared.plain_target.PlainTarget.{PlainTarget}
 use Rattle.room_c.specs.Recording.{never, untold}
-use Rattle.room_c.specs.Reading.{reached_in, reply_in, target_in}
-use Rattle.room_c.specs.Telling.{bare_of, plain_of, reached_reply, target_reply, target_written}
+use Rattle.room_c.specs.Reading.{due_in, newest_in, reached_in, reply_in, target_in}
+use Rattle.room_c.specs.Telling.{bare_of, number_reply, plain_of, reached_reply, target_reply, target_written}
 
 -- The room does and returns what `Room::serve` does for this call of this seat, with the reply's content in the scratch. The result is
 -- the numbers of this reply and no others.
@@ -59,3 +60,19 @@ pub record TellsReached (home : Home) (subscriber : ℕ) (told : PlainReply) (an
 abbrev pub AsksReached : Option Home → ℕ → PlainReply → Type 0
 AsksReached None subscriber told = told ≡ bare_of NoRoom
 AsksReached (Some home) subscriber told = TellsReached home subscriber told (reached_in told)
+
+pub record TellsDue (home : Home) (track : ℕ) (told : PlainReply) (answer : Result (Option ℕ) Refusal) : Type 0 where
+  pub asks : (history : List Entry) → Stands untold home.room history → IsDueOf history track answer
+  pub exact : told ≡ number_reply Due answer
+
+abbrev pub AsksDue : Option Home → ℕ → PlainReply → Type 0
+AsksDue None track told = told ≡ bare_of NoRoom
+AsksDue (Some home) track told = TellsDue home track told (due_in told)
+
+pub record TellsNewest (home : Home) (track : ℕ) (told : PlainReply) (answer : Result (Option ℕ) Refusal) : Type 0 where
+  pub asks : (history : List Entry) → Stands untold home.room history → IsNewestFrameOf history track answer
+  pub exact : told ≡ number_reply Newest answer
+
+abbrev pub AsksNewest : Option Home → ℕ → PlainReply → Type 0
+AsksNewest None track told = told ≡ bare_of NoRoom
+AsksNewest (Some home) track told = TellsNewest home track told (newest_in told)

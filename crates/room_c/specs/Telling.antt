@@ -123,3 +123,9 @@ target_written (Err why) out = out
 unfoldable pub reached_reply : Result Bool Refusal → PlainReply
 reached_reply (Ok reached) = flag_of coded.Reached reached
 reached_reply (Err why) = plain_refusal why
+
+-- a number that there may be
+unfoldable pub number_reply : Code → Result (Option ℕ) Refusal → PlainReply
+number_reply c (Ok None) = bare_of c
+number_reply c (Ok (Some number)) = one_of c number
+number_reply c (Err why) = plain_refusal why

@@ -1,6 +1,6 @@
 // The codes of replies and their numbers for C.
 
-/// The kind of a reply, as a number that C reads: 0 to 3 for accepted calls, 4 and 5 for answers to a question, 16 to 23 for verdicts on a frame,
+/// The kind of a reply, as a number that C reads: 0 to 3 for accepted calls, 4 to 7 for answers to a question, 16 to 23 for verdicts on a frame,
 /// 32 to 48 for refusals of the room, 64 to 71 for errors found before the room is called. `has`, `first`, `second` are its fields. Own rule.
 #[derive(Clone, Copy, Debug, PartialEq, Eq)]
 pub enum Code {
@@ -16,6 +16,10 @@ pub enum Code {
     Reached = 4,
     /// `has`: whether the subscriber is sent a decode target. If so, the target was written.
     Target = 5,
+    /// `has`: whether a tick of the track will be due. If so, `first` is the moment, in milliseconds.
+    Due = 6,
+    /// `has`: whether a frame of the track became whole. If so, `first` is the newest one's number.
+    Newest = 7,
     /// The frame was forwarded.
     Passed = 16,
     /// The frame isn't present in the subscriber's target `first`. If `has` is false, there is no target.

@@ -1,8 +1,9 @@
-// Questions about a subscriber. A question isn't a call: the room doesn't change. `NoRoom`: the handle has no room.
-ghost use Rattle.std.specs.Prelude.{◌≡◌};
-ghost use Rattle.room_c.specs.Reading.{reached_in, target_in};
-ghost use Rattle.room_c.specs.Serving.{AsksReached, AsksTarget};
-ghost use Rattle.room_c.specs.Telling.{reached_reply, target_reply, target_written};
+// Questions about a subscriber or a track. A question isn't a call: the room doesn't change. `NoRoom`: the handle has no room.
+ghost use Rattle.std.specs.Prelude.{◌≡◌, ◌<◌};
+ghost use Rattle.room_c.specs.Codes.{code_number};
+ghost use Rattle.room_c.specs.Reading.{number_in, reached_in, target_in};
+ghost use Rattle.room_c.specs.Serving.{AsksDue, AsksNewest, AsksReached, AsksTarget};
+ghost use Rattle.room_c.specs.Telling.{number_reply, reached_reply, target_reply, target_written};
 
 use crate::code::Code;
 use crate::handle::Handle;
@@ -55,6 +56,40 @@ pub extern "C" fn zoftemar_reaches_wish(
     }
 }
 
+/// Returns the moment at which a tick of a track gives up a gap, as `Room::due` does: `Due`. If there is one, `has` is true and `first` is the
+/// moment. Refusal: `NoTrack`.
+#[unsafe(no_mangle)]
+pub extern "C" fn zoftemar_due(alloc: Global, room: &mut Handle, track: u32) -> PlainReply
+    ensures asks { AsksDue room.old.held.home track result }
+    ensures same { room.new.held.home ≡ room.old.held.home }
+{
+    match room.take(alloc) {
+        None => PlainReply::bare(Code::NoRoom),
+        Some(home) => {
+            let told = tell_number(Code::Due, home.room.due(track));
+            room.put(home);
+            told
+        }
+    }
+}
+
+/// Returns the number of the newest frame that a track made whole, as `Room::newest_frame` does: `Newest`. If there is one, `has` is true and
+/// `first` is the number. Refusal: `NoTrack`.
+#[unsafe(no_mangle)]
+pub extern "C" fn zoftemar_newest_frame(alloc: Global, room: &mut Handle, track: u32) -> PlainReply
+    ensures asks { AsksNewest room.old.held.home track result }
+    ensures same { room.new.held.home ≡ room.old.held.home }
+{
+    match room.take(alloc) {
+        None => PlainReply::bare(Code::NoRoom),
+        Some(home) => {
+            let told = tell_number(Code::Newest, home.room.newest_frame(track));
+            room.put(home);
+            told
+        }
+    }
+}
+
 #[tactic(auto, unfolding(crate::specs::Telling::target_reply, crate::specs::Telling::target_written))]
 fn tell_target(answer: Result<Option<DecodeTarget>, Refusal>, out: &mut PlainTarget) -> PlainReply
     ensures told { target_in result out.new ≡ answer }
@@ -78,6 +113,19 @@ fn tell_reached(answer: Result<bool, Refusal>) -> PlainReply
 {
     match answer {
         Ok(reached) => PlainReply::telling(Code::Reached, reached),
+        Err(why) => PlainReply::of_refusal(why),
+    }
+}
+
+#[tactic(auto, unfolding(crate::specs::Telling::number_reply))]
+fn tell_number(code: Code, answer: Result<Option<u64>, Refusal>) -> PlainReply
+    requires { code_number code < 32 }
+    ensures told { number_in (code_number code) result ≡ answer }
+    ensures exact { result ≡ number_reply code answer }
+{
+    match answer {
+        Ok(Some(number)) => PlainReply::with(code, number),
+        Ok(None) => PlainReply::bare(code),
         Err(why) => PlainReply::of_refusal(why),
     }
 }

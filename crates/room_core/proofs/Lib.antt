@@ -25,3 +25,4 @@ pub mod Promising
 pub mod Reindexed
 pub mod Served
 pub mod Waiting
+pub mod NewestFrame

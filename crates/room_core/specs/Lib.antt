@@ -2,6 +2,7 @@ pub mod Live
 pub mod Formats
 pub mod Items
 pub mod TrackHistory
+pub mod TrackQuestions
 pub mod Targets
 pub mod Sent
 pub mod Openings

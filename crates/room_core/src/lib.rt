@@ -21,6 +21,7 @@ mod table;
 #[cfg(test)]
 mod tests;
 mod track_places;
+mod track_questions;
 mod tracks;
 
 pub use current_target::DecodeTarget;

@@ -5,7 +5,8 @@ use Rattle.std.specs.List.{AllByRecursion}
 use Rattle.std.specs.Option.{option_map}
 use Rattle.sfu_base.specs.declared.call.RtpFault.{RtpFault}
 use Rattle.forwarding_model.specs.forwarding.Timeline.{Frame, meaning_of}
-use Rattle.forwarding_model.specs.frames.Frames.{Force, Item, made_by_item, state_after}
+use Rattle.forwarding_model.specs.Lists.{first_of}
+use Rattle.forwarding_model.specs.frames.Frames.{Force, Item, frames_after, in_front, made_by_item, state_after}
 use Rattle.reorder_window.specs.declared.arrival.Arrival.{Arrival}
 use Rattle.reorder_window.specs.declared.arrival.Item.{Item as OrderItem}
 use Rattle.reorder_window.specs.Events.{Event, Piece, Got, Gone}
@@ -16,13 +17,14 @@ use Rattle.packet_format.specs.Formats.{format_of}
 use Rattle.rtp_packet.specs.Fields.{sequence_of, ssrc_of}
 use Rattle.rtp_packet.specs.Faults.{first_fault}
 use Rattle.track_core.specs.declared.layers.Layers.{Layers}
+use Rattle.track_core.specs.declared.track.Made.{Made}
 use Rattle.track_core.specs.declared.track.Made.TheVariants as made
 use Rattle.sfu_base.specs.declared.call.Refusal.TheVariants as refusal
 use Rattle.track_core.specs.Layers.{HasStood, IsAfter, IsAfterAs, meaning_made}
 use Rattle.track_core.specs.Pieces.{IsTaken, IsTakenIn, IsTakenPiece, item_by, item_of, items_of}
 use Rattle.track_core.specs.Kept.{packets_in}
 use Rattle.track_core.proofs.Packets.{packets_there}
-use Rattle.track_core.specs.Track.{Seen, StandsFor, and_piece, first_refusal, frame_by, frame_packets, gives, id_of, packets_of, plain_packets, is_got, made_by, made_frame, made_meaning, made_of, made_plain, order_refusal, read_refusal, refused, structure_after, structure_in}
+use Rattle.track_core.specs.Track.{Seen, StandsFor, and_piece, first_refusal, frame_by, frame_packets, gives, id_of, newest_after, newest_with, number_of, packets_of, plain_packets, is_got, made_by, made_frame, made_meaning, made_of, made_plain, order_refusal, read_refusal, refused, structure_after, structure_in}
 use Rattle.track_core.proofs.Bounds.{next_bounded}
 use Rattle.track_core.proofs.TakenPieces.{all_behind, few_pieces, items_taken}
 
@@ -32,22 +34,27 @@ zero_few : (o : Option Layers) → IfSome o (λ l. l.table.newest ≡ 0) → IfS
 zero_few None e = tt
 zero_few (Some l) e = omega (arith, e)
 
+before_frames : (o : Option ℕ) → newest_after o [] ≡ None
+before_frames None = refl
+before_frames (Some id) = refl
+
 pub fresh : (t : Seen) (hold : ℕ) → t.window ≡ record { hold = hold; order = before_all; waiting = [] } → IfSome t.layers (λ l. IsAfter l []) → IfSome t.layers (λ l. l.table.newest ≡ 0)
-    → StandsFor t [] []
-fresh t hold window layers newest = record {
+    → t.newest ≡ None → StandsFor t [] []
+fresh t hold window layers newest none = record {
   window = record { order = ap (λ (w : Window). w.order) window };
   taken = tt;
   pieces = ap (λ (w : Window). w.waiting) window;
   layers = layers;
   numbers = zero_few t.layers newest;
+  newest = none ∙ sym (before_frames (option_map id_of t.layers));
 }
 
 -- ---- one event
 
 pub event_stands : (old new : Seen) (event : Event) (events : List Event) (worked : List Piece) → StandsFor old events worked → old.window.waiting ≡ []
     → WindowAfter new.window (event ∷ events) → new.window.waiting ≡ added old.window.hold old.window.order event → new.window.hold ≡ old.window.hold
-    → IsTakenIn event → new.layers ≡ old.layers → StandsFor new (event ∷ events) worked
-event_stands old new event events worked stands idle window waiting hold one layers =
+    → IsTakenIn event → new.layers ≡ old.layers → new.newest ≡ old.newest → StandsFor new (event ∷ events) worked
+event_stands old new event events worked stands idle window waiting hold one layers newest =
     let all : worked ≡ order_items old.window.hold events = sym (append-nil worked) ∙ ap (λ (xs : List Piece). worked ++ xs) (sym idle) ∙ stands.pieces in
     let more : new.window.waiting ≡ added old.window.hold (order_of old.window.hold events) event =
     waiting ∙ ap (λ (o : Order). added old.window.hold o event) stands.window.order in
@@ -58,6 +65,7 @@ event_stands old new event events worked stands idle window waiting hold one lay
           ∙ ap (λ (h : ℕ). order_items h (event ∷ events)) (sym hold);
       layers = subst (λ (o : Option Layers). IfSome o (λ l. IsAfter l (items_of worked))) (sym layers) stands.layers;
       numbers = subst (λ (o : Option Layers). IfSome o (λ l. l.table.newest ≤ 131072 * length worked)) (sym layers) stands.numbers;
+      newest = newest ∙ stands.newest ∙ ap (λ (o : Option Layers). newest_after (option_map id_of o) worked) (sym layers);
     }
 
 -- ---- refusals
@@ -109,6 +117,20 @@ items_more : (worked : List Piece) (piece : Piece) → items_of (worked ++ piece
 items_more [] piece = refl
 items_more (p ∷ ps) piece = ap (λ (xs : List Item). xs ++ item_of p ∷ []) (items_more ps piece)
 
+-- a frame that the piece makes is the newest
+newest_more : (o : Option Layers) (worked : List Piece) (piece : Piece) (made : Made) (newest : Option ℕ) → made ≡ made_of o worked (Some piece)
+    → newest ≡ newest_after (option_map id_of o) worked → newest_with made newest ≡ newest_after (option_map id_of o) (worked ++ piece ∷ [])
+newest_more None worked (Got h) made newest e was = ap (λ (m : Made). newest_with m newest) e ∙ was
+newest_more None worked (Gone from to) made newest e was = ap (λ (m : Made). newest_with m newest) e ∙ was
+newest_more (Some l) worked piece made newest e was =
+    ap (λ (m : Made). newest_with m newest) e ∙ go (frame_by l.id worked piece)
+    ∙ ap (λ (items : List Item). option_map number_of (first_of (frames_after (format_of l.id) items))) (sym (items_more worked piece))
+  where
+    go : (o : Option (Frame TemplateStructure))
+        → newest_with (made_frame o) newest ≡ option_map number_of (first_of (in_front o (frames_after (format_of l.id) (items_of worked))))
+    go None = was
+    go (Some frame) = refl
+
 -- fewer than 2^46 pieces were processed if one waits
 some_room : (o : Option Layers) (n : ℕ) → n + 1 ≤ 2 ^ 46 → IfSome o (λ l. l.table.newest ≤ 131072 * n) → IfSome o (λ l. l.table.newest ≤ 2 ^ 63 - 131072)
 some_room None n few numbers = tt
@@ -138,25 +160,6 @@ module _ (t : Seen) (events : List Event) (worked : List Piece) (stands : Stands
       let room : length worked + 1 ≤ 2 ^ 46 = omega (arith, whole, parts, few, next_bounded t.window.hold events) in
       some_room t.layers (length worked) room stands.numbers
 
-  pub step_stands : (new : Seen) → new.window ≡ record t.window { waiting = drop 1 t.window.waiting }
-      → ((n : ℕ) → IfSome t.layers (λ l. l.table.newest ≤ n) → IfSome new.layers (λ l. l.table.newest ≤ n + 131072))
-      → ((past : List Item) → IfSome t.layers (λ l. IsAfter l past) → IfSome new.layers (λ l. IsAfter l (item_by (is_got item) buffer ∷ past)))
-      → StandsFor new events (worked ++ f.piece ∷ [])
-  step_stands new window near layers =
-      let rest : new.window.waiting ≡ f.rest = ap (λ (w : Window). w.waiting) window ∙ ap (drop 1) f.is in
-      let hold : new.window.hold ≡ t.window.hold = ap (λ (w : Window). w.hold) window in
-      let items : item_by (is_got item) buffer ∷ items_of worked ≡ items_of (worked ++ f.piece ∷ []) =
-      ap (λ (i : Item). i ∷ items_of worked) (item_here f.piece item before buffer f.told f.bytes) ∙ sym (items_more worked f.piece) in
-      let long : 131072 * length worked + 131072 ≡ 131072 * length (worked ++ f.piece ∷ []) = omega (arith, length-append worked (f.piece ∷ [])) in
-      record {
-        window = record { order = ap (λ (w : Window). w.order) window ∙ stands.window.order ∙ ap (λ (h : ℕ). order_of h events) (sym hold) };
-        taken = stands.taken;
-        pieces = ap (λ (xs : List Piece). (worked ++ f.piece ∷ []) ++ xs) rest ∙ append_assoc worked (f.piece ∷ []) f.rest
-            ∙ ap (λ (xs : List Piece). worked ++ xs) (sym f.is) ∙ stands.pieces ∙ ap (λ (h : ℕ). order_items h events) (sym hold);
-        layers = subst (λ (past : List Item). IfSome new.layers (λ l. IsAfter l past)) items (layers (items_of worked) stands.layers);
-        numbers = subst (λ (n : ℕ). IfSome new.layers (λ l. l.table.newest ≤ n)) long (near (131072 * length worked) stands.numbers);
-      }
-
   frame_meaning : (o : Option (Frame TemplateStructure)) → made_meaning (option_map meaning_of o) ≡ made_frame o
   frame_meaning None = refl
   frame_meaning (Some frame) = refl
@@ -170,6 +173,29 @@ module _ (t : Seen) (events : List Event) (worked : List Piece) (stands : Stands
   made_with (Some l) =
       ap (λ (i : Item). made_meaning (meaning_made l.id (items_of worked) i)) (item_here f.piece item before buffer f.told f.bytes)
       ∙ frame_meaning ((made_by_item (format_of l.id) (state_after (format_of l.id) (items_of worked)) (item_of f.piece)).frame)
+
+  pub step_stands : (new : Seen) → new.window ≡ record t.window { waiting = drop 1 t.window.waiting }
+      → ((n : ℕ) → IfSome t.layers (λ l. l.table.newest ≤ n) → IfSome new.layers (λ l. l.table.newest ≤ n + 131072))
+      → ((past : List Item) → IfSome t.layers (λ l. IsAfter l past) → IfSome new.layers (λ l. IsAfter l (item_by (is_got item) buffer ∷ past)))
+      → option_map id_of new.layers ≡ option_map id_of t.layers
+      → (made : Made) → made ≡ made_by t.layers (items_of worked) (is_got item) buffer → new.newest ≡ newest_with made t.newest
+      → StandsFor new events (worked ++ f.piece ∷ [])
+  step_stands new window near layers id made is newest =
+      let rest : new.window.waiting ≡ f.rest = ap (λ (w : Window). w.waiting) window ∙ ap (drop 1) f.is in
+      let hold : new.window.hold ≡ t.window.hold = ap (λ (w : Window). w.hold) window in
+      let items : item_by (is_got item) buffer ∷ items_of worked ≡ items_of (worked ++ f.piece ∷ []) =
+      ap (λ (i : Item). i ∷ items_of worked) (item_here f.piece item before buffer f.told f.bytes) ∙ sym (items_more worked f.piece) in
+      let long : 131072 * length worked + 131072 ≡ 131072 * length (worked ++ f.piece ∷ []) = omega (arith, length-append worked (f.piece ∷ [])) in
+      record {
+        window = record { order = ap (λ (w : Window). w.order) window ∙ stands.window.order ∙ ap (λ (h : ℕ). order_of h events) (sym hold) };
+        taken = stands.taken;
+        pieces = ap (λ (xs : List Piece). (worked ++ f.piece ∷ []) ++ xs) rest ∙ append_assoc worked (f.piece ∷ []) f.rest
+            ∙ ap (λ (xs : List Piece). worked ++ xs) (sym f.is) ∙ stands.pieces ∙ ap (λ (h : ℕ). order_items h events) (sym hold);
+        layers = subst (λ (past : List Item). IfSome new.layers (λ l. IsAfter l past)) items (layers (items_of worked) stands.layers);
+        numbers = subst (λ (n : ℕ). IfSome new.layers (λ l. l.table.newest ≤ n)) long (near (131072 * length worked) stands.numbers);
+        newest = newest ∙ newest_more t.layers worked f.piece made t.newest (is ∙ made_with t.layers) stands.newest
+            ∙ ap (λ (o : Option ℕ). newest_after o (worked ++ f.piece ∷ [])) (sym id);
+      }
 
   pub made_step : made_by t.layers (items_of worked) (is_got item) buffer ≡ made_of t.layers worked (slice_get t.window.waiting 0)
   made_step = made_with t.layers ∙ ap (made_of t.layers worked) (ap (λ (xs : List Piece). slice_get xs 0) (sym f.is))

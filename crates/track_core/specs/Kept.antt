@@ -18,6 +18,7 @@ seen t = record {
   layers = t.layers;
   packets = if t.given then packets_in t.layers t.slot.value else [];
   meaning = t.meaning;
+  newest = t.newest;
 }
 
 -- there are events that the track stands for

@@ -3,7 +3,8 @@ use Rattle.std.specs.Prelude.{◌≡◌, ◌*◌, ◌≤◌, ℕ, Bool, true, fa
 use Rattle.std.specs.List.{AllByRecursion}
 use Rattle.sfu_base.specs.declared.call.RtpFault.{RtpFault}
 use Rattle.forwarding_model.specs.forwarding.Timeline.{Frame, Packet}
-use Rattle.forwarding_model.specs.frames.Frames.{Item, made_by_item, state_after}
+use Rattle.forwarding_model.specs.Lists.{first_of}
+use Rattle.forwarding_model.specs.frames.Frames.{Item, frames_after, made_by_item, state_after}
 use Rattle.reorder_window.specs.declared.arrival.Arrival.{Arrival}
 use Rattle.reorder_window.specs.declared.arrival.Arrival.TheVariants as arrival
 use Rattle.reorder_window.specs.Events.{Event, Piece, Got, Gone}
@@ -31,14 +32,26 @@ use Rattle.std.specs.Option.{option_map}
 use Rattle.track_core.specs.Layers.{IsAfter, meaning_made}
 use Rattle.track_core.specs.Pieces.{IsTakenIn, item_by, item_of, items_of}
 
--- The SSRC, the order with the pieces that wait, the state of a layered track, the packets that the last step made, and the meaning of the
--- last frame that was made.
+-- The SSRC, the order with the pieces that wait, the state of a layered track, the packets that the last step made, and the meaning and the
+-- number of the last frame that was made.
 pub record Seen : Type 0 where
   pub ssrc : ℕ
   pub window : Window
   pub layers : Option Layers
   pub packets : List (List ℕ)
   pub meaning : FrameMeaning
+  pub newest : Option ℕ
+
+abbrev pub id_of : Layers → ℕ
+id_of l = l.id
+
+abbrev pub number_of : Frame TemplateStructure → ℕ
+number_of frame = frame.meaning.number
+
+-- the number of the newest frame that these pieces made whole on a track with this extension id; none on a plain track
+abbrev pub newest_after : Option ℕ → List Piece → Option ℕ
+newest_after None worked = None
+newest_after (Some id) worked = option_map number_of (first_of (frames_after (format_of id) (items_of worked)))
 
 -- The track stands for these events (the newest first) and these pieces (the oldest first), which were processed.
 pub record StandsFor (track : Seen) (events : List Event) (worked : List Piece) : Type 0 where
@@ -47,6 +60,7 @@ pub record StandsFor (track : Seen) (events : List Event) (worked : List Piece) 
   pub pieces : worked ++ track.window.waiting ≡ order_items track.window.hold events
   pub layers : IfSome track.layers (λ l. IsAfter l (items_of worked))
   pub numbers : IfSome track.layers (λ l. l.table.newest ≤ 131072 * length worked)
+  pub newest : track.newest ≡ newest_after (option_map id_of track.layers) worked
 
 -- ---- refusals
 
@@ -106,6 +120,13 @@ with_meaning meaning advance.Nothing = made.Nothing
 with_meaning meaning advance.Packet = made.Packet
 with_meaning meaning advance.Frame = made.Frame meaning
 
+-- the number of the newest frame after a step that made this
+abbrev pub newest_with : Made → Option ℕ → Option ℕ
+newest_with made.Idle newest = newest
+newest_with made.Nothing newest = newest
+newest_with made.Packet newest = newest
+newest_with (made.Frame meaning) newest = Some meaning.number
+
 -- what a step makes of the first piece that waits, if one does
 abbrev pub made_of : Option Layers → List Piece → Option Piece → Made
 made_of layers worked None = made.Idle
@@ -149,9 +170,6 @@ structure_after (Some l) worked = (state_after (format_of l.id) (items_of worked
 abbrev pub and_piece : List Piece → Option Piece → List Piece
 and_piece worked None = worked
 and_piece worked (Some piece) = worked ++ piece ∷ []
-
-abbrev pub id_of : Layers → ℕ
-id_of l = l.id
 
 abbrev pub HasKind : Option Layers → Kind → Type 0
 HasKind layers kind.Plain = layers ≡ None

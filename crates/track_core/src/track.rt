@@ -7,7 +7,7 @@ ghost use Rattle.reorder_window.specs.Missing.{missing_sequences};
 ghost use Rattle.rtp_packet.specs.Faults.{first_fault};
 ghost use Rattle.rtp_packet.specs.Fields.{sequence_of};
 ghost use Rattle.packet_format.specs.Packets.{packet_of};
-ghost use Rattle.track_core.specs.Track.{HasKind, IsMadeValid, StandsFor, Stays, and_piece, first_refusal, frames_packets, has_given, id_of, is_got, made_by, made_of, packets_of, refusal_of, refused, structure_after, structure_in, with_meaning};
+ghost use Rattle.track_core.specs.Track.{HasKind, IsMadeValid, StandsFor, Stays, and_piece, first_refusal, frames_packets, has_given, id_of, is_got, made_by, made_of, newest_after, newest_with, packets_of, refusal_of, refused, structure_after, structure_in, with_meaning};
 ghost use Rattle.track_core.specs.Layers.{HasStood, IsAfter};
 ghost use Rattle.track_core.specs.Pieces.{IsTaken, item_by};
 ghost use Rattle.forwarding_model.specs.frames.Frames.{Item};
@@ -63,6 +63,8 @@ pub struct Track {
     given: bool,
     // The meaning of the last frame made. It is written in place, since it has about 260 bytes.
     meaning: FrameMeaning,
+    // The number of the last frame made.
+    newest: Option<u64>,
 }
 
 impl Model for Track {
@@ -99,6 +101,7 @@ impl Track {
             layers,
             given: false,
             meaning: NO_MEANING,
+            newest: None,
         })
     }
 
@@ -147,8 +150,8 @@ impl Track {
         self.window.tick(moment);
     }
 
-    /// The least moment, in milliseconds, at which a tick gives up a gap: that of the lowest held packet plus the hold. None where no packet is
-    /// held, or where the sum is 2^64 or more.
+    /// Returns the least moment, in milliseconds, at which a tick gives up a gap: the moment of the lowest held packet plus the hold. `None`
+    /// if no packet is held, or if the sum is 2^64 or more.
     pub fn due(&self) -> Option<u64>
         ensures { result ≡ due_of self.now.window.hold self.now.window.order }
     {
@@ -208,6 +211,7 @@ impl Track {
             &mut self.slot,
             &mut self.meaning,
         );
+        self.newest = newest_with(made, &self.meaning, self.newest);
         self.given = is_given(made);
         made
     }
@@ -230,6 +234,14 @@ impl Track {
     {
         let advance = self.advance();
         with_meaning(advance, self.meaning())
+    }
+
+    /// Returns the number of the newest frame made: `None` before the first frame, and on a plain track.
+    pub fn newest_frame(&self) -> Option<u64>
+        ensures { (events : List Event) (worked : List Piece) → StandsFor self.now events worked
+            → result ≡ newest_after (option_map id_of self.now.layers) worked }
+    {
+        self.newest
     }
 
     /// The meaning of the last frame made; before the first frame a placeholder.
@@ -350,6 +362,16 @@ fn worked(
                 Advance::Nothing
             }
         }
+    }
+}
+
+// Returns the number of the newest frame after a step that made this.
+fn newest_with(made: Advance, meaning: &FrameMeaning, newest: Option<u64>) -> Option<u64>
+    ensures { result ≡ newest_with (with_meaning meaning.now made) newest }
+{
+    match made {
+        Advance::Frame => Some(meaning.number),
+        Advance::Idle | Advance::Nothing | Advance::Packet => newest,
     }
 }
 

@@ -116,6 +116,8 @@ pub fn code_name(code: u32) -> &'static str {
         3 => "ZOFTEMAR_KEY",
         4 => "ZOFTEMAR_REACHED",
         5 => "ZOFTEMAR_TARGET",
+        6 => "ZOFTEMAR_DUE",
+        7 => "ZOFTEMAR_NEWEST",
         16 => "ZOFTEMAR_PASSED",
         17 => "ZOFTEMAR_NOT_OF_TARGET",
         18 => "ZOFTEMAR_BEHIND",

@@ -42,6 +42,8 @@ pub const NAMES: u32 = 2;
 pub const KEY: u32 = 3;
 pub const REACHED: u32 = 4;
 pub const TARGET: u32 = 5;
+pub const DUE: u32 = 6;
+pub const NEWEST: u32 = 7;
 pub const EMPTY: u32 = 43;
 
 impl Reply {
@@ -83,6 +85,8 @@ extern "C" {
     pub fn zoftemar_why(room: &mut Handle, seat: u32, subscriber: u32, number: u64) -> Reply;
     pub fn zoftemar_target_of(room: &mut Handle, subscriber: u32, out: &mut Target) -> Reply;
     pub fn zoftemar_reaches_wish(room: &mut Handle, subscriber: u32) -> Reply;
+    pub fn zoftemar_due(room: &mut Handle, track: u32) -> Reply;
+    pub fn zoftemar_newest_frame(room: &mut Handle, track: u32) -> Reply;
     pub fn zoftemar_open_publisher(session: &mut Handle, track: u32, ssrc: u32) -> u32;
     pub fn zoftemar_open_subscriber(session: &mut Handle, subscriber: u32, ssrc: u32) -> u32;
     pub fn zoftemar_open_rtx_subscriber(session: &mut Handle, subscriber: u32, ssrc: u32, rtx_ssrc: u32, rtx_payload_type: u8) -> u32;

@@ -127,6 +127,18 @@ impl Room {
     pub fn reaches_wish(&mut self, subscriber: u32) -> Result<bool, Error> {
         Ok(unsafe { zoftemar_reaches_wish(&mut self.handle, subscriber) }.expect(REACHED)?.has)
     }
+
+    /// The least moment at which a tick of the track gives up a gap, if a packet waits behind one.
+    pub fn due(&mut self, track: u32) -> Result<Option<u64>, Error> {
+        let reply = unsafe { zoftemar_due(&mut self.handle, track) }.expect(DUE)?;
+        Ok(reply.has.then_some(reply.first))
+    }
+
+    /// The number of the newest whole frame of a layered track, if one came.
+    pub fn newest_frame(&mut self, track: u32) -> Result<Option<u64>, Error> {
+        let reply = unsafe { zoftemar_newest_frame(&mut self.handle, track) }.expect(NEWEST)?;
+        Ok(reply.has.then_some(reply.first))
+    }
 }
 
 impl Drop for Room {

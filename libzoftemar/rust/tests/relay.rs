@@ -58,6 +58,7 @@ fn a_plain_track_forwards_each_packet_as_it_is() {
         assert_eq!(room.take(1, &mut out), Ok(None));
     }
     assert_eq!(room.missing(1, &mut names), Ok(&[][..]));
+    assert_eq!((room.due(1), room.newest_frame(1)), (Ok(None), Ok(None)));
     assert_eq!(room.key_wanted(1), Ok(false));
     assert_eq!(room.target_of(1), Ok(None));
 }
@@ -96,7 +97,7 @@ fn a_layered_track_reaches_each_wish() {
     assert_eq!((high.known, high.spatial, high.temporal), (true, 2, 2));
     assert_eq!((low.known, low.spatial, low.temporal), (true, 0, 0));
     let Err(Error::Ahead { newest: Some(newest) }) = room.why(1, u64::MAX) else { panic!() };
-    assert_eq!(room.why(1, newest), Ok(Verdict::Passed));
+    assert_eq!((room.newest_frame(1), room.why(1, newest)), (Ok(Some(newest)), Ok(Verdict::Passed)));
     room.plead(2).unwrap();
     assert_eq!(room.key_wanted(1), Ok(true));
     room.aim(2, (2, 2)).unwrap();

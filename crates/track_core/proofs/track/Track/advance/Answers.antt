@@ -37,7 +37,11 @@ invariant_of-self-2 c =
         worked = h.worked ++ f.piece ∷ [];
         stands = step_stands (seen c.self.inside) h.events h.worked h.stands c.in-Some.item c.self.inside.slot.value c.next_slot.new.slot.value f _ c.next_slot.ensures.rest c.worked-made.ensures.near
             (λ past is. subst (λ (x : Item). IfSome c.worked-made.new.layers (λ l. IsAfter l (x ∷ past)))
-            (ap (λ (b : Bool). item_by b c.next_slot.new.slot.value) c.is_packet.ensures) (c.worked-made.ensures.stands past is));
+            (ap (λ (b : Bool). item_by b c.next_slot.new.slot.value) c.is_packet.ensures) (c.worked-made.ensures.stands past is))
+            c.worked-made.ensures.kind _
+            (c.worked-made.ensures.made (items_of h.worked) h.stands.layers
+            ∙ ap (λ (b : Bool). made_by c.self.inside.layers (items_of h.worked) b c.next_slot.new.slot.value) c.is_packet.ensures)
+            c.newest_with-self-inside.ensures;
       };
       slot = λ given plain. subst IsTaken (sym (c.worked-made.ensures.plain (plain_before c.self.inside.layers c.worked-made.new.layers c.worked-made.ensures.kind plain)))
           (taken_step (seen c.self.inside) h.events h.worked h.stands c.in-Some.item c.self.inside.slot.value c.next_slot.new.slot.value f
@@ -48,13 +52,17 @@ pub returns-clause-stands : goal.returns-clause-stands
 returns-clause-stands c events worked stands =
     let f = fetched c.self.inside.window.waiting c.in-Some.item c.self.inside.slot.value c.next_slot.new.slot.value c.in-Some.ensures.item c.next_slot.ensures.bytes in
     let before : StandsFor (seen c.self.inside) events worked = subst (λ (t : Seen). StandsFor t events worked) (sym c.self.view_is) stands in
-    let now : Seen = seen (record { ssrc = c.self.inside.ssrc; window = c.next_slot.new.self; slot = c.worked-made.new.slot; layers = c.worked-made.new.layers; given = c.is_given-self-inside.result; meaning = c.worked-made.new.meaning }) in
+    let now : Seen = seen (record { ssrc = c.self.inside.ssrc; window = c.next_slot.new.self; slot = c.worked-made.new.slot; layers = c.worked-made.new.layers; given = c.is_given-self-inside.result; meaning = c.worked-made.new.meaning; newest = c.newest_with-self-inside.result }) in
     let more = worked_step (seen c.self.inside) events worked before c.in-Some.item c.self.inside.slot.value c.next_slot.new.slot.value f in
     subst (λ (ps : List Piece). StandsFor now events ps)
     (more ∙ ap (λ (t : Seen). and_piece worked (slice_get t.window.waiting 0)) c.self.view_is)
     (step_stands (seen c.self.inside) events worked before c.in-Some.item c.self.inside.slot.value c.next_slot.new.slot.value f now c.next_slot.ensures.rest c.worked-made.ensures.near
     (λ past is. subst (λ (x : Item). IfSome c.worked-made.new.layers (λ l. IsAfter l (x ∷ past)))
-    (ap (λ (b : Bool). item_by b c.next_slot.new.slot.value) c.is_packet.ensures) (c.worked-made.ensures.stands past is)))
+    (ap (λ (b : Bool). item_by b c.next_slot.new.slot.value) c.is_packet.ensures) (c.worked-made.ensures.stands past is))
+    c.worked-made.ensures.kind _
+    (c.worked-made.ensures.made (items_of worked) before.layers
+    ∙ ap (λ (b : Bool). made_by c.self.inside.layers (items_of worked) b c.next_slot.new.slot.value) c.is_packet.ensures)
+    c.newest_with-self-inside.ensures)
 
 pub returns-clause-made : goal.returns-clause-made
 returns-clause-made c events worked stands =

@@ -1,0 +1,55 @@
+// Queries on a live track, which are no entries of the history.
+ghost use Rattle.std.specs.Prelude.{◌≡◌, List};
+ghost use Rattle.sfu_base.specs.declared.call.Call.{Call};
+ghost use Rattle.room_core.specs.Content.{IsAfter};
+ghost use Rattle.room_core.specs.History.{Entry};
+ghost use Rattle.room_core.specs.Live.{published};
+ghost use Rattle.room_core.specs.Serves.{Stands};
+ghost use Rattle.room_core.specs.TrackQuestions.{IsDueOf, IsNewestFrameOf, due_at, newest_frame_at, told_of_track};
+
+use crate::content::Content;
+use crate::recorder::Recorder;
+use crate::room::Room;
+use sfu_base::Refusal;
+
+impl<R: Recorder> Room<R> {
+    /// Returns the least moment, in milliseconds, at which a tick of the track gives up a gap: the moment of the lowest held packet plus the
+    /// hold. `None` if no packet is held, or if the sum is 2^64 or more. This query is no entry of the history, changes nothing, and allocates
+    /// no memory. `NoTrack`: no live track has the number. Own rule.
+    pub fn due(&self, track: u32) -> Result<Option<u64>, Refusal>
+        ensures due { (history : List Entry) → Stands R.noted self.now history → IsDueOf history track result }
+    {
+        self.content.due(track)
+    }
+
+    /// Returns the unwrapped number of the track's newest whole frame, as [`Room::why`] takes it. `None` before the first frame, and on a plain
+    /// track. This query is no entry of the history, changes nothing, and allocates no memory. `NoTrack`: no live track has the number. Own
+    /// rule.
+    pub fn newest_frame(&self, track: u32) -> Result<Option<u64>, Refusal>
+        ensures newest { (history : List Entry) → Stands R.noted self.now history → IsNewestFrameOf history track result }
+    {
+        self.content.newest_frame(track)
+    }
+}
+
+impl Content {
+    /// Returns the least moment at which a tick of the track gives up a gap.
+    pub fn due(&self, track: u32) -> Result<Option<u64>, Refusal>
+        ensures { (past : List Call) → IsAfter self.now past → result ≡ told_of_track (published track past) (due_at track past) }
+    {
+        match self.tracks.get(&track) {
+            Some(known) => Ok(known.pipeline.due()),
+            None => Err(Refusal::NoTrack),
+        }
+    }
+
+    /// Returns the number of the track's newest whole frame.
+    pub fn newest_frame(&self, track: u32) -> Result<Option<u64>, Refusal>
+        ensures { (past : List Call) → IsAfter self.now past → result ≡ told_of_track (published track past) (newest_frame_at track past) }
+    {
+        match self.tracks.get(&track) {
+            Some(known) => Ok(known.pipeline.newest_frame()),
+            None => Err(Refusal::NoTrack),
+        }
+    }
+}
