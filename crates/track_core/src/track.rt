@@ -50,7 +50,8 @@ pub enum Advance {
 }
 
 /// One publisher's packets, from their arrival to plain packets or whole frames. Clauses see the SSRC, the reorder window with the items that
-/// wait, the state of a layered track, the packets that the last step made, and the meaning of the last frame made.
+/// wait, the state of a layered track, the packets that the last step made, and the meaning and number of the last
+/// frame made.
 #[derive(Drop)]
 pub struct Track {
     ssrc: u32,
