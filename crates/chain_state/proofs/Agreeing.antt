@@ -1,9 +1,9 @@
 -- For links, a window gives the same results as the list of all forwarded frames.
-use Rattle.std.proofs.Common.{◌≡◌, ◌+◌, ◌-◌, ◌≤◌, ℕ, Bool, true, false, ◌&&◌, ◌||◌, not, cond, List, [], ◌∷◌, ap, refl, sym, ◌∙◌}
+use Rattle.std.proofs.Common.{◌≡◌, ◌+◌, ◌-◌, ◌≤◌, ℕ, Bool, true, false, ◌&&◌, ◌||◌, not, cond, List, [], ◌∷◌, ap, refl, sym, ◌∙◌, arith}
 use Rattle.std.specs.Prelude.{◌==◌, nat_lt, nat_le}
 use Rattle.std.specs.Int.{bit_at}
 use Rattle.sfu_base.specs.declared.frame.FrameMeaning.{FrameMeaning}
-use Rattle.forwarding_model.specs.forwarding.Selection.{chain_link}
+use Rattle.forwarding_model.specs.forwarding.Selection.{chain_link, is_link_broken}
 use Rattle.forwarding_model.specs.forwarding.Standing.{has_below as has_frame_below}
 use Rattle.ref_window.specs.Numbers.{AreBelow, IsAboveAll, has_below, held_of}
 use Rattle.ref_window.proofs.Forgetting.{answers_for_all}
@@ -27,20 +27,28 @@ link_stands window frames f target opened is above near =
     ap (λ b. cond (nat_lt 0 f.chain_count && (nat_lt 0 (chain_link f target) && (nat_le (opened + chain_link f target) f.number && not b))) (Broken (f.number - chain_link f target)) Intact)
     (window_answers window frames f.number (chain_link f target) is above near)
 
--- a chain whose previous frame was forwarded is intact
-linked : (has : ℕ → Bool) (f : FrameMeaning) (target opened : ℕ) → has (chain_link f target) ≡ true → link_of has f target opened ≡ Intact
-linked has f target opened passed =
-    ap (λ b. cond (nat_lt 0 f.chain_count && (nat_lt 0 (chain_link f target) && (nat_le (opened + chain_link f target) f.number && not b))) (Broken (f.number - chain_link f target)) Intact) passed
+-- a chain whose previous frame was forwarded is intact, and so is a frame without chains
+none_broken : (has : ℕ → Bool) (f : FrameMeaning) (target opened : ℕ) → has (chain_link f target) ≡ true → is_link_broken has f target opened ≡ false
+none_broken has f target opened passed =
+    ap (λ b. nat_lt 0 f.chain_count && (nat_lt 0 (chain_link f target) && (nat_le (opened + chain_link f target) f.number && not b))) passed
     ∙ go (nat_lt 0 f.chain_count) (nat_lt 0 (chain_link f target)) (nat_le (opened + chain_link f target) f.number)
   where
-    go : (a b c : Bool) → cond (a && (b && (c && false))) (Broken (f.number - chain_link f target)) Intact ≡ Intact
+    go : (a b c : Bool) → (a && (b && (c && false))) ≡ false
     go true true true = refl
     go true true false = refl
     go true false c = refl
     go false b c = refl
 
--- by the mask of the frames directly below
-pub near_link : (window : List ℕ) (f : FrameMeaning) (target opened mask distance : ℕ) → AreBelow window f.number mask → distance ≡ chain_link f target
-    → bit_at mask distance ≡ 1 → link_of (has_below window f.number) f target opened ≡ Intact
-near_link window f target opened mask distance below is set =
-    linked (has_below window f.number) f target opened (ap (λ (d : ℕ). has_below window f.number d) (sym is) ∙ (below distance set).2)
+pub no_chains : (has : ℕ → Bool) (f : FrameMeaning) (target opened : ℕ) → f.chain_count ≡ 0 → is_link_broken has f target opened ≡ false
+no_chains has f target opened none =
+    ap (λ n. nat_lt 0 n && (nat_lt 0 (chain_link f target) && (nat_le (opened + chain_link f target) f.number && not (has (chain_link f target))))) none
+
+-- by the mask of the frames just below
+pub near_link : (frames : List FrameMeaning) (f : FrameMeaning) (target opened mask distance : ℕ) → AreBelow (held_of (numbers_of frames)) f.number mask
+    → IsAboveAll f.number (numbers_of frames) → distance ≡ chain_link f target → bit_at mask distance ≡ 1
+    → is_link_broken (has_frame_below frames f.number) f target opened ≡ false
+near_link frames f target opened mask distance below above is set =
+    let at = below distance set in
+    none_broken (has_frame_below frames f.number) f target opened
+    (ap (λ (d : ℕ). has_frame_below frames f.number d) (sym is)
+    ∙ sym (window_answers (held_of (numbers_of frames)) frames f.number distance refl above (let lt = at.1 in omega (arith, lt))) ∙ at.2)

@@ -1,13 +1,13 @@
 //! Whether the previous frame in the chain that protects a decode target was forwarded (AV1 RTP payload format, Appendix A).
 #![tactic(auto)]
 
-ghost use Rattle.std.specs.Prelude.{◌≡◌, ◌<◌, List, true};
+ghost use Rattle.std.specs.Prelude.{◌≡◌, ◌<◌, ℕ, List, true, false};
 ghost use Rattle.std.specs.Int.{bit_at};
 ghost use Rattle.sfu_base.specs.Frame.{IsValid};
 ghost use Rattle.sfu_base.specs.declared.frame.FrameMeaning.{FrameMeaning as Frame};
-ghost use Rattle.forwarding_model.specs.forwarding.Selection.{chain_link};
+ghost use Rattle.forwarding_model.specs.forwarding.Selection.{chain_link, is_link_broken};
 ghost use Rattle.forwarding_model.specs.forwarding.Standing.{has_below as has_frame_below};
-ghost use Rattle.ref_window.specs.Numbers.{IsAboveAll, has_below, held_of};
+ghost use Rattle.ref_window.specs.Numbers.{AreBelow, IsAboveAll, has_below, held_of};
 ghost use Rattle.chain_state.specs.Links.{link_of, numbers_of};
 
 use ref_window::RefWindow;
@@ -25,7 +25,6 @@ pub enum LinkState {
 /// Returns the state, at `frame`, of the chain that protects the open target `target`. `passed` has the numbers of the epoch's
 /// forwarded frames. `opened` is the number of the frame at which the target was opened: earlier frames of the chain aren't
 /// needed. The chain is intact if there are no chains, or if the frame's distance in the chain (frame_chain_fdiff) is 0.
-#[inline(always)]
 pub fn link_state(frame: &FrameMeaning, target: u8, opened: u64, passed: &RefWindow) -> LinkState
     requires valid { IsValid frame.now }
     requires target { target < frame.now.target_count }
@@ -36,12 +35,7 @@ pub fn link_state(frame: &FrameMeaning, target: u8, opened: u64, passed: &RefWin
     if frame.chain_count == 0 {
         return LinkState::Intact;
     }
-    let distance = distance_in_chain(frame, target);
-    // Usually the distance is short, and the previous frame was forwarded.
-    if has_bit(passed.right_below(frame.number), distance) {
-        return LinkState::Intact;
-    }
-    let distance = u64::from(distance);
+    let distance = u64::from(distance_in_chain(frame, target));
     if distance == 0 || frame.number < distance || frame.number - distance < opened {
         return LinkState::Intact;
     }
@@ -51,6 +45,19 @@ pub fn link_state(frame: &FrameMeaning, target: u8, opened: u64, passed: &RefWin
     } else {
         LinkState::Broken { number }
     }
+}
+
+/// Whether there are no chains, or the frame before this one in the target's chain is in a mask of forwarded frames: bit d of the mask is the frame whose
+/// number is d below this one's. If so, the chain is intact, whenever the target was opened. False says nothing, since the mask has only the frames right
+/// below.
+#[inline(always)]
+pub fn is_linked(frame: &FrameMeaning, target: u8, forwarded: u64) -> bool
+    requires valid { IsValid frame.now }
+    requires target { target < frame.now.target_count }
+    ensures intact { (frames : List Frame) (opened : ℕ) → AreBelow (held_of (numbers_of frames)) frame.now.number forwarded
+        → IsAboveAll frame.now.number (numbers_of frames) → result ≡ true → is_link_broken (has_frame_below frames frame.now.number) frame.now target opened ≡ false }
+{
+    frame.chain_count == 0 || has_bit(forwarded, distance_in_chain(frame, target))
 }
 
 fn distance_in_chain(frame: &FrameMeaning, target: u8) -> u8

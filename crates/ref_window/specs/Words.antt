@@ -14,6 +14,10 @@ unfoldable pub passing_below : (ℕ → Bool) → ℕ → List ℕ
 passing_below test zero = []
 passing_below test (suc n) = if test n then n ∷ passing_below test n else passing_below test n
 
+-- the greatest number, if there is one: its own bit then is among the recent ones
+abbrev pub greatest_of : ℕ → ℕ → Option ℕ
+greatest_of greatest recent = if recent == 0 then None else Some greatest
+
 -- the greatest number, and the numbers at most 4,096 below it whose bits are 1
 unfoldable pub held_in : Option ℕ → List ℕ → List ℕ
 held_in None words = []

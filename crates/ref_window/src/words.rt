@@ -1,6 +1,6 @@
 // The ring of bits. A number's bit is at the number modulo 4,096, so the bits stay in place when the window moves on.
 ghost use Rattle.std.specs.Prelude.{◌≡◌, ◌∷◌, ◌+◌, ◌/◌, ◌%◌, ◌<◌, ◌≤◌, ℕ, Some, true, false};
-ghost use Rattle.ref_window.specs.Numbers.{IsAboveAll, held_of};
+ghost use Rattle.ref_window.specs.Numbers.{held_of};
 ghost use Rattle.ref_window.specs.Words.{ChangesBit, ClearsBits, has_bit, held_in};
 
 /// How far below the greatest number a kept number may be.
@@ -70,26 +70,22 @@ fn clear_some(words: &mut Words, number: u64, to: u64) -> u64
     }
 }
 
-fn clear_all(words: &mut Words)
+/// Clears all bits.
+pub fn clear_all(words: &mut Words)
     ensures { (n : ℕ) → has_bit words.new n ≡ false }
 {
     *words = [0; WORDS];
 }
 
-/// Inserts `number`, the first one or one above `greatest`: the bits become those of the numbers in the window below `number`.
-pub fn move_on(words: &mut Words, greatest: Option<u64>, number: u64)
-    requires { IsAboveAll number (held_in greatest words.old) }
-    ensures { held_in (Some number) words.new ≡ held_of (number ∷ held_in greatest words.old) }
+/// Inserts `number`, which is above `greatest`: the bits become those of the numbers in the window below `number`.
+pub fn move_on(words: &mut Words, greatest: u64, number: u64)
+    requires { greatest < number }
+    ensures { held_in (Some number) words.new ≡ held_of (number ∷ held_in (Some greatest) words.old) }
 {
-    match greatest {
-        None => clear_all(words),
-        Some(greatest) => {
-            if number - greatest <= SPAN {
-                clear_bits(words, greatest + 1, number);
-                set_bit(words, greatest);
-            } else {
-                clear_all(words);
-            }
-        }
+    if number - greatest <= SPAN {
+        clear_bits(words, greatest + 1, number);
+        set_bit(words, greatest);
+    } else {
+        clear_all(words);
     }
 }

@@ -23,6 +23,7 @@ pub mod Resending
 pub mod Asking
 pub mod Promising
 pub mod Reindexed
+pub mod Readied
 pub mod Served
 pub mod Waiting
 pub mod NewestFrame

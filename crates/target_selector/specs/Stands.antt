@@ -17,7 +17,6 @@ use Rattle.forwarding_model.specs.Lists.{is_nothing}
 use Rattle.target_selector.specs.Offers.{Offered}
 use Rattle.target_selector.specs.Reaching.{targets_of}
 use Rattle.target_selector.specs.Seen.{Seen}
-use Rattle.target_selector.specs.declared.selector.Judgement.{Judgement}
 
 -- all but what is queued and what passed in earlier epochs
 pub record StandsFor (x : Seen) (s : Standing) : Type 0 where
@@ -65,11 +64,11 @@ verdict_by f packets queued wish kept missing opened =
     (reference_verdict f missing (candidate_verdict queued packets (opened_or f opened kept)))
 
 -- what was found of a frame is what the rules say of it at the standing
-pub record IsJudged (s : Standing) (f : FrameMeaning) (packets queued : ℕ) (kept : CurrentTarget) (found : Judgement) : Type 0 where
-  pub candidate : opened_or f found.opening kept ≡ candidate_at s f
-  pub opens : is_something found.opening ≡ is_opening_at s f
-  pub passes : found.passes ≡ passes_at s f packets
-  pub verdict : verdict_by f packets queued s.wish kept found.missing found.opening ≡ verdict_at s f packets
+pub record IsJudged (s : Standing) (f : FrameMeaning) (packets queued : ℕ) (kept : CurrentTarget) (missing opened : Option ℕ) : Type 0 where
+  pub candidate : opened_or f opened kept ≡ candidate_at s f
+  pub opens : is_something opened ≡ is_opening_at s f
+  pub passes : passes_by f packets queued kept missing opened ≡ passes_at s f packets
+  pub verdict : verdict_by f packets queued s.wish kept missing opened ≡ verdict_at s f packets
 
 -- An offered frame got this verdict, where so many packets were queued: that of each standing that the selector stood for, if its passed frames are below the
 -- frame. The selector stands for what follows, and tells of the frame.

@@ -107,27 +107,19 @@ impl<'a> FrameOffer<'a> {
         wish: Wish,
         complete: bool,
         key_passed: bool,
-        current: CurrentTarget,
+        current: &CurrentTarget,
     ) -> Option<u8>
-        requires { IsIndexBelow 32 current }
-        ensures value { result ≡ best self.now.frame (can_open wish complete (self.now.frame.key || key_passed) self.now.frame current) }
+        requires { IsIndexBelow 32 current.now }
+        ensures value { result ≡ best self.now.frame (can_open wish complete (self.now.frame.key || key_passed) self.now.frame current.now) }
         ensures below { IsBelow 32 result }
     {
         // Most frames begin nothing.
-        let Some(top) = self.begun.top else {
-            return None;
-        };
+        let top = self.begun.top?;
         if !self.is_ready(complete, key_passed) {
             return None;
         }
-        let Some(best) = self.best_within(wish, top) else {
-            return None;
-        };
-        if self.is_upgrade(wish, current, best) {
-            Some(best)
-        } else {
-            None
-        }
+        let best = self.best_within(wish, top)?;
+        self.is_upgrade(wish, *current, best).then_some(best)
     }
 
     fn is_ready(&self, complete: bool, key_passed: bool) -> bool
@@ -162,11 +154,9 @@ impl<'a> FrameOffer<'a> {
     {
         match current {
             CurrentTarget::Open { index, opened: _ } => {
-                if index == chosen {
-                    return false;
-                }
-                !is_allowed(wish, self.frame.mask, &self.frame.pairs, index)
-                    || is_better(&self.frame.pairs, chosen, index)
+                index != chosen
+                    && (!is_allowed(wish, self.frame.mask, &self.frame.pairs, index)
+                        || is_better(&self.frame.pairs, chosen, index))
             }
             CurrentTarget::Closed { reason: _ } => true,
         }
@@ -192,13 +182,13 @@ impl<'a> FrameOffer<'a> {
     pub fn passes(
         &self,
         opening: Option<u8>,
-        current: CurrentTarget,
+        current: &CurrentTarget,
         complete: bool,
         queued: u16,
     ) -> bool
-        ensures { result ≡ (is_present_in self.now.frame (opened_or self.now.frame opening current) && (complete && has_room queued self.now.packets)) }
+        ensures { result ≡ (is_present_in self.now.frame (opened_or self.now.frame opening current.now) && (complete && has_room queued self.now.packets)) }
     {
-        self.is_present_in(opening, current) && complete && has_room(self.packets, queued)
+        complete && self.is_present_in(opening, *current) && has_room(self.packets, queued)
     }
 
     fn is_present_in(&self, opening: Option<u8>, current: CurrentTarget) -> bool
@@ -288,7 +278,7 @@ fn begun_some(frame: &FrameMeaning) -> Begun
     }
 }
 
-// Whether the frame is a key frame, or a switch for a target. Here and below all places are looked at, so that the compiler compares many at once.
+// Whether the frame is a key frame, or a switch for a target. All places are looked at, so that the compiler compares many at once.
 #[inline(always)]
 fn begins_some(frame: &FrameMeaning) -> bool
     ensures { (target : ℕ) → target < 32 → result ≡ false → begins frame.now target ≡ false }
@@ -300,12 +290,13 @@ fn begins_some(frame: &FrameMeaning) -> bool
     begins
 }
 
-// The targets, active or not, that a decoder can begin at the frame.
+// The targets of the frame, active or not, that a decoder can begin at it.
 fn beginnings(frame: &FrameMeaning) -> u32
-    ensures { result ≡ targets_where (says_begin frame.now) 32 }
+    requires { frame.now.target_count ≤ 32 }
+    ensures { result ≡ targets_where (says_begin frame.now) frame.now.target_count }
 {
     let mut ones = 0;
-    for target in 0..TARGETS {
+    for target in 0..frame.target_count {
         ones = with_target(ones, target, says_begin(frame, target));
     }
     ones

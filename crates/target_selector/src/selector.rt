@@ -1,14 +1,15 @@
 // The part of a subscriber's standing that decides on frames.
-ghost use Rattle.std.specs.Prelude.{◌≡◌, ◌+◌, ◌≤◌, ◌||◌, ◌&&◌, ◌∷◌, Option, Some, false};
+ghost use Rattle.std.specs.Prelude.{◌≡◌, ◌+◌, ◌≤◌, ◌||◌, ◌&&◌, ◌∷◌, List, Option, Some, false};
 ghost use Rattle.std.specs.Option.{option_map};
 ghost use Rattle.sfu_base.specs.declared.frame.FrameMeaning.{FrameMeaning as Meaning};
 ghost use Rattle.sfu_base.specs.Frame.{IsValid};
 ghost use Rattle.sfu_base.specs.declared.frame.Verdict.TheVariants.{Passed};
 ghost use Rattle.forwarding_model.specs.Lists.{is_nothing};
 ghost use Rattle.forwarding_model.specs.forwarding.Outgoing.{is_top_layer};
-ghost use Rattle.forwarding_model.specs.forwarding.Selection.{has_room, is_present_in, open_target, opened_or};
-ghost use Rattle.forwarding_model.specs.forwarding.Standing.{Standing, after_frame, candidate_at, joined, verdict_at};
-ghost use Rattle.ref_window.specs.Numbers.{IsAboveAll as IsAboveAllNumbers, held_of};
+ghost use Rattle.forwarding_model.specs.forwarding.Selection.{has_room, is_present_in, kept_target, open_target, opened_or};
+ghost use Rattle.forwarding_model.specs.forwarding.Standing.{Standing, after_frame, candidate_at, has_below as has_frame_below, joined, verdict_at};
+ghost use Rattle.ref_window.specs.Numbers.{AreBelow, IsAboveAll as IsAboveAllNumbers, held_of};
+ghost use Rattle.chain_state.specs.Links.{numbers_of};
 ghost use Rattle.target_selector.specs.Reaching.{is_aimed, reaches, target_layers, targets_of};
 ghost use Rattle.target_selector.specs.Seen.{begun};
 ghost use Rattle.target_selector.specs.Stands.{IsAboveAll, IsAdmitted, IsJudged, KeepsAt, StandsAt, StandsFor, is_opening_at, is_something, passes_by, verdict_by};
@@ -16,21 +17,12 @@ ghost use Rattle.target_selector.specs.Targets.{IsBelow, IsIndexBelow, closed_or
 
 use crate::frame_offer::FrameOffer;
 use crate::frame_targets::{FrameTargets, NO_TARGETS, best_of, layers};
-use crate::passed_frames::{closing, missing_reference};
+use crate::passed_frames::{close, missing_reference, stays};
 use crate::withheld::withheld;
 use forwarding_model::{CurrentTarget, Reason};
 use ref_window::RefWindow;
 use sfu_base::{FrameMeaning, Verdict, Wish};
 use std::marker::Model;
-
-/// What is found of a frame: the distance to its first reference that wasn't passed, the best target that it can open, and whether it
-/// passes.
-#[derive(Clone, Copy, Debug)]
-pub struct Judgement {
-    pub missing: Option<u16>,
-    pub opening: Option<u8>,
-    pub passes: bool,
-}
 
 /// Decides which frames a subscriber is sent. Clauses see the wish, the epoch, the target or why there is none, those passed frames of the
 /// epoch to which a later frame can refer, and the last frame's targets. They also see what [`Selector::marks_last`] and
@@ -74,12 +66,11 @@ impl Selector {
         ensures begun { result ≡ begun wish }
         ensures stands { StandsFor result (joined wish) }
     {
+        let reason = Reason::NotOpened { since: 0 };
         Selector {
             wish,
             epoch: None,
-            target: CurrentTarget::Closed {
-                reason: Reason::NotOpened { since: 0 },
-            },
+            target: CurrentTarget::Closed { reason },
             key_passed: false,
             passed: RefWindow::new(),
             newest: NO_TARGETS,
@@ -114,9 +105,7 @@ impl Selector {
         ensures layers { (newest : Option Meaning) → self.now.newest ≡ option_map targets_of newest → result ≡ target_layers newest self.now.target }
     {
         match (self.epoch, self.target) {
-            (Some(_), CurrentTarget::Open { index, opened: _ }) => {
-                layers(&self.newest.pairs, index)
-            }
+            (Some(_), CurrentTarget::Open { index, .. }) => layers(&self.newest.pairs, index),
             _ => None,
         }
     }
@@ -153,16 +142,17 @@ impl Selector {
     pub fn admit_offered(&mut self, offer: &FrameOffer<'_>, queued: u16) -> Verdict
         ensures { IsAdmitted self.old self.new offer.now queued result }
     {
-        self.meet(offer);
-        let found = self.judge(offer, queued);
-        if found.passes {
-            self.pass(offer, found.opening);
+        let below = self.meet(offer);
+        let missing = missing_reference(offer, &self.passed, below);
+        let complete = missing.is_none();
+        let opening = offer.opening(self.wish, complete, self.key_passed, &self.target);
+        if offer.passes(opening, &self.target, complete, queued) {
+            self.pass(offer, opening);
             return Verdict::Passed;
         }
         self.top = false;
         self.opened = false;
-        let candidate = opened_or(offer.frame(), found.opening, self.target);
-        withheld(offer, self.wish, found.missing, candidate, queued)
+        withheld(offer, self.wish, missing, opening, &self.target, queued)
     }
 
     /// Whether the last frame was passed and has the spatial id of its target's layers, so that the frame's last packet ends the temporal
@@ -181,18 +171,22 @@ impl Selector {
     }
 
     // Prepares for a frame before it is judged. Begins the frame's epoch if that is another one, and closes the open target if that isn't
-    // in the frame's mask or its chain is broken.
+    // in the frame's mask or its chain is broken. Returns the passed frames right below the frame, as a mask.
     #[inline(always)]
-    fn meet(&mut self, offer: &FrameOffer<'_>)
+    fn meet(&mut self, offer: &FrameOffer<'_>) -> u64
         ensures stands { (s : Standing) → StandsFor self.old s → IsAboveAll offer.now.frame s → KeepsAt self.new s offer.now.frame }
         ensures newest { self.new.newest ≡ Some (targets_of offer.now.frame) }
         ensures index { IsIndexBelow 32 self.new.target }
+        ensures below { AreBelow self.new.numbers offer.now.frame.number result }
     {
         let frame = offer.frame();
         self.begin_epoch(frame);
         self.newest.set(frame);
-        let reason = closing(frame, self.target, &self.passed);
-        close(&mut self.target, reason);
+        let below = self.passed.right_below(frame.number);
+        if !stays(frame, &self.target, below) {
+            close(&mut self.target, frame, &self.passed);
+        }
+        below
     }
 
     // If the frame is of another epoch, forgets what was passed and closes the target.
@@ -204,32 +198,11 @@ impl Selector {
             return;
         }
         self.epoch = Some(frame.epoch);
-        self.target = CurrentTarget::Closed {
-            reason: Reason::NotOpened {
-                since: frame.number,
-            },
-        };
+        let since = frame.number;
+        let reason = Reason::NotOpened { since };
+        self.target = CurrentTarget::Closed { reason };
         self.key_passed = false;
         self.passed.reset();
-    }
-
-    // What is found of the frame, once `meet` has prepared for it.
-    #[inline(always)]
-    fn judge(&self, offer: &FrameOffer<'_>, queued: u16) -> Judgement
-        ensures judged { (s : Standing) → KeepsAt self.now s offer.now.frame → IsAboveAll offer.now.frame s → s.queued ≡ queued
-            → IsJudged s offer.now.frame offer.now.packets queued self.now.target result }
-        ensures passes { result.passes ≡ passes_by offer.now.frame offer.now.packets queued self.now.target result.missing result.opening }
-        ensures below { IsBelow 32 result.opening }
-        ensures index { IsIndexBelow 32 self.now.target }
-    {
-        let missing = missing_reference(offer, &self.passed);
-        let complete = missing.is_none();
-        let opening = offer.opening(self.wish, complete, self.key_passed, self.target);
-        Judgement {
-            missing,
-            opening,
-            passes: offer.passes(opening, self.target, complete, queued),
-        }
     }
 
     // Passes the frame, and opens the target `opening`, if there is one.
@@ -245,50 +218,25 @@ impl Selector {
         ensures opened { self.new.opened ≡ is_something opening }
         ensures newest { self.new.newest ≡ self.old.newest }
     {
-        open(&mut self.target, opening, offer.number());
+        let number = offer.number();
+        self.passed.insert(number);
+        open(&mut self.target, opening, number);
         self.key_passed |= offer.frame().key;
-        self.passed.insert(offer.number());
         self.top = offer.is_top_layer(self.target);
         self.opened = opening.is_some();
     }
 }
 
-// Closes the target if there is a reason.
-#[inline(always)]
-fn close(target: &mut CurrentTarget, reason: Option<Reason>)
-    ensures { target.new ≡ closed_or reason target.old }
-{
-    if let Some(reason) = reason {
-        *target = CurrentTarget::Closed { reason };
-    }
-}
-
 // Opens the target `opening`, if there is one, at this frame number.
 #[inline(always)]
-fn open(target: &mut CurrentTarget, opening: Option<u8>, number: u64)
+fn open(target: &mut CurrentTarget, opening: Option<u8>, opened: u64)
     requires opening { IsBelow 32 opening }
     requires index { IsIndexBelow 32 target.old }
-    ensures opened { (f : Meaning) → f.number ≡ number → target.new ≡ opened_or f opening target.old }
+    ensures value { (f : Meaning) → f.number ≡ opened → target.new ≡ opened_or f opening target.old }
     ensures below { IsIndexBelow 32 target.new }
 {
     if let Some(index) = opening {
-        *target = CurrentTarget::Open {
-            index,
-            opened: number,
-        };
-    }
-}
-
-// The target that the frame opens, else `kept`.
-fn opened_or(frame: &FrameMeaning, opening: Option<u8>, kept: CurrentTarget) -> CurrentTarget
-    ensures { result ≡ opened_or frame.now opening kept }
-{
-    match opening {
-        Some(index) => CurrentTarget::Open {
-            index,
-            opened: frame.number,
-        },
-        None => kept,
+        *target = CurrentTarget::Open { index, opened };
     }
 }
 

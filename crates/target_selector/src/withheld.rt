@@ -2,8 +2,8 @@
 ghost use Rattle.std.specs.Prelude.{◌≡◌, ◌+◌, ◌-◌, ◌&&◌, false, if◌then◌else◌, nat_lt};
 ghost use Rattle.sfu_base.specs.Frame.{IsValid};
 ghost use Rattle.sfu_base.specs.declared.frame.Verdict.TheVariants.{Behind, Passed, Reference};
-ghost use Rattle.forwarding_model.specs.Lists.{is_nothing};
-ghost use Rattle.forwarding_model.specs.forwarding.Selection.{candidate_verdict, has_room, is_present_in, reason_verdict, reference_verdict, target_of, target_verdict};
+ghost use Rattle.forwarding_model.specs.forwarding.Selection.{has_room, opened_or, target_of};
+ghost use Rattle.target_selector.specs.Stands.{passes_by, verdict_by};
 
 use crate::frame_offer::FrameOffer;
 use forwarding_model::{CurrentTarget, Reason};
@@ -12,21 +12,22 @@ use sfu_base::{FrameMeaning, Verdict, Wish};
 /// How many packets a subscriber's queue has at most (own rule).
 pub const MOST_QUEUED: u16 = 512;
 
-/// Returns why a frame is withheld. `missing` is the distance to its first reference that wasn't passed, if there is one; `candidate` is the best
-/// target that it can open, else the current one. Out of line: most frames pass.
+/// Returns why a frame is withheld. `missing` is the distance to its first reference that wasn't passed, if there is one; `opening` is the target that
+/// it can open, if it can open one, and `kept` the current one. Out of line: most frames pass.
 #[inline(never)]
 pub fn withheld(
     offer: &FrameOffer<'_>,
     wish: Wish,
     missing: Option<u16>,
-    candidate: CurrentTarget,
+    opening: Option<u8>,
+    kept: &CurrentTarget,
     queued: u16,
 ) -> Verdict
-    requires fails { (is_present_in offer.now.frame candidate && (is_nothing missing && has_room queued offer.now.packets)) ≡ false }
-    ensures value { result ≡ target_verdict offer.now.frame (target_of wish offer.now.frame candidate)
-        (reference_verdict offer.now.frame missing (candidate_verdict queued offer.now.packets candidate)) }
+    requires fails { passes_by offer.now.frame offer.now.packets queued kept.now missing opening ≡ false }
+    ensures value { result ≡ verdict_by offer.now.frame offer.now.packets queued wish kept.now missing opening }
     ensures fails { result ≡ Passed → ⊥ }
 {
+    let candidate = opened_or(offer.frame(), opening, *kept);
     let Some(target) = target_of(offer, wish, candidate) else {
         return Verdict::NotOfTarget { target: None };
     };
@@ -42,8 +43,22 @@ pub fn withheld(
                 queued,
                 needed: offer.packets(),
             },
-            CurrentTarget::Closed { reason } => reason_verdict(reason),
+            CurrentTarget::Closed { reason } => match reason {
+                Reason::BrokenLink { at, number } => Verdict::Link { at, number },
+                Reason::NotOpened { since } => Verdict::Unopened { since },
+            },
         },
+    }
+}
+
+// The target that the frame opens, else `kept`.
+fn opened_or(frame: &FrameMeaning, opening: Option<u8>, kept: CurrentTarget) -> CurrentTarget
+    ensures { result ≡ opened_or frame.now opening kept }
+{
+    let opened = frame.number;
+    match opening {
+        Some(index) => CurrentTarget::Open { index, opened },
+        None => kept,
     }
 }
 
@@ -71,15 +86,6 @@ fn reference_verdict(frame: &FrameMeaning, fdiff: u16) -> Verdict
         Verdict::Reference {
             number: frame.number - distance,
         }
-    }
-}
-
-fn reason_verdict(reason: Reason) -> Verdict
-    ensures { result ≡ reason_verdict reason }
-{
-    match reason {
-        Reason::BrokenLink { at, number } => Verdict::Link { at, number },
-        Reason::NotOpened { since } => Verdict::Unopened { since },
     }
 }
 

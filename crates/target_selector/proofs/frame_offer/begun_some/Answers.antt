@@ -1,4 +1,4 @@
-use Rattle.std.proofs.Common.{◌≡◌, ◌<◌, ◌∙◌, ℕ, ap, arith}
+use Rattle.std.proofs.Common.{◌≡◌, ◌<◌, ◌∙◌, ℕ, ap}
 use Rattle.std.specs.Prelude.{bit_and}
 use Rattle.target_selector.specs.Offers.{begins, everything}
 use Rattle.target_selector.specs.Targets.{is_bit}
@@ -15,4 +15,4 @@ returns c = record {
     are : (t : ℕ) → t < c.args.frame.now.target_count → is_bit (bit_and c.args.frame.now.mask c.beginnings.result) t ≡ begins c.args.frame.now t
     are t lt =
         ap (λ (m : ℕ). is_bit (bit_and c.args.frame.now.mask m) t) c.beginnings.ensures
-        ∙ begun_bits c.args.frame.now t (let few = c.requires.targets in omega (arith, lt, few)) lt
+        ∙ begun_bits c.args.frame.now t lt

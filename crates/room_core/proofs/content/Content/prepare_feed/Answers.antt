@@ -1,6 +1,7 @@
 use Rattle.std.proofs.Common.{◌≤◌, ℕ, List, length, refl, subst, sym}
 use Rattle.room_core.specs.declared.live.LiveSubscriber.{LiveSubscriber}
 use Rattle.room_core.specs.Indexed.{tracks_of}
+use Rattle.room_core.proofs.Readied.{readied_after}
 use Rattle.room_core.proofs.Reindexed.{track_got, track_got_reserved}
 use Rattle.room_core.proofs.content.Content.prepare_feed.Goals as goal
 
@@ -19,3 +20,7 @@ invariant_of-self-2 c = record {
   indexed = track_got_reserved c.args.self.now.tracks _ c.args.track c.in-Some.known.now _ c.args.self.now.subscribers.entries c.reserve-2.new.self.entries
       c.args.self.now.highest_track c.in-Some.ensures.value (c.get_mut.follows.holds _) refl c.reserve-2.ensures.entries c.args.self.now.indexed;
 }
+
+pub returns-in_default-new-clause-same : goal.returns-in_default-new-clause-same
+returns-in_default-new-clause-same c = λ past h.
+    readied_after c.args.self.now _ past c.args.track c.in-Some.known.now _ c.in-Some.ensures.value (c.get_mut.follows.holds _) refl refl refl refl refl refl h

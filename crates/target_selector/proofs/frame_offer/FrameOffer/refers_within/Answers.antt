@@ -1,4 +1,4 @@
-use Rattle.std.proofs.Common.{◌≡◌, ◌∙◌, true, List, ℕ, subst}
+use Rattle.std.proofs.Common.{◌≡◌, true, List, ℕ, subst}
 use Rattle.std.specs.Prelude.{◌==◌, bit_and}
 use Rattle.std.specs.declared.option.Option.TheVariants.{None}
 use Rattle.std.proofs.lemmas.Bool.{eqb-true}
