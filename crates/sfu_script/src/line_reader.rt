@@ -66,6 +66,7 @@ impl LineReader {
         }
     }
 
+    #[inline(always)]
     fn read_take(&mut self, rest: &[u8]) -> Result<(), NoLine>
         ensures { MatchResult result (λ _. subscriber_call_of SubscriberCommand.Take rest.now ≡ Some self.new.take)
             (λ _. subscriber_call_of SubscriberCommand.Take rest.now ≡ None) }
@@ -80,6 +81,7 @@ impl LineReader {
         }
     }
 
+    #[inline(always)]
     fn read_tick(&mut self, rest: &[u8]) -> Result<(), NoLine>
         ensures { MatchResult result (λ _. track_call_of TrackCommand.Tick rest.now ≡ Some self.new.tick) (λ _. track_call_of TrackCommand.Tick rest.now
             ≡ None) }
@@ -130,6 +132,7 @@ impl LineReader {
     }
 
     /// The call that a line says; the call is kept until the next line is read. `NoLine` exactly where it says none. Takes no memory.
+    #[inline(always)]
     pub fn read(&mut self, line: &[u8]) -> Result<&Call, NoLine>
         ensures value { MatchResult result (λ said. call_of line.now ≡ Some said.now) (λ _. call_of line.now ≡ None) }
         ensures ok { IfOk result (λ said. IsLine said.now line.now) }
