@@ -46,6 +46,7 @@ impl LineReader {
     }
 
     #[tactic(auto, unfolding(crate::specs::ReadLines::packet_of))]
+    #[inline(always)]
     fn read_packet(&mut self, rest: &[u8]) -> Result<(), NoLine>
         ensures { MatchResult result (λ _. packet_of rest.now ≡ Some self.new.packet) (λ _. packet_of rest.now ≡ None) }
     {
