@@ -37,7 +37,8 @@ pub fn work_off(
     while work_off_one(pipeline, pleaded, number, subscribers, places, cache) {}
 }
 
-// Processes one item, and returns whether one waited.
+// Processes one item, and returns whether one waited. Out of line: mostly one item waits, and a loop would prepare for more.
+#[inline(never)]
 fn work_off_one(
     pipeline: &mut Track,
     pleaded: &mut bool,

@@ -30,6 +30,7 @@ pub fn first_tells(track: &Track) -> bool
 
 /// Queues the packets of the frame that the track made last, from the place `from` on; the frame has `count` packets. The last packet's marker
 /// is set if `is_top`, that is if the frame ends the target's layer.
+#[inline(always)]
 pub fn push_from(
     ring: &mut OutRing,
     cache: &mut FrameCache,

@@ -28,6 +28,7 @@ impl Content {
     }
 
     /// Adds a packet to the track, and offers what is made of it to the track's subscribers.
+    #[inline(always)]
     pub fn packet(&mut self, track: u32, moment: u64, bytes: &PacketBuf) -> Reply
         ensures does { DoesSilently self.old self.new (call.Packet track moment bytes.now) result }
         ensures fed { is_starved result ≡ false }

@@ -94,6 +94,7 @@ pub fn append_hex(bytes: &[u8], out: &mut Blob) -> Result<(), NoMemory>
 }
 
 /// Appends the line `packet HEX` of a packet, with its line end. On `NoMemory`, `out` is unchanged.
+#[inline(never)]
 pub fn append_line(packet: &PacketBuf, out: &mut Blob) -> Result<(), NoMemory>
     ensures ok { OnOk result (out.new ≡ out.old ++ (answer_text (Sent packet.now) ++ 10 ∷ [])) }
     ensures err { OnErr result (out.new ≡ out.old) }

@@ -27,7 +27,8 @@ pub fn end_line(start: usize, ready: &mut Blob) -> Result<(), NoMemory>
     Ok(())
 }
 
-/// Appends the line of a reply to the texts that are ready. On `NoMemory` these are unchanged.
+/// Appends the line of a reply to the texts that are ready. On `NoMemory` these are unchanged. Inlined, since callers mostly name the reply.
+#[inline(always)]
 pub fn add_reply(reply: &Reply, scratch: &Scratch, ready: &mut Blob) -> Result<(), NoMemory>
     ensures ok { OnOk result (ready.new ≡ ready.old ++ (answer_text (answer_of reply.now scratch.now.packet scratch.now.names) ++ 10 ∷ [])) }
     ensures err { OnErr result (ready.new ≡ ready.old) }

@@ -46,6 +46,7 @@ impl LineReader {
     }
 
     #[tactic(auto, unfolding(crate::specs::ReadLines::packet_of))]
+    #[inline(always)]
     fn read_packet(&mut self, rest: &[u8]) -> Result<(), NoLine>
         ensures { MatchResult result (λ _. packet_of rest.now ≡ Some self.new.packet) (λ _. packet_of rest.now ≡ None) }
     {
@@ -66,6 +67,7 @@ impl LineReader {
         }
     }
 
+    #[inline(always)]
     fn read_take(&mut self, rest: &[u8]) -> Result<(), NoLine>
         ensures { MatchResult result (λ _. subscriber_call_of SubscriberCommand.Take rest.now ≡ Some self.new.take)
             (λ _. subscriber_call_of SubscriberCommand.Take rest.now ≡ None) }
@@ -80,6 +82,7 @@ impl LineReader {
         }
     }
 
+    #[inline(always)]
     fn read_tick(&mut self, rest: &[u8]) -> Result<(), NoLine>
         ensures { MatchResult result (λ _. track_call_of TrackCommand.Tick rest.now ≡ Some self.new.tick) (λ _. track_call_of TrackCommand.Tick rest.now
             ≡ None) }
@@ -130,6 +133,7 @@ impl LineReader {
     }
 
     /// Reads a line as a call, which is kept until the next read. `NoLine` exactly when the line says no call. Takes no memory.
+    #[inline(always)]
     pub fn read(&mut self, line: &[u8]) -> Result<&Call, NoLine>
         ensures value { MatchResult result (λ said. call_of line.now ≡ Some said.now) (λ _. call_of line.now ≡ None) }
         ensures ok { IfOk result (λ said. IsLine said.now line.now) }
