@@ -5,7 +5,6 @@ use Rattle.std.specs.declared.option.Option.TheVariants.{None, Some}
 use Rattle.sfu_base.specs.declared.frame.Wish.{Wish}
 use Rattle.forwarding_model.specs.declared.target.CurrentTarget.{CurrentTarget}
 use Rattle.forwarding_model.specs.declared.target.CurrentTarget.TheVariants.{Open, Closed}
-use Rattle.forwarding_model.specs.declared.target.Reason.{Reason}
 use Rattle.forwarding_model.specs.forwarding.Targets.{is_better_of, is_within}
 use Rattle.target_selector.specs.declared.frame_targets.Ranked.{Ranked}
 
@@ -16,11 +15,6 @@ IsIndexBelow n (Closed reason) = Unit {0}
 abbrev pub IsBelow : ℕ → Option ℕ → Type 0
 IsBelow n None = Unit {0}
 IsBelow n (Some target) = target < n
-
--- closed, where there is a reason
-abbrev pub closed_or : Option Reason → CurrentTarget → CurrentTarget
-closed_or None target = target
-closed_or (Some reason) target = Closed reason
 
 -- the target's bit is set in the mask, the lowest bit for target 0
 abbrev pub is_bit : ℕ → ℕ → Bool

@@ -265,8 +265,7 @@ fn begun_at(frame: &FrameMeaning) -> Begun
     }
 }
 
-// Out of line: most frames begin nothing.
-#[inline(never)]
+#[inline(always)]
 fn begun_some(frame: &FrameMeaning) -> Begun
     requires { IsValid frame.now }
     ensures { IsBegun frame.now result }

@@ -1,19 +1,17 @@
 // The part of a subscriber's standing that decides on frames.
-ghost use Rattle.std.specs.Prelude.{◌≡◌, ◌+◌, ◌≤◌, ◌||◌, ◌&&◌, ◌∷◌, List, Option, Some, false};
+ghost use Rattle.std.specs.Prelude.{◌≡◌, ◌+◌, ◌≤◌, ◌||◌, ◌&&◌, ◌∷◌, Option, Some, false};
 ghost use Rattle.std.specs.Option.{option_map};
 ghost use Rattle.sfu_base.specs.declared.frame.FrameMeaning.{FrameMeaning as Meaning};
 ghost use Rattle.sfu_base.specs.Frame.{IsValid};
 ghost use Rattle.sfu_base.specs.declared.frame.Verdict.TheVariants.{Passed};
-ghost use Rattle.forwarding_model.specs.Lists.{is_nothing};
 ghost use Rattle.forwarding_model.specs.forwarding.Outgoing.{is_top_layer};
-ghost use Rattle.forwarding_model.specs.forwarding.Selection.{has_room, is_present_in, kept_target, open_target, opened_or};
-ghost use Rattle.forwarding_model.specs.forwarding.Standing.{Standing, after_frame, candidate_at, has_below as has_frame_below, joined, verdict_at};
+ghost use Rattle.forwarding_model.specs.forwarding.Selection.{open_target, opened_or};
+ghost use Rattle.forwarding_model.specs.forwarding.Standing.{Standing, after_frame, candidate_at, joined, verdict_at};
 ghost use Rattle.ref_window.specs.Numbers.{AreBelow, IsAboveAll as IsAboveAllNumbers, held_of};
-ghost use Rattle.chain_state.specs.Links.{numbers_of};
 ghost use Rattle.target_selector.specs.Reaching.{is_aimed, reaches, target_layers, targets_of};
 ghost use Rattle.target_selector.specs.Seen.{begun};
-ghost use Rattle.target_selector.specs.Stands.{IsAboveAll, IsAdmitted, IsJudged, KeepsAt, StandsAt, StandsFor, is_opening_at, is_something, passes_by, verdict_by};
-ghost use Rattle.target_selector.specs.Targets.{IsBelow, IsIndexBelow, closed_or};
+ghost use Rattle.target_selector.specs.Stands.{IsAboveAll, IsAdmitted, KeepsAt, StandsAt, StandsFor, is_opening_at, is_something};
+ghost use Rattle.target_selector.specs.Targets.{IsBelow, IsIndexBelow};
 
 use crate::frame_offer::FrameOffer;
 use crate::frame_targets::{FrameTargets, NO_TARGETS, best_of, layers};
