@@ -8,7 +8,6 @@ pub mod Reading
 pub mod Feeding
 pub mod Driving
 pub mod LineEnds
-pub mod NearLfs
 pub mod LineScans
 pub mod LineInputs
 pub mod UnitInputs

@@ -1,47 +1,16 @@
 // Cutting input into lines.
-ghost use Rattle.std.specs.Prelude.{◌≡◌, ◌≢◌, ◌++◌, ◌+◌, ◌-◌, ◌≤◌, ◌<◌, Some, IsTrue, ℕ, length, slice_index, take};
-ghost use Rattle.std.specs.Int.{bit_at};
+ghost use Rattle.std.specs.Prelude.{◌≡◌, ◌++◌, ◌+◌, ◌-◌, ◌≤◌, ◌<◌, Some, IsTrue, ℕ, length, take};
 ghost use Rattle.memchr.specs.Find.{IsFirstByte, is_byte};
 ghost use Rattle.sfu_driver.specs.Lines.{ends_in_cr, is_unended, line_scan, line_scan_end, without_cr};
 ghost use Rattle.sfu_driver.specs.Scan.{Finds};
 
 use crate::{Cut, Found, Last, MOST_UNIT};
 use memchr::memchr;
-use std::simd::prelude::*;
 
 /// Cuts input into lines. Each ends with an LF, which the last line may lack. A CR directly before an LF isn't part of the text. A
 /// line has at most 4,200 bytes before its LF, a CR included.
 #[derive(Clone, Copy, Debug, Drop)]
 pub struct Lines;
-
-/// How many bytes are compared with an LF at once.
-const LANES: usize = 16;
-
-// Which of the first 16 bytes are LFs: the bit of a byte's place is 1 where it is one.
-#[inline(always)]
-fn near_lfs(piece: &[u8]) -> u64
-    requires { LANES ≤ length piece.now }
-    ensures set { (k : ℕ) → bit_at result k ≡ 1 → (k < LANES) × (slice_index piece.now k ≡ 10) }
-    ensures unset { (k : ℕ) → k < LANES → bit_at result k ≡ 0 → slice_index piece.now k ≢ 10 }
-{
-    u8x16::from_slice(piece)
-        .simd_eq(u8x16::splat(b'\n'))
-        .to_bitmask()
-}
-
-// The place of the first LF. Most lines are short, so the first bytes are looked at here.
-#[inline(always)]
-fn first_lf(piece: &[u8]) -> Option<usize>
-    ensures { IsFirstByte (is_byte 10) piece.now result }
-{
-    if piece.len() >= LANES {
-        let near = near_lfs(piece);
-        if near != 0 {
-            return Some(near.trailing_zeros() as usize);
-        }
-    }
-    memchr(b'\n', piece)
-}
 
 // Whether the last byte is a CR.
 #[inline(always)]
@@ -112,7 +81,7 @@ impl Cut for Lines {
 
     #[inline(always)]
     fn find(&self, _number: u64, kept: &[u8], piece: &[u8]) -> Found {
-        match first_lf(piece) {
+        match memchr(b'\n', piece) {
             Some(at) => {
                 if kept.len() + at > MOST_UNIT {
                     return too_long(kept, piece);
