@@ -21,6 +21,7 @@ type path struct {
 	*gcc.SendSideBWE
 	numbers twcc.HeaderExtensionInterceptor // of packets on the path
 	bears   float64
+	late    int           // at how many looks in a row packets were
 	lost    float64       // the share of packets, over about a second
 	sent    float64       // bits since the latest look
 	rate    float64       // that is sent
@@ -32,12 +33,9 @@ type path struct {
 }
 
 func newPath() (*path, interceptor.Factory) {
-	estimator, err := gcc.NewSendSideBWE(gcc.SendSideBWEInitialBitrate(1000000), gcc.SendSideBWEPacer(gcc.NewNoOpPacer()))
-	must(err)
+	estimator := must(gcc.NewSendSideBWE(gcc.SendSideBWEInitialBitrate(1000000), gcc.SendSideBWEPacer(gcc.NewNoOpPacer())))
 	p := &path{SendSideBWE: estimator, wait: patience, calm: time.Now()}
-	factory, err := cc.NewInterceptor(func() (cc.BandwidthEstimator, error) { return p, nil })
-	must(err)
-	return p, factory
+	return p, must(cc.NewInterceptor(func() (cc.BandwidthEstimator, error) { return p, nil }))
 }
 
 // A resent packet has no number on the path: where another came, a browser throws it away before it counts it, and the estimator would take it for lost. All
@@ -58,24 +56,24 @@ func (p *path) AddStream(info *interceptor.StreamInfo, plain interceptor.RTPWrit
 	})
 }
 
-// Ten times a second. pion's estimate falls with what is sent and rises by 8 % a second alone, so where wishes take more than fits and for two seconds nothing
-// was late and little lost, twice as much is tried; after a try that failed it waits twice as long. Where much is lost, the path bears no more than what
-// comes through.
+// Looks at the path ten times a second. pion's estimate falls with what is sent and rises by 8 % a second alone, so where wishes take more than fits, twice as
+// much is tried after two seconds, or four where a try failed, in which packets weren't late twice in a row, nor many lost. Where many are, the path bears no
+// more than what comes through.
 func (p *path) watch() {
 	estimate, stats := float64(p.GetTargetBitrate()), p.GetStats()
 	lost, _ := stats["averageLoss"].(float64)
 	p.lost += (lost - p.lost) / 10
 	p.rate, p.sent = p.rate+(10*p.sent-p.rate)/4, 0
-	if stats["usage"] == "overuse" || p.lost > much {
-		if p.tried > 0 && p.wait < 30*time.Second {
-			p.wait *= 2
+	if p.late++; stats["state"] != "decrease" {
+		p.late = 0
+	}
+	if p.late > 1 || p.lost > much {
+		if p.tried > 0 {
+			p.wait = 2 * patience
 		}
 		p.tried, p.calm = 0, time.Now()
 	} else if time.Since(p.calm) > p.wait {
-		if p.calm = time.Now(); p.tried > 0 {
-			p.wait = patience
-		}
-		if p.short {
+		if p.wait, p.calm = patience, time.Now(); p.short {
 			p.tried = 2 * math.Max(p.tried, estimate)
 		}
 	}
