@@ -81,10 +81,11 @@ func (t *source) packet(bytes []byte) {
 // Whether no key frame came whole since one was pleaded for.
 func (t *source) wantsKey() bool { return bool(C.zoftemar_key_wanted(&room, 0, t.number).has) }
 
+// The room is told those layers that were chosen before the browser could be sent the track.
 func (s *seat) join(ssrc uint32) {
 	numbers++
 	s.number, s.ssrc, s.of.seats[s] = numbers, ssrc, true
-	C.zoftemar_join(&room, 0, s.number, s.of.number, C.uint32_t(ssrc), 1, 0, 0)
+	C.zoftemar_join(&room, 0, s.number, s.of.number, C.uint32_t(ssrc), 1, C.uint8_t(s.now/8), C.uint8_t(s.now%8))
 	_ = C.zoftemar_open_subscriber(&s.at, s.number, C.uint32_t(ssrc))
 }
 

@@ -21,7 +21,6 @@ type path struct {
 	*gcc.SendSideBWE
 	numbers twcc.HeaderExtensionInterceptor // of packets on the path
 	bears   float64
-	late    int           // at how many looks in a row packets were
 	lost    float64       // the share of packets, over about a second
 	sent    float64       // bits since the latest look
 	rate    float64       // that is sent
@@ -56,24 +55,24 @@ func (p *path) AddStream(info *interceptor.StreamInfo, plain interceptor.RTPWrit
 	})
 }
 
-// Looks at the path ten times a second. pion's estimate falls with what is sent and rises by 8 % a second alone, so where wishes take more than fits, twice as
-// much is tried after two seconds, or four where a try failed, in which packets weren't late twice in a row, nor many lost. Where many are, the path bears no
+// Ten times a second. pion's estimate falls with what is sent and rises by 8 % a second alone, so where wishes take more than fits and for two seconds nothing
+// was late and little lost, twice as much is tried; after a try that failed it waits twice as long, up to eight seconds. Where much is lost, the path bears no
 // more than what comes through.
 func (p *path) watch() {
 	estimate, stats := float64(p.GetTargetBitrate()), p.GetStats()
 	lost, _ := stats["averageLoss"].(float64)
 	p.lost += (lost - p.lost) / 10
 	p.rate, p.sent = p.rate+(10*p.sent-p.rate)/4, 0
-	if p.late++; stats["state"] != "decrease" {
-		p.late = 0
-	}
-	if p.late > 1 || p.lost > much {
-		if p.tried > 0 {
-			p.wait = 2 * patience
+	if stats["state"] == "decrease" || p.lost > much {
+		if p.tried > 0 && p.wait < 4*patience {
+			p.wait *= 2
 		}
 		p.tried, p.calm = 0, time.Now()
 	} else if time.Since(p.calm) > p.wait {
-		if p.wait, p.calm = patience, time.Now(); p.short {
+		if p.calm = time.Now(); p.tried > 0 {
+			p.wait = patience
+		}
+		if p.short {
 			p.tried = 2 * math.Max(p.tried, estimate)
 		}
 	}
