@@ -72,7 +72,8 @@ def line(row, mode, people, lost, decoded, drawn, gap, budget, more=''):
 
 def summed(row, mode, meeting, seconds, lost, budget, more=''):
     tiles, drawn = meeting.watch(seconds)
-    line(row, mode, len(meeting.pages), lost, sum(tile['decoded'] for tile in tiles), sum(drawn) * (len(drawn) - 1), max(tile['gap'] for tile in tiles), budget, more)
+    decoded, gap = sum(tile['decoded'] for tile in tiles), max(tile['gap'] for tile in tiles)
+    line(row, mode, len(meeting.pages), lost, decoded, sum(drawn) * (len(drawn) - 1), gap, budget, more)
     return tiles
 
 
@@ -117,7 +118,8 @@ def choice(browser, _):
         relay.choice = Choice(relay.element, layers, 2, 4)
         meeting.pages[0].run("say('plead ' + others()[0].id)")     # a key frame has the templates
         tiles, drawn = meeting.watch(13)
-        line('by choice, 13 s', mode, 2, f'S{layers[0]}T{layers[1]} and its first resend, {relay.choice.events} times', tiles[0]['decoded'], drawn[1], tiles[0]['gap'], GAP)
+        what = f'S{layers[0]}T{layers[1]} and its first resend, {relay.choice.events} times'
+        line('by choice, 13 s', mode, 2, what, tiles[0]['decoded'], drawn[1], tiles[0]['gap'], GAP)
         if not relay.choice.events:
             complain(f'choice, {mode}: nothing was lost')
         meeting.end()
