@@ -13,7 +13,7 @@ func bring(media *webrtc.TrackRemote, receiver *webrtc.RTPReceiver, ssrc uint32,
 	go func() {
 		for packets, _, err := receiver.ReadRTCP(); err == nil; packets, _, err = receiver.ReadRTCP() {
 			for _, p := range packets {
-				if r, is := p.(*rtcp.SenderReport); is && report != nil {
+				if r, is := p.(*rtcp.SenderReport); is && report != nil && r.SSRC == uint32(media.SSRC()) {
 					locked(func() { report(r) })
 				}
 			}
@@ -35,7 +35,8 @@ func (p *page) request(feedback []byte) { p.pc.WriteRTCP([]rtcp.Packet{(*rtcp.Ra
 // own connection alone. The descriptor of a key frame asks for the two-byte form.
 func exchangeID(packet *rtp.Packet, from, to uint8) []byte {
 	descriptor := append([]byte(nil), packet.GetExtension(from)...)
-	if packet.Extension, packet.ExtensionProfile, packet.Extensions = len(descriptor) > 0, 0x1000, nil; packet.Extension {
+	packet.Extension, packet.ExtensionProfile, packet.Extensions = len(descriptor) > 0, 0x1000, nil
+	if len(descriptor) > 0 {
 		packet.SetExtension(to, descriptor)
 	}
 	return descriptor
