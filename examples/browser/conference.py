@@ -2,7 +2,7 @@
 
 four    four people for 30 s, each of whom decodes three others and hears a tone of each: no gap between two pictures above 500 ms, sound and picture at
         most 250 ms apart
-lost    each mode, five times 6 s, 3 % of the RTP packets lost before the room and 3 % behind it: no gap above 500 ms
+lost    each mode, five times 6 s, 3 % of the RTP packets lost before the room and 3 % behind it: no gap above 500 ms, four of five drawn pictures decoded
 choice  the first packet of a frame to which others refer is lost behind the room, with its first resend, each 4 s: no gap above 500 ms
 path    one path falls to 400 kbit/s for 10 s, with a queue of 300 ms: S0 within 3 s, no gap above 1 s, S2 again within 10 s
 back    somebody leaves and comes back, twice: all see all after 3 s, no more media sections than before
@@ -105,6 +105,9 @@ def lost(browser, _):
         lose(0.03, 0.03)
         for run in range(5):
             summed(f'lost, run {run + 1}, 6 s', mode, meeting, 6, '3 % before, 3 % after', GAP)
+            decoded, drawn = table[-1][4:6]
+            if decoded < 0.8 * drawn:
+                complain(f'lost, {mode}: {decoded} of {drawn} pictures were decoded')
         lose(0)
         meeting.end()
 
