@@ -78,7 +78,7 @@ func meet(sdp string, words url.Values) (int, string, error) {
 	path, estimator := newPath()
 	p := &person{newPage(estimator), path, fmt.Sprintf("%d-%x", time.Now().UnixNano(), words.Get("name")), map[*source]*seat{}}
 	p.pc.OnTrack(p.bring)
-	p.channel.OnMessage(func(m webrtc.DataChannelMessage) { locked(func() { p.hear(string(m.Data)) }) })
+	p.channel.OnMessage(func(m webrtc.DataChannelMessage) { p.hear(string(m.Data)) })
 	p.channel.OnOpen(func() { locked(func() { people[p] = true }) })
 	return p.answer(0, sdp)
 }
@@ -159,6 +159,8 @@ func (p *person) hear(line string) {
 	var word, id string
 	var spatial, place int
 	fmt.Sscan(line, &word, &id, &spatial, &place)
+	lock.Lock()
+	defer lock.Unlock()
 	for t, s := range p.gets {
 		if t.whose.id == id && word == "plead" {
 			s.plead()
