@@ -2,7 +2,7 @@
 
 four    four people for 30 s, each of whom decodes three others and hears a tone of each: no gap between two pictures above 500 ms, sound and picture at
         most 250 ms apart
-lost    each mode, five times 6 s, 3 % of the RTP packets lost before the room and 3 % behind it: no gap above 500 ms
+lost    each mode, five times 6 s, 3 % of the RTP packets lost before the room and 3 % behind it: no gap above 500 ms, four of five drawn pictures decoded
 choice  the first packet of a frame to which others refer is lost behind the room, with its first resend, each 4 s: no gap above 500 ms
 path    one path falls to 400 kbit/s for 10 s, with a queue of 300 ms: S0 within 3 s, no gap above 1 s, S2 again within 10 s
 back    somebody leaves and comes back, twice: all see all after 3 s, no more media sections than before
@@ -72,7 +72,8 @@ def line(row, mode, people, lost, decoded, drawn, gap, budget, more=''):
 
 def summed(row, mode, meeting, seconds, lost, budget, more=''):
     tiles, drawn = meeting.watch(seconds)
-    line(row, mode, len(meeting.pages), lost, sum(tile['decoded'] for tile in tiles), sum(drawn) * (len(drawn) - 1), max(tile['gap'] for tile in tiles), budget, more)
+    decoded, gap = sum(tile['decoded'] for tile in tiles), max(tile['gap'] for tile in tiles)
+    line(row, mode, len(meeting.pages), lost, decoded, sum(drawn) * (len(drawn) - 1), gap, budget, more)
     return tiles
 
 
@@ -104,6 +105,9 @@ def lost(browser, _):
         lose(0.03, 0.03)
         for run in range(5):
             summed(f'lost, run {run + 1}, 6 s', mode, meeting, 6, '3 % before, 3 % after', GAP)
+            decoded, drawn = table[-1][4:6]
+            if decoded < 0.8 * drawn:
+                complain(f'lost, {mode}: {decoded} of {drawn} pictures were decoded')
         lose(0)
         meeting.end()
 
@@ -117,7 +121,8 @@ def choice(browser, _):
         relay.choice = Choice(relay.element, layers, 2, 4)
         meeting.pages[0].run("say('plead ' + others()[0].id)")     # a key frame has the templates
         tiles, drawn = meeting.watch(13)
-        line('by choice, 13 s', mode, 2, f'S{layers[0]}T{layers[1]} and its first resend, {relay.choice.events} times', tiles[0]['decoded'], drawn[1], tiles[0]['gap'], GAP)
+        what = f'S{layers[0]}T{layers[1]} and its first resend, {relay.choice.events} times'
+        line('by choice, 13 s', mode, 2, what, tiles[0]['decoded'], drawn[1], tiles[0]['gap'], GAP)
         if not relay.choice.events:
             complain(f'choice, {mode}: nothing was lost')
         meeting.end()

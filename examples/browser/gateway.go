@@ -1,10 +1,10 @@
 // gateway puts browsers into a room: it speaks ICE, DTLS and SRTP with them, and plain RTP and RTCP with a room. Nothing of it is proved.
 //
-// gateway.go has the flags, and who answers an offer; page.go a browser's connection: codecs, header extensions, the answer to its offer; player.go a track
-// on its way to a browser: packets, markers, repeated NACKs. Built without a tag it serves those who publish and play, by `serve`: room.go has its
-// configuration and ports, serve.go who publishes and plays. Built with -tags library it serves conferences: library.go has every call of the library, and
-// nothing else; meet.go who comes and goes, offers, sender reports; layers.go which layers each person is sent; path.go what their path bears. pages has the
-// three pages, what they share, and their style.
+// gateway.go has the flags, and who answers an offer; page.go a browser's connection: codecs, header extensions, the answer to its offer; publisher.go a
+// track on its way from a browser; player.go one on its way to a browser: markers, repeated NACKs. Built without a tag it serves those who publish and
+// play, by `serve`: serve.go. Built with -tags library it serves conferences: library.go has every call of the library, and nothing else; meet.go who comes
+// and goes, offers, sender reports; layers.go which layers each person is sent; path.go what their path bears. pages has the three pages, what they share,
+// and their style.
 package main
 
 import (
@@ -34,11 +34,13 @@ var (
 	lock    sync.Mutex           // of tracks, players and people, and of what they hold
 )
 
-func must(err error) {
+func check(err error) {
 	if err != nil {
 		log.Fatal(err)
 	}
 }
+
+func must[T any](made T, err error) T { check(err); return made }
 
 func locked(do func()) { lock.Lock(); defer lock.Unlock(); do() }
 
@@ -58,8 +60,7 @@ func (a answerer) ServeHTTP(w http.ResponseWriter, r *http.Request) {
 
 func main() {
 	flag.Parse()
-	socket, err := net.ListenUDP("udp4", &net.UDPAddr{IP: net.ParseIP(*address), Port: *base + 1000})
-	must(err)
+	socket := must(net.ListenUDP("udp4", &net.UDPAddr{IP: net.ParseIP(*address), Port: *base + 1000}))
 	setting.SetIncludeLoopbackCandidate(true)
 	setting.SetNetworkTypes([]webrtc.NetworkType{webrtc.NetworkTypeUDP4})
 	setting.SetICEUDPMux(webrtc.NewICEUDPMux(nil, socket))

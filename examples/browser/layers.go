@@ -21,12 +21,8 @@ type rates struct {
 func (r *rates) count(d []byte, size int) {
 	if len(d) > 5 && d[3]&0x80 != 0 {
 		for id, layer, bit, step := d[3]<<3|d[4]>>5, byte(0), 40, byte(0); bit < len(d)*8 && step != 3; id, bit = id+1, bit+2 {
-			r.layers[id&63] = layer
-			if step = d[bit/8] >> (6 - bit%8) & 3; step == 1 {
-				layer++
-			} else if step == 2 {
-				layer = layer&^7 + 8
-			}
+			r.layers[id&63], step = layer, d[bit/8]>>(6-bit%8)&3
+			layer = [4]byte{layer, layer + 1, layer&^7 + 8}[step]
 		}
 	}
 	layer := byte(0)
@@ -45,10 +41,8 @@ func (r *rates) count(d []byte, size int) {
 // The highest layers that may be sent, from the lowest up: first all temporal layers of the smallest picture, then larger pictures with all of theirs.
 func (r *rates) highest() (layers []int) {
 	rate := 0
-	for n, bits := range r.bits {
-		if bits > 500 && n%8 > rate {
-			rate = n % 8
-		}
+	for rate < 7 && r.bits[rate+1] > 500 {
+		rate++
 	}
 	for n, bits := range r.bits {
 		if n <= rate || n%8 == rate && bits > 500 {
@@ -79,7 +73,8 @@ func (p *person) choose() {
 	for _, s := range seats {
 		for _, layers := range s.of.highest() {
 			more := s.of.takes(layers) - s.of.takes(s.best)
-			if p.path.short = p.path.short || more > left; more > left || layers/8 > s.wish {
+			if wished := layers/8 <= s.wish; !wished || more > left {
+				p.path.short = p.path.short || wished
 				break
 			}
 			left, s.best = left-more, layers
@@ -92,23 +87,22 @@ func (s *seat) follow(jammed bool) {
 	if s.best <= s.now {
 		s.fits = time.Now()
 	}
+	if s.best < s.now && jammed {
+		s.plead()
+	}
 	if s.best < s.now || time.Since(s.fits) >= patience {
-		if s.best < s.now && jammed {
-			s.plead()
-		}
 		s.now, s.fits = s.best, time.Now()
-		s.aim(s.now/8, s.now%8)
+		s.aim()
 	}
 }
 
 // Tells the page what it is sent of each picture: layers, the highest that there are, kbit/s of it and of the path, and whether the wish is reached.
 func (p *person) tell() {
 	for t, s := range p.gets {
-		if spatial, temporal, reached := s.sent(); !t.plain {
-			layers := t.highest()
+		if sent, layers := s.sent(), t.highest(); !t.plain {
 			top := layers[len(layers)-1]
-			reached = reached && (s.now == top || s.now/8 >= s.wish && s.now%8 == top%8)
-			p.say("tile %s %d %d %d %d %d %.0f %t", t.whose.id, spatial, temporal, top/8, top%8, s.bytes*16/1000, p.path.bears/1000, reached)
+			reached := s.reaches() && (s.now == top || s.now/8 >= s.wish && s.now%8 == top%8)
+			p.say("tile %s %d %d %d %d %d %.0f %t", t.whose.id, sent.spatial, sent.temporal, top/8, top%8, s.bytes*16/1000, p.path.bears/1000, reached)
 			s.bytes = 0
 		}
 	}

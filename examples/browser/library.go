@@ -28,28 +28,7 @@ type session struct {
 	send   func([]byte) // a datagram to the browser
 }
 
-// A track of the room: what one publisher sends of a kind.
-type source struct {
-	*session
-	rates
-	whose *person
-	plain bool
-	seats map[*seat]bool
-}
-
-// A subscriber of the room: what one person is sent of a source.
-type seat struct {
-	*session
-	*player
-	of          *source
-	ssrc        uint32
-	wish, place int       // the highest spatial layer, and the picture's place: the one in place 0 comes first
-	best, now   int       // the highest layers that fit, and those that the room was told
-	fits        time.Time // since when more fits, if more does
-	bytes       int       // that were sent since the page was told
-}
-
-func openRoom() {
+func init() {
 	if C.zoftemar_open(&room) != C.ZOFTEMAR_DONE {
 		panic("there is no memory for a room")
 	}
@@ -63,11 +42,10 @@ func (s *session) hear(bytes []byte) {
 	} else {
 		C.zoftemar_session_waited(&s.at, moment)
 	}
-	for {
-		reply := C.zoftemar_session_work(&s.at, &room, 0, (*C.uint8_t)(&out[0]), C.size_t(len(out)))
-		if reply.code != C.ZOFTEMAR_PACKET {
-			return
-		}
+	work := func() C.zoftemar_reply {
+		return C.zoftemar_session_work(&s.at, &room, 0, (*C.uint8_t)(&out[0]), C.size_t(len(out)))
+	}
+	for reply := work(); reply.code == C.ZOFTEMAR_PACKET; reply = work() {
 		s.send(out[:reply.first])
 	}
 }
@@ -94,26 +72,21 @@ func (t *source) end() {
 func (t *source) packet(bytes []byte) {
 	t.hear(bytes)
 	for s := range t.seats {
-		s.hear(nil)
-		if _, _, reached := s.sent(); !reached && !t.plain {
+		if s.hear(nil); !t.plain && !s.reaches() {
 			s.plead()
 		}
 	}
 }
 
-// Says a PLI again where the key frame has still not come whole.
-func (t *source) askAgain(pli []byte) {
-	if C.zoftemar_key_wanted(&room, 0, t.number).has {
-		t.send(pli)
-	}
-}
+// Whether no key frame came whole since one was pleaded for.
+func (t *source) wantsKey() bool { return bool(C.zoftemar_key_wanted(&room, 0, t.number).has) }
 
+// The room is told those layers that were chosen before the browser could be sent the track.
 func (s *seat) join(ssrc uint32) {
-	if numbers++; tracks[s.of] {
-		s.number, s.ssrc, s.of.seats[s] = numbers, ssrc, true
-		C.zoftemar_join(&room, 0, s.number, s.of.number, C.uint32_t(ssrc), 1, 0, 0)
-		_ = C.zoftemar_open_subscriber(&s.at, s.number, C.uint32_t(ssrc))
-	}
+	numbers++
+	s.number, s.ssrc, s.of.seats[s] = numbers, ssrc, true
+	C.zoftemar_join(&room, 0, s.number, s.of.number, C.uint32_t(ssrc), 1, C.uint8_t(s.now/8), C.uint8_t(s.now%8))
+	_ = C.zoftemar_open_subscriber(&s.at, s.number, C.uint32_t(ssrc))
 }
 
 func (s *seat) leave() {
@@ -122,15 +95,14 @@ func (s *seat) leave() {
 	delete(s.of.seats, s)
 }
 
-func (s *seat) aim(spatial, temporal int) {
-	C.zoftemar_aim(&room, 0, s.number, C.uint8_t(spatial), C.uint8_t(temporal))
-}
+func (s *seat) aim() { C.zoftemar_aim(&room, 0, s.number, C.uint8_t(s.now/8), C.uint8_t(s.now%8)) }
 
 func (s *seat) plead() { C.zoftemar_plead(&room, 0, s.number) }
 
-// What is sent now, as its highest layers, and whether that is the best of the wish.
-func (s *seat) sent() (spatial, temporal int, reached bool) {
-	var target C.zoftemar_target
+// Whether what is sent now is the best of the wish, and its highest layers.
+func (s *seat) reaches() bool { return bool(C.zoftemar_reaches_wish(&room, s.number).has) }
+
+func (s *seat) sent() (target C.zoftemar_target) {
 	C.zoftemar_target_of(&room, s.number, &target)
-	return int(target.spatial), int(target.temporal), bool(C.zoftemar_reaches_wish(&room, s.number).has)
+	return
 }

@@ -10,7 +10,6 @@ import (
 	"time"
 
 	"github.com/pion/rtcp"
-	"github.com/pion/rtp"
 	"github.com/pion/webrtc"
 )
 
@@ -21,10 +20,31 @@ type person struct {
 	gets map[*source]*seat
 }
 
+// A track of the room: what one publisher sends of a kind.
+type source struct {
+	session
+	rates
+	media *webrtc.TrackRemote
+	whose *person
+	plain bool
+	seats map[*seat]bool
+}
+
+// A subscriber of the room: what one person is sent of a source.
+type seat struct {
+	session
+	*player
+	of          *source
+	ssrc        uint32
+	wish, place int       // the highest spatial layer, and the picture's place: the one in place 0 comes first
+	best, now   int       // the highest layers that fit, and those that the room was told
+	fits        time.Time // since when more fits, if more does
+	bytes       int       // that were sent since the page was told
+}
+
 var people = map[*person]bool{}
 
 func start() map[string]answerer {
-	openRoom()
 	go func() {
 		for turn := 0; ; turn++ {
 			time.Sleep(20 * time.Millisecond)
@@ -34,11 +54,13 @@ func start() map[string]answerer {
 	return map[string]answerer{"/meet": meet}
 }
 
-// 20 milliseconds have passed: gaps that were waited for are given up. Sees who came and went and chooses layers each fifth time, and tells
-// the pages each 25th.
+// 20 milliseconds have passed: gaps that were waited for are given up. A PLI is said again each second time while no key frame came whole: a browser makes one
+// each 300 ms and passes over all others. Sees who came and went and chooses layers each fifth time, and tells the pages each 25th.
 func pass(turn int) {
 	for t := range tracks {
-		t.packet(nil)
+		if t.packet(nil); turn%2 == 0 && t.wantsKey() {
+			t.whose.pc.WriteRTCP([]rtcp.Packet{&rtcp.PictureLossIndication{MediaSSRC: uint32(t.media.SSRC())}})
+		}
 	}
 	for p := range people {
 		if turn%5 == 0 {
@@ -54,13 +76,11 @@ func pass(turn int) {
 
 func meet(sdp string, words url.Values) (int, string, error) {
 	path, estimator := newPath()
-	p := &person{path: path, id: fmt.Sprintf("%d-%x", time.Now().UnixNano(), words.Get("name")), gets: map[*source]*seat{}}
-	p.page = newPage(estimator)
+	p := &person{newPage(estimator), path, fmt.Sprintf("%d-%x", time.Now().UnixNano(), words.Get("name")), map[*source]*seat{}}
 	p.pc.OnTrack(p.bring)
 	p.channel.OnMessage(func(m webrtc.DataChannelMessage) { p.hear(string(m.Data)) })
 	p.channel.OnOpen(func() { locked(func() { people[p] = true }) })
-	sdp, err := p.answer(sdp)
-	return 0, sdp, err
+	return p.answer(0, sdp)
 }
 
 // Gives a person what all others give, and nothing else; a transceiver whose track went has the next one. One offer after the other: the browser makes none
@@ -90,12 +110,9 @@ func (p *person) arrange() {
 	p.channel.SendText(offer.SDP)
 }
 
-// Begins to send a person a track. None of it comes where the browser has gone.
+// Begins to send a person a track.
 func (p *person) get(t *source) {
-	s := &seat{session: &session{}, of: t, place: 1}
-	if s.player = p.player(av1, "video", t.whose.id); t.plain {
-		s.player = p.player(opus, "audio", t.whose.id)
-	}
+	s := &seat{player: p.play(t.media, t.whose.id), of: t, place: 1}
 	s.send = func(bytes []byte) {
 		s.bytes += len(bytes)
 		if _, begins := s.hand(bytes); begins && !t.plain {
@@ -104,42 +121,31 @@ func (p *person) get(t *source) {
 	}
 	s.stay = func(ssrc uint32) {
 		locked(func() { s.join(ssrc) })
-		s.listen(ssrc, func(bytes []byte) { locked(func() { s.hear(bytes) }) })
+		s.listen(s.hear)
 		locked(s.leave)
 	}
-	s.sender, _ = p.pc.AddTrack(s)
 	p.gets[t] = s
 }
 
-// Brings the room what a person publishes of one kind. A PLI is said again while no key frame came whole: a browser makes one each 300 ms. Sender reports go around the room, with the SSRC that a player knows: timestamps
-// go through it as they are, so lips and voice agree.
+// Brings the room what a person publishes of one kind. Sender reports go around the room, with the SSRC that a player knows: timestamps go through it as
+// they are, so lips and voice agree.
 func (p *person) bring(media *webrtc.TrackRemote, receiver *webrtc.RTPReceiver) {
-	t := &source{session: &session{}, whose: p, plain: media.Kind() == webrtc.RTPCodecTypeAudio, seats: map[*seat]bool{}}
-	t.send = func(bytes []byte) {
-		asks := rtcp.RawPacket(append([]byte(nil), bytes...))
-		if t.plain {
-			return
-		}
-		p.pc.WriteRTCP([]rtcp.Packet{&asks})
-		if asks.Header().Type == rtcp.TypePayloadSpecificFeedback {
-			time.AfterFunc(310*time.Millisecond, func() { locked(func() { t.askAgain(asks) }) })
-		}
+	t := &source{media: media, whose: p, plain: media.Kind() == webrtc.RTPCodecTypeAudio, seats: map[*seat]bool{}}
+	if t.send = p.request; t.plain {
+		t.send = func([]byte) {}
 	}
 	locked(func() { t.begin(uint32(media.SSRC())) })
-	bring(media, receiver, func(packet *rtp.Packet, descriptor []byte) {
-		if bytes, err := packet.Marshal(); err == nil {
-			locked(func() { t.count(descriptor, len(bytes)); t.packet(bytes) })
+	bring(media, receiver, uint32(media.SSRC()), func(bytes, descriptor []byte) {
+		t.count(descriptor, len(bytes))
+		t.packet(bytes)
+	}, func(report *rtcp.SenderReport) {
+		report.Reports = nil
+		for s := range t.seats {
+			report.SSRC = s.ssrc
+			s.pc.WriteRTCP([]rtcp.Packet{report})
 		}
-	}, func(report *rtcp.SenderReport) { locked(func() { t.report(report) }) })
+	})
 	locked(func() { t.end(); delete(people, p) })
-}
-
-func (t *source) report(report *rtcp.SenderReport) {
-	report.Reports = nil
-	for s := range t.seats {
-		report.SSRC = s.ssrc
-		s.pc.WriteRTCP([]rtcp.Packet{report})
-	}
 }
 
 // Hears an answer to an offer, `wish PERSON SPATIAL PLACE`, where the picture in place 0 is the big one, or `plead PERSON`.
@@ -156,9 +162,9 @@ func (p *person) hear(line string) {
 	lock.Lock()
 	defer lock.Unlock()
 	for t, s := range p.gets {
-		if t.whose.id == id && !t.plain && word == "plead" {
+		if t.whose.id == id && word == "plead" {
 			s.plead()
-		} else if t.whose.id == id && !t.plain {
+		} else if t.whose.id == id {
 			s.wish, s.place, s.fits = spatial, place, time.Now().Add(-patience) // who wishes for more waits no longer where it fits
 		}
 	}

@@ -11,11 +11,6 @@ import (
 const descriptorURI = "https://aomediacodec.github.io/av1-rtp-spec/#dependency-descriptor-rtp-header-extension"
 const descriptorID = 4 // of descriptors in the room
 
-var (
-	av1  = webrtc.RTPCodecCapability{MimeType: webrtc.MimeTypeAV1, ClockRate: 90000}
-	opus = webrtc.RTPCodecCapability{MimeType: webrtc.MimeTypeOpus, ClockRate: 48000, Channels: 2, SDPFmtpLine: "minptime=10;useinbandfec=1"}
-)
-
 // A browser's page: its connection, and the data channel by which it says its wishes and learns what happens.
 type page struct {
 	pc      *webrtc.PeerConnection
@@ -26,50 +21,42 @@ type page struct {
 // no reports: a publisher gets here those by which it finds its bitrate; what a player gets besides packets of the room, `plays` sends.
 func newPage(plays ...interceptor.Factory) *page {
 	media, registry := &webrtc.MediaEngine{}, &interceptor.Registry{}
-	must(media.RegisterCodec(webrtc.RTPCodecParameters{RTPCodecCapability: av1, PayloadType: 45}, webrtc.RTPCodecTypeVideo))
-	must(media.RegisterCodec(webrtc.RTPCodecParameters{RTPCodecCapability: opus, PayloadType: 111}, webrtc.RTPCodecTypeAudio))
-	must(media.RegisterHeaderExtension(webrtc.RTPHeaderExtensionCapability{URI: descriptorURI}, webrtc.RTPCodecTypeVideo))
-	media.RegisterFeedback(webrtc.RTCPFeedback{Type: "nack"}, webrtc.RTPCodecTypeVideo)
-	media.RegisterFeedback(webrtc.RTCPFeedback{Type: "nack", Parameter: "pli"}, webrtc.RTPCodecTypeVideo)
-	must(webrtc.ConfigureTWCCSender(media, registry))
-	reports, err := report.NewReceiverInterceptor()
-	must(err)
-	for _, factory := range append(plays, reports) {
+	asks := []webrtc.RTCPFeedback{{Type: "nack"}, {Type: "nack", Parameter: "pli"}}
+	av1 := webrtc.RTPCodecCapability{MimeType: webrtc.MimeTypeAV1, ClockRate: 90000, RTCPFeedback: asks}
+	opus := webrtc.RTPCodecCapability{MimeType: webrtc.MimeTypeOpus, ClockRate: 48000, Channels: 2, SDPFmtpLine: "minptime=10;useinbandfec=1"}
+	check(media.RegisterCodec(webrtc.RTPCodecParameters{RTPCodecCapability: av1, PayloadType: 45}, webrtc.RTPCodecTypeVideo))
+	check(media.RegisterCodec(webrtc.RTPCodecParameters{RTPCodecCapability: opus, PayloadType: 111}, webrtc.RTPCodecTypeAudio))
+	check(media.RegisterHeaderExtension(webrtc.RTPHeaderExtensionCapability{URI: descriptorURI}, webrtc.RTPCodecTypeVideo))
+	check(webrtc.ConfigureTWCCSender(media, registry))
+	for _, factory := range append(plays, must(report.NewReceiverInterceptor())) {
 		registry.Add(factory)
 	}
 	api := webrtc.NewAPI(webrtc.WithMediaEngine(media), webrtc.WithInterceptorRegistry(registry), webrtc.WithSettingEngine(setting))
-	p := &page{}
-	p.pc, err = api.NewPeerConnection(webrtc.Configuration{})
-	must(err)
-	agreed, id := true, uint16(0)
-	p.channel, err = p.pc.CreateDataChannel("room", &webrtc.DataChannelInit{Negotiated: &agreed, ID: &id})
-	must(err)
-	return p
+	pc, agreed, id := must(api.NewPeerConnection(webrtc.Configuration{})), true, uint16(0)
+	return &page{pc, must(pc.CreateDataChannel("room", &webrtc.DataChannelInit{Negotiated: &agreed, ID: &id}))}
 }
 
-// Answers an offer that has all its candidates. pion answers with extmap-allow-mixed, as browsers offer: without it they leave out the descriptors of key
-// frames, and the room could begin with nothing.
-func (p *page) answer(offer string) (string, error) {
+// Answers an offer that has all its candidates, beside the number of a track. pion answers with extmap-allow-mixed, as browsers offer: without it they leave
+// out the descriptors of key frames, and the room could begin with nothing.
+func (p *page) answer(number int, offer string) (int, string, error) {
 	p.channel.OnClose(func() { go p.pc.Close() })
 	p.pc.OnConnectionStateChange(func(state webrtc.PeerConnectionState) {
 		if state == webrtc.PeerConnectionStateFailed || state == webrtc.PeerConnectionStateDisconnected {
 			go p.pc.Close()
 		}
 	})
-	gathered, sdp := webrtc.GatheringCompletePromise(p.pc), webrtc.SessionDescription{Type: webrtc.SDPTypeOffer, SDP: offer}
-	err := p.pc.SetRemoteDescription(sdp)
+	gathered := webrtc.GatheringCompletePromise(p.pc)
+	err := p.pc.SetRemoteDescription(webrtc.SessionDescription{Type: webrtc.SDPTypeOffer, SDP: offer})
 	if err == nil {
-		sdp, err = p.pc.CreateAnswer(nil)
-	}
-	if err == nil {
+		sdp, _ := p.pc.CreateAnswer(nil) // without one the next line has a fault
 		err = p.pc.SetLocalDescription(sdp)
 	}
 	if err != nil {
 		p.pc.Close()
-		return "", err
+		return 0, "", err
 	}
 	<-gathered
-	return p.pc.LocalDescription().SDP, nil
+	return number, p.pc.LocalDescription().SDP, nil
 }
 
 // One line for the page. A page that doesn't listen gets no more.

@@ -32,12 +32,9 @@ type path struct {
 }
 
 func newPath() (*path, interceptor.Factory) {
-	estimator, err := gcc.NewSendSideBWE(gcc.SendSideBWEInitialBitrate(1000000), gcc.SendSideBWEPacer(gcc.NewNoOpPacer()))
-	must(err)
+	estimator := must(gcc.NewSendSideBWE(gcc.SendSideBWEInitialBitrate(1000000), gcc.SendSideBWEPacer(gcc.NewNoOpPacer())))
 	p := &path{SendSideBWE: estimator, wait: patience, calm: time.Now()}
-	factory, err := cc.NewInterceptor(func() (cc.BandwidthEstimator, error) { return p, nil })
-	must(err)
-	return p, factory
+	return p, must(cc.NewInterceptor(func() (cc.BandwidthEstimator, error) { return p, nil }))
 }
 
 // A resent packet has no number on the path: where another came, a browser throws it away before it counts it, and the estimator would take it for lost. All
@@ -59,15 +56,15 @@ func (p *path) AddStream(info *interceptor.StreamInfo, plain interceptor.RTPWrit
 }
 
 // Ten times a second. pion's estimate falls with what is sent and rises by 8 % a second alone, so where wishes take more than fits and for two seconds nothing
-// was late and little lost, twice as much is tried; after a try that failed it waits twice as long. Where much is lost, the path bears no more than what
-// comes through.
+// was late and little lost, twice as much is tried; after a try that failed it waits twice as long, up to eight seconds. Where much is lost, the path bears no
+// more than what comes through.
 func (p *path) watch() {
 	estimate, stats := float64(p.GetTargetBitrate()), p.GetStats()
 	lost, _ := stats["averageLoss"].(float64)
 	p.lost += (lost - p.lost) / 10
 	p.rate, p.sent = p.rate+(10*p.sent-p.rate)/4, 0
-	if stats["usage"] == "overuse" || p.lost > much {
-		if p.tried > 0 && p.wait < 30*time.Second {
+	if stats["state"] == "decrease" || p.lost > much {
+		if p.tried > 0 && p.wait < 4*patience {
 			p.wait *= 2
 		}
 		p.tried, p.calm = 0, time.Now()

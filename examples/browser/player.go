@@ -17,13 +17,15 @@ type player struct {
 	id     uint8             // of descriptors
 	newest *rtp.Packet       // of the room
 	kept   *rtp.Packet       // the newest, while it waits for what is behind it
-	marked map[uint16]bool   // numbers of packets that got their marker here
+	marked map[uint16]bool   // numbers of packets that had a marker, or got it here
 }
 
-func (p *page) player(codec webrtc.RTPCodecCapability, kind, stream string) *player {
-	track, err := webrtc.NewTrackLocalStaticRTP(codec, kind, stream)
-	must(err)
-	return &player{TrackLocalStaticRTP: track, page: p, marked: map[uint16]bool{}}
+// Plays a browser what another one publishes.
+func (p *page) play(media *webrtc.TrackRemote, stream string) *player {
+	track := must(webrtc.NewTrackLocalStaticRTP(media.Codec().RTPCodecCapability, media.Kind().String(), stream))
+	made := &player{TrackLocalStaticRTP: track, page: p, marked: map[uint16]bool{}}
+	made.sender, _ = p.pc.AddTrack(made) // none where the browser has gone
+	return made
 }
 
 // pion calls it once the browser is connected and has the track.
@@ -43,20 +45,18 @@ func (p *player) hand(bytes []byte) (descriptor []byte, begins bool) {
 	}
 	descriptor = exchangeID(packet, descriptorID, p.id)
 	if p.newest != nil && int16(packet.SequenceNumber-p.newest.SequenceNumber) <= 0 { // resent
-		packet.Marker = packet.Marker || p.marked[packet.SequenceNumber]
+		packet.Marker = p.marked[packet.SequenceNumber]
 		p.WriteRTP(packet)
 		return
 	}
 	begins = p.newest == nil || packet.Timestamp != p.newest.Timestamp
 	p.release(p.kept, begins)
-	p.newest = packet
-	delete(p.marked, packet.SequenceNumber)
+	p.newest, p.kept = packet, packet
 	if len(descriptor) == 0 || descriptor[0]&0x40 == 0 || packet.Marker {
-		p.WriteRTP(packet)
-		return
+		p.release(packet, packet.Marker)
+	} else {
+		time.AfterFunc(time.Duration(2**hold)*time.Millisecond, func() { locked(func() { p.release(packet, true) }) })
 	}
-	p.kept = packet
-	time.AfterFunc(time.Duration(2**hold)*time.Millisecond, func() { locked(func() { p.release(packet, true) }) })
 	return
 }
 
@@ -68,17 +68,21 @@ func (p *player) release(packet *rtp.Packet, marker bool) {
 	}
 }
 
-// Tells the room, under the SSRC that it knows, what the browser asks for, until that has gone. Each NACK is said three times: Chromium asks once for a
-// packet of an upper layer, and not again once the next unit's base frame has come, so where the resent packet is lost too, it would decode nothing until a
-// key frame, for three seconds.
-func (p *player) listen(ssrc uint32, tell func([]byte)) {
+// Tells the room, under the lock, what the browser asks for, until that has gone. Each NACK is said three times: Chromium asks once for a packet of an upper
+// layer, and not again once the next unit's base frame has come, so where the resent packet is lost too, it would decode nothing until a key frame, for three
+// seconds.
+func (p *player) listen(tell func([]byte)) {
 	for packets, _, err := p.sender.ReadRTCP(); err == nil; packets, _, err = p.sender.ReadRTCP() {
-		for _, asks := range feedbackFor(ssrc, packets) {
-			bytes, _ := asks.Marshal()
-			tell(bytes)
-			if _, is := asks.(*rtcp.TransportLayerNack); is {
-				time.AfterFunc(30*time.Millisecond, func() { tell(bytes) })
-				time.AfterFunc(60*time.Millisecond, func() { tell(bytes) })
+		for _, packet := range packets {
+			_, lost := packet.(*rtcp.TransportLayerNack)
+			if _, stopped := packet.(*rtcp.PictureLossIndication); lost || stopped {
+				bytes, _ := packet.Marshal()
+				again := func() { locked(func() { tell(bytes) }) }
+				again()
+				if lost {
+					time.AfterFunc(30*time.Millisecond, again)
+					time.AfterFunc(60*time.Millisecond, again)
+				}
 			}
 		}
 	}

@@ -6,35 +6,30 @@ import (
 	"github.com/pion/webrtc"
 )
 
-// A track on its way from a browser, until that has gone: each packet as the room takes it, with its descriptor, and each sender report.
-func bring(media *webrtc.TrackRemote, receiver *webrtc.RTPReceiver, packet func(*rtp.Packet, []byte), report func(*rtcp.SenderReport)) {
+// A track on its way from a browser, until that has gone: under the lock, each packet as the room takes it, with its descriptor, and each sender report,
+// where they are wanted.
+func bring(media *webrtc.TrackRemote, receiver *webrtc.RTPReceiver, ssrc uint32, packet func(bytes, descriptor []byte), report func(*rtcp.SenderReport)) {
 	id := negotiatedID(receiver.GetParameters().HeaderExtensions)
 	go func() {
 		for packets, _, err := receiver.ReadRTCP(); err == nil; packets, _, err = receiver.ReadRTCP() {
 			for _, p := range packets {
-				if r, is := p.(*rtcp.SenderReport); is && r.SSRC == uint32(media.SSRC()) {
-					report(r)
+				if r, is := p.(*rtcp.SenderReport); is && report != nil && r.SSRC == uint32(media.SSRC()) {
+					locked(func() { report(r) })
 				}
 			}
 		}
 	}()
 	for p, _, err := media.ReadRTP(); err == nil; p, _, err = media.ReadRTP() {
-		packet(p, exchangeID(p, id, descriptorID))
+		descriptor := exchangeID(p, id, descriptorID)
+		p.SSRC = ssrc
+		if bytes, err := p.Marshal(); err == nil {
+			locked(func() { packet(bytes, descriptor) })
+		}
 	}
 }
 
-// The NACKs and PLIs among these, for the SSRC that the media has on the other side.
-func feedbackFor(ssrc uint32, packets []rtcp.Packet) (feedback []rtcp.Packet) {
-	for _, packet := range packets {
-		switch p := packet.(type) {
-		case *rtcp.TransportLayerNack:
-			p.MediaSSRC, feedback = ssrc, append(feedback, p)
-		case *rtcp.PictureLossIndication:
-			p.MediaSSRC, feedback = ssrc, append(feedback, p)
-		}
-	}
-	return
-}
+// Asks the browser for what the room asks for: a NACK or a PLI.
+func (p *page) request(feedback []byte) { p.pc.WriteRTCP([]rtcp.Packet{(*rtcp.RawPacket)(&feedback)}) }
 
 // Leaves a packet no header extension but the descriptor, and puts that under another id: what else a browser adds (MID, the path's own numbers) is for its
 // own connection alone. The descriptor of a key frame asks for the two-byte form.

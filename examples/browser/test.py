@@ -21,7 +21,8 @@ import time
 
 sys.path.insert(0, os.path.dirname(os.path.abspath(__file__)))   # tests/system/recordings.py reads this file, too
 import conference
-from browsers import GAP, HERE, MODES, PROXY, SOON, TORN, WEB, Browser, Relay, build, complain, complaints, gate, longest_gap, lose, part, serve_relays, what_is_missing
+from browsers import (GAP, HERE, MODES, PROXY, SOON, TORN, WEB, Browser, Relay, build, complain, complaints, gate, longest_gap, lose, part, serve_relays,
+                      what_is_missing)
 
 # ---- what is measured
 
