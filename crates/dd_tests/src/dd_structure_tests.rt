@@ -119,8 +119,8 @@ fn structures_are_read_field_by_field_and_written_back(rt: HostRuntime) -> Resul
     expect(&rt, &D_BYTES, &read(&D_BYTES)?, &[1, 1, 0, 0], &d)
 }
 
-/// A structure that a test writes: `codes` lead to new layers, then `same` more templates of the last layer follow, and then the code
-/// `end`. `targets` and `chains` are their numbers, and `distances` is the number of distances of each template.
+/// A structure that a test writes: a template for each of `codes`, which begin new layers; `same` more templates of the last layer; then the
+/// code `end`. It has `targets` decode targets and `chains` chains, and each template has `distances` distances.
 #[derive(Clone, Copy)]
 struct Case {
     codes: &'static [u32],

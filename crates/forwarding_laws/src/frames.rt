@@ -23,7 +23,7 @@ pub fn outcomes_are_those_of_runs<Brought>()
     ensures torn { Laws.TornOutcomesAreTorn Brought }
 {}
 
-/// A mark leaves a frame partial exactly when the marks end in an unfinished cut. `Brought` is the type of the data that a part carries.
+/// A mark leaves a frame partial exactly if the marks up to it end in an unfinished cut. `Brought` is the type of a part's data.
 pub fn partial_frames_are_the_unfinished_cuts<Brought>()
     ensures unfinished { Laws.PartialFramesAreUnfinished Brought }
     ensures found { Laws.UnfinishedCutsArePartial Brought }

@@ -10,8 +10,8 @@ pub fn timelines_have_all_frames<Structure>()
     ensures grow { HistoryWords.TimelinesOnlyGrow Structure }
 {}
 
-/// A join begins a subscriber's timeline. Each later entry adds what it releases, the subscriber's own change of wish, or its take if a
-/// packet is queued; it adds nothing of other subscribers. On a plain track each packet that came since the join is released, in order.
+/// A join begins a subscriber's timeline. A later entry adds the frames that it releases, this subscriber's change of wish, or its take
+/// if a packet is queued. It adds nothing of other subscribers. On a plain track, each packet since the join is released, in order.
 pub fn entries_add_what_they_say<Structure>()
     ensures entries { HistoryWords.EntriesInWords Structure }
     ensures join { HistoryWords.JoinsBegin Structure }

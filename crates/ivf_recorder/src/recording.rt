@@ -11,7 +11,7 @@ use sfu_base::{Blob, NoMemory};
 use std::alloc::Global;
 use strict_receiver::Receiver;
 
-/// The receiver that judges the packets, the elements of the unfinished frame, the file so far, and the fault that stays, if any.
+/// A recording: the receiver that checks the packets, the elements of the unfinished frame, the file so far, and the first fault.
 #[derive(Drop)]
 pub struct Recording {
     pub receiver: Receiver,

@@ -31,7 +31,7 @@ pub struct Served {
     pub ports: Vec<PortLine>,
 }
 
-/// Collects the calls and the ports of lines in their lists.
+/// Reads the lines of the calls and of the ports into two lists.
 #[derive(Drop)]
 pub struct ServeReader {
     calls: Vec<Call>,

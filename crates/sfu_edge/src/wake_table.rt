@@ -83,7 +83,7 @@ impl WakeTable {
         }
     }
 
-    /// Wakes the followers of link `number`, which has received datagrams; the last has this tail.
+    /// Wakes the followers of link `number` after it received datagrams. `tail` is the `tail_of` the last one.
     pub fn wake_followers(&self, number: u64, tail: u64) {
         let Some(entry) = self.entries.get(number as usize) else {
             return;
@@ -123,7 +123,7 @@ impl WakeTable {
         Some(Duration::from_micros(expected.saturating_add(number % STEPS * STEP)))
     }
 
-    /// Notes that link `number` sent a packet with this tail: it follows the packet's receiver.
+    /// Makes link `number` a follower of the link that received the packet it has just sent. `tail` is the packet's `tail_of`.
     pub fn follow(&self, number: u64, tail: u64) {
         let Some(entry) = self.entries.get(number as usize) else {
             return;

@@ -124,7 +124,7 @@ fn digit_values(digits: &[u8]) -> [u8; 32] {
     out
 }
 
-/// Checks that a line's descriptor reads as the line says and is written back, and that it does so with each other mask.
+/// Checks that a line's descriptor is read as the line says and written back, with its own mask and with each other one.
 fn expect_line(rt: &impl Abort, line: &[u8]) -> Result<(), Fail> {
     let mut text = line;
     let structure = hex(&mut text);
