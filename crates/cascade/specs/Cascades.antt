@@ -35,8 +35,8 @@ use Rattle.cascade_laws.specs.Running.{AllLeaveOpen}
 use Rattle.cascade_laws.specs.Unmasked.{TellNoMask}
 use Rattle.cascade.specs.Fed.{IsFed, before_join, packets_on, readdressed_all}
 
--- Each call is one that the code can receive: SSRCs have 32 bits, and packets are valid RTP packets. This holds for each history that a
--- room stands for.
+-- Each call is one that the code can receive: SSRCs have 32 bits, and packets are valid RTP packets. This holds for each history that a room
+-- represents.
 pub record AreOfRooms (h1 h2 : List Entry) : Type 0 where
   pub first : AreWellFormed (accepted h1)
   pub second : AreWellFormed (accepted h2)
@@ -51,8 +51,8 @@ FindRoom wish (PlainPacket packet ∷ past) = ((standing wish past).queued < 512
 FindRoom wish (WishChange changed ∷ past) = FindRoom wish past
 FindRoom wish (Take ∷ past) = FindRoom wish past
 
--- All packets that go out to u, who joined the track this way, are those that s took since then, with u's numbers and SSRC. If s's track is
--- layered and u joined before the first packet, a strict receiver has no complaint about them.
+-- All packets forwarded to u, who joined the track this way, are those that s took since then, with u's numbers and SSRC. If s's track is layered and
+-- u joined before the first packet, a strict receiver has no complaint about them.
 pub record GoesOnPlain (first : List Call) (s : ℕ) (i : Joined) (second : List Call) (t u : ℕ) (j : Joined) : Type 0 where
   pub suffix : going_out u j second ≡ readdressed_all j.first j.ssrc (drop (length (packets_on t (before_join u second))) (given_to s first))
   pub pleases : (id : ℕ) → kind_of i.track first ≡ Layered id → packets_on t (before_join u second) ≡ []
@@ -86,7 +86,7 @@ pub record IsPassedOn (id : ℕ) (bytes new : List ℕ) : Type 0 where
 abbrev pub IsPassedOnOf : ℕ → List (List ℕ) → List ℕ → Type 0
 IsPassedOnOf id took new = (bytes : List ℕ) × IsMember bytes took × IsPassedOn id bytes new
 
--- each packet that goes out is one that s took
+-- each packet forwarded to a subscriber of the fed track is one that s took
 abbrev pub LayeredTracksGoOn : Type 0
 LayeredTracksGoOn = (h1 h2 : List Entry) (s t u id : ℕ) (i j : Joined) (p : Published) → AreOfRooms h1 h2 → IsFed (accepted h1) s i (accepted h2) t p
     → p.kind ≡ Layered id → joined u (accepted h2) ≡ Some j → j.track ≡ t → (new : List ℕ) → IsMember new (going_out u j (accepted h2))
@@ -110,7 +110,7 @@ pub record IsRun (id : ℕ) (i : Joined) (first : List Call) (events later since
   pub no_mask : TellNoMask k.meaning.epoch (said (format_of id) (items_of (entries_of i.track first)))
   pub near : AreNear k.meaning (map meaning_of (passed_since i.wish since (WholeFrame k ∷ past)))
 
--- The same run in u's timeline: a key frame for k, and a frame for each of the others, in order, and no others between them.
+-- The same run in u's timeline: a key frame for k and a frame for each of the others, in order, with no others between.
 pub record IsRunAgain (events later since past : List Happened) (k : Frame TemplateStructure) (passed : List (Frame TemplateStructure))
     (target : ℕ) (by : Shift) (again : Frame TemplateStructure) : Type 0 where
   pub laid : events ≡ later ++ (since ++ WholeFrame again ∷ past)
@@ -133,7 +133,7 @@ pub record PassesAgain (wish second_wish now : Wish) (since past second_since se
   pub alike : StandAlike by target k.meaning.number again.meaning.number again.meaning.epoch now (standing wish (since ++ WholeFrame k ∷ past))
       (standing second_wish (second_since ++ WholeFrame again ∷ second_past))
 
--- the consequence of a run: the same run in u's timeline, each frame of which passes to u if u has that wish, and space
+-- the consequence of a run: the same run in u's timeline; each of its frames passes to u if u has that wish and space in its queue
 pub record RunsOn (wish now : Wish) (since past : List Happened) (k : Frame TemplateStructure) (target : ℕ)
     (second_wish : Wish) (events : List Happened) : Type 0 where
   pub later : List Happened

@@ -1,4 +1,4 @@
--- What the parts of a cascade stand for while it runs. No public clause but those of the rooms cites these.
+-- What the parts of a cascade represent while it runs. No public clause but those of the rooms cites these.
 use Rattle.std.specs.Prelude.{◌≡◌, ℕ, Bool, true, false, List, [], ◌∷◌, ◌++◌, Option, None, is_some}
 use Rattle.sfu_base.specs.Answer.{Refused, Sent}
 use Rattle.sfu_base.specs.declared.call.Call.{Call}
@@ -20,7 +20,7 @@ use Rattle.cascade.specs.declared.two_rooms.TwoRooms.{TwoRooms}
 abbrev pub untold : KeepNone → Option (List Noted)
 untold recorder = None
 
--- the room stands for some history in which these calls were accepted
+-- the room represents some history in which these calls were accepted
 pub record StandsAfter (room : Room KeepNone) (past : List Call) : Type 0 where
   pub history : List Entry
   pub stands : Stands untold room history

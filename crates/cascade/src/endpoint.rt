@@ -29,7 +29,7 @@ pub struct Endpoint {
 }
 
 impl Endpoint {
-    /// An endpoint that has received nothing. `NoMemory`: there wasn't enough memory for the receiver.
+    /// An endpoint that has received nothing. `NoMemory`: out of memory.
     pub fn new(alloc: Global) -> Result<Endpoint, NoMemory>
         ensures { IfOk result (λ endpoint. WasFed endpoint []) }
     {

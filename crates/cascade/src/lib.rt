@@ -1,9 +1,9 @@
-//! A cascade of two rooms: the packets that a subscriber of one room takes are fed to a track of another room, which forwards them to that
-//! track's subscribers. Own rules.
+//! A cascade of two rooms: packets that a subscriber of one room takes are fed to a track of another room, which forwards them to that track's
+//! subscribers. Own rules.
 //!
-//! [`feed`] moves the packets of one subscriber to one track. The laws say what happens to frames that were forwarded to the first room's
-//! subscriber. [`play`] sends a generated stream through two rooms, with a strict receiver for each subscriber of the second room.
-//! [`cascade`] is the command that writes what the receivers found.
+//! [`feed`] moves the packets of one subscriber to one track. The laws say what happens to the frames forwarded to the first room's subscriber.
+//! [`play`] sends a generated stream through two rooms, with a strict receiver for each subscriber of the second room. The command [`cascade`] writes
+//! what the receivers found.
 #![tactic(auto)]
 
 mod command;

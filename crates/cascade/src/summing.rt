@@ -38,7 +38,7 @@ fn whole_text(alloc: Global, counts: Counts, rooms: &TwoRooms) -> Result<String,
     Ok(text)
 }
 
-/// The five lines: two about the stream, and one with the counts of each subscriber's receiver. `NoMemory`: there wasn't enough memory for the text.
+/// The five lines: two about the stream, and one with the counts of each subscriber's receiver. `NoMemory`: out of memory.
 pub fn summary(alloc: Global, counts: Counts, rooms: &TwoRooms) -> Result<String, NoMemory>
     ensures { IfOk result (λ text. (both : Both) → AreAfter rooms.now both → string_bytes text ≡ summary_of counts both) }
 {

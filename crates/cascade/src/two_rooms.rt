@@ -75,7 +75,7 @@ fn open_second(alloc: Global) -> Result<Room<KeepNone>, NoMemory>
 }
 
 impl TwoRooms {
-    /// Both rooms with their tracks and subscribers, before the stream. `NoMemory`: there wasn't enough memory for the rooms or for a
+    /// Both rooms with their tracks and subscribers, before the first packet of the stream. `NoMemory`: out of memory for the rooms or for a
     /// receiver.
     pub fn new(alloc: Global) -> Result<TwoRooms, NoMemory>
         ensures { IfOk result (λ rooms. AreAfter rooms opened) }
@@ -98,7 +98,7 @@ impl TwoRooms {
         })
     }
 
-    /// Feeds a packet to track 1 of the first room at this moment (milliseconds); the room may refuse it.
+    /// Feeds a packet to track 1 of the first room at this moment (milliseconds). The room may refuse it.
     pub fn packet(&mut self, moment: u64, bytes: &PacketBuf)
         ensures { (both : Both) → AreAfter self.old both → AreAfter self.new (after_packet moment bytes.now both) }
     {
@@ -143,8 +143,8 @@ impl TwoRooms {
         self.three.take_all(3, &mut self.second, &mut self.scratch);
     }
 
-    /// Ticks the first room at this moment (milliseconds). Then feeds its subscriber 1 to track 1 of the second room and its subscriber 2
-    /// to track 2, and ticks both of these tracks. Then each subscriber of the second room takes all packets queued for it.
+    /// Ticks the first room at this moment (milliseconds). Then feeds its subscribers 1 and 2 to the second room's tracks 1 and 2, and ticks both of
+    /// these tracks. Then each subscriber of the second room takes all its queued packets.
     pub fn tick(&mut self, moment: u64)
         ensures { (both : Both) → AreAfter self.old both → AreAfter self.new (after_tick moment both) }
     {

@@ -12,7 +12,7 @@ use Rattle.leg_switch.specs.Switching.{LegEvent, goes_out, offset_for, outgoing,
 abbrev pub IsPleased : ℕ → List (List ℕ) → Type 0
 IsPleased id packets = complaint (format_of id) (map read_packet packets) ≡ None
 
--- If it has none about the packets taken from each leg, before the bundle was made and since, it has none about any prefix of what goes out.
+-- If it has none about the packets taken from each leg, before the bundle was made and since, it has none about any prefix of the forwarded packets.
 abbrev pub BundlesPlease : Type 0
 BundlesPlease = (id first ssrc : ℕ) (before : ℕ → List (List ℕ)) (events : List LegEvent) → ssrc < 2 ^ 32
     → ((leg : ℕ) → IsPleased id (before leg ++ taken_from leg events))
@@ -20,21 +20,21 @@ BundlesPlease = (id first ssrc : ℕ) (before : ℕ → List (List ℕ)) (events
 
 -- ---- changes of leg
 
--- If the last packet that was taken from the active leg ended its frame, a key start of the chosen leg goes out: no other packet prevents
--- the change of leg.
+-- If the last packet taken from the active leg ended its frame, a key start of the chosen leg is forwarded: no other packet prevents the change of
+-- leg.
 abbrev pub KeyStartsGoOut : Type 0
 KeyStartsGoOut = (marks : Marks) (events : List LegEvent) (active chosen : ℕ) (front : List (List ℕ)) (last key : List ℕ)
     → (standing marks events).active ≡ Some active → (standing marks events).chosen ≡ chosen
     → taken_from active events ≡ front ++ last ∷ [] → marks.end last ≡ true → marks.key key ≡ true
     → goes_out marks (standing marks events) chosen key ≡ true
 
--- A leg that becomes active after another continues at the last timestamp plus 3,000 (modulo 2 ^ 32, as RTP's timestamps are).
+-- A leg that becomes active after another continues at the last timestamp plus 3,000, modulo 2^32.
 abbrev pub ChangesStep : Type 0
 ChangesStep = (active last own : ℕ) → own < 2 ^ 32 → (own + offset_for (Some active) last own) % 2 ^ 32 ≡ (last + 3000) % 2 ^ 32
 
 -- ---- growth
 
--- What goes out only grows, whatever comes later: it is a prefix of all that goes out then.
+-- The forwarded packets only grow: they are a prefix of those that are forwarded later, whatever happens.
 abbrev pub OutgoingGrows : Type 0
 OutgoingGrows = (marks : Marks) (first ssrc : ℕ) (later events : List LegEvent)
     → (more : List (List ℕ)) × (outgoing marks first ssrc (later ++ events) ≡ outgoing marks first ssrc events ++ more)

@@ -1,6 +1,6 @@
--- Which of the packets that were taken from a bundle's legs go out, and with which bytes. Own rule, over RTP's fields (RFC 3550, section 5.1).
--- Legs are counted from 1. Lists of events have the newest first; lists of packets that were taken or go out have the oldest first.
--- The code stores none of these lists.
+-- Which packets taken from a bundle's legs are forwarded, and with which bytes. Own rule, over RTP's fields (RFC 3550, section 5.1). Legs are
+-- counted from 1. Lists of events have the newest first; lists of taken or forwarded packets have the oldest first. The code stores none of these
+-- lists.
 use Rattle.std.specs.Prelude.{◌+◌, ◌-◌, ◌%◌, ◌^◌, ◌==◌, ◌&&◌, ◌||◌, ℕ, List, [], ◌∷◌, ◌++◌, map, Bool, true, false}
 use Rattle.std.specs.Prelude.{if◌then◌else◌, Option, None, Some}
 use Rattle.rtp_packet.specs.Fields.{marker_of, timestamp_of}
@@ -31,17 +31,17 @@ abbrev pub is_active : ℕ → Option ℕ → Bool
 is_active leg None = false
 is_active leg (Some active) = active == leg
 
--- another leg may become active: none is active, or the last packet that went out ended its frame
+-- another leg may become active: none is active, or the last forwarded packet ended its frame
 abbrev pub may_change : Option ℕ → Bool → Bool
 may_change None ended = true
 may_change (Some active) ended = ended
 
--- The packet goes out: its leg is active; or is chosen and may become active, and the packet is a key start.
+-- The packet is forwarded: its leg is active; or its leg is chosen and may become active, and the packet is a key start.
 abbrev pub goes_out : Marks → Standing → ℕ → List ℕ → Bool
 goes_out marks s leg packet = is_active leg s.active || (s.chosen == leg && (may_change s.active s.ended && marks.key packet))
 
--- The offset of a leg that becomes active with a packet of this timestamp. The first leg has 0; a later one makes this packet go out with
--- the last timestamp plus 3,000.
+-- The offset of a leg that becomes active with a packet of this timestamp. It is 0 for the first leg; for a later one it makes this packet's
+-- timestamp the last forwarded one plus 3,000.
 abbrev pub offset_for : Option ℕ → ℕ → ℕ → ℕ
 offset_for None last own = 0
 offset_for (Some active) last own = (last + 3000 + (2 ^ 32 - own)) % 2 ^ 32
@@ -49,7 +49,7 @@ offset_for (Some active) last own = (last + 3000 + (2 ^ 32 - own)) % 2 ^ 32
 abbrev pub offset_at : Standing → ℕ → List ℕ → ℕ
 offset_at s leg packet = if is_active leg s.active then s.offset else offset_for s.active s.timestamp (timestamp_of packet)
 
--- the timestamp that the packet goes out with
+-- the timestamp with which the packet is forwarded
 abbrev pub timestamp_at : Standing → ℕ → List ℕ → ℕ
 timestamp_at s leg packet = (timestamp_of packet + offset_at s leg packet) % 2 ^ 32
 
@@ -65,17 +65,17 @@ standing marks [] = begun
 standing marks (Chose leg ∷ past) = record (standing marks past) { chosen = leg }
 standing marks (Took leg packet ∷ past) = after_packet marks (standing marks past) leg packet
 
--- the timestamp that the packet goes out with; none if it doesn't go out
+-- the timestamp with which the packet is forwarded; none if it is dropped
 abbrev pub stamp_of : Marks → Standing → ℕ → List ℕ → Option ℕ
 stamp_of marks s leg packet = if goes_out marks s leg packet then Some (timestamp_at s leg packet) else None
 
--- ---- what goes out
+-- ---- the forwarded packets
 
 -- the packet with this timestamp and its own marker
 abbrev pub stamped : ℕ → List ℕ → Pushed
 stamped timestamp packet = record { bytes = restamped timestamp packet; marker = marker_of packet }
 
--- the packets that go out, before they are numbered
+-- the forwarded packets before they are numbered
 abbrev pub passed : Marks → List LegEvent → List Pushed
 passed marks [] = []
 passed marks (Chose leg ∷ past) = passed marks past
@@ -84,8 +84,8 @@ passed marks (Took leg packet ∷ past) =
     then passed marks past ++ stamped (timestamp_at (standing marks past) leg packet) packet ∷ []
     else passed marks past
 
--- All that goes out, whether it was drawn or is queued: the i-th packet, counted from 0, has the first number plus i, modulo 65,536, and the
--- bundle's SSRC. Only the number, the SSRC and the timestamp differ from the packet that was taken.
+-- All forwarded packets, drawn or queued. The i-th packet, counted from 0, has the first number plus i, modulo 65,536, and the bundle's SSRC. Only
+-- the number, the SSRC and the timestamp differ from the packet that was taken.
 abbrev pub outgoing : Marks → (first ssrc : ℕ) → List LegEvent → List (List ℕ)
 outgoing marks first ssrc events = map (λ packet. packet.bytes) (numbered first ssrc (passed marks events))
 

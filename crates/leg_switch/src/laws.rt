@@ -1,8 +1,8 @@
 // What follows from the definitions of what is forwarded.
 ghost use Rattle.leg_switch.specs.Laws.{BundlesPlease, ChangesStep, KeyStartsGoOut, OutgoingGrows};
 
-/// If a strict receiver has no complaint about the packets taken from each leg, before the bundle was made and since, it has none about
-/// the forwarded packets, nor about any prefix of them.
+/// Suppose that a strict receiver has no complaint about the packets taken from each leg, before the bundle was made and since. Then it has none
+/// about the forwarded packets, nor about any prefix of them.
 pub fn bundles_please_receivers()
     ensures { BundlesPlease }
 {}

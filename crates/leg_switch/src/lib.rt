@@ -1,5 +1,5 @@
-//! A bundle merges several streams, its legs, into one. This crate decides which packets of the legs are forwarded, and with which
-//! timestamps. At any time one leg is forwarded; it changes only between whole frames, at a key frame. No call allocates memory.
+//! A bundle merges several streams, its legs, into one. This crate decides which packets of the legs are forwarded, and with which timestamps. One
+//! leg is forwarded at a time. The leg changes only between whole frames, at a key frame. No call allocates memory.
 #![tactic(auto)]
 
 mod laws;

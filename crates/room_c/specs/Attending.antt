@@ -25,7 +25,7 @@ left_of attended turns = either_left attended.session turns
 abbrev pub Begins : (ℕ → Doing) → Attended → Type 0
 Begins rule attended = (turns : ℕ) → left_of attended turns ≡ rule turns
 
--- A session with this rule was opened behind a handle; or there was one, which stays; or memory ran out.
+-- The handle had no session and now has one with this rule; or it had one, which is unchanged; or memory ran out.
 abbrev pub Opens : (ℕ → Doing) → Option Attended → Option Attended → ℕ → Type 0
 Opens rule (Some old) new told = (told ≡ code_number code.HasSession) × (new ≡ Some old)
 Opens rule None None told = told ≡ code_number code.NoMemory
@@ -33,7 +33,7 @@ Opens rule None (Some new) told = (told ≡ code_number code.Done) × Begins rul
 
 -- ---- a datagram, or none
 
--- The session was busy, with a call left to make, and is unchanged; or it waited, and handled what came at this moment by its rule.
+-- The session was busy, with a call left to make, and is unchanged; or it waited, and handled by its rule what came at this moment.
 abbrev pub HearsAs : Attended → Attended → Option (List ℕ) → ℕ → PlainReply → Type 0
 HearsAs old new got moment told =
     ((told ≡ bare_of code.Busy) × (new ≡ old) × (call : Call) × ((turns : ℕ) → Asks (left_of old turns) call))
@@ -46,7 +46,7 @@ Hears (Some old) (Some new) got moment told = HearsAs old new got moment told
 
 -- ---- work
 
--- the reply for an output: a packet's length; or that all is done
+-- the reply for an output: a packet's length, or `Done`
 abbrev pub output_reply : Output → List ℕ → PlainReply
 output_reply Nothing packet = bare_of code.Done
 output_reply Packet packet = one_of code.Packet (length packet)

@@ -55,7 +55,7 @@ refusal_in r =
     if r.code == 47 then refusal.Plain else
     refusal.NoMemory
 
--- the content of a packet or of numbers is separate
+-- the bytes of a packet, or the sequence numbers, are not in the plain reply
 abbrev pub reply_in : PlainReply → Reply
 reply_in r =
     if r.code == 0 then reply.Done else
@@ -80,7 +80,7 @@ target_in r t =
 abbrev pub reached_in : PlainReply → Result Bool Refusal
 reached_in r = if r.code == 4 then Ok r.has else Err (refusal_in r)
 
--- a number that there may be, beside this code; or the refusal
+-- an optional number with this code; or the refusal
 abbrev pub number_in : ℕ → PlainReply → Result (Option ℕ) Refusal
 number_in code r = if r.code == code then Ok (there r.has r.first) else Err (refusal_in r)
 

@@ -114,7 +114,7 @@ target_reply (Ok None) = flag_of coded.Target false
 target_reply (Ok (Some target)) = flag_of coded.Target true
 target_reply (Err why) = plain_refusal why
 
--- the target is written if there is one; else `out` is unchanged
+-- a target, if there is one, is written; else `out` is unchanged
 unfoldable pub target_written : Result (Option DecodeTarget) Refusal → PlainTarget → PlainTarget
 target_written (Ok None) out = out
 target_written (Ok (Some target)) out = plain_target target
@@ -124,7 +124,7 @@ unfoldable pub reached_reply : Result Bool Refusal → PlainReply
 reached_reply (Ok reached) = flag_of coded.Reached reached
 reached_reply (Err why) = plain_refusal why
 
--- a number that there may be
+-- an optional number, with its code
 unfoldable pub number_reply : Code → Result (Option ℕ) Refusal → PlainReply
 number_reply c (Ok None) = bare_of c
 number_reply c (Ok (Some number)) = one_of c number

@@ -15,7 +15,7 @@ pub const PACKET_ROOM: usize = 2048;
 /// The least length of a buffer for sequence numbers, in numbers.
 pub const NAMES_ROOM: usize = 1024;
 
-/// Writes a packet to the start of `out`, of at least 2,048 bytes.
+/// Writes a packet to the start of `out`, which has at least 2,048 bytes.
 pub fn give_packet(packet: &PacketBuf, out: &mut [u8]) -> PlainReply
     requires { 2048 ≤ length out.old }
     ensures tells { result ≡ one_of code.Packet (length packet.now) }
@@ -27,7 +27,7 @@ pub fn give_packet(packet: &PacketBuf, out: &mut [u8]) -> PlainReply
     PlainReply::with(Code::Packet, bytes.len() as u64)
 }
 
-/// Writes a reply's packet, if any, to the start of `out`, of at least 2,048 bytes. Returns the reply as numbers.
+/// Writes a reply's packet, if any, to the start of `out`, which has at least 2,048 bytes. Returns the reply as numbers.
 #[tactic(auto, unfolding(crate::specs::Telling::plain_of))]
 pub fn give_bytes(answer: &Reply, scratch: &Scratch, out: &mut [u8]) -> PlainReply
     requires { 2048 ≤ length out.old }
@@ -43,7 +43,7 @@ pub fn give_bytes(answer: &Reply, scratch: &Scratch, out: &mut [u8]) -> PlainRep
     }
 }
 
-/// Writes a reply's sequence numbers, if any, to the start of `out`, of at least 1,024. Returns the reply as numbers.
+/// Writes a reply's sequence numbers, if any, to the start of `out`, which has at least 1,024 items. Returns the reply as numbers.
 #[tactic(auto, unfolding(crate::specs::Telling::plain_of))]
 pub fn give_numbers(answer: &Reply, scratch: &Scratch, out: &mut [u16]) -> PlainReply
     requires { 1024 ≤ length out.old }

@@ -30,8 +30,8 @@ impl Attended {
         }
     }
 
-    /// Begins a turn of the session with this datagram or, if `came` is false, with none. `Busy`: the session still has a call to make;
-    /// nothing changes.
+    /// Begins a turn of the session with this datagram or, if `came` is false, with none. `Busy`: the session still has a call to make, and nothing
+    /// changes.
     pub fn hear(&mut self, came: bool, moment: u64, bytes: &[u8]) -> PlainReply
         requires { length bytes.now ≤ 2048 }
         ensures { HearsAs self.old self.new (datagram came bytes.now) moment result }

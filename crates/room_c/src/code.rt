@@ -1,7 +1,7 @@
 // The codes of replies and their numbers for C.
 
-/// The kind of a reply, as a number that C reads: 0 to 3 for accepted calls, 4 to 7 for answers to a question, 16 to 23 for verdicts on a frame,
-/// 32 to 48 for refusals of the room, 64 to 71 for errors found before the room is called. `has`, `first`, `second` are its fields. Own rule.
+/// The kind of a reply, as a number that C reads: 0 to 3 for accepted calls, 4 to 7 for answers to a question, 16 to 23 for verdicts on a frame, 32 to 48 for
+/// refusals of the room, 64 to 71 for errors found before the room is called. Each code says what `has`, `first` and `second` mean. Own rule.
 #[derive(Clone, Copy, Debug, PartialEq, Eq)]
 pub enum Code {
     /// The call was done.
@@ -14,55 +14,55 @@ pub enum Code {
     Key = 3,
     /// `has`: whether the subscriber's wish is reached.
     Reached = 4,
-    /// `has`: whether the subscriber is sent a decode target. If so, the target was written.
+    /// `has`: whether the subscriber is sent a decode target. If so, that target was written.
     Target = 5,
     /// `has`: whether a tick of the track will be due. If so, `first` is the moment, in milliseconds.
     Due = 6,
-    /// `has`: whether a frame of the track became whole. If so, `first` is the newest one's number.
+    /// `has`: whether the track had a whole frame yet. If so, `first` is the newest frame's number.
     Newest = 7,
     /// The frame was forwarded.
     Passed = 16,
-    /// The frame isn't present in the subscriber's target `first`. If `has` is false, there is no target.
+    /// The frame isn't present in the subscriber's target, whose index is `first`. If `has` is false, the subscriber has no target.
     NotOfTarget = 17,
-    /// A reference `first` frame numbers back is before the epoch, which began at frame `second`.
+    /// The frame refers to a frame `first` numbers back, which is before the epoch's first frame, number `second`.
     Behind = 18,
     /// The frame refers to frame `first`, which wasn't forwarded.
     Reference = 19,
-    /// The queue was too full: it had `first` packets, and the frame has `second`.
+    /// The subscriber's queue was too full: it had `first` packets, and the frame has `second`.
     Full = 20,
-    /// The target's chain was broken at frame `first`: its previous frame `second` wasn't forwarded.
+    /// The target's chain broke at frame `first`: the chain's previous frame, number `second`, wasn't forwarded.
     Link = 21,
-    /// No target has been open since frame `first`.
+    /// No target has been open for the subscriber since frame `first`.
     Unopened = 22,
-    /// No whole frame with this number came since the subscriber joined. `first`: the least greater number of a frame that came. If `has` is true,
-    /// `second`: the greatest lower number of a frame that came.
+    /// No whole frame with this number came since the subscriber joined. `first`: the next higher number of a frame that came. `second`, if `has` is
+    /// true: the next lower number of a frame that came.
     Hole = 23,
     /// No live track has this number, or the subscriber's track ended.
     NoTrack = 32,
     /// No live subscriber has this number.
     NoSubscriber = 33,
-    /// The number is at most `first`, the highest that was ever live.
+    /// The number is at most `first`, the highest number that was ever live.
     NumberUsed = 34,
-    /// `first` of them are live already, which is the maximum.
+    /// `first` tracks or subscribers are live already, which is the maximum.
     TooMany = 35,
     /// The id of the header extension element is 0 or 15.
     BadExtensionId = 36,
     /// The packet has `first` bytes, more than 1,500.
     TooBig = 37,
     /// The packet isn't RTP (RFC 3550, section 5.1), or it is a retransmission without an original sequence number (RFC 4588, section 4). `first` is
-    /// the fault: 0: too short; 1: the version; 2: the CSRCs; 3: the header extension; 4: the padding; 5: no original sequence number.
+    /// the fault. 0: too short; 1: the version; 2: the CSRCs; 3: the header extension; 4: the padding; 5: no original sequence number.
     Unreadable = 38,
     /// The packet's SSRC is `first`, but the track's is `second`.
     WrongSsrc = 39,
     /// The packet's unwrapped sequence number is 2^46 or more.
     Spent = 40,
-    /// The packet's unwrapped sequence number is below `first`, which the track waits for.
+    /// The packet's unwrapped sequence number is below `first`, the number that the track waits for.
     Late = 41,
     /// A packet with this sequence number is buffered already.
     Repeat = 42,
     /// No packet is queued for the subscriber.
     Empty = 43,
-    /// The packet isn't kept. `second`: the number of the next take. `first`: the oldest kept number; if none is kept, equal to `second`.
+    /// No kept packet has the number. `first`: the oldest kept number. `second`: the number of the next take. If no packet is kept, both are equal.
     NotKept = 44,
     /// The number is above `first`, the newest frame's number. If `has` is false, no frame came.
     Ahead = 45,
@@ -76,9 +76,9 @@ pub enum Code {
     NoRoom = 64,
     /// The handle already has a room.
     HasRoom = 65,
-    /// The buffer is too small: fewer than 2,048 bytes, or fewer than 1,024 sequence numbers.
+    /// The buffer is too small: less than 2,048 bytes for a packet, or less than 1,024 items for sequence numbers.
     NoSpace = 66,
-    /// The packet has more than 2,048 bytes or, if it is to be wrapped, more than 2,046.
+    /// The packet has more than 2,048 bytes or, to be wrapped, more than 2,046.
     TooLong = 67,
     /// The handle has no session.
     NoSession = 68,

@@ -5,7 +5,7 @@ ghost use Rattle.std.specs.Box.Ownership.{box_owns};
 use std::alloc::Allocator;
 use std::marker::Model;
 
-/// The parts of a `Box`, which can be seen. It owns what a box with this pointer owns.
+/// The parts of a `Box`, as fields that contracts can see. They own what a box with this pointer owns.
 pub struct Parts<T, A: Allocator> {
     pub ptr: *mut T,
     pub alloc: A,

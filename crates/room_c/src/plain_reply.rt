@@ -7,8 +7,8 @@ ghost use Rattle.room_c.specs.Telling.{bare_of, flag_of, number_of_fault, one_of
 use crate::code::Code;
 use sfu_base::{Refusal, Reply, RtpFault, Scratch, Verdict};
 
-/// A reply as numbers: its code, a flag, and two numbers. [`Code`] gives their meaning for each code; a number without a meaning is 0. The flag is
-/// a yes or no, or says whether an optional number is present.
+/// A reply as numbers: its code, a flag, and two numbers. [`Code`] gives their meaning for each code. A number without a meaning is 0. The flag is a
+/// yes or no, or says whether an optional number is present.
 #[repr(C)]
 #[derive(Clone, Copy, Debug)]
 pub struct PlainReply {

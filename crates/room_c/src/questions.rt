@@ -13,8 +13,8 @@ use room_core::DecodeTarget;
 use sfu_base::Refusal;
 use std::alloc::Global;
 
-/// Returns whether a subscriber is sent a decode target, as `Room::target_of` does: `Target`. If so, `has` is true and the target is
-/// written to `out`; else `out` is unchanged. Refusal: `NoSubscriber`.
+/// Writes the result of `Room::target_of`, the decode target that a subscriber is sent, to `out`. Returns `Target` with `has` true. If there is no
+/// target, `has` is false and `out` is unchanged. Refusal: `NoSubscriber`.
 #[unsafe(no_mangle)]
 pub extern "C" fn zoftemar_target_of(
     alloc: Global,
@@ -35,7 +35,7 @@ pub extern "C" fn zoftemar_target_of(
     }
 }
 
-/// Returns in `has` whether a subscriber is sent the best decode target that its wish allows, as `Room::reaches_wish` does: `Reached`. Refusal:
+/// Returns `Reached`. `has` is the result of `Room::reaches_wish`: whether a subscriber is sent the best decode target that its wish allows. Refusal:
 /// `NoSubscriber`.
 #[unsafe(no_mangle)]
 pub extern "C" fn zoftemar_reaches_wish(
@@ -56,8 +56,8 @@ pub extern "C" fn zoftemar_reaches_wish(
     }
 }
 
-/// Returns the moment at which a tick of a track gives up a gap, as `Room::due` does: `Due`. If there is one, `has` is true and `first` is the
-/// moment. Refusal: `NoTrack`.
+/// Returns `Due`. `first` is the result of `Room::due`: the moment at which a tick of a track gives up a gap. If there is none, `has` is false.
+/// Refusal: `NoTrack`.
 #[unsafe(no_mangle)]
 pub extern "C" fn zoftemar_due(alloc: Global, room: &mut Handle, track: u32) -> PlainReply
     ensures asks { AsksDue room.old.held.home track result }
@@ -73,8 +73,8 @@ pub extern "C" fn zoftemar_due(alloc: Global, room: &mut Handle, track: u32) -> 
     }
 }
 
-/// Returns the number of the newest frame that a track made whole, as `Room::newest_frame` does: `Newest`. If there is one, `has` is true and
-/// `first` is the number. Refusal: `NoTrack`.
+/// Returns `Newest`. `first` is the result of `Room::newest_frame`: the number of a track's newest whole frame. If there is none, `has` is false.
+/// Refusal: `NoTrack`.
 #[unsafe(no_mangle)]
 pub extern "C" fn zoftemar_newest_frame(alloc: Global, room: &mut Handle, track: u32) -> PlainReply
     ensures asks { AsksNewest room.old.held.home track result }

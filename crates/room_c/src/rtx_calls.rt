@@ -15,15 +15,15 @@ use sfu_base::{PacketBuf, Refusal};
 /// The greatest length of a packet that can be wrapped, in bytes.
 const MOST_WRAPPED: usize = 2046;
 
-/// The fault's number with `Unreadable`, if a retransmission's payload has no original sequence number (fewer than two bytes).
+/// The number of the fault with `Unreadable` if a retransmission has no original sequence number (its payload has fewer than two bytes).
 const NO_ORIGINAL: u64 = 5;
 
 /// Every payload type is below this number.
 const PAYLOAD_TYPES: u8 = 128;
 
-/// Wraps a packet for a retransmission stream, with its sequence number `number` there, as `wrap` of `rtx_stream` does. `Packet`: the wrapped packet
-/// is at the start of `out`. Else nothing is written, and the code is the first that applies. `NoSpace`: `out` has fewer than 2,048 bytes.
-/// `TooLong`: the packet has more than 2,046 bytes. `BadStream`: the payload type is 128 or more. `Unreadable`: the packet isn't RTP.
+/// Wraps a packet for a retransmission stream, as `wrap` of `rtx_stream` does. On that stream it has the sequence number `number`. `Packet`: the
+/// wrapped packet is at the start of `out`. Else nothing is written, and the first code that applies is returned. `NoSpace`: `out` has fewer than
+/// 2,048 bytes. `TooLong`: the packet has more than 2,046 bytes. `BadStream`: the payload type is 128 or more. `Unreadable`: the packet isn't RTP.
 #[unsafe(no_mangle)]
 pub extern "C" fn zoftemar_wrap(
     bytes: &[u8],
@@ -61,10 +61,10 @@ pub extern "C" fn zoftemar_wrap(
     }
 }
 
-/// Unwraps a retransmission packet, as `unwrap` of `rtx_stream` does. `Packet`: the original packet, with this SSRC and payload type, is at
-/// the start of `out`. Else nothing is written, and the code is the first that applies. `NoSpace`: `out` has fewer than 2,048 bytes.
-/// `TooLong`: `bytes` has more than 2,048 bytes. `BadStream`: the payload type is 128 or more. `Unreadable`: `bytes` isn't RTP, or has no original
-/// sequence number.
+/// Unwraps a retransmission packet, as `unwrap` of `rtx_stream` does. `Packet`: the original packet, with this SSRC and payload type, is at the
+/// start of `out`. Else nothing is written, and the first code that applies is returned. `NoSpace`: `out` has fewer than 2,048 bytes. `TooLong`:
+/// `bytes` has more than 2,048 bytes. `BadStream`: the payload type is 128 or more. `Unreadable`: `bytes` isn't RTP, or has no original sequence
+/// number.
 #[unsafe(no_mangle)]
 pub extern "C" fn zoftemar_unwrap(
     bytes: &[u8],

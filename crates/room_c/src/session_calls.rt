@@ -17,8 +17,8 @@ use session_steps::Output;
 use sfu_base::PacketBuf;
 use std::alloc::Global;
 
-/// Begins a turn of a session with a datagram received at `moment`, in milliseconds, as `received` of `Session` does: `Done`. `TooLong`: the
-/// datagram has more than 2,048 bytes. `NoSession`. `Busy`: the session still has a call to make. With each code but `Done` nothing changes.
+/// Begins a turn of a session with a datagram received at `moment`, in milliseconds, as `Session::received` does. Returns `Done`. With any other code
+/// nothing changes. `TooLong`: more than 2,048 bytes. `NoSession`: the handle has no session. `Busy`: the session still has a call to make.
 #[unsafe(no_mangle)]
 pub extern "C" fn zoftemar_session_received(
     alloc: Global,
@@ -42,8 +42,8 @@ pub extern "C" fn zoftemar_session_received(
     }
 }
 
-/// Begins a turn of a session at `moment`, in milliseconds, if no datagram came: `Done`. `NoSession`. `Busy`: the session still has a
-/// call to make. With each code but `Done` nothing changes.
+/// Begins a turn of a session at `moment`, in milliseconds, if no datagram came. Returns `Done`. With any other code nothing changes. `NoSession`:
+/// the handle has no session. `Busy`: the session still has a call to make.
 #[unsafe(no_mangle)]
 pub extern "C" fn zoftemar_session_waited(
     alloc: Global,
@@ -62,9 +62,9 @@ pub extern "C" fn zoftemar_session_waited(
     }
 }
 
-/// Makes a session's calls on a room, up to the next datagram to send. `Packet`: that datagram is at the start of `out`. `Done`: no call
-/// is left, and the session waits for the next datagram. `NoSpace`: `out` has fewer than 2,048 bytes. `NoSession`, `NoRoom`. With the last three
-/// codes nothing changes.
+/// Makes a session's calls on a room, up to the next datagram to send. `Packet`: that datagram is at the start of `out`. `Done`: no call is left, and
+/// the session waits for the next datagram. With any other code nothing changes. `NoSpace`: `out` has fewer than 2,048 bytes. `NoSession`: the handle
+/// has no session. `NoRoom`: the handle has no room.
 #[unsafe(no_mangle)]
 pub extern "C" fn zoftemar_session_work(
     alloc: Global,

@@ -15,8 +15,8 @@ use rtx_stream::Rtx;
 use session_steps::{PublisherSession, SubscriberSession};
 use std::alloc::Global;
 
-/// Opens a session of a track's publisher behind a handle that has none, as `PublisherSession::new` does: `Done`. `HasSession`: the handle
-/// already has a session; nothing changes. `NoMemory`: the handle still has none. `ssrc` is the SSRC of the publisher's packets.
+/// Opens a session of a track's publisher behind a handle that has none, as `PublisherSession::new` does. Returns `Done`. `ssrc` is the SSRC of the
+/// publisher's packets. `HasSession`: the handle already has a session; nothing changes. `NoMemory`: the handle still has no session.
 #[unsafe(no_mangle)]
 pub extern "C" fn zoftemar_open_publisher(
     alloc: Global,
@@ -33,8 +33,8 @@ pub extern "C" fn zoftemar_open_publisher(
     )
 }
 
-/// Opens a session of a subscriber whose retransmissions are sent as the packets were first sent. `ssrc` is the SSRC of the media sent to
-/// the subscriber. The codes are those of `zoftemar_open_publisher`.
+/// Opens a session of a subscriber, in which each retransmission has the bytes of the packet first sent. `ssrc` is the SSRC of the media sent to the
+/// subscriber. The codes are those of `zoftemar_open_publisher`.
 #[unsafe(no_mangle)]
 pub extern "C" fn zoftemar_open_subscriber(
     alloc: Global,
@@ -51,8 +51,8 @@ pub extern "C" fn zoftemar_open_subscriber(
     )
 }
 
-/// Opens a session of a subscriber, as `zoftemar_open_subscriber` does, but sends retransmissions in a separate stream (RFC 4588), numbered
-/// from 0. `BadStream`: the stream's payload type is 128 or more, or the stream has the SSRC of the media; nothing changes.
+/// Opens a session of a subscriber, as `zoftemar_open_subscriber` does, but sends retransmissions in a separate stream (RFC 4588), numbered from 0.
+/// `BadStream`: the stream's payload type is 128 or more, or its SSRC is that of the media; nothing changes.
 #[unsafe(no_mangle)]
 pub extern "C" fn zoftemar_open_rtx_subscriber(
     alloc: Global,

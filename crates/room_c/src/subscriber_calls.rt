@@ -74,7 +74,7 @@ pub extern "C" fn zoftemar_aim(
     room.serve(alloc, seat, &Call::Aim { subscriber, wish })
 }
 
-/// Takes the oldest packet queued for a subscriber, as `Room::take` does, and writes it to the start of `out`: `Packet`. Refusals:
+/// Takes the oldest packet queued for a subscriber, as `Room::take` does, and writes it to the start of `out`. Returns `Packet`. Refusals:
 /// `NoSubscriber`, `Empty`. `NoSpace`: `out` has fewer than 2,048 bytes; nothing changes.
 #[unsafe(no_mangle)]
 pub extern "C" fn zoftemar_take(
@@ -108,8 +108,8 @@ pub extern "C" fn zoftemar_take(
     }
 }
 
-/// Writes to the start of `out` a packet that was taken before, with this sequence number, as `Room::resend` does for a NACK (RFC 4585, section
-/// 6.2.1): `Packet`. Refusals: `NoSubscriber`, `NotKept`. `NoSpace`: `out` has fewer than 2,048 bytes; nothing changes.
+/// Writes the packet that was taken with this sequence number to the start of `out` again, as `Room::resend` does for a NACK (RFC 4585, section
+/// 6.2.1). Returns `Packet`. Refusals: `NoSubscriber`, `NotKept`. `NoSpace`: `out` has fewer than 2,048 bytes; nothing changes.
 #[unsafe(no_mangle)]
 pub extern "C" fn zoftemar_resend(
     alloc: Global,

@@ -15,8 +15,8 @@ use crate::plain_reply::PlainReply;
 use sfu_base::{Call, Kind};
 use std::alloc::Global;
 
-/// Publishes a plain track, as `Room::publish` does. At a gap in sequence numbers the track waits for `hold` milliseconds. Refusals:
-/// `NumberUsed`, `TooMany`, `NoMemory`.
+/// Publishes a plain track, as `Room::publish` does. The track waits `hold` milliseconds at a gap in sequence numbers. Refusals: `NumberUsed`,
+/// `TooMany`, `NoMemory`.
 #[unsafe(no_mangle)]
 pub extern "C" fn zoftemar_publish_plain(
     alloc: Global,
@@ -81,7 +81,7 @@ pub extern "C" fn zoftemar_unpublish(
     room.serve(alloc, seat, &Call::Unpublish { track })
 }
 
-/// Brings a packet to a track at `moment`, in milliseconds, as `Room::packet` does. Refusals: `NoTrack`, `TooBig`, `Unreadable`,
+/// Adds a packet that arrives at `moment`, in milliseconds, to a track, as `Room::packet` does. Refusals: `NoTrack`, `TooBig`, `Unreadable`,
 /// `WrongSsrc`, `Spent`, `Late`, `Repeat`. `TooLong`: the packet has more than 2,048 bytes; nothing changes.
 #[unsafe(no_mangle)]
 pub extern "C" fn zoftemar_packet(
@@ -114,7 +114,7 @@ pub extern "C" fn zoftemar_packet(
     }
 }
 
-/// Brings a track to `moment`, in milliseconds, with no packet, as `Room::tick` does. Refusal: `NoTrack`.
+/// Advances a track's time to `moment`, in milliseconds, as `Room::tick` does. Refusal: `NoTrack`.
 #[unsafe(no_mangle)]
 pub extern "C" fn zoftemar_tick(
     alloc: Global,
@@ -136,7 +136,7 @@ pub extern "C" fn zoftemar_tick(
     }
 }
 
-/// Writes to the start of `out` the sequence numbers that a track waits for, as `Room::missing` does: `Names`. Refusal: `NoTrack`. `NoSpace`:
+/// Writes the sequence numbers that a track waits for to the start of `out`, as `Room::missing` does. Returns `Names`. Refusal: `NoTrack`. `NoSpace`:
 /// `out` has fewer than 1,024 items; nothing changes.
 #[unsafe(no_mangle)]
 pub extern "C" fn zoftemar_missing(
@@ -170,7 +170,7 @@ pub extern "C" fn zoftemar_missing(
     }
 }
 
-/// Returns in `has` whether to ask a track's publisher for a key frame, as `Room::key_wanted` does: `Key`. Refusal: `NoTrack`.
+/// Returns `Key`. `has` is the result of `Room::key_wanted`: whether to ask a track's publisher for a key frame. Refusal: `NoTrack`.
 #[unsafe(no_mangle)]
 pub extern "C" fn zoftemar_key_wanted(
     alloc: Global,

@@ -1,4 +1,4 @@
--- The accepted calls that the tables of a room stand for. Lists of calls have the newest first.
+-- The accepted calls that the tables of a room represent. Lists of calls have the newest first.
 use Rattle.std.specs.Prelude.{◌≡◌, ◌≤◌, ◌<◌, ℕ, Bool, true, List, Option, None, Some, is_some, nat_eq}
 use Rattle.indexmap.specs.IndexMap.{get, index_map_len, spare}
 use Rattle.sfu_base.specs.Answer.{answer_of}
@@ -26,7 +26,7 @@ use Rattle.room_core.specs.Follows.{Follows, IsFresh}
 use Rattle.room_core.specs.Passing.{Both}
 use Rattle.room_core.specs.Stepping.{IsAt, IsBegun, kind_by}
 
--- ---- what the tables stand for
+-- ---- what the tables represent
 
 -- a live track that was published like this, with this kind, hold, events and items, and with or without a pending plea
 pub record IsTrackOf (track : LiveTrack) (p : Published) (kind : Kind) (hold : ℕ) (events : List Event) (items : List Item) (pleaded : Bool) : Type 0 where
@@ -62,7 +62,7 @@ pub record IsAfter (content : Content) (past : List Call) : Type 0 where
 
 -- ---- what a call does
 
--- Whatever calls were accepted before, the reply is the answer after them, and the content is in the state that the call then leaves.
+-- For any calls that were accepted before: the reply is the answer after them, and the content is in the state that the call then leaves.
 pub record Does (old new : Content) (call : Call) (reply : Reply) (bytes numbers : List ℕ) : Type 0 where
   pub answered : (past : List Call) → IsAfter old past → answer_of reply bytes numbers ≡ answer past call
   pub done : (past : List Call) → IsAfter old past → IsAfter new (after (answer past call) call past)
@@ -118,6 +118,6 @@ TakesMemory (call.Publish track kind ssrc hold) = Unit {0}
 TakesMemory (call.Join subscriber track ssrc first wish) = Unit {0}
 TakesMemory other = ⊥
 
--- whatever calls were accepted before, this one is too
+-- whatever calls were accepted before, the call is accepted after them
 abbrev pub IsAcceptedAfter : Content → Call → Type 0
 IsAcceptedAfter content call = (past : List Call) → IsAfter content past → is_accepted (answer past call) ≡ true

@@ -1,4 +1,4 @@
--- The timeline that a subscriber's part of a room stands for, and how each event changes that part. Lists of events have the newest first.
+-- The timeline that a subscriber's part of a room represents, and how each event changes that part. Lists of events have the newest first.
 use Rattle.std.specs.Prelude.{◌≡◌, ℕ, ◌+◌, ◌%◌, Bool, true, false, List, [], ◌∷◌, ◌++◌, length, map, take, drop, Option, None, Some, Result, Ok, Err}
 use Rattle.sfu_base.specs.Answer.{is_memory}
 use Rattle.sfu_base.specs.declared.call.Kind.{Kind}
@@ -71,11 +71,11 @@ abbrev pub FollowsPacket : Feed → Feed → List ℕ → Type 0
 FollowsPacket old new bytes = (kind : Kind) (to : Subscriber) (events : List Happened) → Follows kind old to events
     → Follows kind new to (PlainPacket (packet_of bytes) ∷ events)
 
--- the frame with this meaning and these packets, as it was read by this structure
+-- the frame with this meaning and these packets, read with this structure
 abbrev pub frame_by : FrameMeaning → TemplateStructure → List (List ℕ) → Frame TemplateStructure
 frame_by meaning structure packets = record { meaning = meaning; structure = structure; packets = map packet_of packets }
 
--- A frame of the track became whole, and its number is above those of all frames before. It was read by the structure that is in force.
+-- A frame of the track became whole, with a number above those of all frames before. It was read with the structure in force.
 abbrev pub FollowsFrame : Feed → Feed → FrameMeaning → Seen → Type 0
 FollowsFrame old new meaning track = (kind : Kind) (to : Subscriber) (structure : TemplateStructure) (events : List Happened)
     → kind_by track.layers ≡ kind → structure_in track.layers ≡ Some structure
@@ -132,7 +132,7 @@ Tells feed number result = (kind : Kind) (to : Subscriber) (events : List Happen
 abbrev pub pushed_all : List Packet → Ring → Ring
 pushed_all packets ring = record ring { queued = ring.queued ++ map bytes_of (numbered (ring.next + length ring.queued) ring.ssrc packets) }
 
--- they are the packets of a frame; the last one's marker is set if the frame ends the target's layer
+-- they are the packets of a frame; the last one gets the marker if the frame ends the temporal unit for the target
 abbrev pub PushesFrame : Ring → Ring → List Packet → Bool → Type 0
 PushesFrame old new packets is_top = new ≡ pushed_all (marked is_top packets) old
 

@@ -30,8 +30,8 @@ use Rattle.room_core.specs.Views.{events_for}
 
 -- ---- of the subscriber with the number n, which joined a layered track like this
 
--- A strict receiver that sees only bytes has no complaint about the packets that were taken, nor about all packets, taken or queued, nor about
--- any prefix of these.
+-- A strict receiver, which sees only bytes, has no complaint about the packets that were taken, nor about any prefix of all packets that are taken or
+-- queued.
 pub record PleasesReceivers (id n : ℕ) (j : Joined) (past : List Call) : Type 0 where
   pub given : complaint (format_of id) (map read_packet (given_to n past)) ≡ None
   pub fronts : (sends queued : List (List ℕ)) → sends ++ queued ≡ going_out n j past
@@ -60,8 +60,8 @@ pub record CanBeAsked (wish : Wish) (events : List Happened) (number : ℕ) : Ty
   pub has_come : number ≤ newest
   pub is_recent : newest < number + 4096
 
--- What the cause of each frame's number says of the frame was true when it came. The path of each withheld frame ends at a root, and each step
--- of a path has the cause of its number. A call of `why` returns the cause, if and only if it can be requested.
+-- The cause of each frame's number states something about the frame that was true when the frame came. The path of each withheld frame ends at a
+-- root, and each step of a path has the cause of its number. A call of `why` returns the cause if and only if it can be requested.
 pub record ShowsCauses (n : ℕ) (wish : Wish) (events : List Happened) (past : List Call) : Type 0 where
   pub says : (since before : List Happened) (frame : Frame TemplateStructure) → events ≡ since ++ WholeFrame frame ∷ before
       → Says (standing wish before) frame.meaning (length frame.packets) (cause wish events frame.meaning.number)
@@ -78,9 +78,9 @@ pub record IsForwarded (id n : ℕ) (j : Joined) (past : List Call) : Type 0 whe
 
 -- ---- of every subscriber
 
--- What its takes returned is a prefix of all packets that are sent, which have consecutive sequence numbers. The next take returns the next of
--- these, and is refused if there is none. A resend returns bytes if and only if they are those that one of the last 1,024 takes returned, and the
--- resend has their number.
+-- The packets that are sent have consecutive sequence numbers, and the takes returned a prefix of them. The next take returns the packet after this
+-- prefix, or is refused if there is none. A resend returns these bytes if and only if one of the last 1,024 takes returned them, and their number is
+-- the resend's.
 pub record IsNumbered (n : ℕ) (j : Joined) (past : List Call) : Type 0 where
   pub given : given_to n past ≡ taken_of n j past
   pub consecutive : AreInOrder (going_out n j past)

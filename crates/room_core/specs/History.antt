@@ -12,12 +12,12 @@ pub record Entry : Type 0 where
   pub call : Call
   pub starved : Bool
 
--- whether an answer is other than a refusal
+-- whether an answer isn't a refusal
 abbrev pub is_accepted : Answer → Bool
 is_accepted (Refused why) = false
 is_accepted answered = true
 
--- the accepted calls after one more with this answer: a refused one isn't among them
+-- the accepted calls after one more with this answer; a refused call isn't added
 abbrev pub after : Answer → Call → List Call → List Call
 after answered call past = if is_accepted answered then call ∷ past else past
 

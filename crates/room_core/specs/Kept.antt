@@ -1,4 +1,4 @@
--- What a note says.
+-- A note's seat and call.
 use Rattle.std.specs.Prelude.{ℕ}
 use Rattle.sfu_base.specs.declared.call.Call.{Call}
 use Rattle.room_core.specs.declared.note.Note.{Note}

@@ -1,4 +1,4 @@
--- What a track makes is offered to each of its subscribers, and to no others.
+-- The packets and frames that a track makes are offered to each of its subscribers, and to no others.
 use Rattle.std.specs.Prelude.{◌≡◌, ℕ, ◌&&◌, not, Bool, true, false, List, [], ◌∷◌, ◌++◌, Option, None, Some}
 use Rattle.sfu_base.specs.declared.call.Kind.{Kind}
 use Rattle.sfu_base.specs.declared.call.Kind.TheVariants.{Plain, Layered}
@@ -59,7 +59,7 @@ abbrev pub PleaGoesOn : Kind → List Item → List Item → List Item → Bool 
 PleaGoesOn kind older done all old new =
     (plea : Bool) → old ≡ (plea && not (makes_key kind older done)) → new ≡ (plea && not (makes_key kind older all))
 
--- after older items, and those of this call that were done, the rest was processed
+-- after older items, and the processed items of this call, the rest was processed
 pub record WorksOffFrom (events : List Event) (kind : Kind) (new : Seen) (number : ℕ) (before now : ℕ → Option LiveSubscriber) (plea plea' : Bool)
     (older done all : List Item) : Type 0 where
   pub at : IsAt events new (all ++ older)

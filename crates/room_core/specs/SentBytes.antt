@@ -14,7 +14,7 @@ use Rattle.room_core.specs.Views.{events_for, subscriber_by}
 abbrev pub outgoing_bytes : Kind → Subscriber → List Happened → List (List ℕ)
 outgoing_bytes kind to events = map bytes_of (outgoing (sent kind) to events)
 
--- what was taken is a prefix of these
+-- the packets taken, a prefix of these
 abbrev pub taken_bytes : Kind → Subscriber → List Happened → List (List ℕ)
 taken_bytes kind to events = map bytes_of (taken (sent kind) to events)
 

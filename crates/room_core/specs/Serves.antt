@@ -13,22 +13,22 @@ use Rattle.room_core.specs.WellFormed.{AreWellFormed}
 use Rattle.room_core.specs.Headline.{Headline}
 use Rattle.room_core.specs.Sendable.{IsSendable}
 
--- The room stands for this history: its content is in the state that the accepted calls leave, these calls are well formed, and its recorder,
--- if it shows its calls, has the seats and calls of the entries that weren't starved.
+-- The room represents this history: its content is in the state that the accepted calls leave, these calls are well formed, and its recorder, if it
+-- shows its calls, has the seats and calls of the entries that weren't starved.
 pub record Stands {R : Type 0} (noted : R → Option (List Noted)) (room : Room R) (history : List Entry) : Type 0 where
   pub content_is : IsAfter room.content (accepted history)
   pub well_formed : AreWellFormed (accepted history)
   pub keeps : IfSome (noted room.recorder) (λ notes. notes ≡ kept history)
 
--- Whatever history the room stood for: the reply is that history's, unless it is `NoMemory`; and the room then stands for the history with this
--- entry, which is starved exactly if the reply is `NoMemory`.
+-- For each history that the room represented: the reply is that history's, unless it is `NoMemory`. Afterwards the room represents the history with
+-- this entry, which is starved exactly if the reply is `NoMemory`.
 pub record Serves {R : Type 0} (noted : R → Option (List Noted)) (old new : Room R) (seat : ℕ) (call : Call) (reply : Reply)
     (bytes numbers : List ℕ) : Type 0 where
   pub answered : (history : List Entry) → Stands noted old history → is_starved reply ≡ false → answer_of reply bytes numbers ≡ reply_of history call
   pub stands : (history : List Entry) → Stands noted old history
       → Stands noted new (history ++ record { seat = seat; call = call; starved = is_starved reply } ∷ [])
 
--- whatever history the room stands for, its subscribers were sent what the statements promise
+-- `Headline` holds for each history that the room represents
 abbrev pub StandsHeadline : {R : Type 0} → (R → Option (List Noted)) → Room R → Type 0
 StandsHeadline noted room = (history : List Entry) → Stands noted room history → Headline (accepted history)
 
@@ -40,13 +40,13 @@ recorder_may_refuse may_refuse room = may_refuse room.recorder
 abbrev pub MemoryHasCause : {R : Type 0} → (R → Bool) → Room R → Call → Reply → Type 0
 MemoryHasCause may_refuse room call reply = IsTrue (is_starved reply) → TakesMemory call ⊎ IsTrue (recorder_may_refuse may_refuse room)
 
--- `NoMemory` is the last refusal: whatever history the room stood for, it is the reply only to a call that the history accepts, or
--- if the recorder may refuse.
+-- `NoMemory` is the last refusal: for each history that the room represented, it is the reply only to a call that the history accepts, or if the
+-- recorder may refuse.
 abbrev pub MemoryIsLast : {R : Type 0} → (R → Option (List Noted)) → (R → Bool) → Room R → Call → Reply → Type 0
 MemoryIsLast noted may_refuse room call reply = (history : List Entry) → Stands noted room history → IsTrue (is_starved reply)
     → IsTrue (is_accepted (reply_of history call)) ⊎ IsTrue (recorder_may_refuse may_refuse room)
 
--- What a call on a room does and replies, whatever the scratch contains: the call leaves nothing there.
+-- What a call on a room does and replies, whatever the scratch contains. The call leaves nothing in the scratch.
 pub record DoesAsServe {R : Type 0} (noted : R → Option (List Noted)) (may_refuse : R → Bool) (old new : Room R) (seat : ℕ) (call : Call)
     (reply : Reply) : Type 0 where
   pub serves : (bytes numbers : List ℕ) → Serves noted old new seat call reply bytes numbers

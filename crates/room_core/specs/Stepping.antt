@@ -1,5 +1,5 @@
--- What contracts of the room see of a track's pipeline: which events it had, which items were processed, and what one step makes of the
--- next. Own words, over those of `track_core`, which say the same with pieces in place of items.
+-- What contracts of the room see of a track's pipeline: which events it had, which items were processed, and what one step makes of the next. They
+-- say the same as the definitions of `track_core`, with items in place of pieces.
 use Rattle.std.specs.Prelude.{◌≡◌, ◌≢◌, ℕ, List, [], ◌∷◌, length, map, Option, None, Some}
 use Rattle.sfu_base.specs.Frame.{IsValid}
 use Rattle.sfu_base.specs.declared.call.Kind.{Kind}

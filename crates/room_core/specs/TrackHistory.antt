@@ -1,4 +1,4 @@
--- The history of one track, as in the forwarding model, from the calls that a room accepted. Own rule. Both have the newest first.
+-- The history of one track, as in the forwarding model, from the calls that a room accepted. Own rule. Both lists have the newest first.
 use Rattle.std.specs.Prelude.{ℕ, ◌==◌, Bool, true, false, if◌then◌else◌, List, [], ◌∷◌}
 use Rattle.sfu_base.specs.declared.call.Call.{Call}
 use Rattle.sfu_base.specs.declared.call.Call.TheVariants as call
@@ -16,7 +16,7 @@ abbrev pub and_where : {X : Type 0} → Bool → X → List X → List X
 and_where true x xs = x ∷ xs
 and_where false x xs = xs
 
--- what came to the track's order since it was published: its accepted packets and its ticks
+-- the events of the track's reorder window since its publish: its accepted packets and its ticks
 abbrev pub events_of : ℕ → List Call → List Event
 events_of n [] = []
 events_of n (call.Publish track kind ssrc hold ∷ past) = if track == n then [] else events_of n past
@@ -24,11 +24,11 @@ events_of n (call.Packet track moment bytes ∷ past) = and_where (track == n) (
 events_of n (call.Tick track moment ∷ past) = and_where (track == n) (Ticks moment) (events_of n past)
 events_of n (call ∷ past) = events_of n past
 
--- the track's order
+-- the state of the track's reorder window
 abbrev pub order_at : ℕ → List Call → Order
 order_at n past = order_of (hold_of n past) (events_of n past)
 
--- what one more event releases
+-- the items that one more event releases
 abbrev pub released : ℕ → List Call → Event → List Item
 released n past event = and_pieces (added (hold_of n past) (order_at n past) event) []
 

@@ -1,5 +1,5 @@
--- When a live track is due for a tick, and the number of its newest frame, by the history. Own rules: the track's order is that of the reply to
--- `missing`, and its frames are those that its subscribers' timelines have.
+-- When a live track is due for a tick, and the number of its newest frame, by the history. Own rules: the track's reorder window is that of the reply
+-- to `missing`, and its frames are those in its subscribers' timelines.
 use Rattle.std.specs.Prelude.{◌≡◌, ℕ, List, [], Option, None, Some, Result, Ok, Err}
 use Rattle.std.specs.Option.{option_map}
 use Rattle.sfu_base.specs.declared.call.Call.{Call}
@@ -19,7 +19,7 @@ use Rattle.room_core.specs.History.{Entry, accepted}
 use Rattle.room_core.specs.Live.{Published, hold_of, kind_of, published}
 use Rattle.room_core.specs.TrackHistory.{entries_of, order_at}
 
--- what is told of a live track, and else the refusal
+-- the result of a query for a live track, else the refusal
 abbrev pub told_of_track : {X : Type 0} → Option Published → X → Result X Refusal
 told_of_track None told = Err NoTrack
 told_of_track (Some p) told = Ok told

@@ -1,5 +1,5 @@
--- What one subscriber of a room sees, by the calls that the room accepted, the newest first. Own rule. All of it is defined by the forwarding
--- model over the history of the subscriber's track; the code stores no history.
+-- What one subscriber of a room sees, by the calls that the room accepted, the newest first. Own rule. The forwarding model defines all of it over
+-- the history of the subscriber's track; the code stores no history.
 use Rattle.std.specs.Prelude.{ℕ, ◌==◌, ◌&&◌, ◌||◌, not, Bool, false, if◌then◌else◌, List, [], ◌∷◌, Option, None, Some}
 use Rattle.std.specs.List.{list_any}
 use Rattle.sfu_base.specs.declared.call.Call.{Call}

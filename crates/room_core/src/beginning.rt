@@ -34,8 +34,8 @@ impl Content {
         }
     }
 
-    /// Allocates the memory that a call needs: the pipeline and the frame cache of an accepted publish, or the feed of an accepted join,
-    /// and its entry in the table. `NoMemory`: out of memory.
+    /// Allocates the memory that a call needs: the pipeline, the frame cache and the table entry for an accepted publish, or the feed and the table
+    /// entry for an accepted join. `NoMemory`: out of memory.
     pub fn prepare(&mut self, alloc: Global, call: &Call) -> Result<Ready, NoMemory>
         ensures same { (past : List Call) → IsAfter self.old past → IsAfter self.new past }
         ensures ready { IfOk result (IsReady self.new call.now) }
@@ -126,7 +126,7 @@ impl Content {
         }
     }
 
-    /// Begins a track, if its pipeline was made ready; else returns the refusal.
+    /// Begins a track with its prepared pipeline, or returns the refusal.
     #[inline(never)]
     pub fn publish(&mut self, track: u32, kind: Kind, ready: Ready) -> Reply
         requires { (ssrc : ℕ) × (hold : ℕ) × IsReady self.old (call.Publish track kind ssrc hold) ready }
@@ -161,7 +161,7 @@ impl Content {
         }
     }
 
-    /// Begins a subscriber, if its feed was made ready; else returns the refusal.
+    /// Begins a subscriber with its prepared feed, or returns the refusal.
     #[inline(never)]
     pub fn join(&mut self, subscriber: u32, track: u32, ready: Ready) -> Reply
         requires { (ssrc : ℕ) × (first : ℕ) × (wish : Wish) × IsReady self.old (call.Join subscriber track ssrc first wish) ready }

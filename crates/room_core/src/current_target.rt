@@ -25,20 +25,20 @@ pub struct DecodeTarget {
 }
 
 impl<R: Recorder> Room<R> {
-    /// The decode target that the subscriber is sent: the one that is open after its newest frame. `None` on a plain track, before the first
-    /// key frame with which the subscriber can begin, and after a chain broke. After the end of the track: the target at the last frame. This
-    /// query is no entry of the history, changes nothing, and allocates no memory. `NoSubscriber`: no live subscriber has the number.
-    /// Own rule.
+    /// The decode target that the subscriber is sent after its newest frame. `None` on a plain track, before the first key frame with
+    /// which the subscriber can begin, and after a chain broke. After the end of the track: the target at the last frame. This query
+    /// adds no entry to the history, changes nothing, and allocates no memory. `NoSubscriber`: no live subscriber has the number. Own
+    /// rule.
     pub fn target_of(&self, subscriber: u32) -> Result<Option<DecodeTarget>, Refusal>
         ensures target { (history : List Entry) → Stands R.noted self.now history → IsTargetOf history subscriber result }
     {
         self.content.target_of(subscriber)
     }
 
-    /// Whether the target that the subscriber is sent is the best that its present wish allows at its newest frame. False without a target,
-    /// hence on a plain track. A raised wish is mostly reached only at a key frame, so a caller that gets false calls `plead`. After the end of
-    /// the track the last frame counts. This query is no entry of the history, changes nothing, and allocates no memory. `NoSubscriber`: no live
-    /// subscriber has the number. Own rule.
+    /// Whether the subscriber is sent the best target that its present wish allows at its newest frame. False if it is sent no target, so always on a
+    /// plain track. A raised wish is mostly reached only at a key frame, so a caller that gets false calls `plead`. After the end of the track the
+    /// last frame counts. This query adds no entry to the history, changes nothing, and allocates no memory. `NoSubscriber`: no live subscriber has
+    /// the number. Own rule.
     pub fn reaches_wish(&self, subscriber: u32) -> Result<bool, Refusal>
         ensures reaches { (history : List Entry) → Stands R.noted self.now history → IsReachedBy history subscriber result }
     {
@@ -69,7 +69,7 @@ impl Content {
 }
 
 impl Feed {
-    /// The open target with its layers.
+    /// The open target, if any, with its layers.
     pub fn sent_target(&self) -> Option<DecodeTarget>
         ensures target { HasTarget self.now result }
     {

@@ -15,8 +15,8 @@ use std::alloc::Global;
 use target_selector::{FrameOffer, MOST_QUEUED, Selector};
 use track_core::Track;
 
-/// What one subscriber is sent: the kind of its track, the selection of frames, the packets that are queued or kept, and the verdicts on frames. All
-/// memory of a feed is allocated when it is made.
+/// What one subscriber is sent: the kind of its track, the selection of frames, the queued and kept packets, and the verdicts on frames. All memory
+/// of a feed is allocated when it is made.
 #[derive(Drop)]
 pub struct Feed {
     pub kind: Kind,
@@ -51,7 +51,7 @@ impl Feed {
         self.selector.aim(wish);
     }
 
-    /// Offers the next packet of a plain track, which is queued if fewer than 512 packets are. `cache` shares the packet with the other subscribers.
+    /// Queues the next packet of a plain track if fewer than 512 packets are queued. `cache` shares the packet with the other subscribers.
     pub fn pass_packet(&mut self, packet: &[u8], cache: &mut FrameCache)
         requires reads { first_fault packet.now ≡ None }
         requires fits { length packet.now ≤ 1500 }
@@ -64,9 +64,9 @@ impl Feed {
         }
     }
 
-    /// Offers a layered track's most recently completed frame. `tells` is whether the frame's first packet carries a structure or a mask. If so, or
-    /// if the frame opens its target, the first packet is sent with the mask of the targets that the subscriber gets. `cache` shares the packets with
-    /// the next subscribers that are offered the frame.
+    /// Decides whether a layered track's newest whole frame passes. If so, queues its packets. The first packet is sent with the mask of the
+    /// subscriber's targets if `tells` is true (the packet carries a structure or a mask) or the frame opens the target. `cache` shares the packets
+    /// with the frame's next subscribers.
     pub fn pass_frame(
         &mut self,
         track: &Track,
@@ -97,7 +97,7 @@ impl Feed {
         }
     }
 
-    /// Takes the oldest queued packet: replaces the contents of `out` with it, and returns true. Returns false if none is queued.
+    /// Takes the oldest queued packet: replaces the contents of `out` with it, and returns true. Returns false if no packet is queued.
     pub fn take(&mut self, out: &mut PacketBuf) -> bool
         ensures follows { FollowsTake self.old self.new result out.old out.new }
         ensures unchanged { result ≡ false → self.new ≡ self.old }
@@ -107,7 +107,7 @@ impl Feed {
         self.ring.take(out).is_ok()
     }
 
-    /// Ends the subscriber: the packets that it shared are released to `cache`. `left` subscribers remain on the track.
+    /// Ends the subscriber, and releases the packets that it shared to `cache`. `left` subscribers remain on the track.
     pub fn give_back(self, cache: &mut FrameCache, left: usize)
         ensures { cache.new.store.all ≤ cache.old.store.all }
     {
@@ -122,8 +122,8 @@ impl Feed {
         self.selector.target().is_none()
     }
 
-    /// Why a frame was or wasn't passed, by its unwrapped number. `Ahead`: the number is above the newest frame's, or no frame came yet. `TooOld`: it
-    /// is 4,096 or more below the newest frame's.
+    /// Returns why the frame with this unwrapped number was or wasn't passed. `Ahead`: the number is above the newest frame's, or no frame came yet.
+    /// `TooOld`: the number is 4,096 or more below the newest frame's.
     pub fn why(&self, number: u64) -> Result<Verdict, Refusal>
         ensures tells { Tells self.now number result }
         ensures fed { IsFed result }
@@ -131,7 +131,7 @@ impl Feed {
         self.causes.verdict(number)
     }
 
-    /// Replaces the contents of `out` with the packet that was taken under this sequence number. `NotKept`: none of the last 1,024 packets taken has it.
+    /// Replaces the contents of `out` with the packet that was taken under this sequence number. `NotKept`: it isn't among the last 1,024 taken.
     pub fn resend(&self, seq: u16, out: &mut PacketBuf) -> Result<(), Refusal>
         ensures resends { Resends self.now seq result out.old out.new }
         ensures fed { IsFed result }

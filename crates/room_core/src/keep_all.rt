@@ -9,7 +9,7 @@ use sfu_base::{Call, NoMemory};
 use std::alloc::Global;
 use std::marker::Model;
 
-/// Keeps the seats and calls of a room, the oldest first, except calls that ran out of memory. Clauses see this list.
+/// Keeps the seats and calls of a room, the oldest first, except calls that ran out of memory. Contracts see this list.
 #[derive(Drop)]
 pub struct KeepAll {
     notes: Vec<Note>,
@@ -26,7 +26,7 @@ impl Model for KeepAll {
 }
 
 impl KeepAll {
-    /// A recorder that has kept nothing yet. Takes no memory.
+    /// A recorder that has kept nothing yet. Allocates no memory.
     pub fn new(alloc: Global) -> KeepAll
         ensures empty { result ≡ [] }
         ensures noted { ⟦<KeepAll as Recorder>⟧.noted result ≡ Some [] }

@@ -9,9 +9,9 @@ use place_set::PlaceSet;
 use sfu_base::Kind;
 use track_core::Track;
 
-/// A live track: its kind, whether a plea for a key frame is pending, its pipeline, the cache of its current frame, and the places of its
-/// subscribers in their table. Between calls no item of the pipeline waits. The large parts are on the heap, so that a room is small: its lock
-/// moves the room twice per turn.
+/// A live track: its kind, whether a plea for a key frame is pending, its pipeline, the cache of its current frame, and the places of its subscribers
+/// in their table. Between calls no item of the pipeline waits. The large parts are on the heap, so that a room is small: a lock moves the room twice
+/// per turn.
 #[derive(Drop)]
 pub struct LiveTrack {
     pub kind: Kind,
@@ -22,8 +22,8 @@ pub struct LiveTrack {
     ghost idle: { pipeline.value.window.waiting ≡ [] },
 }
 
-/// A live subscriber: the number of its track, and what it is sent. The feed is on the heap, so that the entries of the table are small: a
-/// leave moves one, and `count_on` reads all.
+/// A live subscriber: the number of its track, and what it is sent. The feed is on the heap, so that the entries of the table are small: a leave
+/// moves one entry, and `count_on` reads all.
 #[derive(Drop)]
 pub struct LiveSubscriber {
     pub track: u32,

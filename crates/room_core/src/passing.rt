@@ -20,7 +20,7 @@ use sfu_base::FrameMeaning;
 use target_selector::FrameOffer;
 use track_core::{Advance, Track};
 
-/// Processes all waiting items of a track, and offers what they make to each subscriber of the track. A key frame ends a plea.
+/// Processes all waiting items of a track, and offers the packets or frames that they make to each of its subscribers. A key frame ends a plea.
 pub fn work_off(
     pipeline: &mut Track,
     pleaded: &mut bool,

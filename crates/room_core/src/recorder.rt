@@ -9,7 +9,7 @@ pub trait Recorder: Drop {
     /// Whether [`Recorder::note`] may run out of memory.
     ghost may_refuse: { Self → Bool };
 
-    /// The seats and calls noted so far, the oldest first, or none if the recorder doesn't show them.
+    /// The seats and calls noted so far, the oldest first. `None` if the recorder doesn't show them.
     ghost noted: { Self → Option (List Noted) };
 
     /// Appends a call with its seat. `NoMemory`: out of memory; earlier notes are unchanged then.

@@ -4,14 +4,14 @@ use crate::recorder::Recorder;
 use sfu_base::{Call, Kind, PacketBuf, Refusal, Reply, Scratch, Wish};
 use std::alloc::Global;
 
-/// A room: tracks, each with one publisher's packets, and subscribers, each of one track. `publish` begins a track, `packet` adds a packet to
-/// it, `tick` advances its time; `join` begins a subscriber, `take` returns its next packet to be sent, `resend` one that it took before.
+/// A room: tracks, each with one publisher's packets, and subscribers, each of one track. `publish` begins a track, `packet` adds a packet to it, and
+/// `tick` advances its time. `join` begins a subscriber, `take` returns its next packet to be sent, and `resend` returns one that was taken before.
 /// Moments and holds are in milliseconds.
 ///
 /// A layered track's packets become frames (RTP Payload Format For AV1, Appendix A), and each subscriber gets those of the best decode target
 /// that its wish allows. A plain track's packets are forwarded in order.
 ///
-/// A refused call returns the first refusal that applies, and changes nothing but what the recorder keeps. With a recorder that never refuses,
+/// A refused call returns the first refusal that applies, and changes nothing except what the recorder stores. With a recorder that never refuses,
 /// only `publish` and `join` may run out of memory. These are own rules.
 #[derive(Drop)]
 pub struct Room<R: Recorder> {
@@ -42,8 +42,8 @@ impl<R: Recorder> Room<R> {
         }
     }
 
-    /// Serves one call from a seat; the methods from `publish` to `why` do the same for one kind of call each. After the reply `Packet` the bytes
-    /// are in `scratch.packet`, after `Names` the sequence numbers are in `scratch.names`; no other reply changes the scratch.
+    /// Serves one call from a seat. Each method from `publish` to `why` does the same for one kind of call. After the reply `Packet` the bytes are in
+    /// `scratch.packet`, after `Names` the sequence numbers are in `scratch.names`. No other reply changes the scratch.
     pub fn serve(&mut self, seat: u32, call: &Call, scratch: &mut Scratch) -> Reply
         ensures { ServesInto R.noted R.may_refuse self.old self.new seat call.now result scratch.old scratch.new }
     {
@@ -104,17 +104,17 @@ impl<R: Recorder> Room<R> {
         )
     }
 
-    /// Ends a track, as [`Call::Unpublish`] does. Its subscribers stay, with `take`, `resend`, `aim` and `why` as before. `NoTrack`: no live
-    /// track has the number.
+    /// Ends a track, as [`Call::Unpublish`] does. Its subscribers stay: `take`, `resend`, `aim` and `why` work as before. `NoTrack`: no live track
+    /// has the number.
     pub fn unpublish(&mut self, seat: u32, track: u32) -> Reply
         ensures { DoesAsServe R.noted R.may_refuse self.old self.new seat (call.Unpublish track) result }
     {
         self.serve_silently(seat, &Call::Unpublish { track })
     }
 
-    /// Adds a packet that arrives at `moment` to a track, as [`Call::Packet`] does. The recorder gets a copy. `NoTrack`: no live track has
-    /// the number. `TooBig`: more than 1,500 bytes. `Unreadable`: the bytes aren't RTP. `WrongSsrc`: the packet's SSRC isn't the track's.
-    /// `Spent`, `Late` and `Repeat`: by the packet's unwrapped sequence number.
+    /// Adds a packet that arrives at `moment` to a track, as [`Call::Packet`] does. The recorder gets a copy. `NoTrack`: no live track has the
+    /// number. `TooBig`: more than 1,500 bytes. `Unreadable`: not RTP. `WrongSsrc`: another SSRC than the track's. `Spent`: the unwrapped sequence
+    /// number is 2^46 or more. `Late`: it is below the number that the track waits for. `Repeat`: it is buffered already.
     pub fn packet(&mut self, seat: u32, track: u32, moment: u64, bytes: &PacketBuf) -> Reply
         ensures { DoesAsServe R.noted R.may_refuse self.old self.new seat (call.Packet track moment bytes.now) result }
     {
@@ -146,8 +146,8 @@ impl<R: Recorder> Room<R> {
         }
     }
 
-    /// Advances a track's time to `moment`, as [`Call::Tick`] does: gaps are given up once the hold is over. `NoTrack`: no live track has the
-    /// number.
+    /// Advances a track's time to `moment`, as [`Call::Tick`] does. A gap is given up once the packet behind it was held for the track's hold.
+    /// `NoTrack`: no live track has the number.
     pub fn tick(&mut self, seat: u32, track: u32, moment: u64) -> Reply
         ensures { DoesAsServe R.noted R.may_refuse self.old self.new seat (call.Tick track moment) result }
     {
@@ -207,9 +207,9 @@ impl<R: Recorder> Room<R> {
         }
     }
 
-    /// Returns once more the packet that was taken under this sequence number, as [`Call::Resend`] does: replies `Packet`, with the bytes in
-    /// `scratch.packet` (RFC 4585, section 6.2.1). `NoSubscriber`: no live subscriber has the number. `NotKept`: none of the last 1,024
-    /// packets taken has the sequence number.
+    /// Returns a packet once more, by the sequence number with which it was taken, as [`Call::Resend`] does: replies `Packet`, with the bytes in
+    /// `scratch.packet` (RFC 4585, section 6.2.1). `NoSubscriber`: no live subscriber has the number. `NotKept`: none of the last 1,024 packets taken
+    /// has the sequence number.
     pub fn resend(&mut self, seat: u32, subscriber: u32, seq: u16, scratch: &mut Scratch) -> Reply
         ensures { ServesInto R.noted R.may_refuse self.old self.new seat (call.Resend subscriber seq) result scratch.old scratch.new }
     {
@@ -224,8 +224,8 @@ impl<R: Recorder> Room<R> {
         self.serve(seat, &Call::Missing { track }, scratch)
     }
 
-    /// Returns whether a key frame is to be requested from a track's publisher, as [`Call::KeyWanted`] does: true if the track is layered, and a
-    /// plea is pending or a live subscriber of the track has no target. `NoTrack`: no live track has the number.
+    /// Returns whether a track's publisher should be asked for a key frame, as [`Call::KeyWanted`] does. True if the track is layered, and a plea is
+    /// pending or a live subscriber of the track has no target. `NoTrack`: no live track has the number.
     pub fn key_wanted(&mut self, seat: u32, track: u32) -> Reply
         ensures { DoesAsServe R.noted R.may_refuse self.old self.new seat (call.KeyWanted track) result }
     {
@@ -248,7 +248,7 @@ impl<R: Recorder> Room<R> {
         self.serve_silently(seat, &Call::Why { subscriber, number })
     }
 
-    /// The kind that the subscriber's track had when the subscriber joined, even if the track has ended. This query is no entry of the history, and
+    /// The kind that the subscriber's track had when the subscriber joined, even if the track has ended. This query adds no entry to the history, and
     /// allocates no memory. `NoSubscriber`: no live subscriber has the number.
     pub fn kind_of(&self, subscriber: u32) -> Result<Kind, Refusal>
         ensures kind { (history : List Entry) → Stands R.noted self.now history → IsKindOf history subscriber result }

@@ -15,7 +15,7 @@ use out_ring::OutRing;
 use packet_format::tells;
 use track_core::Track;
 
-/// Whether the first packet of the frame that the track made last carries a structure or a mask.
+/// Whether the first packet of the track's last frame carries a structure or a mask.
 pub fn first_tells(track: &Track) -> bool
     ensures { result ≡ tells_by track.now.layers track.now.packets }
 {
@@ -28,8 +28,8 @@ pub fn first_tells(track: &Track) -> bool
     tells(track.packet(0), id)
 }
 
-/// Queues the packets of the frame that the track made last, from the place `from` on; the frame has `count` packets. The last packet's marker
-/// is set if `is_top`, that is if the frame ends the target's layer.
+/// Queues the packets of the track's last frame from index `from` on. The frame has `count` packets. The last packet's marker is set if `is_top`,
+/// that is if the frame ends the temporal unit for the subscriber's target.
 #[inline(always)]
 pub fn push_from(
     ring: &mut OutRing,
@@ -55,7 +55,7 @@ pub fn push_from(
     }
 }
 
-/// Queues all packets of the frame that the track made last, the first with this mask. `cache` keeps the first packet for the frame's next
+/// Queues all packets of the track's last frame, the first with this mask. `cache` keeps the first packet for the frame's next
 /// subscriber.
 #[inline(never)]
 pub fn push_remasked(

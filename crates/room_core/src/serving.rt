@@ -11,7 +11,7 @@ use crate::live::Ready;
 use sfu_base::{Call, Reply, Scratch};
 
 impl Content {
-    /// Serves a call, with what was prepared for it, and returns its reply.
+    /// Serves a call with the memory that was prepared for it, and returns the reply.
     pub fn serve(&mut self, call: &Call, ready: Ready, scratch: &mut Scratch) -> Reply
         requires { IsReady self.old call.now ready }
         ensures does { Does self.old self.new call.now result scratch.new.packet scratch.new.names }

@@ -5,8 +5,8 @@ ghost use Rattle.room_core.specs.Tables.{IsPlace};
 
 use indexmap::IndexMap;
 
-/// The place in the table, from 0, of the entry with this number, if there is one. Tries `likely` and the place behind it before it searches: mostly
-/// the same number comes again, or the numbers come in the table's order.
+/// The index in the table of the entry with this number, if there is one. Tries `likely` and the index after it before it searches: mostly the same
+/// number comes again, or the numbers come in the table's order.
 pub fn place_of<V>(table: &IndexMap<u32, V>, likely: usize, number: u32) -> Option<usize>
     ensures { IsPlace number table.now.entries (get nat_eq table.now number) result }
 {

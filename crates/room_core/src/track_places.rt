@@ -20,7 +20,7 @@ pub fn put_place(tracks: &mut IndexMap<u32, LiveTrack>, track: u32, place: usize
     }
 }
 
-/// Removes a place at which no subscriber of the track is any more, if the track is live.
+/// If the track is live, removes a place that no subscriber of the track has any more.
 pub fn take_place(tracks: &mut IndexMap<u32, LiveTrack>, track: u32, place: usize)
     requires { place < 256 }
     ensures changed { AreSameBut place (get nat_eq tracks.old) (get nat_eq tracks.new) }

@@ -13,17 +13,17 @@ use crate::room::Room;
 use sfu_base::Refusal;
 
 impl<R: Recorder> Room<R> {
-    /// Returns the least moment, in milliseconds, at which a tick of the track gives up a gap: the moment of the lowest held packet plus the
-    /// hold. `None` if no packet is held, or if the sum is 2^64 or more. This query is no entry of the history, changes nothing, and allocates
-    /// no memory. `NoTrack`: no live track has the number. Own rule.
+    /// Returns the least moment, in milliseconds, at which a tick of the track gives up a gap: the arrival moment of the lowest held packet plus the
+    /// hold. `None` if no packet is held, or if the sum is 2^64 or more. This query adds no entry to the history, changes nothing, and allocates no
+    /// memory. `NoTrack`: no live track has the number. Own rule.
     pub fn due(&self, track: u32) -> Result<Option<u64>, Refusal>
         ensures due { (history : List Entry) → Stands R.noted self.now history → IsDueOf history track result }
     {
         self.content.due(track)
     }
 
-    /// Returns the unwrapped number of the track's newest whole frame, as [`Room::why`] takes it. `None` before the first frame, and on a plain
-    /// track. This query is no entry of the history, changes nothing, and allocates no memory. `NoTrack`: no live track has the number. Own
+    /// Returns the unwrapped number of the track's newest whole frame, in the form that [`Room::why`] takes. `None` before the first frame, and on a
+    /// plain track. This query adds no entry to the history, changes nothing, and allocates no memory. `NoTrack`: no live track has the number. Own
     /// rule.
     pub fn newest_frame(&self, track: u32) -> Result<Option<u64>, Refusal>
         ensures newest { (history : List Entry) → Stands R.noted self.now history → IsNewestFrameOf history track result }

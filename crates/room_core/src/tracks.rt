@@ -27,7 +27,7 @@ impl Content {
         }
     }
 
-    /// Adds a packet to the track, and offers what is made of it to the track's subscribers.
+    /// Adds a packet to the track, and offers the resulting packets or frames to the track's subscribers.
     #[inline(always)]
     pub fn packet(&mut self, track: u32, moment: u64, bytes: &PacketBuf) -> Reply
         ensures does { DoesSilently self.old self.new (call.Packet track moment bytes.now) result }
@@ -58,7 +58,7 @@ impl Content {
         }
     }
 
-    /// Advances the track's time, and offers what is made then to the track's subscribers.
+    /// Advances the track's time, and offers the resulting packets or frames to the track's subscribers.
     pub fn tick(&mut self, track: u32, moment: u64) -> Reply
         ensures does { DoesSilently self.old self.new (call.Tick track moment) result }
         ensures fed { is_starved result ≡ false }
@@ -102,7 +102,7 @@ impl Content {
         }
     }
 
-    /// Whether a key frame of the track is wanted.
+    /// Whether a key frame is wanted from the track's publisher.
     pub fn key_wanted(&self, track: u32) -> Reply
         ensures does { DoesSilently self.now self.now (call.KeyWanted track) result }
         ensures fed { is_starved result ≡ false }

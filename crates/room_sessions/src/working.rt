@@ -5,8 +5,8 @@ use room_core::{Recorder, Room};
 use session_steps::{Output, Session};
 use sfu_base::Scratch;
 
-/// Serves the session's calls on the room, each from this seat, and passes the replies to the session, up to the next datagram that has to be
-/// sent. `Packet`: that datagram is in `scratch.packet`. `Nothing`: the session has no call left, and waits for the next datagram.
+/// Serves the session's calls on the room, each from this seat, and passes the replies to the session, up to the next datagram to send. `Packet`:
+/// that datagram is in `scratch.packet`. `Nothing`: the session has no call left, and waits for the next datagram.
 pub fn work<R: Recorder, S: Session>(
     room: &mut Room<R>,
     seat: u32,

@@ -1,5 +1,5 @@
--- The command `check ID`: each line of the source is a packet, and a strict receiver with this header extension id of the descriptors checks
--- the packets. Own rule. The code feeds them to a receiver one after another, and stores none.
+-- The command `check ID`: each line of the source is a packet. A strict receiver, with this header extension id of the descriptors, checks the
+-- packets. Own rule. The code feeds them to a receiver one after another, and stores none.
 use Rattle.std.specs.Prelude.{◌≡◌, ◌⊎◌, ℕ, if◌then◌else◌, min, List, [], ◌∷◌, ◌++◌, map, Option, Some, None, codes, decimal, slice_index}
 use Rattle.forwarding_model.specs.declared.complaint.Complaint.{Complaint}
 use Rattle.strict_receiver.specs.Receivers.{Seen, StandsFor, complaint_over, frames_over, greatest_count, packets_over}
@@ -81,7 +81,7 @@ pub record Reception : Type 0 where
 abbrev pub nothing_received : ℕ → Reception
 nothing_received id = record { id = id; packets = [] }
 
--- a receiver stands for these packets
+-- a receiver represents these packets
 pub record HasReceived (now : Seen) (reception : Reception) : Type 0 where
   pub id : now.id ≡ reception.id
   pub stands : StandsFor now reception.packets

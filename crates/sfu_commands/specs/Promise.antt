@@ -1,5 +1,5 @@
--- What is guaranteed to the subscribers of a script: own statement. The replies that `run` writes are those of the script's history, by
--- its statuses; here is what is true of every such history.
+-- What is guaranteed to the subscribers of a script. Own statement. By the statuses of `run`, its replies are those of the script's history; here is
+-- what holds for every such history.
 use Rattle.std.specs.Prelude.{◌≡◌, ℕ, List, ◌++◌, map}
 use Rattle.room_core.specs.History.{Entry, accepted}
 use Rattle.room_core.specs.Headline.{Headline}
@@ -12,12 +12,12 @@ use Rattle.sfu_commands.specs.Script.{Script, entry_of, form_of, script_of, scri
 abbrev pub history_of : Script → List Entry
 history_of script = map entry_of script.calls
 
--- Each subscriber of the script with these bytes was sent what it should be; the same holds for every prefix of the bytes.
+-- The guarantees (`Headline`) hold for the history of the script with these bytes, and of each prefix of the bytes.
 pub record IsServed (bytes : List ℕ) : Type 0 where
   pub whole : Headline (accepted (history_of (script_of bytes)))
   pub so_far : (front rest : List ℕ) → front ++ rest ≡ bytes → Headline (accepted (history_of (script_so_far front)))
 
--- In a script of records each item is a byte, as numbers there are made of bytes. In a script of lines, digits make the numbers.
+-- In a script of records each item is a byte, since numbers there are made of bytes. In a script of lines, digits make the numbers.
 abbrev pub IsOfBytes : Form → List ℕ → Type 0
 IsOfBytes Lines bytes = Unit {0}
 IsOfBytes Records bytes = AreBytes bytes

@@ -1,5 +1,5 @@
--- The command `record ID`: each line of the source is a packet, and the frames that a strict receiver accepts from them are written as an IVF
--- file at the end. Own rule. The code feeds the packets to a recorder one after another, and stores none.
+-- The command `record ID`: each line of the source is a packet. At the end the frames that a strict receiver accepts from the packets are written as
+-- an IVF file. Own rule. The code feeds the packets to a recorder one after another, and stores none.
 use Rattle.std.specs.Prelude.{◌≡◌, ◌⊎◌, ℕ, if◌then◌else◌, List, [], ◌∷◌, ◌++◌, Option, Some, None, codes}
 use Rattle.ivf_recorder.specs.declared.fault.RecordFault.{RecordFault}
 use Rattle.ivf_recorder.specs.declared.fault.RecordFault.TheVariants as fault
@@ -40,7 +40,7 @@ abbrev pub end_unless : Option RecordFault → ℕ → Option End → Option End
 end_unless None number others = others
 end_unless (Some f) number others = Some (end_at number f)
 
--- The first of these packets, which come after others, that has a fault ends the command; if none has, this end does.
+-- The first of these packets with a fault ends the command; if none has a fault, this end does. They come after other packets.
 abbrev pub end_from : ℕ → List (List ℕ) → List NumberedPacket → Option End → Option End
 end_from id came [] last = last
 end_from id came (packet ∷ more) last =
@@ -71,7 +71,7 @@ IsRecordStatus status = (status ≡ 0) ⊎ (status ≡ 3) ⊎ (status ≡ 4) ⊎
 
 -- ---- a line
 
--- a recorder stands for these packets; nothing is said after its file was taken
+-- a recorder represents these packets; once its file was taken, nothing is required
 abbrev pub HasRecorded : Option Recording → Reception → Type 0
 HasRecorded None reception = Unit {0}
 HasRecorded (Some recorder) reception = (recorder.receiver.id ≡ reception.id) × StandsFor recorder reception.packets

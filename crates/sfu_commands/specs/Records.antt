@@ -1,5 +1,5 @@
--- Where the units of a script of records end: a header of four bytes, which has the number 0, and records. Own rule. The code finds a record's
--- end by its length; here each byte is judged in turn.
+-- Where the units of a script of records end: a header of four bytes, which has the number 0, and records. Own rule. The code finds a record's end by
+-- its length; here each byte is judged in turn.
 use Rattle.std.specs.Prelude.{ℕ, ◌+◌, ◌*◌, ◌==◌, ◌&&◌, Bool, nat_le, if◌then◌else◌, List, [], ◌∷◌, ◌++◌, length}
 use Rattle.sfu_driver.specs.Scan.{Scan, More, Whole, NoUnit}
 use Rattle.script_records.specs.Kinds.{may_have}
@@ -17,7 +17,7 @@ header_so_far (a ∷ b ∷ c ∷ d ∷ []) = if is_header a b c d then Whole (a 
 header_so_far (a ∷ b ∷ c ∷ d ∷ e ∷ more) = NoUnit
 header_so_far fewer = More
 
--- how many bytes a record's body has, by the two bytes before it, big-endian
+-- how many bytes a record's body has, by the two bytes of the length, big-endian
 abbrev pub length_said : ℕ → ℕ → ℕ
 length_said high low = high * 256 + low
 
@@ -25,7 +25,7 @@ length_said high low = high * 256 + low
 abbrev pub is_length : ℕ → Bool
 is_length count = nat_le 1 count && nat_le count 2061
 
--- The outcome of a body's bytes so far, for this length: judged as soon as no body, or none of its kind, has the length, or all bytes are there.
+-- The outcome of a body's bytes so far, for this length. It is known once all bytes are there, or once no body, or none of its kind, has the length.
 abbrev pub body_so_far : ℕ → List ℕ → Scan
 body_so_far count [] = if is_length count then More else NoUnit
 body_so_far count (kind ∷ fields) =

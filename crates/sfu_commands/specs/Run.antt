@@ -1,5 +1,5 @@
--- The command `run`: each line of the source, or each record in a script of records, is one call by seat 0 on a room that records nothing, and
--- each reply is a line of the sink.
+-- The command `run`: each line of the source (in a script of records, each record) is one call by seat 0 on a room that records nothing, and each
+-- reply is a line of the sink.
 use Rattle.std.specs.Prelude.{◌≡◌, ◌⊎◌, ℕ, if◌then◌else◌, List, [], ◌∷◌, ◌++◌, Option, Some, None, codes}
 use Rattle.sfu_base.specs.declared.call.Call.{Call}
 use Rattle.room_core.specs.History.{Entry}

@@ -1,4 +1,4 @@
--- What the parts of a trial stand for while it runs. No public clause cites these.
+-- What the parts of a trial represent while it runs. No public clause cites these.
 use Rattle.std.specs.Prelude.{◌≡◌, ℕ, Bool, suc, if◌then◌else◌, List, Some, is_some}
 use Rattle.sfu_base.specs.declared.call.Call.TheVariants as call
 use Rattle.sfu_base.specs.declared.call.Call.{Call}
@@ -17,7 +17,7 @@ use Rattle.sfu_commands.specs.Trial.{and_call, queued_for, received}
 use Rattle.sfu_commands.specs.declared.stream_trial.viewer.Viewer.{Viewer}
 use Rattle.sfu_commands.specs.declared.stream_trial.stage.Stage.{Stage}
 
--- the room stands for some history in which these calls were accepted
+-- the room represents some history in which these calls were accepted
 pub record StandsAfter (room : Room KeepNone) (past : List Call) : Type 0 where
   pub history : List Entry
   pub stands : Stands untold room history

@@ -1,5 +1,5 @@
--- The command `trial`: a generated stream goes through a room to three subscribers, and the packets of each to a strict receiver of its own.
--- Own rule. The code has a room and three receivers; here are the calls, and the packets that were taken by the history of the calls.
+-- The command `trial`: a generated stream is sent through a room to three subscribers, each with a strict receiver of its own. Own rule. The code has
+-- a room and three receivers; here are the calls, and the packets taken by the history of the calls.
 use Rattle.std.specs.Prelude.{◌≡◌, ◌⊎◌, ◌+◌, ℕ, zero, suc, min, fold, List, [], ◌∷◌, ◌++◌, length, Option, Some, None, is_some}
 use Rattle.std.specs.Io.KnownBytes.{Appends}
 use Rattle.sfu_base.specs.Bytes.{bit}
@@ -37,8 +37,8 @@ and_call past call = after (answer past call) call past
 abbrev pub wish_for : ℕ → ℕ → Wish
 wish_for spatial temporal = record { spatial = spatial; temporal = temporal }
 
--- Before the stream there is a layered track, whose descriptors have id 4, and whose hold is 50 milliseconds. Three subscribers
--- wish for all layers, for the lower temporal layer, and for the lower layers.
+-- Before the stream there is a layered track, whose descriptors have id 4 and whose hold is 50 milliseconds. Three subscribers wish for all layers,
+-- for the lower temporal layer, and for the lower layers.
 abbrev pub opening : List Call
 opening =
     call.Publish 1 (Layered 4) 0x11111111 50

@@ -1,4 +1,4 @@
--- The command-line words, and which command they are. Own rule.
+-- The command-line words, and the command that they name. Own rule.
 use Rattle.std.specs.Prelude.{◌≡◌, ℕ, List, [], ◌∷◌, Option, Some, None, codes}
 use Rattle.sfu_commands.specs.declared.words.Command.{Command}
 use Rattle.sfu_commands.specs.declared.words.Command.TheVariants.{Run, Convert, Simulcast, Help, Check, Record, Trial, Cascade}

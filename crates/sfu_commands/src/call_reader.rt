@@ -9,7 +9,7 @@ use script_records::RecordReader;
 use sfu_base::Call;
 use sfu_script::LineReader;
 
-/// Reads the call of a line; returns `None` exactly if the line isn't a call. The call stays valid until the next line is read.
+/// Reads the call of a line. Returns `None` exactly if the line isn't a call. The call stays valid until the next line is read.
 #[inline(always)]
 pub fn read_line<'a>(reader: &'a mut LineReader, line: &[u8]) -> Option<&'a Call>
     ensures value { MatchOption result (call_of line.now ≡ None) (λ call. call_of line.now ≡ Some call.now) }
@@ -34,7 +34,7 @@ impl CallReader {
         }
     }
 
-    /// Reads the call of a line or of a record's body; returns `None` exactly if it isn't a call.
+    /// Reads the call of a line or of a record's body. Returns `None` exactly if it isn't a call.
     #[inline(always)]
     pub fn read(&mut self, form: Form, unit: &[u8]) -> Option<&Call>
         ensures { MatchOption result (call_in form unit.now ≡ None) (λ call. call_in form unit.now ≡ Some call.now) }

@@ -1,4 +1,4 @@
-//! The single-threaded commands of the program: what each does with its source and its sink, and the status that it ends with.
+//! The single-threaded commands of the program: how each uses its source and its sink, and the status that it returns.
 #![tactic(auto)]
 
 mod call_reader;

@@ -22,7 +22,7 @@ pub struct PacketJudge {
     pub packet: PacketBuf,
 }
 
-/// Appends a complaint's line to `ready`, the output so far. `NoMemory` leaves it unchanged.
+/// Appends a complaint's line to `ready`, the output so far. After `NoMemory` the output is unchanged.
 pub fn add_complaint(number: u32, complaint: &Complaint, ready: &mut Blob) -> Result<(), NoMemory>
     ensures ok { OnOk result (ready.new ≡ ready.old ++ complaint_line number complaint.now) }
     ensures err { OnErr result (ready.new ≡ ready.old) }
@@ -44,7 +44,7 @@ fn append_counts(packets: u64, frames: u64, ready: &mut Blob) -> Result<(), NoMe
     ready.append(b" frames\n")
 }
 
-// Appends the line of the counts to `ready`, the output so far. `NoMemory` leaves it unchanged.
+// Appends the line of the counts to `ready`, the output so far. After `NoMemory` the output is unchanged.
 fn add_counts(packets: u64, frames: u64, ready: &mut Blob) -> Result<(), NoMemory>
     ensures ok { OnOk result (ready.new ≡ ready.old ++ ok_line packets frames) }
     ensures err { OnErr result (ready.new ≡ ready.old) }

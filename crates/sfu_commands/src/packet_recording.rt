@@ -22,8 +22,8 @@ pub struct PacketRecorder {
     pub packet: PacketBuf,
 }
 
-// Appends the line `line N obu`, with N = `number`, to `ready`, the output so far: an element of the frame that ends at line N isn't an OBU.
-// After `NoMemory` the output is unchanged.
+// Appends the line `line N obu` (N is `number`) to `ready`, the output so far: in the frame that ends at line N an element isn't an OBU. After
+// `NoMemory` the output is unchanged.
 fn add_obu(number: u32, ready: &mut Blob) -> Result<(), NoMemory>
     ensures ok { OnOk result (ready.new ≡ ready.old ++ obu_line number) }
     ensures err { OnErr result (ready.new ≡ ready.old) }

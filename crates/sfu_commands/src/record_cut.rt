@@ -12,7 +12,7 @@ pub const HEADER: &[u8] = b"\x00SF2";
 /// The most bytes of a record's body.
 const MOST_BODY: usize = 2061;
 
-/// Cuts input into a header and records. A record ends with its last byte, or as soon as its length or its kind is outside the grammar.
+/// Cuts input into a header and records. A record ends at its last byte, or as soon as its length or its kind is outside the grammar.
 #[derive(Clone, Copy, Debug, Drop)]
 pub struct Records;
 

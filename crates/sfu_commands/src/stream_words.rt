@@ -31,7 +31,7 @@ fn number(word: &str) -> Option<u64>
     }
 }
 
-/// Reads the parameters of a stream if the four words are the command `command`; returns `None` exactly if they aren't.
+/// If the four words are the command `command` with its parameters, returns the parameters, else `None`.
 pub fn read_stream(
     command: &str,
     name: &str,

@@ -24,7 +24,7 @@ pub enum Command {
     /// Sends a generated stream to three subscribers, and writes what strict receivers find in their packets. The stream has `frames` frames; about
     /// `loss` percent of its packets are lost; `start` seeds the random generator.
     Trial { frames: u32, start: u64, loss: u8 },
-    /// The same for a stream through two rooms: the second is fed from the first, and the three subscribers are in the second.
+    /// Sends such a stream through two rooms. The second room is fed from the first, and has the three subscribers.
     Cascade { frames: u32, start: u64, loss: u8 },
 }
 
@@ -72,7 +72,7 @@ fn read_four(name: &str, frames: &str, start: &str, loss: &str) -> Option<Comman
     }
 }
 
-/// The command that the words are; `None` exactly if they are no command.
+/// The command that the words name; `None` exactly if they name no command.
 pub fn read_words(words: &[String]) -> Option<Command>
     ensures { Reads (map string_bytes words.now) result }
 {

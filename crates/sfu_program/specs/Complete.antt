@@ -36,7 +36,7 @@ pub record NoneRose (x : Exchange) (before after : ℕ) : Type 0 where
   pub writes : ¬ (Rose x.writes x.writes')
   pub ports : ¬ (Rose before after)
 
--- the statuses that depend on nothing outside: all done, no command, an end by the input, and out of memory
+-- the statuses that don't depend on the outside: 0, 2, 5, 6, 8 and 10
 abbrev pub IsInside : ℕ → Type 0
 IsInside status = (status ≡ 0) ⊎ (status ≡ 2) ⊎ (status ≡ 5) ⊎ (status ≡ 6) ⊎ (status ≡ 8) ⊎ (status ≡ 10)
 

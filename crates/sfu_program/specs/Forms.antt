@@ -1,4 +1,4 @@
--- Which words are a command of the program, and the statuses with which it ends. Own rule.
+-- The words that name a command of the program, and the program's statuses. Own rule.
 use Rattle.std.specs.Prelude.{◌≡◌, ◌⊎◌, ℕ, List}
 use Rattle.sfu_commands.specs.Words.{IsForm}
 use Rattle.sfu_program.specs.ServeWords.{IsServe}

@@ -26,8 +26,8 @@ use Rattle.port_config.specs.Script.{configuration_of}
 abbrev pub afters : {L : Type 0} → (L → Option Traffic) → (L → ℕ) → List (Ended L) → List After
 afters told faults ended = map (λ session. job_after session.end (told session.link) (faults session.link)) ended
 
--- There is one history that begins with these calls by seat 0. Each job had its session in it, by the seat with the job's place, counted
--- from 1; no other seat made a call after those of seat 0. No session found the lock worn.
+-- There is one history that begins with these calls by seat 0. In it each job had its session, by the seat with the job's number, counted from 1. No
+-- other seat made a call after those of seat 0, and no session found all tickets of the lock drawn.
 pub record HaveServed (limit : ℕ) (calls : List Call) (jobs : List Before) (ended : List After) : Type 0 where
   pub history : List (turn.Entry Call)
   pub added : List (turn.Entry Call)
@@ -40,8 +40,8 @@ pub record HaveServed (limit : ℕ) (calls : List Call) (jobs : List Before) (en
   pub memory : AllMayStarve TakesMemory history
   pub headline : Headline (accepted (entries_of history))
 
--- All ports of these lines were bound, in order; the K-th port had the session of the K-th line, on its own link; and all were released in this
--- order.
+-- All ports of these lines were bound, in order. The K-th port had the session of the K-th line, on its own link. Afterwards all ports were released
+-- in this order.
 pub record HasServed {L : Type 0} (told : L → Option Traffic) (faults name : L → ℕ) (limit : ℕ) (calls : List Call) (lines : List PortLine)
     (old new : PortsSeen L) (ended : List (Ended L)) : Type 0 where
   pub jobs : List Before
@@ -53,7 +53,7 @@ pub record HasServed {L : Type 0} (told : L → Option Traffic) (faults name : L
   pub back : new.back ≡ length lines
   pub returned : new.returned ≡ after_backs (map (λ session. session.link) ended) old.returned
 
--- If memory ran out, no bind failed. So no port failed, unless all sessions had ended.
+-- If memory ran out, no bind failed. So a port can only have failed after all sessions ended.
 abbrev pub Starved : {L : Type 0} → (L → Option Traffic) → (L → ℕ) → (L → ℕ) → ℕ → List Call → List PortLine → PortsSeen L → PortsSeen L → Type 0
 Starved {L} told faults name limit calls lines old new =
     (new.faults ≡ old.faults) ⊎ ((ended : List (Ended L)) × HasServed told faults name limit calls lines old new ended)
@@ -116,8 +116,8 @@ pub record ActsOn {L : Type 0} (told : L → Option Traffic) (faults name : L �
   pub whole : (configuration_of bytes).fault ≡ None
   pub acts : Acts told faults name limit (configuration_of bytes).setup.calls (configuration_of bytes).setup.ports written written' writes writes' old new status
 
--- What `serve` does. If the source fails (3), a line is outside the grammar (5) or memory runs out for the configuration (6), no call
--- is made and no port bound.
+-- What `serve` does. If the source fails (3), a line is outside the grammar (5) or memory runs out for the configuration (6), no call is made and no
+-- port is bound.
 pub record Serves {L : Type 0} (told : L → Option Traffic) (faults name : L → ℕ) (limit : ℕ) (x : Exchange) (old new : PortsSeen L) (status : ℕ) : Type 0 where
   pub came : (ReadsNoSetup x.left x.left' x.written x.written' x.reads x.reads' x.writes x.writes' status × (new ≡ old))
       ⊎ ActsOn told faults name limit x.left x.left' x.written x.written' x.writes x.writes' old new status

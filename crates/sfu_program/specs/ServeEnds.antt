@@ -33,7 +33,7 @@ abbrev pub all_made : List SessionEnd → Bool
 all_made [] = true
 all_made (end ∷ ends) = is_all end && all_made ends
 
--- no session found the lock worn
+-- the session didn't find all tickets of the lock drawn
 abbrev pub IsUnworn : SessionEnd → Type 0
 IsUnworn AllTurns = Unit {0}
 IsUnworn (LinkFault turn) = Unit {0}

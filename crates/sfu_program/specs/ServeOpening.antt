@@ -28,7 +28,7 @@ pub record HasMade (lock : TableId) (calls : List Call) (seat : Known Call) : Ty
   pub none_joined : seat.joined ≡ []
   pub seen_is : seat.seen ≡ made_first calls
 
--- The same for some of these calls, and the lock had no ticket for the next one.
+-- The same for some of these calls; the lock had no ticket for the next call.
 pub record IsWornOut (lock : TableId) (calls : List Call) (seat : Known Call) : Type 0 where
   pub some : List Call
   pub made : HasMade lock some seat

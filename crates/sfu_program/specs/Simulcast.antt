@@ -1,5 +1,5 @@
--- The command `simulcast`: each line of the source is a call by seat 0 on a room with bundles that records nothing, or a call on a bundle, and
--- each reply is a line of the sink.
+-- The command `simulcast`: each line of the source is a call by seat 0 on a room with bundles that records nothing, or a call on a bundle. Each reply
+-- is a line of the sink.
 use Rattle.std.specs.Prelude.{◌≡◌, ◌⊎◌, ℕ, if◌then◌else◌, List, [], ◌∷◌, ◌++◌, Option, Some, None}
 use Rattle.script_texts.specs.WholeLines.{fault_line}
 use Rattle.sfu_driver.specs.Drive.{outside_end}
@@ -36,7 +36,7 @@ replies_text (line ∷ lines) h = (line_told line h).reply ++ replies_text lines
 abbrev pub due_for_script : BundleScript → Simulcast → Due
 due_for_script script h = record { text = replies_text script.lines h; end = outside_end fault_line script.fault }
 
--- all that is due for a script: there is no call yet, and no bundle
+-- all that is due for a script; before it there is no call and no bundle
 abbrev pub simulcast_due : List ℕ → Due
 simulcast_due bytes = due_for_script (bundle_script bytes) (nothing_made [])
 

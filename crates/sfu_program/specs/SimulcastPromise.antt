@@ -1,5 +1,5 @@
--- What is guaranteed for the bundles of a script: own statement. The replies that `simulcast` writes are those of `line_told`, line after line;
--- here is what holds for the state after such lines.
+-- What is guaranteed for the bundles of a script. Own statement. The replies that `simulcast` writes are those of `line_told`, line after line; here
+-- is what holds for the state after such lines.
 use Rattle.std.specs.Prelude.{ℕ, List, [], ◌∷◌}
 use Rattle.bundle_lines.specs.declared.line.BundleLine.{BundleLine}
 use Rattle.simulcast.specs.Bundles.{Simulcast, nothing_made}
@@ -12,16 +12,16 @@ abbrev pub after_lines : List BundleLine → Simulcast → Simulcast
 after_lines [] h = h
 after_lines (line ∷ lines) h = after_lines lines (line_told line h).after
 
--- the state after a script: before it there is no call, and no bundle
+-- the state after a script; before it there is no call and no bundle
 abbrev pub left_by : BundleScript → Simulcast
 left_by script = after_lines script.lines (nothing_made [])
 
--- For the script in these bytes, and for its lines before the end is seen: each subscriber was sent what it should be, each leg of a bundle is
--- a live subscriber, and a strict receiver has no complaint about what a bundle sends.
+-- For the script in these bytes, and for its lines before the end is seen: the room's guarantees (`Headline`) hold, each leg of a bundle is a live
+-- subscriber, and a strict receiver has no complaint about what a bundle sends.
 pub record AreBundlesOf (bytes : List ℕ) : Type 0 where
   pub whole : IsPleasing (left_by (bundle_script bytes))
   pub so_far : IsPleasing (left_by (bundle_script_so_far bytes))
 
--- The same for any bytes that a source has, known or not, and so for each prefix of them.
+-- The same for any bytes of a source, seen by contracts or not, and so for each prefix of them.
 abbrev pub AreBundlesServed : Type 0
 AreBundlesServed = (bytes : List ℕ) → AreBundlesOf bytes

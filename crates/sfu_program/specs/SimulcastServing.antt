@@ -8,7 +8,7 @@ use Rattle.simulcast.specs.Bundles.{Simulcast, StandsFor}
 use Rattle.sfu_program.specs.declared.bundling.server.BundleServer.{BundleServer}
 use Rattle.sfu_program.specs.SimulcastTexts.{Told}
 
--- From any state it stood for, the reply was appended to the output so far, and it stands for the state after the line; or memory ran out.
+-- From any state that it represented, the reply was appended to the output so far, and it represents the state after the line; or memory ran out.
 pub record ServesLine (says : Simulcast → Told) (old new : BundleServer) (ready ready' : List ℕ) (result : Result (Unit {0}) Halt) : Type 0 where
   pub judges : (h : Simulcast) → StandsFor untold old.bundles h
       → Judges (λ (server : BundleServer) (h : Simulcast). StandsFor untold server.bundles h) (writes (says h).reply (says h).after) new ready ready' result

@@ -1,5 +1,5 @@
-//! The program `sfu`: its top call over any source, sink, ports and clock, and a `main` that passes standard input and output, UDP ports and the
-//! system's clock.
+//! The program `sfu`. Its top call works over any source, sink, ports and clock; `main` passes standard input and output, UDP ports and the system's
+//! clock.
 #![tactic(auto)]
 
 mod alone;

@@ -1,4 +1,4 @@
--- The packets that calls were answered. Own rule.
+-- The packets that calls returned. Own rule.
 use Rattle.std.specs.Prelude.{◌≡◌, ℕ, ◌+◌, ◌%◌, List, [], ◌∷◌, ◌++◌, Option}
 use Rattle.sfu_base.specs.Answer.{Answer, Sent}
 use Rattle.sfu_base.specs.declared.call.Call.{Call}
@@ -8,7 +8,7 @@ use Rattle.rtx_stream.specs.declared.retransmission.Rtx.{Rtx}
 use Rattle.session_steps.specs.Datagrams.{Datagram, Bytes, IsOne}
 use Rattle.session_steps.specs.Sessions.{Doing, resent}
 
--- the packet that an answer is, if it is one
+-- the packet in an answer, if the answer is a packet
 abbrev pub packet_of : Answer → List (List ℕ)
 packet_of (Sent bytes) = bytes ∷ []
 packet_of answer = []
@@ -24,12 +24,12 @@ abbrev pub packets_given : List (Word Call Answer) → List (List ℕ)
 packets_given [] = []
 packets_given (word ∷ words) = packet_given word.call word.answer ++ packets_given words
 
--- the packet that is to be sent next, where one is
+-- the next packet to send, if any
 abbrev pub unsent : Doing → List (List ℕ)
 unsent (Post (Bytes bytes) next) = bytes ∷ []
 unsent rest = []
 
--- ---- the same as datagrams, where resent packets go out in a way of their own
+-- ---- the same as datagrams, if retransmissions are sent on their own stream
 
 -- the datagram of a packet that a take or a resend returned, if any; this many resends returned one before
 abbrev pub datagram_given : Option Rtx → ℕ → Call → Answer → List Datagram
@@ -37,7 +37,7 @@ datagram_given way before (Take subscriber) (Sent bytes) = Bytes bytes ∷ []
 datagram_given way before (Resend subscriber seq) (Sent bytes) = resent way (before % 65536) bytes ∷ []
 datagram_given way before call answer = []
 
--- how many resends have then returned a packet
+-- how many resends have returned a packet after this call
 abbrev pub resent_then : ℕ → Call → Answer → ℕ
 resent_then before (Resend subscriber seq) (Sent bytes) = before + 1
 resent_then before call answer = before
@@ -48,7 +48,7 @@ datagrams_given way before [] = []
 datagrams_given way before (word ∷ words) =
     datagram_given way before word.call word.answer ++ datagrams_given way (resent_then before word.call word.answer) words
 
--- the datagram that is to be sent next, where one is
+-- the next datagram to send, if any
 abbrev pub unsent_datagram : Doing → List Datagram
 unsent_datagram (Post what next) = what ∷ []
 unsent_datagram rest = []

@@ -18,7 +18,7 @@ use Rattle.sfu_serve.specs.History.{entries_of}
 use Rattle.session_steps.specs.Datagrams.{IsOne}
 use Rattle.session_steps.specs.Sessions.{Doing}
 
--- what the room answers to a call after these turns
+-- the room's answer to a call after these turns
 abbrev pub reply_after : List (Entry Call) → Call → Answer
 reply_after history call = reply_of (entries_of history) call
 
@@ -30,12 +30,12 @@ words_of n history = words.words_of reply_after (Refused NoMemory) n history
 abbrev pub words_behind : ℕ → List (Entry Call) → List (Entry Call) → List (Word Call Answer)
 words_behind n before added = words.words_from reply_after (Refused NoMemory) before n added
 
--- This history sent each subscriber what it should.
+-- The guarantees (`Headline`) hold for this history.
 pub record HasHeadline (history : List (Entry Call)) : Type 0 where
   pub headline : Headline (accepted (entries_of history))
 
--- So much of a session is done that the rest is left, after this many receives; a seat and a link went from old to new. Only calls that
--- may run out of memory did so.
+-- So much of a session is done, with this many receives, that this rest is left. The seat and the link went from old to new. Only calls that may run
+-- out of memory did so.
 abbrev pub Done : (Call → Type 0) → Doing → Doing → Known Call → Known Call → Option Traffic → Option Traffic → ℕ → ℕ → ℕ → Type 0
 Done MayStarve whole rest old new told told' before after turns =
     IsDone reply_after (Refused NoMemory) MayStarve IsOne HasHeadline whole rest old new told told' before after turns
@@ -49,9 +49,9 @@ pub record FailedOnce (before after : ℕ) : Type 0 where
   pub never_falls : before ≤ after
   pub counts : after ≡ raised before
 
--- How a session of `limit` turns ends, by what is left then and after how many receives. `AllTurns`: it is over after `limit` receives,
--- and no call on its link failed. `LinkFault`: in this turn its receive failed, or a send, and no other call did. `Worn`: a call
--- wasn't made, and the seat found all tickets drawn; no call on its link failed.
+-- How a session of `limit` turns ends, by the rest that is left and the number of receives. `AllTurns`: nothing is left after `limit` receives, and
+-- no call on the link failed. `LinkFault`: in this turn a receive or a send failed, and no other call on the link. `Worn`: a call wasn't made, since
+-- the seat found all tickets drawn; no call on the link failed.
 abbrev pub MeetsEnd : ℕ → ℕ → ℕ → ℕ → Doing → ℕ → SessionEnd → Type 0
 MeetsEnd before after found limit Over turns AllTurns = (after ≡ before) × (turns ≡ limit)
 MeetsEnd before after found limit (Listen f) turns (LinkFault turn) = FailedOnce before after × (turn < limit) × (turns ≡ turn)
@@ -59,7 +59,7 @@ MeetsEnd before after found limit (Post what next) turns (LinkFault turn) = Fail
 MeetsEnd before after found limit (Ask call f) turns Worn = (after ≡ before) × (found ≡ 2 ^ 63) × (turns ≤ limit)
 MeetsEnd before after found limit rest turns end = ⊥
 
--- What a session of `limit` turns makes of its seat and its link. No call on the link failed before the one, if any, that ended the session.
+-- How a session of `limit` turns changes its seat and its link. No call on the link failed before the call, if any, that ended the session.
 pub record Keeps (MayStarve : Call → Type 0) (whole : Doing) (limit : ℕ) (old new : Known Call) (told told' : Option Traffic)
     (before after : ℕ) (end : SessionEnd) : Type 0 where
   pub rest : Doing

@@ -15,7 +15,7 @@ use Rattle.session_steps.specs.Datagrams.{IsOne}
 use Rattle.session_steps.specs.Sessions.{Doing, publisher_deed, subscriber_deed, rtx_deed, control_deed}
 use Rattle.sfu_serve.specs.Parts.{MeetsEnd, words_of}
 
--- what a session of this role does in this many turns
+-- the rule of a session of this role, for this many turns
 abbrev pub deed_of : Role → ℕ → Doing
 deed_of (Publisher track ssrc) limit = publisher_deed track ssrc limit None None
 deed_of (Subscriber subscriber ssrc) limit = subscriber_deed subscriber ssrc limit
@@ -27,8 +27,8 @@ abbrev pub CanBe : Role → Type 0
 CanBe (Rtx subscriber ssrc rtx) = (rtx.ssrc ≢ ssrc) × (rtx.payload_type < 128)
 CanBe role = Unit {0}
 
--- A session of the seat with this number, which began with no entries, read in any later history: `found` is the greatest number of a
--- ticket that was found there.
+-- A session of the seat with this number, read in any later history. The seat had no entries before. `found` is the greatest ticket number that was
+-- found in that history.
 pub record IsSession (whole : Doing) (limit number found : ℕ) (history : List (Entry Call)) (told told' : Option Traffic) (before after : ℕ)
     (end : SessionEnd) : Type 0 where
   pub steps : List (Step Call Answer)

@@ -47,8 +47,8 @@ impl<'a, R: Recorder, C, W> Stage<'a, R, C, W> {
     }
 }
 
-/// Receives a datagram, and then reads the clock. Each turn of a session is one receive and one reading, whether the session uses it or not
-/// (own rule). Returns whether a datagram came, and the moment.
+/// Receives a datagram, and then reads the clock. Each turn of a session does both exactly once, even if the session doesn't use the results (own
+/// rule). Returns whether a datagram came, and the moment.
 fn listen<L: Link, C: Clock>(
     link: &mut L,
     clock: &C,
@@ -78,8 +78,8 @@ fn send_output<L: Link>(link: &mut L, output: Output, packet: &PacketBuf) -> Res
     }
 }
 
-/// Runs a session that waits for a datagram, for `stage.limit` turns. Each turn is a receive, a reading of the clock, and the calls and
-/// datagrams that follow. Ends early if a call on the link failed or all tickets of the lock are drawn (own rule).
+/// Runs a session that waits for a datagram, for `stage.limit` turns. Each turn is a receive, a reading of the clock, and the calls and datagrams
+/// that follow from them. The session ends early if a call on the link failed or all tickets of the lock are drawn (own rule).
 pub fn run_session<R: Recorder, S: Session, L: Link, C: Clock, W: Wait + Sync>(
     stage: &Stage<'_, R, C, W>,
     seat: &mut Seat<SharedRoom<R>>,

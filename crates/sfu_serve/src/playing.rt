@@ -46,7 +46,7 @@ fn put_last<T: Drop>(list: &mut Vec<T>, item: T) -> Result<(), NoMemory>
     }
 }
 
-/// Splits off a seat for each job, in order: seat 1 for the first.
+/// Splits off a seat for each job, in order. The first job gets seat 1.
 pub fn cast<R: Recorder, L: Link + Drop>(
     alloc: Global,
     turns: &Turns<SharedRoom<R>>,
@@ -161,7 +161,7 @@ pub fn play<R: Recorder + Send, L: Link + Send + Drop, C: Clock + Sync, W: Threa
     Ok(played)
 }
 
-/// Joins the jobs' seats into the first one, in order. Returns the links with the sessions' ends, in the same order.
+/// Joins the jobs' seats into the first seat, in order. Returns each link with its session's end, in the same order.
 pub fn gather<R: Recorder, L: Link + Drop>(
     alloc: Global,
     turns: &Turns<SharedRoom<R>>,

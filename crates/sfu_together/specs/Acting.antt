@@ -1,4 +1,4 @@
--- The calls that a seat of `together` makes, and the entries that it stores of its turns.
+-- The calls that a seat of `together` makes, and the entries of its turns that it stores.
 use Rattle.std.specs.Prelude.{◌≡◌, ◌⊎◌, ℕ, ◌+◌, ◌^◌, ◌<◌, ◌≤◌, false, List, [], ◌∷◌, ◌++◌, length, map}
 use Rattle.std.specs.List.{flat_map}
 use mathlib.Core.List.{IsPrefix}
@@ -19,16 +19,16 @@ use Rattle.sfu_together.specs.History.{told_of}
 
 -- ---- stored turns
 
--- what is stored of a turn after these turns
+-- the stored entry of a turn after these turns
 abbrev pub placed_at : List (Entry Call) → Entry Call → Placed
 placed_at past e = record { place = length past; entry = told_of (entries_of past) e.seat e.call }
 
--- what is stored of turns after these turns
+-- the stored entries of turns after these turns
 abbrev pub placed_from : List (Entry Call) → List (Entry Call) → List Placed
 placed_from past [] = []
 placed_from past (e ∷ es) = placed_at past e ∷ placed_from (past ++ e ∷ []) es
 
--- what is stored of all turns of a history
+-- the stored entries of all turns of a history
 abbrev pub placed : List (Entry Call) → List Placed
 placed history = placed_from [] history
 
@@ -38,7 +38,7 @@ placed history = placed_from [] history
 abbrev pub turn_of : ℕ → Call → Entry Call
 turn_of seat call = entry seat call false
 
--- A seat made these calls, in order, or found the lock worn; and its turns were stored.
+-- A seat made these calls, in order, or found all tickets of the lock drawn. The entries of its turns were stored.
 pub record Acts (old new : Known Call) (calls : List Call) (kept : List Placed) : Type 0 where
   pub keeps : KeepsSeat old new
   pub goes_on : IsPrefix old.seen new.seen
@@ -104,6 +104,6 @@ pub record HasJoined (old : Known Call) (dones : List Done) (new : Known Call) :
   pub found : old.found ≤ new.found
   pub each : (i : ℕ) (done : Done) → get_elem? dones i ≡ some done → (done.seat.found ≤ new.found) × IsPrefix done.seat.seen new.seen
 
--- what was stored of the turns of all of them, one actor after another
+-- the stored entries of the turns of all actors, one actor after another
 abbrev pub kept_by : List Done → List Placed
 kept_by dones = flat_map (λ done. done.kept.items) dones

@@ -37,8 +37,8 @@ pub record IsPlayed (history : List Entry) (bytes : List ℕ) : Type 0 where
   pub parts : AreActors (together_script bytes).said actors
   pub made : IsMadeBy actors history
 
--- What a status means: the same as for every command that reads. What is due is the journal of one history, and nothing is due before
--- the end of the script is seen.
+-- What a status means: the same as for every command that reads. The output that is due is the journal of one history. None of it is due before the
+-- end of the script is seen.
 pub record Plays (x : Exchange) (status : ℕ) : Type 0 where
   pub history : List Entry
   pub statuses : Statuses (together_due history) read_part x.left x.left' x.written x.written' x.reads x.reads' x.writes x.writes' status
@@ -48,6 +48,6 @@ pub record Plays (x : Exchange) (status : ℕ) : Type 0 where
   pub script : (status ≡ 0) ⊎ (status ≡ 4) → (bytes : List ℕ) × Consumes x.left x.left' bytes × IsAtEnd x.left' × IsPlayed history bytes
   -- for 3 and 6 nothing was written
   pub unwritten : (status ≡ 3) ⊎ (status ≡ 6) → Appends x.written x.written' []
-  -- each subscriber in the history was sent what it should be
+  -- the guarantees (`Headline`) hold for the history
   pub headline : Headline (accepted history)
   pub only : (status ≡ 0) ⊎ (status ≡ 3) ⊎ (status ≡ 4) ⊎ (status ≡ 5) ⊎ (status ≡ 6)

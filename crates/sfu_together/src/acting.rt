@@ -11,8 +11,8 @@ use std::alloc::Global;
 use std::sync::Wait;
 use turn_lock::{Seat, Turns};
 
-/// Makes a seat's calls, at most 100,000, in order. Returns for each turn its place in the history, and the journal's entry of its call.
-/// The gate is called before and after each turn. Once the lock is worn (all its tickets are drawn), no further call is made.
+/// Makes a seat's calls, at most 100,000, in order. Returns for each turn its index in the history, and the journal's entry of its call. The gate is
+/// called before and after each turn. Once all tickets of the lock are drawn, no further call is made.
 pub fn act<W: Wait + Sync, G: Gate>(
     rt: &W,
     alloc: Global,

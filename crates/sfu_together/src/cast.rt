@@ -78,7 +78,7 @@ fn perform<W: Wait + Sync, G: Gate>(
     Ok(Done { seat, kept })
 }
 
-/// The results of all actors, in order. `NoMemory`: an actor or this list ran out of memory.
+/// The results of all actors, in order. `NoMemory`: an actor ran out of memory, or memory for this list did.
 fn all_done(alloc: Global, ended: Vec<Result<Done, NoMemory>>) -> Result<Vec<Done>, NoMemory>
     ensures { IfOk result (λ dones. map Ok dones.items ≡ ended.items) }
 {
@@ -90,7 +90,7 @@ fn all_done(alloc: Global, ended: Vec<Result<Done, NoMemory>>) -> Result<Vec<Don
     Ok(dones)
 }
 
-/// Splits a seat off for each actor and runs the actors at the same time, each on a thread of its own.
+/// Splits off a seat for each actor, and runs the actors at the same time, each on a thread of its own.
 pub fn play<W: Threads + Wait + Sync, G: Gate>(
     rt: &W,
     alloc: Global,
@@ -125,7 +125,7 @@ pub fn play<W: Threads + Wait + Sync, G: Gate>(
     all_done(alloc, ended)
 }
 
-/// Joins the actors' seats into `seat`, in order, and appends the entries of the actors' turns to `kept`.
+/// Joins the actors' seats into `seat`, in order, and appends the entries of their turns to `kept`.
 pub fn gather(
     turns: &Turns<PlayedRoom>,
     seat: &mut Seat<PlayedRoom>,

@@ -2,10 +2,10 @@
 
 /// A hook that is called before and after each actor's call, outside the lock. It may delay actors.
 pub trait Gate: Sync {
-    /// Is called before the actor, 1 to 8, makes its call with the index `line`, counted from 0.
+    /// Called before the actor `actor`, 1 to 8, makes its call with the index `line`, counted from 0.
     fn before(&self, actor: u8, line: u32);
 
-    /// Is called after that call.
+    /// Called after that call.
     fn after(&self, actor: u8, line: u32);
 }
 

@@ -1,4 +1,4 @@
--- What each call on a room with bundles returns, and the state after it, as functions: the code's calls agree with them unless memory runs out.
+-- The result of each call on a room with bundles, and the state after it, as functions. The code's calls agree with them unless memory runs out.
 use Rattle.std.specs.Prelude.{ℕ, ◌-◌, false, List, [], ◌∷◌, ◌++◌, Option, None, Some, Result, Ok, Err, length, slice_get, slice_set}
 use Rattle.sfu_base.specs.Answer.{Answer}
 use Rattle.sfu_base.specs.declared.call.Call.{Call}
@@ -34,7 +34,7 @@ abbrev pub made_at : List Made → Option ℕ → Option Made
 made_at made None = None
 made_at made (Some i) = slice_get made i
 
--- what is done with the bundle of this number and its index; if no bundle has the number, the call is refused
+-- the result for the bundle with this number, which is at this index; if no bundle has the number, the call is refused
 abbrev pub with_found : {A : Type 0} → Simulcast → Option ℕ → Option Made → (ℕ → Made → Answered A) → Answered A
 with_found h (Some i) (Some m) does = does i m
 with_found h _ _ does = refused_for fault.NoBundle h
@@ -72,7 +72,7 @@ leg_chosen number leg h = with_number number h (λ i m. choice_of leg h i m (leg
 
 -- ---- a pump
 
--- how many more packets go out now than before, and how many of the packets taken since don't
+-- how many more packets are forwarded now than before, and how many of the packets taken since are dropped
 abbrev pub counts_of : (old new : Made) → Pumped
 counts_of old new = record {
   forwarded = length (passed (marks_of new.id) new.events) - length (passed (marks_of old.id) old.events);
@@ -85,9 +85,9 @@ pump_of h i m s = done_with (counts_of m s.made) (and_now h i s)
 abbrev pub bundle_pumped : ℕ → Simulcast → Answered Pumped
 bundle_pumped number h = with_number number h (λ i m. pump_of h i m (pumped_whole (record { history = h.history; made = m })))
 
--- ---- packets that go out
+-- ---- outgoing packets
 
--- of all that goes out, the packet after those that were drawn
+-- the outgoing packet after those that were drawn
 abbrev pub draw_of : Simulcast → ℕ → Made → Option (List ℕ) → Answered (List ℕ)
 draw_of h i m None = refused_for (fault.Room Empty) h
 draw_of h i m (Some packet) = done_with packet (with_made h i (and_drawn m))

@@ -1,4 +1,4 @@
--- The state that a room with bundles stands for, and what its calls do to it.
+-- The state that a room with bundles represents, and what its calls do to it.
 use Rattle.std.specs.Prelude.{IsTrue, ◌≡◌, ◌==◌, ◌+◌, ◌%◌, ◌≤◌, ℕ, Bool, true, false, if◌then◌else◌, List, [], ◌∷◌, ◌++◌, Option, None, Some, Result, Ok, Err, count_by, fold, is_some, max, nat_le, length, map, position, slice_get, slice_set}
 use Rattle.std.specs.List.{find, list_all}
 use Rattle.std.specs.Option.{option_map}
@@ -68,7 +68,7 @@ may_starve may_refuse b = recorder_may_refuse may_refuse b.room
 abbrev pub place_of : ℕ → List Made → Option ℕ
 place_of number made = position (λ m. m.number == number) made
 
--- after the history and the bundle at this index became these
+-- the state with this history and, at this index, this bundle
 abbrev pub and_now : Simulcast → ℕ → Pumping → Simulcast
 and_now h i s = record { history = s.history; made = slice_set h.made i s.made }
 
@@ -81,7 +81,7 @@ with_made h i m = record { history = h.history; made = slice_set h.made i m }
 abbrev pub owner : ℕ → List Made → Option ℕ
 owner n made = option_map (λ m. m.number) (find (λ m. has_leg n m.legs) made)
 
--- the bundle that forbids the call, as the call's subscriber is its leg
+-- the bundle that forbids the call, since the call's subscriber is a leg of it
 abbrev pub forbids_by : (ℕ → Option ℕ) → Call → Option ℕ
 forbids_by own (Take n) = own n
 forbids_by own (Leave n) = own n
@@ -98,7 +98,7 @@ CallsAs noted b h seat call bytes numbers None (Ok reply) =
     (is_starved reply ≡ false → answer_of reply bytes numbers ≡ reply_of h.history call)
     × StandsFor noted b (record { history = h.history ++ record { seat = seat; call = call; starved = is_starved reply } ∷ []; made = h.made })
 
--- what the room's own call does, unless a bundle forbids it
+-- the effect of the room's own call, unless a bundle forbids it
 abbrev pub Calls : {R : Type 0} → (R → Option (List Noted)) → (old new : Bundles R) → ℕ → Call → (bytes numbers : List ℕ) → Result Reply BundleFault → Type 0
 Calls noted old new seat call bytes numbers result = (h : Simulcast) → StandsFor noted old h
     → CallsAs noted new h seat call bytes numbers (forbids call h.made) result
@@ -117,7 +117,7 @@ abbrev pub CallsWhole : {R : Type 0} → (R → Option (List Noted)) → (R → 
 CallsWhole noted may_refuse old new seat call before after (Ok reply) = ServesInto noted may_refuse old.room new.room seat call reply before after
 CallsWhole noted may_refuse old new seat call before after (Err why) = (new ≡ old) × (after ≡ before)
 
--- for any state that the bundles stand for, the room's headline holds for its history
+-- for any state that the bundles represent, the room's guarantees (`Headline`) hold for its history
 abbrev pub BundlesHeadline : {R : Type 0} → (R → Option (List Noted)) → Bundles R → Type 0
 BundlesHeadline noted b = (h : Simulcast) → StandsFor noted b h → Headline (accepted h.history)
 
@@ -203,7 +203,7 @@ Chooses noted old new number leg result = (h : Simulcast) → StandsFor noted ol
 abbrev pub Pleases : Made → Type 0
 Pleases m = (sends queued : List (List ℕ)) → sends ++ queued ≡ outgoing (marks_of m.id) m.first m.ssrc m.events → complaint (format_of m.id) (map read_packet sends) ≡ None
 
--- this holds for each bundle, in any state that the bundles stand for
+-- this holds for each bundle, in any state that the bundles represent
 abbrev pub PleasesReceivers : {R : Type 0} → (R → Option (List Noted)) → Bundles R → Type 0
 PleasesReceivers noted b = (h : Simulcast) (i : ℕ) (m : Made) → StandsFor noted b h → slice_get h.made i ≡ Some m → Pleases m
 

@@ -5,11 +5,11 @@ use Rattle.leg_switch.specs.Switching.{LegEvent, outgoing}
 use Rattle.simulcast.specs.Made.{Made}
 use Rattle.simulcast.specs.Bundle.{and_drawn}
 
--- all packets that go out of a bundle, whether drawn or queued, the oldest first
+-- all outgoing packets of a bundle, drawn or queued, the oldest first
 abbrev pub outgoing_of : Made → List (List ℕ)
 outgoing_of m = outgoing (marks_of m.id) m.first m.ssrc m.events
 
--- the packets that were drawn: as many of these as there were draws
+-- the packets that were drawn: the first of these, one for each draw
 abbrev pub drawn_of : Made → List (List ℕ)
 drawn_of m = take m.draws (outgoing_of m)
 

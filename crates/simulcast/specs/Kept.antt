@@ -9,7 +9,7 @@ use Rattle.simulcast.specs.Made.{AreLegs, HasNoStrays, Made, just_made}
 use Rattle.simulcast.specs.Bundles.{NoneIsTwo, Pleases, Simulcast, nothing_made}
 use Rattle.simulcast.specs.Answers.{bundle_made, bundle_pumped, leg_chosen, packet_drawn, packet_redrawn, room_called}
 
--- The calls are well formed, each leg of a bundle is one, no subscriber is two legs, nothing was taken from what is no leg, and an SSRC has 32 bits.
+-- The calls are well formed, each leg is a subscriber as `IsLeg` says, no subscriber is two legs, packets were taken only from legs, and SSRCs have 32 bits.
 pub record IsKept (h : Simulcast) : Type 0 where
   pub formed : AreWellFormed (accepted h.history)
   pub legs : (i : ℕ) (m : Made) → slice_get h.made i ≡ Some m → AreLegs (accepted h.history) m
@@ -17,8 +17,8 @@ pub record IsKept (h : Simulcast) : Type 0 where
   pub strays : (i : ℕ) (m : Made) → slice_get h.made i ≡ Some m → HasNoStrays m
   pub fits : (i : ℕ) (m : Made) → slice_get h.made i ≡ Some m → m.ssrc < 2 ^ 32
 
--- All guarantees of a room hold for the history; each leg of a bundle is a live subscriber, and what was taken from it is what its takes returned
--- since the bundle was made; and a strict receiver has no complaint about what a bundle sends.
+-- All guarantees of a room hold for the history. Each leg of a bundle is a live subscriber, and the packets taken from it are those that its takes
+-- returned since the bundle was made. A strict receiver has no complaint about what a bundle sends.
 pub record IsPleasing (h : Simulcast) : Type 0 where
   pub headline : Headline (accepted h.history)
   pub legs : (i : ℕ) (m : Made) → slice_get h.made i ≡ Some m → AreLegs (accepted h.history) m

@@ -14,7 +14,7 @@ pub record Pumping : Type 0 where
   pub history : List Entry
   pub made : Made
 
--- after a call by seat 0, which ran out of memory or not
+-- the history after a call by seat 0, which may have run out of memory
 abbrev pub called : Bool → Call → List Entry → List Entry
 called starved call history = history ++ record { seat = 0; call = call; starved = starved } ∷ []
 
@@ -33,7 +33,7 @@ abbrev pub and_given : ℕ → Option (List ℕ) → Made → Made
 and_given k None m = m
 and_given k (Some packet) m = and_took k packet m
 
--- after these takes, one after another
+-- the state after these takes, one after another
 abbrev pub took_all : List LegTake → Pumping → Pumping
 took_all [] s = s
 took_all (t ∷ takes) s = took_all takes (record { history = called false (Take t.subscriber) s.history; made = and_given t.leg t.packet s.made })
@@ -48,7 +48,7 @@ AreOfLegs legs takes = AllByRecursion (λ t. leg_at t.leg legs ≡ Some t.subscr
 abbrev pub is_full : Made → Bool
 is_full m = nat_le 512 (queued_of m)
 
--- The leg k, for whose subscriber n these packets are queued, is taken from until a take is refused, or 512 packets of the bundle are queued.
+-- Takes from the leg k, whose subscriber n has these packets queued, go on until one is refused or 512 packets of the bundle are queued.
 abbrev pub drained : (k n : ℕ) → List (List ℕ) → Pumping → Pumping
 drained k n [] s = if is_full s.made then s else record { history = called false (Take n) s.history; made = s.made }
 drained k n (packet ∷ queue) s =

@@ -93,8 +93,8 @@ impl Bundle {
         self.ring.take(out)
     }
 
-    /// Writes the packet that was drawn with this sequence number to `out` again. `NotKept`: none of the last 1,024 drawn packets has the
-    /// sequence number.
+    /// Writes the packet that was drawn with this sequence number to `out` again. `NotKept`: none of the last 1,024 packets drawn has the
+    /// number.
     pub fn redraw(&self, seq: u16, out: &mut PacketBuf) -> Result<(), Refusal>
         ensures redraws { RedrawsIn self.now seq out.new result }
         ensures unchanged { OnErr result (out.new ≡ out.old) }
@@ -102,7 +102,7 @@ impl Bundle {
         self.ring.resend(seq, out)
     }
 
-    /// The order in which a pump takes from the legs, counted from 1; a `None` is skipped.
+    /// The legs in the order in which a pump takes from them, counted from 1. Each `None` is skipped.
     pub fn order(&self) -> [Option<u8>; 5]
         ensures { result ≡ order self.now.switch }
     {
@@ -134,7 +134,7 @@ impl Bundle {
         self.ring.queued()
     }
 
-    /// Whether 512 packets are queued, the most that may be.
+    /// Whether 512 packets are queued, which is the maximum.
     pub fn is_full(&self) -> bool
         ensures { result ≡ nat_le 512 (length self.now.ring.queued) }
     {

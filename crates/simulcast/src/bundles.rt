@@ -16,9 +16,9 @@ use std::alloc::Global;
 /// The most bundles of a room (own rule).
 const MOST_BUNDLES: usize = 64;
 
-/// A room with bundles. A bundle merges the packets sent to its legs, two or three subscribers of the room, into one outgoing stream.
-/// `choose` selects the leg to forward, `pump` takes the packets queued for the legs, `draw` returns the stream's next packet, and `redraw`
-/// returns a packet that was drawn before. Bundles and their legs are never removed.
+/// A room with bundles. A bundle merges the packets sent to its legs, two or three subscribers of the room, into one outgoing stream. `choose`
+/// selects the leg to forward, `pump` takes the packets queued for the legs, `draw` returns the stream's next packet, and `redraw` returns a packet
+/// that was drawn before. Bundles and their legs are never removed.
 #[derive(Drop)]
 pub struct Bundles<R: Recorder> {
     alloc: Global,
@@ -130,7 +130,7 @@ impl<R: Recorder> Bundles<R> {
         true
     }
 
-    // For the first leg that is bound: the number of the bundle that has the leg already, or `number` if the leg is listed twice.
+    // For the first leg that is bound: the number of the bundle that already has the leg, or `number` if the leg is listed twice.
     fn bound(&self, number: u32, legs: &[u32]) -> Option<u32>
         ensures { result ≡ bound_leg (λ n. option_map (λ b. b.number) (find (λ b. has_leg n b.legs.items) self.now.bundles.items)) number legs.now legs.now }
     {
@@ -168,9 +168,9 @@ impl<R: Recorder> Bundles<R> {
         }
     }
 
-    /// Creates a bundle of two or three legs, which are subscribers of layered tracks with this header extension id. The bundle sends with this
-    /// SSRC, and sequence numbers from `first` on; leg 1 is chosen. `NumberUsed`: the number isn't above the highest number of a bundle (0 if
-    /// there is none). `TooMany`: there are 64 bundles. `Room(NoSubscriber)`: a leg isn't live. `Bound`: a leg belongs to bundle `bundle`, or is
+    /// Creates a bundle of two or three legs, which are subscribers of layered tracks with the header extension id `id`. The bundle sends with this
+    /// SSRC, and with sequence numbers from `first` on. Leg 1 is chosen. `NumberUsed`: the number isn't above the highest number of a bundle (0 if
+    /// there is none). `TooMany`: there are 64 bundles. `Room(NoSubscriber)`: a leg isn't live. `Bound`: a leg belongs to the bundle `bundle`, or is
     /// listed twice (`bundle` is then `number`). `WrongKind`: a leg's track isn't layered with this id. `NoMemory` is checked last.
     pub fn bundle(
         &mut self,
@@ -208,8 +208,8 @@ impl<R: Recorder> Bundles<R> {
         }
     }
 
-    /// Serves a call of a seat on the room, as `Room::serve` does. `Bound`: the call is a `Take` or a `Leave` of a leg of that bundle; nothing
-    /// changes, not even the scratch.
+    /// Serves a call of a seat on the room, as `Room::serve` does. `Bound`: the call is a `Take` or a `Leave` of a subscriber that is a leg of that
+    /// bundle. Nothing changes then, not even the scratch.
     pub fn call(
         &mut self,
         seat: u32,
@@ -227,8 +227,8 @@ impl<R: Recorder> Bundles<R> {
         }
     }
 
-    /// Takes the packets queued for the bundle's legs: from the active leg, then from the chosen leg if that is another, then from the others in
-    /// order. It takes from a leg until the leg's queue is empty, or 512 packets of the bundle are queued. `NoBundle`: no bundle has the number.
+    /// Takes the packets queued for the bundle's legs: from the active leg, then from the chosen leg if it is another, then from the others in order.
+    /// Takes from a leg go on until the leg's queue is empty, or 512 packets of the bundle are queued. `NoBundle`: no bundle has the number.
     /// `NoMemory`: a take ran out of memory; the takes before it aren't undone.
     pub fn pump(&mut self, number: u32, scratch: &mut Scratch) -> Result<Pumped, BundleFault>
         ensures pumps { PumpsOne R.noted self.old self.new number result }
@@ -252,8 +252,8 @@ impl<R: Recorder> Bundles<R> {
         }
     }
 
-    /// Dequeues the bundle's oldest packet, writes it to `out`, and returns its sequence number. `NoBundle`: no bundle has the number.
-    /// `Room(Empty)`: no packet is queued. An error leaves `out` as it was.
+    /// Dequeues the bundle's oldest packet, writes it to `out`, and returns its sequence number. `NoBundle`: no bundle has the number. `Room(Empty)`:
+    /// no packet is queued. After an error `out` is unchanged.
     pub fn draw(&mut self, number: u32, out: &mut PacketBuf) -> Result<u16, BundleFault>
         ensures draws { Draws R.noted self.old self.new number out.new result }
         ensures unchanged { OnErr result (out.new ≡ out.old) }
@@ -268,8 +268,8 @@ impl<R: Recorder> Bundles<R> {
         }
     }
 
-    /// Writes the packet that was drawn with this sequence number to `out` again. `NoBundle`: no bundle has the number. `Room(NotKept)`: none
-    /// of the last 1,024 drawn packets has the sequence number. An error leaves `out` as it was.
+    /// Writes the packet that was drawn with this sequence number to `out` again. `NoBundle`: no bundle has the number. `Room(NotKept)`: none of the
+    /// last 1,024 packets drawn has the sequence number. After an error `out` is unchanged.
     pub fn redraw(&self, number: u32, seq: u16, out: &mut PacketBuf) -> Result<(), BundleFault>
         ensures redraws { Redraws R.noted self.now number seq out.new result }
         ensures unchanged { OnErr result (out.new ≡ out.old) }
@@ -284,7 +284,7 @@ impl<R: Recorder> Bundles<R> {
     }
 
     /// Chooses a leg, counted from 1. If the leg isn't active, seat 0 pleads for a key frame of the leg's track. `NoBundle`: no bundle has the
-    /// number. `NoLeg`: the bundle has no such leg. `NoMemory`: the plea ran out of memory; the leg is chosen nevertheless.
+    /// number. `NoLeg`: the bundle has no such leg. `NoMemory`: the plea ran out of memory, but the leg is chosen.
     pub fn choose(&mut self, number: u32, leg: u8, scratch: &mut Scratch) -> Result<(), BundleFault>
         ensures chooses { Chooses R.noted self.old self.new number leg result }
         ensures memory { StarvesBy R.may_refuse self.old result }

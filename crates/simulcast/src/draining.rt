@@ -11,7 +11,7 @@ use dd_descriptor::NewestDescriptor;
 use room_core::{Recorder, Room};
 use sfu_base::{NoMemory, Scratch};
 
-/// One more than the 512 packets of a subscriber's full queue: after this many takes it is empty.
+/// One more than the 512 packets of a full queue. A subscriber's queue is empty after this many takes.
 const MOST_TAKES: u32 = 513;
 
 // Takes the packets queued for a leg, until its queue is empty or the bundle has 512 packets queued. Returns how many packets were taken.
@@ -94,8 +94,8 @@ fn drain_legs<R: Recorder>(
     Ok(taken)
 }
 
-/// Takes the packets queued for the legs of a bundle: from the active leg, then from the chosen leg if that is another, then from the others
-/// in order. It takes from a leg until the leg's queue is empty, or 512 packets of the bundle are queued.
+/// Takes the packets queued for the legs of a bundle: from the active leg, then from the chosen leg if it is another, then from the others in order.
+/// Takes from a leg go on until the leg's queue is empty, or 512 packets of the bundle are queued.
 pub fn pump<R: Recorder>(
     room: &mut Room<R>,
     bundle: &mut Bundle,

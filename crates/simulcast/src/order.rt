@@ -2,7 +2,7 @@
 ghost use Rattle.std.specs.Prelude.{◌≡◌};
 ghost use Rattle.simulcast.specs.Pumping.{unless};
 
-/// This leg, or `None` if it comes earlier in the order (`is_taken`).
+/// This leg, or `None` if `is_taken`: then the leg comes earlier in the order.
 pub fn unless(is_taken: bool, leg: u8) -> Option<u8>
     ensures { result ≡ unless is_taken leg }
 {

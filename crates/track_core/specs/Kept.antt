@@ -1,4 +1,4 @@
--- What the fields of a track stand for, and what is always true of them.
+-- What the fields of a track represent, and what always holds for them.
 use Rattle.std.specs.Prelude.{◌≡◌, ℕ, true, if◌then◌else◌, List, [], ◌∷◌, Option, None, Some}
 use Rattle.reorder_window.specs.Events.{Event, Piece}
 use Rattle.track_core.specs.declared.track.Track.TheInside.{Inside}
@@ -21,7 +21,7 @@ seen t = record {
   newest = t.newest;
 }
 
--- there are events that the track stands for
+-- there are events that the track represents
 pub record HasStood (track : Seen) : Type 0 where
   pub events : List Event
   pub worked : List Piece

@@ -1,4 +1,4 @@
--- What a layered track stands for between two items. Lists of items and marks have the newest first.
+-- What a layered track represents between two items. Lists of items and marks have the newest first.
 use Rattle.std.specs.Prelude.{◌≡◌, ℕ, Bool, true, false, if◌then◌else◌, List, [], ◌∷◌, map, Option, None, Some, IfSome, is_some}
 use Rattle.std.specs.Option.{option_map}
 use Rattle.sfu_base.specs.declared.frame.FrameMeaning.{FrameMeaning}
@@ -72,7 +72,7 @@ pub record IsRunning (layers : Layers) (marks : List (Mark (ReadPacket TemplateS
   pub assembly : AssembledAfter layers.assembly (sent_marks marks)
   pub head : IfSome (run_of marks) (HasHead layers)
 
--- a layered track whose extension id is this one stands for these items
+-- a layered track with this extension id represents these items
 pub record IsAfterAs (id : ℕ) (layers : Layers) (past : List Item) : Type 0 where
   pub force : layers.table ≡ (state_after (format_of id) past).force
   pub running : IsRunning layers (marks_of id past)
@@ -94,14 +94,14 @@ pub record HasFirst (force : Force TemplateStructure) (d : Descriptor) (part : P
 abbrev pub StartsAs : Force TemplateStructure → Descriptor → Mark (ReadPacket TemplateStructure) → Type 0
 StartsAs force d mark = (part : Part (ReadPacket TemplateStructure)) → mark ≡ Read part → HasFirst force d part
 
--- A packet with these bytes was looked at: its mark, what is in force then, and its descriptor.
+-- A packet with these bytes was read: its mark, what is in force then, and its descriptor.
 pub record Looked (id : ℕ) (old new : Force TemplateStructure) (d : Descriptor) (mark : CodeMark) (bytes : List ℕ) : Type 0 where
   pub marked : assembled mark bytes ≡ mark_with sent_of (mark_of id old.structure (Arrived (packet_of bytes)))
   pub force : new ≡ force_of id old (Arrived (packet_of bytes))
   pub starts : StartsAs new d (mark_of id old.structure (Arrived (packet_of bytes)))
   pub structure : is_some old.structure ≡ true → is_some new.structure ≡ true
 
--- the meaning that was written to its place, if one was
+-- the meaning that was written, if one was
 abbrev pub written : Bool → FrameMeaning → Option FrameMeaning
 written false meaning = None
 written true meaning = Some meaning

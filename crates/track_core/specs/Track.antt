@@ -1,4 +1,4 @@
--- What contracts see of a track, what it stands for, and what its steps make.
+-- What contracts see of a track, which events it represents, and what its steps make.
 use Rattle.std.specs.Prelude.{◌≡◌, ◌*◌, ◌≤◌, ℕ, Bool, true, false, if◌then◌else◌, ◌==◌, nat_lt, List, [], ◌∷◌, ◌++◌, Option, None, Some, Result, Ok, Err, IfSome, length, map}
 use Rattle.std.specs.List.{AllByRecursion}
 use Rattle.sfu_base.specs.declared.call.RtpFault.{RtpFault}
@@ -32,8 +32,8 @@ use Rattle.std.specs.Option.{option_map}
 use Rattle.track_core.specs.Layers.{IsAfter, meaning_made}
 use Rattle.track_core.specs.Pieces.{IsTakenIn, item_by, item_of, items_of}
 
--- The SSRC, the order with the pieces that wait, the state of a layered track, the packets that the last step made, and the meaning and the
--- number of the last frame that was made.
+-- The SSRC, the reorder window with the pieces that wait, the state of a layered track, the packets that the last step made, and the meaning and the
+-- number of the last frame made.
 pub record Seen : Type 0 where
   pub ssrc : ℕ
   pub window : Window
@@ -53,7 +53,7 @@ abbrev pub newest_after : Option ℕ → List Piece → Option ℕ
 newest_after None worked = None
 newest_after (Some id) worked = option_map number_of (first_of (frames_after (format_of id) (items_of worked)))
 
--- The track stands for these events (the newest first) and these pieces (the oldest first), which were processed.
+-- The track represents these events (the newest first), and these pieces of them (the oldest first) were processed.
 pub record StandsFor (track : Seen) (events : List Event) (worked : List Piece) : Type 0 where
   pub window : WindowAfter track.window events
   pub taken : AllByRecursion IsTakenIn events
@@ -120,14 +120,14 @@ with_meaning meaning advance.Nothing = made.Nothing
 with_meaning meaning advance.Packet = made.Packet
 with_meaning meaning advance.Frame = made.Frame meaning
 
--- the number of the newest frame after a step that made this
+-- the number of the newest frame after a step with this result
 abbrev pub newest_with : Made → Option ℕ → Option ℕ
 newest_with made.Idle newest = newest
 newest_with made.Nothing newest = newest
 newest_with made.Packet newest = newest
 newest_with (made.Frame meaning) newest = Some meaning.number
 
--- what a step makes of the first piece that waits, if one does
+-- the result of processing the first piece that waits, if one does
 abbrev pub made_of : Option Layers → List Piece → Option Piece → Made
 made_of layers worked None = made.Idle
 made_of None worked (Some piece) = made_plain piece
@@ -166,7 +166,7 @@ abbrev pub structure_after : Option Layers → List Piece → Option TemplateStr
 structure_after None worked = None
 structure_after (Some l) worked = (state_after (format_of l.id) (items_of worked)).force.structure
 
--- the pieces that are processed then
+-- the processed pieces after one more, if one waited
 abbrev pub and_piece : List Piece → Option Piece → List Piece
 and_piece worked None = worked
 and_piece worked (Some piece) = worked ++ piece ∷ []

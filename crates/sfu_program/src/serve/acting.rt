@@ -91,8 +91,8 @@ fn serve_ports<P: Ports, K: Sink, C: Clock + Sync, W: Threads + Wait + Sync>(
     end_all(alloc, ended, ports, sink)
 }
 
-/// Executes a configuration, and returns the status: 0 if each session made all its turns, 4 if the sink failed, 6 if memory ran out, 7 if a
-/// port wasn't bound or the link of a session failed.
+/// Executes a configuration, and returns the status: 0 if each session made all its turns, 4 if the sink failed, 6 if memory ran out, 7 if a port
+/// wasn't bound or the link of a session failed.
 pub fn act<P: Ports, K: Sink, C: Clock + Sync, W: Threads + Wait + Sync>(
     rt: &W,
     alloc: Global,

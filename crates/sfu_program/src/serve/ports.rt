@@ -122,7 +122,7 @@ pub fn give_back_ended<P: Ports>(ended: Vec<Ended<P::Port>>, ports: &mut P)
     }
 }
 
-/// Binds the ports of lines in order, and returns a job for each. If a bind fails, releases the ports that were bound before it, in
+/// Binds the ports of lines in order, and returns a job for each. If a bind fails, releases the ports that were bound before, in
 /// order.
 #[tactic(auto, using(crate::proofs::ServeBacks::fresh_quiet))]
 pub fn bind_all<P: Ports>(

@@ -50,8 +50,8 @@ pub fn run_all<L: Link + Send + Drop, C: Clock + Sync, W: Threads + Wait + Sync>
     Ok(ended)
 }
 
-/// Releases the ports of sessions that ended, writes the line of each session, and returns the status: 0 if each made all its turns, 7 if
-/// the link of one failed, 4 if the sink failed, 6 if memory ran out for the lines.
+/// Releases the ports of sessions that ended, writes the line of each session, and returns the status: 0 if each session made all its turns, 7 if a
+/// session's link failed, 4 if the sink failed, 6 if memory ran out for the lines.
 pub fn end_all<P: Ports, K: Sink>(
     alloc: Global,
     ended: Vec<Ended<P::Port>>,

@@ -6,7 +6,7 @@ use sfu_base::{Dti, FrameMeaning, PacketBuf};
 use std::alloc::{AllocError, Global};
 use std::process::Abort;
 
-/// Removes the text up to and including the first byte `at`, and returns what was before that byte.
+/// Removes the text up to and including the first byte `at`, and returns the part before that byte.
 pub fn cut<'a>(text: &mut &'a [u8], at: u8) -> &'a [u8] {
     let all = *text;
     for (i, byte) in all.iter().enumerate() {
@@ -19,7 +19,7 @@ pub fn cut<'a>(text: &mut &'a [u8], at: u8) -> &'a [u8] {
     all
 }
 
-/// Removes the next word, and returns the decimal number that it is.
+/// Removes the next word, which is a decimal number, and returns that number.
 pub fn number(text: &mut &[u8]) -> u32 {
     let mut n = 0u32;
     for digit in cut(text, b' ') {
@@ -40,7 +40,7 @@ fn hex_digit(digit: u8) -> u8
     }
 }
 
-/// Removes the next word, and returns its bytes, which are hex digits in the text.
+/// Removes the next word, which consists of hex digits, and returns their bytes.
 pub fn hex(text: &mut &[u8]) -> PacketBuf {
     let mut out = PacketBuf::new();
     let digits = cut(text, b' ');
@@ -51,7 +51,7 @@ pub fn hex(text: &mut &[u8]) -> PacketBuf {
     out
 }
 
-/// Appends bytes, if there are at most 1,500 in all then.
+/// Appends bytes, unless there would be more than 1,500 in all.
 pub fn put(out: &mut PacketBuf, bytes: &[u8]) {
     if out.bytes().len() + bytes.len() <= 1500 {
         out.append(bytes);
