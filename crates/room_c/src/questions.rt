@@ -13,8 +13,8 @@ use room_core::DecodeTarget;
 use sfu_base::Refusal;
 use std::alloc::Global;
 
-/// Writes the result of `Room::target_of`, the decode target that a subscriber is sent, to `out`. Returns `Target` with `has` true. If there is no
-/// target, `has` is false and `out` is unchanged. Refusal: `NoSubscriber`.
+/// Writes to `out` the decode target that a subscriber is sent (see `Room::target_of`). Returns `Target`; `has` is true. If there is no target, `has`
+/// is false and `out` is unchanged. Refusal: `NoSubscriber`.
 #[unsafe(no_mangle)]
 pub extern "C" fn zoftemar_target_of(
     alloc: Global,

@@ -33,7 +33,7 @@ pub extern "C" fn zoftemar_open_publisher(
     )
 }
 
-/// Opens a session of a subscriber, in which each retransmission has the bytes of the packet first sent. `ssrc` is the SSRC of the media sent to the
+/// Opens a session of a subscriber. Each retransmission in it has the bytes of the packet first sent. `ssrc` is the SSRC of the media sent to the
 /// subscriber. The codes are those of `zoftemar_open_publisher`.
 #[unsafe(no_mangle)]
 pub extern "C" fn zoftemar_open_subscriber(

@@ -26,7 +26,7 @@ abbrev pub target_in : Option FrameMeaning → CurrentTarget → Option DecodeTa
 target_in newest (Open target opened) = Some (record { index = target; layers = layers_at newest target })
 target_in newest (Closed reason) = None
 
--- the target that a subscriber that joined like this is sent
+-- the target sent to a subscriber that joined like this
 abbrev pub target_for : ℕ → Joined → List Call → Option DecodeTarget
 target_for number j past = target_in (newest_frame (events_for number j past)) (standing_of number j past).target
 

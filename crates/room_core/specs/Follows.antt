@@ -30,21 +30,21 @@ use Rattle.target_selector.specs.Reaching.{reaches, targets_of}
 use Rattle.std.specs.Option.{option_map}
 use Rattle.room_core.specs.declared.feed.Feed.{Feed}
 
--- what happens to a subscriber
+-- an event of a subscriber
 abbrev pub Happened : Type 0
 Happened = Event TemplateStructure
 
 abbrev pub sent_as : Packet → Sent
 sent_as packet = record { number = packet.sequence_number; bytes = bytes_of packet }
 
--- the ring is in the state that this many takes of these packets leave
+-- the state of the ring after this many takes of these packets
 pub record IsRingOf (ring : Ring) (to : Subscriber) (takes : ℕ) (out : List Packet) : Type 0 where
   pub ssrc : ring.ssrc ≡ to.ssrc
   pub next : ring.next ≡ (to.first + length (take takes out)) % 65536
   pub queued : ring.queued ≡ map bytes_of (drop takes out)
   pub kept : ring.kept ≡ map sent_as (last_part 1024 (take takes out))
 
--- The subscriber of a track of this kind that joined like this is in the state that this timeline leaves. Each take found a packet.
+-- A subscriber of a track of this kind, which joined like this, is in the state after this timeline. Each take in the timeline found a packet.
 pub record Follows (kind : Kind) (feed : Feed) (to : Subscriber) (events : List Happened) : Type 0 where
   pub kind_is : feed.kind ≡ kind
   pub selector : StandsFor feed.selector (standing to.wish events)
@@ -53,7 +53,7 @@ pub record Follows (kind : Kind) (feed : Feed) (to : Subscriber) (events : List 
   pub causes : feed.causes ≡ recent (verdicts to.wish events)
   pub finds : FindPackets (sent kind) to events
 
--- nothing happened yet
+-- the state before any event
 pub record IsFresh (feed : Feed) (kind : Kind) (ssrc first : ℕ) (wish : Wish) : Type 0 where
   pub kind_is : feed.kind ≡ kind
   pub selector : StandsFor feed.selector (joined wish)
@@ -128,11 +128,11 @@ Tells feed number result = (kind : Kind) (to : Subscriber) (events : List Happen
 
 -- ---- the packets of a frame
 
--- these packets are queued, with their numbers
+-- the ring after these packets were queued, with their numbers
 abbrev pub pushed_all : List Packet → Ring → Ring
 pushed_all packets ring = record ring { queued = ring.queued ++ map bytes_of (numbered (ring.next + length ring.queued) ring.ssrc packets) }
 
--- they are the packets of a frame; the last one gets the marker if the frame ends the temporal unit for the target
+-- a frame's packets were queued; the last one gets the marker if `is_top`, that is if the frame ends the temporal unit for the target
 abbrev pub PushesFrame : Ring → Ring → List Packet → Bool → Type 0
 PushesFrame old new packets is_top = new ≡ pushed_all (marked is_top packets) old
 

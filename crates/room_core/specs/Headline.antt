@@ -37,11 +37,11 @@ pub record PleasesReceivers (id n : ℕ) (j : Joined) (past : List Call) : Type 
   pub fronts : (sends queued : List (List ℕ)) → sends ++ queued ≡ going_out n j past
       → complaint (format_of id) (map read_packet sends) ≡ None
 
--- each frame that passed is decodable in the passed frames of its epoch
+-- each frame that passed is decodable from the passed frames of its epoch
 abbrev pub AllDecodable : Wish → List Happened → Type 0
 AllDecodable wish events = AllByRecursion (λ f. IsDecodable (of_epoch f.epoch (standing wish events).passed) f) (standing wish events).passed
 
--- if a chain was found broken at a frame, the next frame that passes is a restart: this one, or a later one
+-- if a chain was found broken at a frame, the next frame that passes (this one or a later one) is a restart
 pub record RestartsAfterBreaks (wish : Wish) (events : List Happened) : Type 0 where
   pub at_once : (since past : List Happened) (frame : Frame TemplateStructure) → events ≡ since ++ WholeFrame frame ∷ past
       → BreaksAt (standing wish past) frame.meaning → passes_at (standing wish past) frame.meaning (length frame.packets) ≡ true

@@ -6,7 +6,7 @@ use Rattle.sfu_base.specs.declared.call.Call.{Call}
 use Rattle.room_core.specs.Noted.{Noted}
 use Rattle.room_core.specs.Replies.{answer}
 
--- One call on the room by a seat. A starved one ran out of memory, and changes nothing.
+-- One call on the room by a seat. A starved call ran out of memory, and changes nothing.
 pub record Entry : Type 0 where
   pub seat : ℕ
   pub call : Call
@@ -29,7 +29,7 @@ after_entry past entry = if entry.starved then past else after (answer past entr
 abbrev pub accepted : List Entry → List Call
 accepted history = fold after_entry [] history
 
--- what the room answers to a call after this history
+-- the room's answer to a call after this history
 abbrev pub reply_of : List Entry → Call → Answer
 reply_of history call = answer (accepted history) call
 

@@ -1,4 +1,4 @@
--- The definitions of what is sent and of the selection of frames agree on which frames open their target. Own statement.
+-- The rule for sending and the rule for selecting frames agree on which passed frames open their target. Own statement.
 use Rattle.std.specs.Prelude.{◌≡◌, ℕ, true, List, ◌∷◌}
 use Rattle.sfu_base.specs.declared.frame.FrameMeaning.{FrameMeaning}
 use Rattle.sfu_base.specs.declared.frame.Wish.{Wish}
@@ -9,7 +9,7 @@ use Rattle.target_selector.specs.Stands.{is_opening_at}
 use Rattle.room_core.specs.Follows.{Happened}
 use Rattle.room_core.specs.Sent.{opens}
 
--- A passed frame of a track opens the target after it exactly if the selection says that it opens one.
+-- A passed frame opens the target by the rule for sending (`opens`) exactly if it does by the rule for selecting frames.
 abbrev pub FramesOpenTheirTargets : Type 0
 FramesOpenTheirTargets = (wish : Wish) (events : List Happened) (f : FrameMeaning) (packets : ℕ) → IsOneTrack (f ∷ meanings_of events)
     → passes_at (standing wish events) f packets ≡ true

@@ -39,7 +39,7 @@ PassedTo R number old new = (n : ℕ) → Both (IsPassed R number) (old n) (new 
 
 -- ---- all that a track has to process
 
--- the events that the newest items, after older ones, are for a subscriber of a track of this kind
+-- the events of the newest items, after older ones, for a subscriber of a track of this kind
 abbrev pub released_as : Kind → List Item → List Item → List Happened
 released_as Plain older items = packets_released older items
 released_as (Layered id) older items = frames_released (format_of id) older items

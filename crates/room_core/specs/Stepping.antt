@@ -54,7 +54,7 @@ IsMade Plain items (Gone from to) result new = result ≡ made.Nothing
 IsMade (Layered id) items piece result new =
     IsFrameMade (made_by_item (format_of id) (state_after (format_of id) items) (item_of piece)).frame result new
 
--- a piece was processed after these items
+-- a piece was processed after these items, with this result
 pub record WorksOff (events : List Event) (old new : Seen) (piece : Piece) (result : Made) (items : List Item) : Type 0 where
   pub at : IsAt events new (item_of piece ∷ items)
   pub made : IsMade (kind_by old.layers) items piece result new

@@ -25,12 +25,12 @@ use Rattle.room_core.specs.Targets.{has_no_target}
 abbrev pub subscriber_by : Joined → Subscriber
 subscriber_by j = record { ssrc = j.ssrc; first = j.first; wish = j.wish }
 
--- what happened to the subscriber with this number on a track of this kind with this history
+-- the events of the subscriber with this number, on a track of this kind with this history
 abbrev pub timeline_as : Kind → ℕ → List Entry → List (Event TemplateStructure)
 timeline_as Plain number entries = plain_timeline (sent Plain) number entries
 timeline_as (Layered id) number entries = timeline (format_of id) (sent (Layered id)) number entries
 
--- what happened to a subscriber that joined like this
+-- the events of a subscriber that joined like this
 abbrev pub events_for : ℕ → Joined → List Call → List (Event TemplateStructure)
 events_for number j past = timeline_as (kind_of j.track past) number (entries_of j.track past)
 

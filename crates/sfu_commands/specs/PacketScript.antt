@@ -10,7 +10,7 @@ pub record NumberedPacket : Type 0 where
   pub number : ℕ
   pub bytes : List ℕ
 
--- the packets of the lines before the first that is outside the grammar, and that line's number, if there is one
+-- the packets of the lines before the first line outside the grammar, and the number of that line, if there is one
 pub record PacketScript : Type 0 where
   pub packets : List NumberedPacket
   pub fault : Option ℕ

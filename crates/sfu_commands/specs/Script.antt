@@ -21,34 +21,34 @@ abbrev pub form_of : List ℕ → Form
 form_of [] = Lines
 form_of (b ∷ bytes) = if b == 0 then Records else Lines
 
--- the lines, or the header and the records, of a whole script
+-- the units of a whole script: the lines, or the header and the records
 abbrev pub units_in : Form → List ℕ → List Scan
 units_in Lines bytes = map said (lines_of bytes)
 units_in Records bytes = units_of record_scan record_scan_end 0 [] bytes
 
--- those of them that are judged before the end of the script is seen
+-- the units that are judged before the end of the script is seen
 abbrev pub units_so_far : Form → List ℕ → List Scan
 units_so_far Lines bytes = map said (judged_lines (lines_of bytes))
 units_so_far Records bytes = judged_units record_scan 0 [] bytes
 
--- the number of the first of them: the header counts as record 0
+-- the number of the first unit: the header counts as record 0
 abbrev pub first_number : Form → ℕ
 first_number Lines = 1
 first_number Records = 0
 
--- whether one of them has no call and is skipped: an empty line, a comment, the header
+-- whether a unit has no call and is skipped: an empty line, a comment, the header
 abbrev pub is_silent : Form → ℕ → List ℕ → Bool
 is_silent Lines number line = is_skipped line
 is_silent Records number body = number == 0
 
--- the call in one of them
+-- the call in a unit
 abbrev pub call_in : Form → List ℕ → Option Call
 call_in Lines line = call_of line
 call_in Records body = records.call_of body
 
 -- ---- calls
 
--- the calls before the first line or record that is outside the grammar, and its number, if there is one
+-- the calls before the first line or record outside the grammar, and the number of that line or record, if there is one
 pub record Script : Type 0 where
   pub calls : List Call
   pub fault : Option ℕ
@@ -81,7 +81,7 @@ calls_of form (unit ∷ units) number = with_unit form unit number (calls_of for
 abbrev pub script_in : Form → List ℕ → Script
 script_in form bytes = calls_of form (units_in form bytes) (first_number form)
 
--- the calls that are judged before its end is seen
+-- the calls that are judged before the end of such a script is seen
 abbrev pub judged_in : Form → List ℕ → Script
 judged_in form bytes = calls_of form (units_so_far form bytes) (first_number form)
 

@@ -1,4 +1,4 @@
--- The stream that three numbers make, as the code has it.
+-- The stream with the parameters that the code read.
 use Rattle.stream_maker.specs.Stream.{Stream}
 use Rattle.sfu_commands.specs.declared.stream_words.StreamNumbers.{StreamNumbers}
 

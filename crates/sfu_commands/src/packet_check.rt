@@ -108,7 +108,7 @@ impl Judge for PacketJudge {
 }
 
 // Out of line: the loop of `run` then keeps its counts in registers.
-/// Checks the packets of the source's lines with a strict receiver, for this header extension id of the descriptors. Returns the status.
+/// Checks the packets of the source's lines with a strict receiver. `id` is the header extension id of the descriptors. Returns the status.
 #[inline(never)]
 pub fn check<S: Source, K: Sink>(alloc: Global, id: u8, source: &mut S, sink: &mut K) -> Status
     ensures checks { Checks id (exchange_of S.left S.faults K.written K.faults source.old source.new sink.old sink.new) (number_of result) }

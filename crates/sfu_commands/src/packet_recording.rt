@@ -100,7 +100,7 @@ impl Judge for PacketRecorder {
     }
 }
 
-/// Records the packets of the source's lines as an IVF file, for this header extension id of the descriptors. Returns the status.
+/// Records the packets of the source's lines as an IVF file. `id` is the header extension id of the descriptors. Returns the status.
 #[inline(never)]
 pub fn record<S: Source, K: Sink>(alloc: Global, id: u8, source: &mut S, sink: &mut K) -> Status
     ensures records { Records id (exchange_of S.left S.faults K.written K.faults source.old source.new sink.old sink.new) (number_of result) }

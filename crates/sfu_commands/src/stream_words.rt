@@ -31,7 +31,7 @@ fn number(word: &str) -> Option<u64>
     }
 }
 
-/// If the four words are the command `command` with its parameters, returns the parameters, else `None`.
+/// If four arguments are the command `command` with its parameters, returns the parameters, else `None`.
 pub fn read_stream(
     command: &str,
     name: &str,

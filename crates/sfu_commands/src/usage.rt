@@ -20,7 +20,7 @@ pub fn help<K: Sink>(sink: &mut K) -> Status
     }
 }
 
-/// Refuses words that are no command: writes the usage line, and returns `NoCommand` even if the sink fails.
+/// Refuses arguments that aren't a command: writes the usage line, and returns `NoCommand` even if the sink fails.
 pub fn refuse<K: Sink>(sink: &mut K) -> Status
     ensures shows { WritesEnd (K.written sink.old) (K.written sink.new) (K.faults sink.old) (K.faults sink.new) [] usage_text }
     ensures once { KeptOrCut (K.faults sink.old) (K.faults sink.new) }

@@ -17,9 +17,9 @@ pub enum Command {
     Convert,
     /// Serves a script whose lines may also be calls on bundles. `sfu_program` implements it, since this crate doesn't depend on bundles.
     Simulcast,
-    /// Checks packets with a strict receiver, for this header extension id of the descriptors.
+    /// Checks packets with a strict receiver. The number is the header extension id of their descriptors.
     Check(u8),
-    /// Records packets as an IVF file, for this header extension id of the descriptors.
+    /// Records packets as an IVF file. The number is the header extension id of their descriptors.
     Record(u8),
     /// Sends a generated stream to three subscribers, and writes what strict receivers find in their packets. The stream has `frames` frames; about
     /// `loss` percent of its packets are lost; `start` seeds the random generator.
@@ -72,7 +72,7 @@ fn read_four(name: &str, frames: &str, start: &str, loss: &str) -> Option<Comman
     }
 }
 
-/// The command that the words name; `None` exactly if they name no command.
+/// The command in the command-line arguments `words`; `None` exactly if they aren't a command.
 pub fn read_words(words: &[String]) -> Option<Command>
     ensures { Reads (map string_bytes words.now) result }
 {

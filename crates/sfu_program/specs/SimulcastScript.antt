@@ -7,7 +7,7 @@ use Rattle.sfu_script.specs.Skipped.{is_skipped}
 use Rattle.bundle_lines.specs.ReadLines.{line_of}
 use Rattle.bundle_lines.specs.declared.line.BundleLine.{BundleLine}
 
--- the calls of the lines before the first that is outside the grammar, and that line's number, if there is one
+-- the calls of the lines before the first line outside the grammar, and the number of that line, if there is one
 pub record BundleScript : Type 0 where
   pub lines : List BundleLine
   pub fault : Option ℕ

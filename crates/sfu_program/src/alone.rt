@@ -78,14 +78,14 @@ fn follow<S: Source, K: Sink>(alloc: Global, words: &[String], source: &mut S, s
     }
 }
 
-/// Executes the command that the words name, if it is a single-threaded one (any but `together` and `serve`), and returns the program's status. The
-/// call always returns.
+/// Executes the command in the command-line arguments `words`, if it is a single-threaded one (any but `together` and `serve`), and returns the
+/// program's status. The call always returns.
 ///
-/// Status 0: the source was read to its end, if the command reads it, and all output was written. 2: the words name no such command; nothing was read, and the
-/// usage line was written. 3: the source failed. 4: the sink failed. 5: line N (in a script of records, record N) is outside the grammar; the output due before
-/// it was written, and then `line N` or `record N`, which `convert` omits. 6: out of memory. 8: the strict receiver of `check` or `record` complains; `line N`
-/// and the complaint were written. 10: `record` found an element that isn't an OBU; `line N obu` was written, with the line of the frame's last packet. The
-/// first of these that occurs ends the call. The status stays 2, 5, 8 or 10 if the sink fails in the text of that status.
+/// Status 0: the source was read to its end, if the command reads it, and all output was written. 2: the arguments aren't such a command; nothing was read, and
+/// the usage line was written. 3: the source failed. 4: the sink failed. 5: line N (in a script of records, record N) is outside the grammar; the output due
+/// before it was written, and then `line N` or `record N`, which `convert` omits. 6: out of memory. 8: the strict receiver of `check` or `record` complains;
+/// `line N` and the complaint were written. 10: `record` found an element that isn't an OBU; `line N obu` was written, with the line of the frame's last
+/// packet. The first of these that occurs ends the call. The status stays 2, 5, 8 or 10 if the sink fails in the text of that status.
 pub fn sfu_alone<S: Source, K: Sink>(
     alloc: Global,
     words: &[String],

@@ -51,15 +51,15 @@ fn are_together(words: &[String]) -> bool
     }
 }
 
-/// Executes the command that the words name, and returns the program's status. Only `serve` binds ports and reads the clock. Each port that `serve`
-/// bound for a session is released, unless memory runs out for the sessions.
+/// Executes the command in the command-line arguments `words`, and returns the program's status. Only `serve` binds ports and reads the clock. Each
+/// port that `serve` bound for a session is released, unless memory runs out for the sessions.
 ///
-/// Status 0: the source was read to its end, if the command reads it, and all output was written; in `serve` each session made all its turns. 2: the words name
-/// no command; nothing was read, and the usage line was written. 3: the source failed. 4: the sink failed. 5: line N (in a script of records, record N) is
-/// outside the grammar; the output due before it was written, and then `line N` or `record N`, which `convert` omits. 6: out of memory. 7: a port wasn't bound,
-/// or the link of a session failed; in the second case a line for each session was written. 8: the strict receiver of `check` or `record` complains; `line N`
-/// and the complaint were written. 10: `record` found an element that isn't an OBU; `line N obu` was written, with the line of the frame's last packet. The
-/// first of these that occurs ends the call. The status stays 2, 5, 8 or 10 if the sink fails in the text of that status.
+/// Status 0: the source was read to its end, if the command reads it, and all output was written; in `serve` each session made all its turns. 2: the arguments
+/// aren't a command; nothing was read, and the usage line was written. 3: the source failed. 4: the sink failed. 5: line N (in a script of records, record N)
+/// is outside the grammar; the output due before it was written, and then `line N` or `record N`, which `convert` omits. 6: out of memory. 7: a port wasn't
+/// bound, or the link of a session failed; in the second case a line for each session was written. 8: the strict receiver of `check` or `record` complains;
+/// `line N` and the complaint were written. 10: `record` found an element that isn't an OBU; `line N obu` was written, with the line of the frame's last
+/// packet. The first of these that occurs ends the call. The status stays 2, 5, 8 or 10 if the sink fails in the text of that status.
 pub fn sfu<W: Threads + Wait + Sync, S: Source, K: Sink, P: Ports, C: Clock + Sync>(
     rt: &W,
     alloc: Global,

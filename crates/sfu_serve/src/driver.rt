@@ -79,7 +79,7 @@ fn send_output<L: Link>(link: &mut L, output: Output, packet: &PacketBuf) -> Res
 }
 
 /// Runs a session that waits for a datagram, for `stage.limit` turns. Each turn is a receive, a reading of the clock, and the calls and datagrams
-/// that follow from them. The session ends early if a call on the link failed or all tickets of the lock are drawn (own rule).
+/// that follow from them. The session ends early if a call on the link failed or the lock has no ticket left (own rule).
 pub fn run_session<R: Recorder, S: Session, L: Link, C: Clock, W: Wait + Sync>(
     stage: &Stage<'_, R, C, W>,
     seat: &mut Seat<SharedRoom<R>>,

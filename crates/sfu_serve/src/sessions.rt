@@ -18,7 +18,7 @@ use turn_lock::{Seat, Turns};
 /// Runs a publisher's session of `limit` turns. Each turn adds the received RTP packet, if any, to the track, and then ticks the track. In the first
 /// turn, and then at least 20 milliseconds apart, the session asks the room which packets are missing and whether a key frame is wanted. It sends one
 /// NACK (RFC 4585, section 6.2.1) for all missing packets. For a wanted key frame it sends a picture loss indication (section 6.3.1), at least 500
-/// milliseconds after the last one. It ends early if a call on the link fails or all tickets of the lock are drawn.
+/// milliseconds after the last one. The session ends early if a call on the link fails or the lock has no ticket left.
 pub fn publisher_session<R: Recorder, L: Link, C: Clock, W: Wait + Sync>(
     rt: &W,
     turns: &Turns<SharedRoom<R>>,
@@ -47,8 +47,8 @@ pub fn publisher_session<R: Recorder, L: Link, C: Clock, W: Wait + Sync>(
 
 /// Runs a subscriber's session of `limit` turns. Each turn serves the received RTCP feedback item by item, and then takes and sends at most 32
 /// packets. For each packet that a NACK names (RFC 4585, section 6.2.1), the session requests a resend and sends the retransmission. For a picture
-/// loss indication (section 6.3.1) it requests a key frame. It skips items whose media source isn't `ssrc`. It ends early if a call on the link fails
-/// or all tickets of the lock are drawn.
+/// loss indication (section 6.3.1) it requests a key frame. Items whose media source isn't `ssrc` are skipped. The session ends early if a call on
+/// the link fails or the lock has no ticket left.
 pub fn subscriber_session<R: Recorder, L: Link, C: Clock, W: Wait + Sync>(
     rt: &W,
     turns: &Turns<SharedRoom<R>>,
@@ -101,7 +101,7 @@ pub fn rtx_session<R: Recorder, L: Link, C: Clock, W: Wait + Sync>(
 
 /// Runs a controller's session of `limit` turns. A datagram is a call if it is one line of publish, unpublish, join, leave, aim, key, plead or why,
 /// without a line end. The session sends the text of the reply, also without a line end. The reply to any other datagram is `fault line`. The session
-/// ends early if a call on the link fails or all tickets of the lock are drawn.
+/// ends early if a call on the link fails or the lock has no ticket left.
 pub fn control_session<R: Recorder, L: Link, C: Clock, W: Wait + Sync>(
     rt: &W,
     turns: &Turns<SharedRoom<R>>,

@@ -12,7 +12,7 @@ use std::sync::Wait;
 use turn_lock::{Seat, Turns};
 
 /// Makes a seat's calls, at most 100,000, in order. Returns for each turn its index in the history, and the journal's entry of its call. The gate is
-/// called before and after each turn. Once all tickets of the lock are drawn, no further call is made.
+/// called before and after each turn. No further call is made once the lock has no ticket left.
 pub fn act<W: Wait + Sync, G: Gate>(
     rt: &W,
     alloc: Global,

@@ -67,7 +67,7 @@ impl Bundle {
         self.legs.iter().any(|leg| *leg == subscriber)
     }
 
-    /// Chooses a leg, counted from 1. Returns the leg's subscriber, or `None` if the leg is active. `NoLeg`: there is no such leg.
+    /// Chooses a leg, counted from 1. Returns the leg's subscriber, or `None` if the leg is already active. `NoLeg`: there is no such leg.
     pub fn choose(&mut self, leg: u8) -> Result<Option<u32>, BundleFault>
         ensures chooses { ChoosesIn self.old self.new leg result }
         ensures fault { IfErr result (λ why. why ≡ BundleFault.NoLeg (length self.old.legs.items)) }
@@ -93,8 +93,8 @@ impl Bundle {
         self.ring.take(out)
     }
 
-    /// Writes the packet that was drawn with this sequence number to `out` again. `NotKept`: none of the last 1,024 packets drawn has the
-    /// number.
+    /// Writes the packet that was drawn with this sequence number to `out` again. `NotKept`: the packet isn't among the last 1,024 packets that were
+    /// drawn.
     pub fn redraw(&self, seq: u16, out: &mut PacketBuf) -> Result<(), Refusal>
         ensures redraws { RedrawsIn self.now seq out.new result }
         ensures unchanged { OnErr result (out.new ≡ out.old) }

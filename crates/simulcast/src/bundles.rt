@@ -170,8 +170,8 @@ impl<R: Recorder> Bundles<R> {
 
     /// Creates a bundle of two or three legs, which are subscribers of layered tracks with the header extension id `id`. The bundle sends with this
     /// SSRC, and with sequence numbers from `first` on. Leg 1 is chosen. `NumberUsed`: the number isn't above the highest number of a bundle (0 if
-    /// there is none). `TooMany`: there are 64 bundles. `Room(NoSubscriber)`: a leg isn't live. `Bound`: a leg belongs to the bundle `bundle`, or is
-    /// listed twice (`bundle` is then `number`). `WrongKind`: a leg's track isn't layered with this id. `NoMemory` is checked last.
+    /// there is none). `TooMany`: there are 64 bundles. `Room(NoSubscriber)`: a leg isn't a live subscriber. `Bound`: a leg belongs to the bundle
+    /// `bundle`, or is listed twice (`bundle` is then `number`). `WrongKind`: a leg's track isn't layered with this id. `NoMemory` is checked last.
     pub fn bundle(
         &mut self,
         number: u32,

@@ -56,13 +56,13 @@ starts (code.Part start end number continues carries) = start
 
 -- ---- the state of a layered track
 
--- what is kept of the first descriptor of the run
+-- the stored parts of the run's first descriptor
 pub record HasHead (layers : Layers) (run : Run (ReadPacket TemplateStructure)) : Type 0 where
   pub head : layers.head ≡ head_of run.first.brings.descriptor
   pub references : HasReferences layers.head
   pub structure : is_some layers.table.structure ≡ true
 
--- what a table keeps of a frame's first descriptor
+-- the parts of a frame's first descriptor that a table stores
 pub record IsHeadOf (force : Force TemplateStructure) (d : Descriptor) (head : FrameHead) : Type 0 where
   pub is : head ≡ head_of (said_of force.structure d)
   pub references : HasReferences head

@@ -17,7 +17,7 @@ use turn_lock::{Seat, Turns};
 pub enum Unmade {
     /// Out of memory.
     Starved,
-    /// All tickets of the lock were drawn.
+    /// The lock had no ticket left.
     Worn,
 }
 

@@ -33,7 +33,7 @@ fn read_turns(name: &str, turns: &str) -> Option<u64>
     Some(turns)
 }
 
-/// If the words are the command `serve` with a number of turns, returns this number, else `None`.
+/// If the arguments are the command `serve` with a number of turns, returns this number, else `None`.
 pub fn read_serve(words: &[String]) -> Option<u64>
     ensures { MatchOption result ((n : ℕ) → ¬ (IsServe (map string_bytes words.now) n)) (λ n. IsServe (map string_bytes words.now) n) }
 {
