@@ -118,7 +118,7 @@ pub record IsRunAgain (events later since past : List Happened) (k : Frame Templ
   pub first_masked : IsMaskedFor target k.meaning again.meaning
   pub others : AreHandedOn by target again.meaning.epoch passed (frames_of since)
 
--- u's wish was this one all the time too, and its queue had space for each of these frames
+-- u had this wish all the time too, and its queue had space for each of these frames
 pub record HasWishAndRoom (wish now : Wish) (since past : List Happened) (again : Frame TemplateStructure) : Type 0 where
   pub wish_is : (standing wish past).wish ≡ now
   pub wish_stays : KeepsWish now since

@@ -50,7 +50,7 @@ abbrev pub TakesOne : Bool → Endpoint → Endpoint → Room KeepNone → ℕ �
 TakesOne true old new room n past = TakesNext old new room n past
 TakesOne false old new room n past = TakesNone old new room n past
 
--- both rooms, where these calls were accepted, and the receivers of the packets that each subscriber of the second room took
+-- both rooms after these accepted calls, and the receivers of the packets that each subscriber of the second room took
 pub record AreAfter (rooms : TwoRooms) (both : Both) : Type 0 where
   pub first : StandsAfter rooms.first both.first
   pub second : StandsAfter rooms.second both.second

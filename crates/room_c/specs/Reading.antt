@@ -1,5 +1,5 @@
--- The reply that a plain reply means, and the answer to a question. Own rules; each code is that of `code_number`, and `Code` says what
--- its numbers mean.
+-- The reply, or the answer to a question, that the numbers of a `PlainReply` mean. Own rules; `code_number` has each code, and `Code` says what its
+-- numbers mean.
 use Rattle.std.specs.Prelude.{ℕ, ◌==◌, Bool, true, false, if◌then◌else◌, nat_lt, Option, Some, None, Result, Ok, Err}
 use Rattle.sfu_base.specs.declared.call.Reply.{Reply}
 use Rattle.sfu_base.specs.declared.call.Reply.TheVariants as reply

@@ -17,8 +17,8 @@ use Rattle.room_c.specs.Recording.{never, untold}
 use Rattle.room_c.specs.Reading.{due_in, newest_in, reached_in, reply_in, target_in}
 use Rattle.room_c.specs.Telling.{bare_of, number_reply, plain_of, reached_reply, target_reply, target_written}
 
--- The room does and returns what `Room::serve` does for this call of this seat, with the reply's content in the scratch. The result is
--- the numbers of this reply and no others.
+-- For this call of this seat the room changes and replies as `Room::serve` does, with the reply's content in the scratch. The result has the numbers
+-- of this reply and no others.
 pub record DoesAsRoom (old new : Home) (seat : ℕ) (call : Call) (told : PlainReply) : Type 0 where
   pub serves : Serves untold old.room new.room seat call (reply_in told) new.scratch.packet new.scratch.names
   pub headline : StandsHeadline untold new.room
@@ -42,8 +42,8 @@ abbrev pub GivesNumbers : Option Home → PlainReply → List ℕ → Type 0
 GivesNumbers None told out = ⊤
 GivesNumbers (Some home) told out = reply_in told ≡ reply.Names → take told.first out ≡ home.scratch.names
 
--- The result of a question: for every history that the room represents, it is the numbers of that history's answer and no others. The
--- decode target is written if there is one.
+-- The result of a question: for every history that the room represents, it has the numbers of that history's answer and no others. The decode target
+-- is written if there is one.
 pub record TellsTarget (home : Home) (subscriber : ℕ) (told : PlainReply) (old new : PlainTarget) (answer : Result (Option DecodeTarget) Refusal) : Type 0 where
   pub asks : (history : List Entry) → Stands untold home.room history → IsTargetOf history subscriber answer
   pub exact : told ≡ target_reply answer

@@ -12,7 +12,7 @@ use sfu_base::{PacketBuf, Reply, Scratch};
 /// The least length of a buffer for a packet, in bytes.
 pub const PACKET_ROOM: usize = 2048;
 
-/// The least length of a buffer for sequence numbers, in numbers.
+/// The least length of a buffer for sequence numbers, in items.
 pub const NAMES_ROOM: usize = 1024;
 
 /// Writes a packet to the start of `out`, which has at least 2,048 bytes.

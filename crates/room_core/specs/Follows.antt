@@ -102,7 +102,7 @@ abbrev pub Resends : Feed → ℕ → Result (Unit {0}) Refusal → List ℕ →
 Resends feed sequence result before bytes = (kind : Kind) (to : Subscriber) (events : List Happened) → Follows kind feed to events
     → ResendsIt (resent (sent kind) to events sequence) result before bytes (oldest_number (sent kind) to events) (next_number (sent kind) to events)
 
--- no refusal says that memory ran out
+-- the result isn't the refusal `NoMemory`
 abbrev pub IsFed : {T : Type 0} → Result T Refusal → Type 0
 IsFed (Ok x) = Unit {0}
 IsFed (Err why) = is_memory why ≡ false

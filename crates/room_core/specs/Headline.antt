@@ -79,8 +79,8 @@ pub record IsForwarded (id n : ℕ) (j : Joined) (past : List Call) : Type 0 whe
 -- ---- of every subscriber
 
 -- The packets that are sent have consecutive sequence numbers, and the takes returned a prefix of them. The next take returns the packet after this
--- prefix, or is refused if there is none. A resend returns these bytes if and only if one of the last 1,024 takes returned them, and their number is
--- the resend's.
+-- prefix, or is refused if there is none. A resend returns a packet's bytes if and only if one of the last 1,024 takes returned them and the packet's
+-- number is the resend's.
 pub record IsNumbered (n : ℕ) (j : Joined) (past : List Call) : Type 0 where
   pub given : given_to n past ≡ taken_of n j past
   pub consecutive : AreInOrder (going_out n j past)

@@ -19,7 +19,7 @@ HasPlaces places number on = (place : ℕ) → slice_get on place ≡ Some numbe
 abbrev pub HaveAll : (ℕ → Option LiveTrack) → List ℕ → Type 0
 HaveAll tracks on = (number : ℕ) (track : LiveTrack) → tracks number ≡ Some track → HasPlaces track.places number on
 
--- and no subscriber's track, and no live track, has a number above the highest that a track ever had
+-- the same, and no subscriber's track and no live track has a number above the highest that a track ever had
 pub record IsIndexed (tracks : ℕ → Option LiveTrack) (on : List ℕ) (highest : ℕ) : Type 0 where
   pub has : HaveAll tracks on
   pub known : (place number : ℕ) → slice_get on place ≡ Some number → number ≤ highest
@@ -32,13 +32,13 @@ abbrev pub HaveAllBut : ℕ → (ℕ → Option LiveTrack) → List ℕ → Type
 HaveAllBut place tracks on =
     (number : ℕ) (track : LiveTrack) → tracks number ≡ Some track → (other : ℕ) → other ≢ place → slice_get on other ≡ Some number → has_place track.places other ≡ true
 
--- what the track's history determines is as before
+-- the parts of a track that its history determines are as before
 pub record IsSameTrack (old new : LiveTrack) : Type 0 where
   pub kind_is : new.kind ≡ old.kind
   pub pleaded_is : new.pleaded ≡ old.pleaded
   pub pipeline_is : new.pipeline.value ≡ old.pipeline.value
 
--- and so is each of the track's places except one
+-- the same, and each of the track's places except one is as before
 pub record IsTrackBut (place : ℕ) (old new : LiveTrack) : Type 0 where
   pub same : IsSameTrack old new
   pub others : (other : ℕ) → other ≢ place → has_place new.places other ≡ has_place old.places other

@@ -1,4 +1,4 @@
--- The pieces of a track's order as the items of which frames are made.
+-- The pieces that a track's reorder window returns, as the items of which frames are made.
 use Rattle.std.specs.Prelude.{List, [], ◌∷◌}
 use Rattle.forwarding_model.specs.frames.Frames.{Item}
 use Rattle.reorder_window.specs.Events.{Piece}

@@ -33,7 +33,7 @@ pub record IsPassed (R : Feed → Feed → Type 0) (number : ℕ) (old new : Liv
   pub passed : old.track ≡ number → R old.feed.value new.feed.value
   pub other : (old.track ≡ number → ⊥) → new ≡ old
 
--- a map over the table: the entry under each number is what its own step made of it
+-- the same for each subscriber in the table, under its number
 abbrev pub PassedTo : (Feed → Feed → Type 0) → ℕ → (ℕ → Option LiveSubscriber) → (ℕ → Option LiveSubscriber) → Type 0
 PassedTo R number old new = (n : ℕ) → Both (IsPassed R number) (old n) (new n)
 
@@ -49,7 +49,7 @@ abbrev pub StayOneTrack : Kind → List Item → List Happened → Type 0
 StayOneTrack Plain older events = Unit {0}
 StayOneTrack (Layered id) older events = (items : List Item) → IsOneTrack (meanings_of (released_as (Layered id) older items ++ events))
 
--- from the state where the items `done` of this call were processed to the state where `all` were
+-- from the state after the items `done` of this call to the state after its items `all`
 abbrev pub FollowsOn : Kind → List Item → List Item → List Item → Feed → Feed → Type 0
 FollowsOn kind older done all old new = (to : Subscriber) (events : List Happened) → StayOneTrack kind older events
     → Follows kind old to (released_as kind older done ++ events) → Follows kind new to (released_as kind older all ++ events)

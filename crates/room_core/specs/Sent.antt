@@ -1,5 +1,5 @@
 -- What is sent of a frame to a subscriber with a target, before numbering, by the kind of the track. Own rules, over AV1 RTP payload format, Appendix
--- A (active_decode_targets_bitmask). No other definition says this: all statements about a subscriber refer to it, and so does the code that queues a
+-- A (active_decode_targets_bitmask). This is the only definition of it: all statements about a subscriber cite it, and so does the code that queues a
 -- frame. On a plain track there are no frames.
 use Rattle.std.specs.Prelude.{ℕ, ◌==◌, ◌||◌, Bool, false, if◌then◌else◌, List, [], ◌∷◌, Option, Some}
 use Rattle.sfu_base.specs.declared.call.Kind.{Kind}

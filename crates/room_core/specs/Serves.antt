@@ -1,4 +1,4 @@
--- Which history a room stands for, and what a call on it does.
+-- Which history a room represents, and what a call on the room does.
 use Rattle.std.specs.Prelude.{◌≡◌, ◌≢◌, ◌⊎◌, IsTrue, ℕ, Bool, false, List, [], ◌∷◌, ◌++◌, Option, IfSome}
 use Rattle.sfu_base.specs.Answer.{answer_of, is_starved}
 use Rattle.sfu_base.specs.declared.call.Call.{Call}

@@ -1,5 +1,5 @@
--- What contracts of the room see of a track's pipeline: which events it had, which items were processed, and what one step makes of the next. They
--- say the same as the definitions of `track_core`, with items in place of pieces.
+-- What contracts of the room see of a track's pipeline: which events it had, which items were processed, and what one step makes of the next. The
+-- definitions here say the same as those of `track_core`, with items in place of pieces.
 use Rattle.std.specs.Prelude.{◌≡◌, ◌≢◌, ℕ, List, [], ◌∷◌, length, map, Option, None, Some}
 use Rattle.sfu_base.specs.Frame.{IsValid}
 use Rattle.sfu_base.specs.declared.call.Kind.{Kind}
@@ -41,7 +41,7 @@ pub record IsBrought (event : Event) (old new : Seen) : Type 0 where
 
 -- ---- one step
 
--- a frame was made, read by the structure that is in force then, or none
+-- a frame was made, read with the structure in force then; or no frame was made
 abbrev pub IsFrameMade : Option (Frame TemplateStructure) → Made → Seen → Type 0
 IsFrameMade None result new = result ≡ made.Nothing
 IsFrameMade (Some frame) result new =

@@ -11,7 +11,7 @@ use Rattle.forwarding_model.specs.History.Entry.{Released, Joined, Aimed, Asked}
 use Rattle.room_core.specs.Items.{and_pieces}
 use Rattle.room_core.specs.Live.{hold_of, is_on, joined}
 
--- a list with one more item in front, if the test says so
+-- a list with one more item before it, if the test is true
 abbrev pub and_where : {X : Type 0} → Bool → X → List X → List X
 and_where true x xs = x ∷ xs
 and_where false x xs = xs

@@ -30,7 +30,7 @@ impl Content {
         }
     }
 
-    /// As `serve`, for a call whose reply changes no scratch.
+    /// Does the same as `serve`, for a call whose reply leaves the scratch unchanged.
     pub fn serve_silently(&mut self, call: &Call, ready: Ready) -> Reply
         requires silent { IsSilent call.now }
         requires ready { IsReady self.old call.now ready }

@@ -21,7 +21,7 @@ HasHistory noted room = ∥ ((history : List Entry) × Stands noted room history
 abbrev pub answer_at : List Entry → Entry → Answer
 answer_at history e = if e.starved then Refused NoMemory else reply_of history e.call
 
--- This seat made the session's next calls after this history, one for each of these entries. Their answers lead to the rest.
+-- This seat made the session's next calls after this history, one for each of these entries. By their answers the session then has `rest` left.
 abbrev pub AreMade : ℕ → List Entry → Doing → List Entry → Doing → Type 0
 AreMade seat history d [] rest = d ≡ rest
 AreMade seat history (Ask call f) (e ∷ es) rest = (e.seat ≡ seat) × (e.call ≡ call) × AreMade seat (history ++ e ∷ []) (f (answer_at history e)) es rest

@@ -19,7 +19,7 @@ IsConvert words = words ≡ codes "convert" ∷ []
 
 -- ---- a line
 
--- the record of a call; or, at a line without a call, the end without a text
+-- the record of a call; a line without a call ends the command, without a text
 abbrev pub record_for : Option Call → Outcome (Unit {0})
 record_for None = ends_with Outside []
 record_for (Some call) = writes (record_of call) tt

@@ -22,22 +22,22 @@ breaks_at number = record { packets = []; fault = Some number }
 abbrev pub numbered : ℕ → List ℕ → NumberedPacket
 numbered number bytes = record { number = number; bytes = bytes }
 
--- a packet before the others, or a line that isn't a packet
+-- the script with one more line before it: a packet, or a line outside the grammar
 abbrev pub with_packet : Option (List ℕ) → ℕ → PacketScript → PacketScript
 with_packet None number others = breaks_at number
 with_packet (Some bytes) number others = record { packets = numbered number bytes ∷ others.packets; fault = others.fault }
 
--- a line with this text: a skipped line is counted, and has no packet
+-- the same by the line's text: a skipped line is counted, and has no packet
 abbrev pub with_packet_text : List ℕ → ℕ → PacketScript → PacketScript
 with_packet_text text number others = if is_skipped text then others else with_packet (bytes_of text) number others
 
--- a line before the others; there are at most 4,294,967,295 lines
+-- the same by a scan of the line; there are at most 4,294,967,295 lines
 abbrev pub with_packet_line : Scan → ℕ → PacketScript → PacketScript
 with_packet_line More number others = others
 with_packet_line (Whole text) number others = if nat_le number 4294967295 then with_packet_text text number others else breaks_at number
 with_packet_line NoUnit number others = breaks_at number
 
--- the script of these lines, the first of which has this number
+-- the script of these lines; the first line has this number
 abbrev pub packets_of : List Line → ℕ → PacketScript
 packets_of [] number = record { packets = []; fault = None }
 packets_of (line ∷ lines) number = with_packet_line (said line) number (packets_of lines (number + 1))

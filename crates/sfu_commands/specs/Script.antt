@@ -57,22 +57,22 @@ pub record Script : Type 0 where
 abbrev pub stops_at : ℕ → Script
 stops_at number = record { calls = []; fault = Some number }
 
--- a call before the others, or a line or record without a call
+-- the script with one more line or record before it: a call, or a line or record outside the grammar
 abbrev pub with_call : Option Call → ℕ → Script → Script
 with_call None number others = stops_at number
 with_call (Some call) number others = record { calls = call ∷ others.calls; fault = others.fault }
 
--- a skipped line or record is counted
+-- the same by its text: a skipped line or record is counted, and has no call
 abbrev pub with_text : Form → List ℕ → ℕ → Script → Script
 with_text form text number others = if is_silent form number text then others else with_call (call_in form text) number others
 
--- a line or record before the others; there are at most 4,294,967,295
+-- the same by its scan; there are at most 4,294,967,295 lines or records
 abbrev pub with_unit : Form → Scan → ℕ → Script → Script
 with_unit form More number others = others
 with_unit form (Whole text) number others = if nat_le number 4294967295 then with_text form text number others else stops_at number
 with_unit form NoUnit number others = stops_at number
 
--- the calls of these lines or records, the first of which has this number
+-- the calls of these lines or records; the first one has this number
 abbrev pub calls_of : Form → List Scan → ℕ → Script
 calls_of form [] number = record { calls = []; fault = None }
 calls_of form (unit ∷ units) number = with_unit form unit number (calls_of form units (number + 1))
@@ -103,7 +103,7 @@ entry_of call = record { seat = 0; call = call; starved = false }
 abbrev pub reply_line : List Entry → Call → List ℕ
 reply_line history call = answer_text (reply_of history call) ++ 10 ∷ []
 
--- the reply lines of these calls by seat 0, over the growing history
+-- the reply lines of these calls by seat 0, each after the calls before it
 abbrev pub run_text : List Call → List Entry → List ℕ
 run_text [] history = []
 run_text (call ∷ calls) history = reply_line history call ++ run_text calls (history ++ entry_of call ∷ [])

@@ -43,7 +43,7 @@ pub record WasFed (viewer : Viewer) (taken : List (List ℕ)) : Type 0 where
   pub stands : StandsFor viewer.receiver taken
   pub complains_is : viewer.complains ≡ is_some (complaint_over 4 taken)
 
--- the room and one receiver, where these calls were accepted
+-- the room and one receiver after these accepted calls
 pub record IsFedAfter (room : Room KeepNone) (viewer : Viewer) (n : ℕ) (past : List Call) : Type 0 where
   pub room_is : StandsAfter room past
   pub joined_is : HasJoined n past
@@ -54,7 +54,7 @@ pub record TakesOne (found : Bool) (room : Room KeepNone) (viewer : Viewer) (n :
   pub after : IsFedAfter room viewer n (and_call past (call.Take n))
   pub queued : queued_for n past ≡ (if found then suc (queued_for n (and_call past (call.Take n))) else 0)
 
--- the room and its receivers, where these calls were accepted
+-- the room and its receivers after these accepted calls
 pub record IsStaged (stage : Stage) (past : List Call) : Type 0 where
   pub room_is : StandsAfter stage.room past
   pub all : AllJoined past

@@ -1,5 +1,5 @@
 -- The command `trial`: a generated stream is sent through a room to three subscribers, each with a strict receiver of its own. Own rule. The code has
--- a room and three receivers; here are the calls, and the packets taken by the history of the calls.
+-- a room and three receivers; here are the calls, and the packets taken, which follow from the calls.
 use Rattle.std.specs.Prelude.{◌≡◌, ◌⊎◌, ◌+◌, ℕ, zero, suc, min, fold, List, [], ◌∷◌, ◌++◌, length, Option, Some, None, is_some}
 use Rattle.std.specs.Io.KnownBytes.{Appends}
 use Rattle.sfu_base.specs.Bytes.{bit}
@@ -67,7 +67,7 @@ takes (suc count) n past = and_call (takes count n past) (call.Take n)
 unfoldable pub after_takes : ℕ → List Call → List Call
 after_takes n past = takes (queued_for n past + 1) n past
 
--- after an event of the stream: a packet, or a tick, after which each subscriber takes until its queue is empty
+-- after an event of the stream: a packet; or a tick, and then takes of each subscriber until its queue is empty
 unfoldable pub after_event : List Call → Event → Option Place → List Call
 after_event past (event.Packet moment) None = past
 after_event past (event.Packet moment) (Some p) = and_call past (call.Packet 1 moment (packet_bytes p))

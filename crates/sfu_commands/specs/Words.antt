@@ -28,19 +28,19 @@ Says words (Cascade frames start loss) = IsCascade words (record { frames = fram
 abbrev pub IsForm : List (List ℕ) → Type 0
 IsForm words = (command : Command) × Says words command
 
--- which command the words are, if they are one
+-- the command that the words name, if any
 abbrev pub Reads : List (List ℕ) → Option Command → Type 0
 Reads words (Some command) = Says words command
 Reads words None = ¬ (IsForm words)
 
--- which command a single word is
+-- the command that a single word names, if any
 abbrev pub ReadsWord : List ℕ → Option Command → Type 0
 ReadsWord word command = Reads (word ∷ []) command
 
--- which command two words are
+-- the command that two words name, if any
 abbrev pub ReadsTwo : List ℕ → List ℕ → Option Command → Type 0
 ReadsTwo word id command = Reads (word ∷ id ∷ []) command
 
--- which command four words are
+-- the command that four words name, if any
 abbrev pub ReadsFour : List ℕ → List ℕ → List ℕ → List ℕ → Option Command → Type 0
 ReadsFour name frames start loss command = Reads (name ∷ frames ∷ start ∷ loss ∷ []) command

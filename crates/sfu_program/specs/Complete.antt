@@ -78,7 +78,7 @@ serve_due bytes = due_of_setup (configuration_of bytes)
 
 -- ---- the commands
 
--- What the command that the words are does if nothing outside fails.
+-- What the command that the words name does if nothing outside fails.
 pub record Completes (words : List (List ℕ)) (x : Exchange) (status : ℕ) : Type 0 where
   pub run : IsRun words → Finishes run_due x status
   pub convert : IsConvert words → Finishes convert_due x status

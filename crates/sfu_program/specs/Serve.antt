@@ -1,4 +1,4 @@
--- The command `serve`: the calls of the configuration are made by seat 0, its ports are bound, and each has a session of its own.
+-- The command `serve`: the calls of the configuration are made by seat 0, its ports are bound, and each port has a session of its own.
 use Rattle.std.specs.Prelude.{◌≡◌, ◌⊎◌, ◌+◌, ℕ, true, false, List, [], ◌++◌, length, map, Option, None}
 use Rattle.std.specs.Io.KnownBytes.{Appends, Consumes, IsAtEnd}
 use Rattle.sfu_base.specs.Faults.{Rose}

@@ -15,7 +15,7 @@ fault_of Worn = None
 abbrev pub end_line : ℕ → SessionEnd → List ℕ
 end_line number end = end_text number (fault_of end) ++ 10 ∷ []
 
--- the lines of sessions, the first of which has this number
+-- the lines of sessions; the first session has this number
 abbrev pub ends_text : ℕ → List SessionEnd → List ℕ
 ends_text number [] = []
 ends_text number (end ∷ ends) = end_line number end ++ ends_text (number + 1) ends

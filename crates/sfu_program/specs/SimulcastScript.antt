@@ -16,22 +16,22 @@ pub record BundleScript : Type 0 where
 abbrev pub stops_at : ℕ → BundleScript
 stops_at number = record { lines = []; fault = Some number }
 
--- the call of a line before the others, or a line that is no call
+-- the script with one more line before it: a call, or a line outside the grammar
 abbrev pub with_said : Option BundleLine → ℕ → BundleScript → BundleScript
 with_said None number others = stops_at number
 with_said (Some line) number others = record { lines = line ∷ others.lines; fault = others.fault }
 
--- an empty line and a comment are counted and skipped
+-- the same by the line's text: an empty line and a comment are counted and skipped
 abbrev pub with_text : List ℕ → ℕ → BundleScript → BundleScript
 with_text text number others = if is_skipped text then others else with_said (line_of text) number others
 
--- there are at most 4,294,967,295 lines
+-- the same by a scan of the line; there are at most 4,294,967,295 lines
 abbrev pub with_line : Scan → ℕ → BundleScript → BundleScript
 with_line More number others = others
 with_line (Whole text) number others = if nat_le number 4294967295 then with_text text number others else stops_at number
 with_line NoUnit number others = stops_at number
 
--- the calls of lines, the first of which has this number
+-- the calls of lines; the first line has this number
 abbrev pub script_of_lines : List Scan → ℕ → BundleScript
 script_of_lines [] number = record { lines = []; fault = None }
 script_of_lines (line ∷ lines) number = with_line line number (script_of_lines lines (number + 1))

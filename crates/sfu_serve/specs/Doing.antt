@@ -21,10 +21,10 @@ abbrev pub StarveWhereTheyMay : {C A : Type 0} → A → (C → Type 0) → List
 StarveWhereTheyMay starved MayStarve [] = Unit {0}
 StarveWhereTheyMay starved MayStarve (word ∷ words) = (word.answer ≡ starved → MayStarve word.call) × StarveWhereTheyMay starved MayStarve words
 
--- So much of the deed `whole` is done that `rest` is left, after this many receives: some steps lead from one to the other. Meanwhile
--- the seat and the link's report went from old to new, and the link's count of faults from before to after. A call's answer is
--- `reply` of the history before it, or `starved` if its entry says that memory ran out. `MayStarve` says which calls may run out of
--- memory, `IsOne` which bytes are a given datagram. After the seat made a call, `Holds` is true of the history that the seat has
+-- Steps with this many receives lead from the deed `whole` to the deed `rest`, which is left. Meanwhile the seat and the
+-- link's report went from old to new, and the link's count of faults from before to after. A call's answer is `reply` of the
+-- history before it, or `starved` if its entry says that memory ran out. `MayStarve` says which calls may run out of memory,
+-- `IsOne` which bytes are a given datagram. After the seat made a call, `Holds` is true of the history that the seat has
 -- seen.
 pub record IsDone {C A D : Type 0} (reply : List (Entry C) → C → A) (starved : A) (MayStarve : C → Type 0) (IsOne : D → List ℕ → Type 0)
     (Holds : List (Entry C) → Type 0) (whole rest : Deed C A D) (old new : Known C) (told told' : Option Traffic) (before after turns : ℕ) : Type 0 where

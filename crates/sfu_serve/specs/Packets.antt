@@ -37,7 +37,7 @@ datagram_given way before (Take subscriber) (Sent bytes) = Bytes bytes ∷ []
 datagram_given way before (Resend subscriber seq) (Sent bytes) = resent way (before % 65536) bytes ∷ []
 datagram_given way before call answer = []
 
--- how many resends have returned a packet after this call
+-- the number of resends that have returned a packet, after this call
 abbrev pub resent_then : ℕ → Call → Answer → ℕ
 resent_then before (Resend subscriber seq) (Sent bytes) = before + 1
 resent_then before call answer = before
@@ -53,7 +53,7 @@ abbrev pub unsent_datagram : Doing → List Datagram
 unsent_datagram (Post what next) = what ∷ []
 unsent_datagram rest = []
 
--- these bytes were sent as the datagrams, in order, and the others are left
+-- these bytes are those of the first datagrams, in order; the other datagrams are left
 abbrev pub AreSent : List (List ℕ) → List Datagram → List Datagram → Type 0
 AreSent [] datagrams left = datagrams ≡ left
 AreSent (bytes ∷ sent) [] left = ⊥

@@ -34,8 +34,8 @@ words_behind n before added = words.words_from reply_after (Refused NoMemory) be
 pub record HasHeadline (history : List (Entry Call)) : Type 0 where
   pub headline : Headline (accepted (entries_of history))
 
--- So much of a session is done, with this many receives, that this rest is left. The seat and the link went from old to new. Only calls that may run
--- out of memory did so.
+-- Steps with this many receives lead from a session's rule `whole` to `rest`, which is left. The seat and the link went from old to new. Only calls
+-- that may run out of memory did so.
 abbrev pub Done : (Call → Type 0) → Doing → Doing → Known Call → Known Call → Option Traffic → Option Traffic → ℕ → ℕ → ℕ → Type 0
 Done MayStarve whole rest old new told told' before after turns =
     IsDone reply_after (Refused NoMemory) MayStarve IsOne HasHeadline whole rest old new told told' before after turns

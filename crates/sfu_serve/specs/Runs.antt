@@ -61,7 +61,7 @@ job_before role told faults = record { role = role; told = told; faults = faults
 abbrev pub job_after : SessionEnd → Option Traffic → ℕ → After
 job_after end told faults = record { end = end; told = told; faults = faults }
 
--- each job and its end have a session: the first has the seat with this number, and each other the next one
+-- each job and its end have a session; the first job has the seat with this number, and each later job the next seat
 abbrev pub AreSessions : ℕ → ℕ → List (Entry Call) → ℕ → List Before → List After → Type 0
 AreSessions limit found history number [] [] = Unit {0}
 AreSessions limit found history number (job ∷ jobs) (ended ∷ others) =

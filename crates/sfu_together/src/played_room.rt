@@ -9,8 +9,8 @@ use room_core::{KeepNone, Recorder, Room};
 use sfu_base::{Call, Reply, Scratch};
 use turn_lock::Held;
 
-/// A room behind a lock; the room's recorder stores nothing. A turn is one call on the room by the turn's seat. Between turns the room is in
-/// the state that the history of all turns leaves.
+/// A room behind a lock; the room's recorder stores nothing. A turn is one call on the room by the turn's seat. Between turns the room represents the
+/// history of all turns.
 #[derive(Drop)]
 pub struct PlayedRoom {
     pub room: Room<KeepNone>,

@@ -53,7 +53,7 @@ abbrev pub newest_after : Option ℕ → List Piece → Option ℕ
 newest_after None worked = None
 newest_after (Some id) worked = option_map number_of (first_of (frames_after (format_of id) (items_of worked)))
 
--- The track represents these events (the newest first), and these pieces of them (the oldest first) were processed.
+-- The track represents these events (the newest first). These of its pieces (the oldest first) were processed.
 pub record StandsFor (track : Seen) (events : List Event) (worked : List Piece) : Type 0 where
   pub window : WindowAfter track.window events
   pub taken : AllByRecursion IsTakenIn events
@@ -101,7 +101,7 @@ abbrev pub frame_packets : Option (Frame TemplateStructure) → List (List ℕ)
 frame_packets None = []
 frame_packets (Some frame) = map bytes_of frame.packets
 
--- the frame that a piece makes after others
+-- the frame, if any, that a piece makes after other pieces
 abbrev pub frame_by : ℕ → List Piece → Piece → Option (Frame TemplateStructure)
 frame_by id worked piece = (made_by_item (format_of id) (state_after (format_of id) (items_of worked)) (item_of piece)).frame
 

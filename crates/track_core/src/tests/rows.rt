@@ -1,8 +1,8 @@
 //! Rows of tracks with a hold of 100 milliseconds.
 //!
-//! A line before `>` is a packet with one OBU element (time in milliseconds, sequence number, descriptor under id 4, payload), a packet as
-//! bytes (`raw`, time, bytes), a time that is reached (`tick`), or a request for the missing numbers (`missing`). Behind `>` is the expected
-//! result: frames and packets with the sequence numbers of their packets, the refusal, the missing numbers, or nothing.
+//! A line before `>` is a packet with one OBU element (time in milliseconds, sequence number, descriptor under id 4, payload), a packet as bytes
+//! (`raw`, time, bytes), a time that is reached (`tick`), or a request for the missing numbers (`missing`). After `>` is the expected result: frames
+//! and packets with the sequence numbers of their packets, the refusal, the missing numbers, or nothing.
 
 /// Rows of a layered track: what the row shows, and its lines.
 ///
