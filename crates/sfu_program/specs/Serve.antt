@@ -53,7 +53,7 @@ pub record HasServed {L : Type 0} (told : L → Option Traffic) (faults name : L
   pub back : new.back ≡ length lines
   pub returned : new.returned ≡ after_backs (map (λ session. session.link) ended) old.returned
 
--- If memory ran out, no bind failed. So a port can only have failed after all sessions ended.
+-- If memory ran out, no bind failed. Either no port failed, or all sessions had ended and all ports were released.
 abbrev pub Starved : {L : Type 0} → (L → Option Traffic) → (L → ℕ) → (L → ℕ) → ℕ → List Call → List PortLine → PortsSeen L → PortsSeen L → Type 0
 Starved {L} told faults name limit calls lines old new =
     (new.faults ≡ old.faults) ⊎ ((ended : List (Ended L)) × HasServed told faults name limit calls lines old new ended)
