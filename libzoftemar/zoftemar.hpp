@@ -1,6 +1,7 @@
-// zoftemar.hpp: zoftemar.h as move-only classes, for C++17. An object has at most one room or session, which its end closes; an object that was moved
-// from, or not opened, has none, and says so by ZOFTEMAR_NO_ROOM or ZOFTEMAR_NO_SESSION. Each call is the one of its name in zoftemar.h, with its codes,
-// units and what the caller owes; nothing throws, allocates or copies beside it. One thread at a time uses an object, which may go to another.
+// zoftemar.hpp: zoftemar.h as move-only classes, for C++17. An object owns at most one room or session, and closes it when it is destroyed. An object
+// that isn't open, or was moved from, owns none: its calls return ZOFTEMAR_NO_ROOM or ZOFTEMAR_NO_SESSION. Each method calls the function of its name
+// in zoftemar.h, with seat 0; codes, units and what the caller owes are as there. Nothing throws, and the classes allocate and copy nothing.
+// One thread at a time may use an object, and the object may go to another thread.
 #ifndef ZOFTEMAR_HPP
 #define ZOFTEMAR_HPP
 
@@ -15,7 +16,7 @@ namespace zoftemar {
 using Reply = zoftemar_reply;
 using Target = zoftemar_target;
 
-// A handle that has one owner.
+// Owns a handle.
 template <class Handle, void (*Close)(Handle *)>
 class Owner {
 public:
@@ -31,7 +32,7 @@ public:
     ~Owner() { close(); }
 
     void close() noexcept { Close(&owned); }
-    // For calls of zoftemar.h. It stays the object's.
+    // For calls of zoftemar.h. The object still owns it.
     [[nodiscard]] Handle *handle() noexcept { return &owned; }
 
 private:
@@ -81,7 +82,7 @@ public:
     [[nodiscard]] Reply reaches_wish(std::uint32_t subscriber) noexcept { return zoftemar_reaches_wish(handle(), subscriber); }
 };
 
-// What the sessions of publishers and subscribers have in common.
+// The methods of Publisher and Subscriber.
 class Session : public Owner<zoftemar_session, zoftemar_close_session> {
 public:
     [[nodiscard]] Reply received(std::uint64_t moment, const std::uint8_t *bytes, std::size_t count) noexcept {

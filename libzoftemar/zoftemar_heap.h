@@ -1,5 +1,5 @@
-/* zoftemar_heap.h: the three functions by which the library allocates memory. heap.c defines them over malloc, realloc and free. A program with an
- * allocator of its own defines all three, in C or C++, and the linker leaves heap.c out. Rooms of different threads call them at the same time. */
+/* zoftemar_heap.h: the three functions by which the library allocates memory. heap.c defines them with malloc, realloc and free. A program with its
+ * own allocator defines all three, in C or C++, and the linker leaves heap.c out. Rooms of different threads may call them at the same time. */
 #ifndef ZOFTEMAR_HEAP_H
 #define ZOFTEMAR_HEAP_H
 
@@ -10,17 +10,17 @@
 extern "C" {
 #endif
 
-/* `ok`: whether there was memory. `at`: the block; where `ok` is false any address. It is never NULL, also of 0 bytes. */
+/* `ok`: false if out of memory. `at`: the block's address, or any address if `ok` is false. It is never NULL, not even for a block of 0 bytes. */
 typedef struct zoftemar_block {
     bool ok;
     void *at;
 } zoftemar_block;
 
-/* A block of `count` bytes, fewer than 2^63, at a multiple of `align`, which is 1, 2, 4, 8 or 16. */
+/* Allocates a block of `count` bytes, fewer than 2^63, aligned to `align`, which is 1, 2, 4, 8 or 16. */
 zoftemar_block rattle_alloc(size_t count, size_t align);
 
-/* The same for a block that there is: `old` becomes one of `count` bytes, at that address or another, and its first `kept` bytes stay. Where `ok` is false
- * `old` stays as it was. */
+/* Resizes the block `old` to `count` bytes, at the same address or another, and keeps its first `kept` bytes. `count` and `align` are as above. If
+ * `ok` is false, `old` is unchanged. */
 zoftemar_block rattle_realloc(void *old, size_t kept, size_t count, size_t align);
 
 /* Frees a block. */

@@ -1,5 +1,5 @@
-/* edges.c: what the library answers at its edges, with each allocation failing in turn, and from another thread. It ends with 0 where all is
- * as the header says; with the word `sizes` it prints how many bytes a room, a track, a subscriber and a session take. */
+/* edges.c: tests the codes that the library returns at its limits, each allocation failing in turn, and calls from another thread. It exits with 0 if
+ * all is as the header says. With the argument `sizes` it prints how many bytes a room, a track, a subscriber and a session allocate. */
 #include <pthread.h>
 #include <stdio.h>
 #include <stdlib.h>
@@ -9,7 +9,7 @@
 
 #define IS(x) do { if (!(x)) { fprintf(stderr, "edges.c:%d: %s\n", __LINE__, #x); exit(1); } } while (0)
 
-/* The heap of heap.c, which counts blocks and bytes, and fails once `left` allocations were made. */
+/* The allocator of heap.c, which also counts blocks and bytes, and fails after `left` more allocations (-1: never). */
 static long left = -1, blocks;
 static size_t bytes_taken;
 static char no_bytes;
@@ -108,7 +108,7 @@ static void sessions(void) {
     IS(blocks == 0 && strcmp(zoftemar_code_name(ZOFTEMAR_BUSY), "ZOFTEMAR_BUSY") == 0 && strcmp(zoftemar_code_name(9), "ZOFTEMAR_?") == 0);
 }
 
-/* Without a room: a packet is wrapped, and comes back. */
+/* Without a room: a packet is wrapped, and unwrapped again. */
 static void wrapping(void) {
     const uint8_t rtp[13] = { 0x80, 96, 0, 9, 0, 0, 0, 0, 0x11, 0x11, 0x11, 0x11, 5 };
     uint8_t back[ZOFTEMAR_PACKET_ROOM];
@@ -125,7 +125,7 @@ static void wrapping(void) {
     IS(zoftemar_unwrap(out, 15, 1, 128, back, sizeof back).code == ZOFTEMAR_BAD_STREAM);
 }
 
-/* Each allocation fails in turn. What was refused can be done afterwards, and all blocks are freed. */
+/* Each allocation fails in turn. A call that was refused succeeds afterwards, and all blocks are freed. */
 static void memory(void) {
     zoftemar_reply publish, join;
     for (long n = 0;; n++) {

@@ -1,17 +1,17 @@
-/* relay.c: a relay of one layered AV1 track over UDP, on the library, whose sessions send NACKs and PLIs to the publisher and retransmissions (RFC 4588) to
- * the subscribers. The publisher sends RTP to PORT; each subscriber is sent what its wish allows, and answers with RTCP on the port that it is sent to.
- * RTX is the payload type of retransmissions. usage: relay PORT ID SSRC RTX ADDRESS:PORT/SPATIAL/TEMPORAL.. */
+/* relay.c: relays one layered AV1 track over UDP. The library's sessions send NACKs and PLIs to the publisher, and retransmissions (RFC 4588) to the
+ * subscribers. The publisher sends RTP to PORT. Each subscriber is sent what its wish allows, and sends RTCP from the port at which it receives. ID is the
+ * descriptors' header extension, RTX the payload type of retransmissions. usage: relay PORT ID SSRC RTX ADDRESS:PORT/SPATIAL/TEMPORAL.. */
 #include "udp.h"
 
 enum { TRACK = 1, HOLD = 300, MOST = 64 };
-static uint32_t count; /* how many subscribers there are: 1 to `count` */
-static struct { struct sockaddr_in address; zoftemar_session session; } peers[MOST + 1]; /* the publisher in place 0 */
+static uint32_t count; /* the subscribers are 1 to `count` */
+static struct { struct sockaddr_in address; zoftemar_session session; } peers[MOST + 1]; /* peers[0] is the publisher */
 
 static void flush_all(uint64_t moment) {
     for (uint32_t peer = 1; peer <= count; peer++) flush(&peers[peer].session, &peers[peer].address, moment);
 }
 
-/* Each datagram goes to the session of the peer that it came from; the publisher is who last sent a packet that the room took. */
+/* Passes a datagram to the session of the peer from which it came. The publisher is whoever last sent a packet that the room accepted. */
 static void handle(const struct sockaddr_in *from, const uint8_t *bytes, size_t length) {
     uint32_t peer = 0;
     while (peer <= count && !is_same(&peers[peer].address, from)) peer++;

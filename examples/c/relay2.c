@@ -1,36 +1,36 @@
-/* relay2.c: a relay of one layered AV1 track over UDP, on the library and its sessions, that goes on where its peers start again. Whoever sends RTP to PORT is
- * the publisher; it may start again with another SSRC, or the same and other numbers. A viewer sends `join SSRC SPATIAL TEMPORAL` to PORT until packets
- * come, the same line with another wish to change it, RTCP with NACKs and PLIs, and `leave` at the end. One that starts again joins with another SSRC. ID is
- * the descriptors' header extension, RTX the payload type of retransmissions. Nothing is encrypted or authenticated. usage: relay2 PORT ID RTX */
+/* relay2.c: relays one layered AV1 track over UDP with the library's sessions, and goes on when its peers restart. Whoever sends RTP to PORT is the
+ * publisher. It may restart with another SSRC, or with the same SSRC and other sequence numbers. A viewer sends `join SSRC SPATIAL TEMPORAL` to PORT until
+ * packets come, the same line with other layers to change its wish, NACKs and PLIs in RTCP, and `leave` at the end. After a restart it joins with another
+ * SSRC. ID is the descriptors' header extension, RTX the payload type of retransmissions. Nothing is encrypted or authenticated. usage: relay2 PORT ID RTX */
 #include <string.h>
 #include <unistd.h>
 #include "udp.h"
 
 enum {
     MOST = 64,      /* viewers */
-    HOLD = 300,     /* milliseconds that a missing packet is waited for */
-    RESTART = 500,  /* so long the publisher's packets are refused before the track begins anew: above HOLD and the round trip */
-    KEPT = 8000,    /* so long packets from before that can be sent again */
-    SILENT = 10000, /* so long a viewer may send nothing */
+    HOLD = 300,     /* how long the track waits for a missing packet, in milliseconds */
+    RESTART = 500,  /* how long the publisher's packets are refused before a new track begins: more than HOLD plus the round trip */
+    KEPT = 8000,    /* how long the old track's packets can still be retransmitted */
+    SILENT = 10000, /* how long a viewer may send nothing */
 };
 
 typedef struct {
-    uint32_t number; /* of the subscriber in the room; 0: none */
+    uint32_t number; /* the subscriber's number in the room; 0: none */
     zoftemar_session session;
 } receiver;
 
 static struct {
-    struct sockaddr_in address; /* its port is 0 where there is no viewer */
+    struct sockaddr_in address; /* its port is 0 if there is no viewer */
     uint32_t ssrc;
     uint8_t spatial, temporal;
     uint64_t heard, changed; /* when it last sent something, and when `old` was replaced */
-    receiver current, old;   /* of this track, and of the one before */
+    receiver current, old;   /* on this track, and on the one before */
 } viewers[MOST];
 
-static uint32_t track, tracks, receivers; /* the live track, 0 before the first packet; the numbers that have been used */
+static uint32_t track, tracks, receivers; /* the live track, 0 before the first packet; the last numbers used */
 static uint8_t id, rtx;
 static struct { struct sockaddr_in address; zoftemar_session session; } publisher;
-static uint64_t refused; /* since when all of the publisher's packets have been refused; 0: the last one wasn't */
+static uint64_t refused; /* since when all packets of the publisher have been refused; 0: the last one wasn't */
 
 static uint16_t random_number(void) {
     uint16_t number;
@@ -44,8 +44,8 @@ static void end(receiver *r) {
     r->number = 0;
 }
 
-/* Makes viewer `v` a subscriber of the live track, whose first packet gets this number. Out of memory, the viewer's next line tries again. Each receiver has
- * an RTX stream of its own, numbered from 0, with an SSRC that is none of a viewer's, since those are below 80000000. */
+/* Makes viewer `v` a subscriber of the live track; its first packet gets the number `first`. If out of memory, the viewer's next line tries again. Each
+ * receiver has an RTX stream of its own, numbered from 0. The stream's SSRC isn't a viewer's, since viewers' SSRCs are below 80000000. */
 static void join(int v, uint16_t first) {
     receiver *r = &viewers[v].current;
     if (track == 0) return;
@@ -60,7 +60,7 @@ static void leave(int v) {
     viewers[v].address.sin_port = 0;
 }
 
-/* The number of a subscriber's next packet, which the library returns where another packet isn't kept: 0 and 32,768 aren't both among the last 1,024. */
+/* The number of a subscriber's next packet: a resend of a number that isn't kept returns it. 0 and 32,768 aren't both among the last 1,024. */
 static uint16_t next_number(uint32_t subscriber) {
     uint8_t out[ZOFTEMAR_PACKET_ROOM];
     zoftemar_reply reply = zoftemar_resend(&room, 0, subscriber, 0, out, sizeof out);
@@ -68,8 +68,8 @@ static uint16_t next_number(uint32_t subscriber) {
     return (uint16_t)reply.second;
 }
 
-/* Begins the track anew, for packets of this SSRC. Each viewer keeps its SSRC, and its numbers go on; its old receiver answers NACKs for what came before.
- * Out of memory, nothing changes, and the next packet tries again. */
+/* Begins a new track for packets of this SSRC. Each viewer keeps its SSRC, and its sequence numbers go on; its old receiver still handles NACKs for
+ * earlier packets. If out of memory, nothing changes, and the next packet tries again. */
 static void begin(uint32_t ssrc, uint64_t moment) {
     zoftemar_session session = ZOFTEMAR_SESSION_NONE;
     if (zoftemar_publish_layered(&room, 0, ++tracks, id, ssrc, HOLD).code != ZOFTEMAR_DONE) return;
@@ -97,8 +97,8 @@ static void begin(uint32_t ssrc, uint64_t moment) {
     }
 }
 
-/* A packet of the publisher's. It has started again where all packets for half a second were late or had another SSRC: some late retransmissions are no
- * restart. */
+/* Handles a packet of the publisher. The publisher has restarted if for half a second all its packets were late or had another SSRC: a few late
+ * retransmissions aren't a restart. */
 static void publish(const struct sockaddr_in *from, const uint8_t *bytes, size_t length, uint64_t moment) {
     if (length < 12 || is_rtcp(bytes, length)) return;
     uint32_t code = track == 0 ? ZOFTEMAR_NO_TRACK : zoftemar_packet(&room, 0, track, moment, bytes, length).code;
@@ -113,7 +113,7 @@ static void publish(const struct sockaddr_in *from, const uint8_t *bytes, size_t
     publisher.address = *from;
 }
 
-/* A line of viewer `v`, or of one who gets this place; any other text is passed over. */
+/* Handles a line of viewer `v`, or of a new viewer who gets this place. Any other text is ignored. */
 static void line(int v, const struct sockaddr_in *from, const char *text, uint64_t moment) {
     uint32_t ssrc;
     unsigned char spatial, temporal;
@@ -134,11 +134,11 @@ static void handle(const struct sockaddr_in *from, uint8_t *bytes, size_t length
     int v = 0, unused = -1;
     for (; v < MOST && !is_same(&viewers[v].address, from); v++)
         if (viewers[v].address.sin_port == 0) unused = v;
-    bool is_text = bytes[0] >> 6 != 2; /* RTP and RTCP have the version 2 there */
+    bool is_text = bytes[0] >> 6 != 2; /* RTP and RTCP have version 2 here */
     bytes[length] = 0;
     if (is_text && (v < MOST || unused >= 0)) {
         line(v < MOST ? v : unused, from, (const char *)bytes, moment);
-    } else if (!is_text && v < MOST) { /* feedback: each receiver has numbers of its own, and passes over those of the other */
+    } else if (!is_text && v < MOST) { /* feedback: each receiver has its own sequence numbers, and ignores the other's */
         viewers[v].heard = moment;
         zoftemar_session_received(&viewers[v].current.session, moment, bytes, length);
         work(&viewers[v].current.session, from);
@@ -149,7 +149,7 @@ static void handle(const struct sockaddr_in *from, uint8_t *bytes, size_t length
     }
 }
 
-/* After each datagram, and every 20 ms. */
+/* Runs after each datagram and every 20 ms. */
 static void turn(uint64_t moment, bool ticks) {
     zoftemar_session_waited(&publisher.session, moment);
     work(&publisher.session, &publisher.address);

@@ -1,5 +1,5 @@
-/* replay.c: every call of a script of lines on the standard input, by the library. It prints what `./sfu run` prints, so that the two can be
- * compared. It reads scripts that `./sfu run` accepts, and checks nothing of them itself. */
+/* replay.c: makes each call of a script on standard input with the library. It prints what `./sfu run` prints, so that the two can be compared. The
+ * script must be one that `./sfu run` accepts: replay doesn't check it. */
 #include <inttypes.h>
 #include <stdio.h>
 #include <stdlib.h>

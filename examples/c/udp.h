@@ -1,4 +1,4 @@
-/* udp.h: what relay.c and relay2.c share: the clock, one UDP port, and what the sessions send through it. */
+/* udp.h: the common part of relay.c and relay2.c: the clock, one UDP port, and sending what the sessions return. */
 #pragma once
 #include <arpa/inet.h>
 #include <poll.h>
@@ -8,7 +8,7 @@
 #include <time.h>
 #include "zoftemar.h"
 
-enum { EACH = 20, TURN = 32 }; /* milliseconds between two ticks; packets that a subscriber's session takes in one turn */
+enum { EACH = 20, TURN = 32 }; /* milliseconds between two ticks; the most packets that a subscriber's session takes in one turn */
 static zoftemar_room room = ZOFTEMAR_ROOM_NONE;
 static int port;
 
@@ -24,7 +24,7 @@ static bool open_port(const char *number) {
     return port >= 0 && bind(port, (struct sockaddr *)&own, sizeof own) == 0;
 }
 
-/* Waits at most until the next tick for a datagram, and returns how many bytes it has; 0 where none came. */
+/* Waits at most EACH milliseconds for a datagram, and returns its length; 0 if none came. */
 static size_t receive(uint8_t *bytes, size_t most, struct sockaddr_in *from) {
     struct pollfd ready = { .fd = port, .events = POLLIN };
     socklen_t size = sizeof *from;
@@ -40,7 +40,7 @@ static bool is_same(const struct sockaddr_in *a, const struct sockaddr_in *b) {
 /* RTCP on the same port (RFC 5761, section 4). */
 static bool is_rtcp(const uint8_t *bytes, size_t length) { return length >= 2 && bytes[1] >= 192 && bytes[1] < 224; }
 
-/* Sends what a session has to send to its peer, and returns how many datagrams that were. A peer without a port hasn't been heard from yet. */
+/* Sends the session's datagrams to its peer, and returns how many there were. A peer with port 0 hasn't sent anything yet. */
 static int work(zoftemar_session *session, const struct sockaddr_in *to) {
     uint8_t out[ZOFTEMAR_PACKET_ROOM];
     zoftemar_reply reply;
@@ -50,12 +50,12 @@ static int work(zoftemar_session *session, const struct sockaddr_in *to) {
     return sent;
 }
 
-/* Sends what is queued for a subscriber: up to 32 packets in each turn of its session. */
+/* Sends all packets that are queued for a subscriber, up to 32 in each turn of its session. */
 static void flush(zoftemar_session *session, const struct sockaddr_in *to, uint64_t moment) {
     do zoftemar_session_waited(session, moment); while (work(session, to) == TURN);
 }
 
-/* A subscriber that isn't sent all that it wishes for needs a key frame. */
+/* Requests a key frame if a subscriber has a decode target but its wish isn't reached. */
 static void plead(uint32_t subscriber) {
     zoftemar_target target;
     if (zoftemar_target_of(&room, subscriber, &target).has && !zoftemar_reaches_wish(&room, subscriber).has) zoftemar_plead(&room, 0, subscriber);

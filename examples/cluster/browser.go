@@ -15,12 +15,12 @@ import (
 
 const (
 	descriptorURI = "https://aomediacodec.github.io/av1-rtp-spec/#dependency-descriptor-rtp-header-extension"
-	descriptorID  = 4  // in the rooms, of what browsers publish
+	descriptorID  = 4  // of browsers' packets in a room
 	payloadType   = 45 // the same
 )
 
 var (
-	setting webrtc.SettingEngine // puts all browsers on one socket
+	setting webrtc.SettingEngine // all browsers use one socket
 	av1     = webrtc.RTPCodecCapability{MimeType: webrtc.MimeTypeAV1, ClockRate: 90000}
 )
 
@@ -32,8 +32,8 @@ func startBrowsers() {
 	setting.SetICEUDPMux(webrtc.NewICEUDPMux(nil, socket))
 }
 
-// A connection for AV1 with Dependency Descriptors, NACKs and PLIs. The room makes no reports: a publisher gets here those by which it finds its
-// bitrate, and a player those by which it finds its clock.
+// Creates a connection for AV1 with Dependency Descriptors, NACKs and PLIs. The room makes no reports. The interceptors here send a publisher the
+// reports from which it estimates its bitrate, and a player the sender reports from which it gets the clock.
 func connection(publishes bool) *webrtc.PeerConnection {
 	engine, registry, codec := &webrtc.MediaEngine{}, &interceptor.Registry{}, av1
 	add := func(f interceptor.Factory, err error) { must(err); registry.Add(f) }
@@ -54,7 +54,7 @@ func connection(publishes bool) *webrtc.PeerConnection {
 	return pc
 }
 
-// Answers an offer that has all its candidates; calls when the browser is connected, and when it has gone.
+// Answers an offer that has all its candidates. Calls `connected` when the browser is connected, and `gone` when the connection has ended.
 func answerTo(pc *webrtc.PeerConnection, offer string, connected, gone func()) (string, error) {
 	pc.OnConnectionStateChange(func(state webrtc.PeerConnectionState) {
 		switch state {
@@ -83,8 +83,8 @@ func answerTo(pc *webrtc.PeerConnection, offer string, connected, gone func()) (
 	return pc.LocalDescription().SDP, nil
 }
 
-// Leaves a packet no header extension but the descriptor, and puts that under another id: browsers number them differently on each connection. A
-// descriptor of more than 16 bytes asks for the two-byte form.
+// Removes all header extension elements but the descriptor, and gives that another id, since browsers number them differently on each connection. A
+// descriptor of more than 16 bytes needs the two-byte form.
 func exchangeID(packet *rtp.Packet, from, to uint8) {
 	descriptor := append([]byte(nil), packet.GetExtension(from)...)
 	packet.Extension, packet.ExtensionProfile, packet.Extensions = false, 0, nil
@@ -96,7 +96,7 @@ func exchangeID(packet *rtp.Packet, from, to uint8) {
 	}
 }
 
-// The id that was negotiated for descriptors, or 0.
+// Returns the id that was negotiated for descriptors, or 0.
 func negotiatedID(extensions []webrtc.RTPHeaderExtensionParameter) (id uint8) {
 	for _, e := range extensions {
 		if e.URI == descriptorURI {
@@ -111,7 +111,7 @@ func publishBrowser(w words, offer string) (interface{}, error) {
 	pc.OnTrack(func(media *webrtc.TrackRemote, receiver *webrtc.RTPReceiver) {
 		id := negotiatedID(receiver.GetParameters().HeaderExtensions)
 		t, bring := publish(description{Label: w.text("label"), ID: descriptorID, Payload: payloadType}, uint32(media.SSRC()), func(packets []rtcp.Packet) { pc.WriteRTCP(packets) })
-		go func() { // sender reports have to be read for the receiver's reports, and end here
+		go func() { // reads sender reports, which the receiver reports need, and drops them
 			for _, _, err := receiver.ReadRTCP(); err == nil; _, _, err = receiver.ReadRTCP() {
 			}
 		}()
@@ -128,7 +128,7 @@ func publishBrowser(w words, offer string) (interface{}, error) {
 	return map[string]interface{}{"sdp": text}, err
 }
 
-// Plays a track for a browser, which says on its data channel what layers it wishes for.
+// Plays a track for a browser, which sends its wish on a data channel.
 func playBrowser(w words, offer string) (interface{}, error) {
 	pc, s := connection(false), newSubscriber(uint8(w.number("spatial")), uint8(w.number("temporal")))
 	media, err := webrtc.NewTrackLocalStaticRTP(av1, "video", "cluster")
@@ -136,10 +136,10 @@ func playBrowser(w words, offer string) (interface{}, error) {
 	sender, err := pc.AddTrack(media)
 	must(err)
 	var id uint8
-	s.waits, s.end = true, func() { pc.Close() } // until it is connected, it wouldn't get the first key frame
+	s.waits, s.end = true, func() { pc.Close() } // before it is connected it wouldn't get the first key frame
 	s.send = func(bytes []byte) {
 		packet := &rtp.Packet{}
-		if packet.Unmarshal(bytes) == nil { // pion puts in the SSRC and the payload type that were negotiated
+		if packet.Unmarshal(bytes) == nil { // pion sets the negotiated SSRC and payload type
 			exchangeID(packet, descriptorID, id)
 			media.WriteRTP(packet)
 		}

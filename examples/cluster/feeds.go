@@ -13,13 +13,13 @@ import (
 
 const (
 	deepest = 2                      // the level of a track that comes through two nodes
-	answers = 500 * time.Millisecond // how long a node has to answer a request
-	lingers = 10 * time.Second       // how long a feed that nobody watches goes on
+	answers = 500 * time.Millisecond // how long to wait for a node's reply to a request
+	lingers = 10 * time.Second       // how long a feed that nobody watches is kept
 )
 
 var errEnded = errors.New("the track has ended")
 
-// On `feed.NODE`: asks that node for a track. Its answer is an end of a link, or why there is none.
+// On `feed.NODE`: requests a track from that node. The answer is the address of its end of a link, or an error.
 type request struct {
 	Track, Node, At   string
 	Spatial, Temporal uint8
@@ -32,31 +32,31 @@ type answer struct {
 	Error string `json:",omitempty"`
 }
 
-// On `wish.NODE`: the highest layers that anybody behind a link wishes for, by the address of that link's other end.
+// On `wish.NODE`: the highest layers that anybody behind a link wants. At is the address of the link's other end.
 type wish struct {
 	At                string
 	Spatial, Temporal uint8
 }
 
-// How a track of another node comes here.
+// The feed by which another node's track comes here.
 type feed struct {
 	link     *link
 	from     string // the node that sends it
-	said     wish   // what that node was told, and when
+	said     wish   // the wish that was sent to that node, and when
 	saidAt   time.Time
-	fault    error         // why no node has sent it
+	fault    error         // why no node sends it
 	ended    bool          // the track takes no more subscribers
-	news     chan struct{} // closed when any of this changes, or the subscribers do
+	news     chan struct{} // closed when any of this or the subscribers change
 	received int64         // bytes
 }
 
-// Says that something has changed. The lock is held.
+// Wakes whoever waits for a change. The lock is held.
 func (t *track) tell() {
 	close(t.news)
 	t.news = make(chan struct{})
 }
 
-// Keeps a feed of the track as long as anybody watches it, and ten seconds more, or until it isn't published any more.
+// Keeps a feed of the track while anybody watches it and for ten seconds more, or until the track is no longer published.
 func (t *track) keep() {
 	for retry := time.Now(); ; {
 		t.Lock()
@@ -91,8 +91,9 @@ func (t *track) keep() {
 	}
 }
 
-// Asks nodes for the track, one after the other, until one sends it. A node that sends the track on never takes it from a deeper level than before, so
-// that no circle of nodes can arise; where none else has it, the nodes behind this one have to look for themselves, and this one is free.
+// Requests the track from one node after the other, until one sends it. A node that feeds others never takes the track from a deeper level than before,
+// so that nodes never form a loop. If no node at an allowed level has it, this node ends the feeds that it gives: the nodes behind them look elsewhere,
+// and this one may then take the track from any level.
 func (t *track) find() error {
 	t.Lock()
 	level, avoid, children := deepest-1, t.from, t.nodes() > 0
@@ -122,7 +123,7 @@ func (t *track) dismiss() {
 	}
 }
 
-// Takes the track from a node, if that has it at this level or above.
+// Takes the track from a node that has it at `level` or above.
 func (t *track) take(node string, level int) error {
 	l, at, err := newLink()
 	if err != nil {
@@ -171,7 +172,7 @@ func (t *track) take(node string, level int) error {
 	return nil
 }
 
-// The highest layers that any subscriber wishes for.
+// Returns the highest layers that any subscriber wants.
 func (t *track) wished() (w wish) {
 	t.Lock()
 	defer t.Unlock()
@@ -186,7 +187,7 @@ func (t *track) wished() (w wish) {
 	return
 }
 
-// Tells the node that sends the track what is wished for now, when that changes and every five seconds.
+// Sends the wish to the node that sends the track, when it changes and every five seconds.
 func (t *track) wish() {
 	w := t.wished()
 	w.At = t.said.At
@@ -199,7 +200,7 @@ func (t *track) wish() {
 	}
 }
 
-// Answers another node's request.
+// Replies to another node's request for a track.
 func give(m *nats.Msg) {
 	var q request
 	var a answer
@@ -216,7 +217,7 @@ func give(m *nats.Msg) {
 	m.Respond(bytes)
 }
 
-// Sends the track to this address, which is another node's or a player's, once something has come from there.
+// Sends the track to the address `at` of another node or of a player, once a datagram has come from there.
 func (t *track) linkTo(at string, spatial, temporal uint8, node string) (answer, error) {
 	l, here, err := newLink()
 	if err == nil {
@@ -253,7 +254,7 @@ type linked struct {
 
 var (
 	links    = map[string]*linked{} // by the other end's address
-	requests int64                  // that this node has made
+	requests int64                  // that this node made
 )
 
 func hearWish(m *nats.Msg) {

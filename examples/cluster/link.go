@@ -17,17 +17,17 @@ const (
 	silence = time.Second
 )
 
-// A link carries one track's RTP from one end to the other, and NACKs and PLIs back, on a UDP socket that is connected to the other end's. Both ends
-// send an empty receiver report every 250 ms, and a BYE at the end. It has ended when a BYE comes, when nothing has come for a second, or when the
-// other end's socket is gone.
+// A link carries one track's RTP to the other end, and NACKs and PLIs back, on a UDP socket that is connected to the other end's socket. Both ends send
+// an empty receiver report every 250 ms, and a BYE at the end. A link ends when a BYE comes, when nothing comes for a second, or when the other end's
+// socket is closed.
 type link struct {
 	conn           *net.UDPConn
-	packets, bytes int64 // of RTP that was sent
-	lost           int64 // packets that weren't, since the node is to lose some
+	packets, bytes int64 // of RTP, sent
+	lost           int64 // packets dropped because of -lose
 	lossy          bool
 }
 
-// A link's end without the other one, and its address.
+// Returns one end of a link, not connected yet, and its address.
 func newLink() (*link, string, error) {
 	conn, err := net.ListenUDP("udp4", &net.UDPAddr{IP: net.ParseIP(*address)})
 	if err != nil {
@@ -37,7 +37,7 @@ func newLink() (*link, string, error) {
 	return &link{conn: conn}, conn.LocalAddr().String(), nil
 }
 
-// From now on only the other end is heard.
+// Connects the socket to the other end: from now on it receives only from there.
 func (l *link) connect(to string) error {
 	at, err := net.ResolveUDPAddr("udp4", to)
 	if err != nil {
@@ -57,7 +57,7 @@ func (l *link) connect(to string) error {
 	return err
 }
 
-// Waits for the first datagram, which is left to be read.
+// Waits for the first datagram, without reading it.
 func (l *link) hears(within time.Duration) error {
 	l.conn.SetReadDeadline(time.Now().Add(within))
 	raw, err := l.conn.SyscallConn()
@@ -77,7 +77,7 @@ func (l *link) hears(within time.Duration) error {
 
 func isRTCP(bytes []byte) bool { return len(bytes) > 1 && bytes[1] >= 192 && bytes[1] < 224 } // RFC 5761, section 4
 
-// Hands on what comes, until the link has ended.
+// Passes received packets to `rtp` and `feedback`, until the link has ended.
 func (l *link) run(rtp func([]byte), feedback func([]rtcp.Packet)) {
 	defer l.close()
 	report, _ := (&rtcp.ReceiverReport{}).Marshal()
@@ -111,7 +111,7 @@ func (l *link) run(rtp func([]byte), feedback func([]rtcp.Packet)) {
 	}
 }
 
-// Sends one packet of RTP. A link between nodes loses some, where that is asked for.
+// Sends one RTP packet. With -lose a link between nodes drops some.
 func (l *link) send(bytes []byte) {
 	if l.lossy && rand.Intn(100) < *lose {
 		atomic.AddInt64(&l.lost, 1)

@@ -1,20 +1,25 @@
-// cluster is one node of a conference over several machines: browsers and RTP clients of its own, feeds from and to other nodes, which it finds by NATS.
-// Each track that it has is a room of the library. What is proved is that library; nothing here is.
+// cluster is one node of a conference over several machines. It has its own browsers and RTP clients, and feeds from and to other nodes, which it finds
+// through NATS. Each track at a node has a room of the library. Only the library is proved; nothing here is.
 //
-// room.go has a track at a node: a room with that track, its source, its subscribers; link.go the connected UDP socket of a feed; feeds.go asking for a feed,
-// giving one, keeping it; members.go NATS: who is here, and what they have; tracks.go the tracks of this node, and the conference's; browser.go and pages
-// browsers, with pion; main.go flags, and calls by HTTP; players publishers and players of plain RTP, for test.py.
+//   - room.go: a track at this node, with its room, source and subscribers
+//   - link.go: the connected UDP socket of a feed
+//   - feeds.go: requesting, giving and keeping feeds
+//   - members.go: NATS: the nodes that are here, and their tracks
+//   - tracks.go: the tracks of this node and of the conference
+//   - browser.go, pages: browsers, with pion
+//   - main.go: flags, and calls by HTTP
+//   - players: publishers and players of plain RTP, for test.py
 //
 // Its calls:
 //
 //	GET /tracks         the conference's tracks
 //	POST /browser/publish?label=, POST /browser/play?track=&spatial=&temporal=
-//	                    an SDP offer with its candidates is posted, the answer comes back
+//	                    the request has an SDP offer with its candidates, the reply the answer
 //	POST /rtp/publish?label=&id=&payload=&ssrc=&at=
-//	                    begins a track of plain RTP from the UDP address at; the reply has the address to send to. The track ends when nothing has come
-//	                    for a second, so a publisher that pauses sends reports
+//	                    begins a track of plain RTP from the UDP address `at`; the reply has the address to send to. The track ends when nothing has
+//	                    come for a second, so a publisher that pauses must send reports
 //	POST /rtp/play?track=&at=&spatial=&temporal=
-//	                    sends a track to the UDP address at, with the reports of a feed
+//	                    sends a track to the UDP address `at`, with the reports of a feed
 //	GET /figures        viewers, packets, processor time, feeds in and out with their bytes, nodes that are here
 package main
 
@@ -51,7 +56,7 @@ func must(err error) {
 	}
 }
 
-// What came with a request after its question mark.
+// A request's query parameters.
 type words struct{ *http.Request }
 
 func (w words) text(name string) string { return w.URL.Query().Get(name) }
@@ -60,7 +65,7 @@ func (w words) number(name string) (n int) {
 	return
 }
 
-// A call that answers with JSON, or with an error that a page can show. Pages of other servers are refused.
+// Registers a call that returns JSON, or an error that a page can show. Requests from pages of other servers are refused.
 func serve(method, path string, do func(words, string) (interface{}, error)) {
 	http.HandleFunc(path, func(w http.ResponseWriter, r *http.Request) {
 		if origin := r.Header.Get("Origin"); r.Method != method || origin != "" && !strings.HasSuffix(origin, "://"+r.Host) {
@@ -78,7 +83,7 @@ func serve(method, path string, do func(words, string) (interface{}, error)) {
 	})
 }
 
-// Begins a track of plain RTP, which comes from the address that the publisher names, under its SSRC.
+// Begins a track of plain RTP, with the publisher's address and SSRC from the request.
 func publishRTP(w words, _ string) (interface{}, error) {
 	l, at, err := newLink()
 	if err == nil {
@@ -95,10 +100,10 @@ func publishRTP(w words, _ string) (interface{}, error) {
 	return map[string]string{"Track": t.Name, "At": at}, nil
 }
 
-// Sends a track as plain RTP to the address that the player names.
+// Sends a track as plain RTP to the player's address from the request.
 func playRTP(w words, _ string) (interface{}, error) {
 	s := newSubscriber(uint8(w.number("spatial")), uint8(w.number("temporal")))
-	s.waits = true // it stands for the player until the track is here
+	s.waits = true // a placeholder for the player until the track is here
 	t, err := subscribeTo(w.text("track"), s)
 	if err != nil {
 		return nil, err
@@ -118,7 +123,7 @@ type feedOut struct {
 	Packets, Bytes, Lost int64
 }
 
-// What this node does, in numbers.
+// This node's figures.
 func figures(words, string) (interface{}, error) {
 	f := struct {
 		Node      string

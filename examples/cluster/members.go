@@ -1,11 +1,11 @@
-// NATS: who is here, and what they have. All messages are JSON:
+// NATS: the nodes that are here, and their tracks. All messages are JSON:
 //
 //	nodes      from each node, every second, and when it gets a track: Node, Load (share of its processors), Tracks; Gone at its end. Each of its Tracks
 //	           has Name, Label, ID (of the descriptors' extension; 0: a plain track), Payload, Spatial and Temporal (layers seen), Level, Room (whether it
 //	           may feed one more node)
-//	feed.NODE  a request: that node is to send a track: Track, Node that asks, At: its UDP address for this feed, Spatial, Temporal. Its reply within
+//	feed.NODE  requests a track from NODE: Track, Node (which requests it), At (its UDP address for this feed), Spatial, Temporal. NODE's reply, within
 //	           500 ms: At, SSRC, Level, or Error
-//	wish.NODE  when a feed's wish changes, and every 5 s: At: the address of the feed's end, Spatial, Temporal
+//	wish.NODE  when a feed's wish changes, and every 5 s: At (the address of the feed's end), Spatial, Temporal
 
 package main
 
@@ -30,15 +30,15 @@ const (
 	forgotten = 2*heartbeat + 300*time.Millisecond
 )
 
-// What a node says of itself on the subject `nodes`, every second, and when it has another track.
+// A node's heartbeat on the subject `nodes`, every second and when it has a new track.
 type announcement struct {
 	Node   string
-	Load   float64 // the share of its processors that it uses
+	Load   float64 // share of its processors in use
 	Tracks []offer
-	Gone   bool // it ends now
+	Gone   bool // the node is ending
 }
 
-// A track that can be had at a node.
+// A track that a node offers.
 type offer struct {
 	description
 	Level int
@@ -52,15 +52,15 @@ type member struct {
 
 var (
 	bus     *nats.Conn
-	me      string // this node, by a name that is new at each start
+	me      string // this node's name, new at each start
 	lock    sync.Mutex
 	members = map[string]*member{}
-	echo    time.Time // when this node last heard itself
-	back    time.Time // since when it has heard itself each second
+	echo    time.Time // when this node's own last heartbeat came
+	back    time.Time // since when its own heartbeats have come without a gap
 	load    float64
 )
 
-// Connects to NATS, and comes back to it however long it is away. What is said meanwhile is lost: heartbeats and requests of the past are of no use.
+// Connects to NATS, and reconnects however long it is away. Messages sent meanwhile are lost, since old heartbeats and requests are of no use.
 func connectBus() {
 	var err error
 	options := []nats.Option{nats.Name(me), nats.MaxReconnects(-1), nats.RetryOnFailedConnect(true), nats.ReconnectWait(250 * time.Millisecond),
@@ -129,7 +129,7 @@ func hearNode(m *nats.Msg) {
 	}
 }
 
-// Forgets nodes of which nothing was heard for two heartbeats, if this node has heard itself all that time: else it is NATS that is away.
+// Forgets nodes without a heartbeat for 2.3 s, if this node's own heartbeats came in that time: else it is NATS that is away.
 func forgetNodes() {
 	lock.Lock()
 	defer lock.Unlock()
@@ -141,7 +141,7 @@ func forgetNodes() {
 	}
 }
 
-// Says every second that this node is here, and what share of the processors it has used since the last time.
+// Sends this node's heartbeat every second, with the share of its processors used since the last one.
 func live() {
 	var used time.Duration
 	for range time.Tick(heartbeat) {
@@ -158,7 +158,7 @@ func processorTime() time.Duration {
 	return time.Duration(u.Utime.Nano() + u.Stime.Nano())
 }
 
-// Whether the node at which a track was published is here, and still announces it.
+// Whether the node at which a track was published is here and still announces the track.
 func isPublished(track string) bool {
 	lock.Lock()
 	defer lock.Unlock()
@@ -173,7 +173,7 @@ func isPublished(track string) bool {
 	return false
 }
 
-// Nodes that have a track at this level or above, and may feed one more: fewest hops first, then least load, and last the one that is to be avoided.
+// Returns the nodes that have a track at `level` or above and may feed one more node: fewest hops first, then least load; `avoid` is last.
 func nodesWith(name string, level int, avoid string) (found []string) {
 	lock.Lock()
 	defer lock.Unlock()
@@ -193,7 +193,7 @@ func nodesWith(name string, level int, avoid string) (found []string) {
 	return
 }
 
-// The tracks of the conference: those of this node, and those that others announce as published there.
+// Returns the conference's tracks: this node's, and those that other nodes announce as published there.
 func conference() (list []description) {
 	for _, t := range all() {
 		t.Lock()

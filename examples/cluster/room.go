@@ -20,29 +20,29 @@ import (
 )
 
 const (
-	hold         = 300 * time.Millisecond // how long a missing packet is waited for
+	hold         = 300 * time.Millisecond // how long a room waits for a missing packet
 	mostHere     = 250                    // subscribers of a track at one node
-	keepsNumbers = 8 * time.Second        // how long packets from before a change of source can be sent again
+	keepsNumbers = 8 * time.Second        // how long packets from before a change of source can be retransmitted
 )
 
-// What is the same of a track at every node.
+// The fields of a track that are the same at every node.
 type description struct {
-	Name     string // NODE.NUMBER, where NODE is that of its publisher
+	Name     string // NODE.NUMBER, where NODE is its publisher's
 	Label    string // for people
-	ID       uint8  // of the header extension with Dependency Descriptors; 0 for a plain track
+	ID       uint8  // header extension id of Dependency Descriptors; 0: a plain track
 	Payload  uint8  // the RTP payload type
 	Spatial  int    // the highest layers seen
 	Temporal int
 }
 
-// Whoever is sent a track's packets by this node: a browser, a player, or the next node.
+// A subscriber of a track at this node: a browser, a player, or another node.
 type subscriber struct {
-	send     func([]byte) // one packet
-	end      func()       // the track has ended
+	send     func([]byte) // sends one packet
+	end      func()       // called when the track has ended
 	node     bool
-	waits    bool // it isn't to be sent anything yet
+	waits    bool // nothing may be sent to it yet
 	ssrc     uint32
-	spatial  uint8 // the highest layers that it wishes for
+	spatial  uint8 // its wish
 	temporal uint8
 
 	next           uint16 // the sequence number of its next packet
@@ -54,26 +54,26 @@ func newSubscriber(spatial, temporal uint8) *subscriber {
 	return &subscriber{ssrc: rand.Uint32(), next: uint16(rand.Uint32()), spatial: spatial, temporal: temporal, end: func() {}}
 }
 
-// A track at this node: a room with that one track, which begins anew whenever the track's packets come from another source. The subscribers keep
-// their SSRCs and sequence numbers over such a change.
+// A track at this node, with a room of its own. When the packets come from another source, a new track begins in the room; subscribers' streams keep
+// their SSRCs, and their sequence numbers go on.
 type track struct {
 	sync.Mutex
 	description
-	level       int // how many nodes its packets have come through before this one
+	level       int // how many nodes its packets pass before this one
 	room        C.zoftemar_room
-	number      C.uint32_t // of the track in the room; 0 before the first source
-	newest      C.uint32_t // number of a subscriber in the room
+	number      C.uint32_t // the track's number in the room; 0 before the first source
+	newest      C.uint32_t // the last subscriber's number in the room
 	subscribers map[*subscriber]bool
-	left        time.Time // when the last one left
+	left        time.Time // when a subscriber last left
 
-	ask           func([]rtcp.Packet) // asks the source; nil while there is none
-	ssrc          uint32              // of what the source sends
+	ask           func([]rtcp.Packet) // sends feedback to the source; nil if there is none
+	ssrc          uint32              // of the source's packets
 	nacked, plied time.Time
 	plead         bool // a plain track's subscriber has sent a PLI
 	out           [C.ZOFTEMAR_PACKET_ROOM]byte
 	missing       [C.ZOFTEMAR_NAMES_ROOM]uint16
 
-	feed // where a track of another node comes from: feeds.go
+	feed // if the track comes from another node: feeds.go
 }
 
 var (
@@ -92,7 +92,7 @@ func newTrack(d description) *track {
 	return t
 }
 
-// Begins the room's track anew, with another source of packets.
+// Begins a new track in the room, for another source.
 func (t *track) begin(ssrc uint32, level int, ask func([]rtcp.Packet)) {
 	t.Lock()
 	defer t.Unlock()
@@ -113,7 +113,7 @@ func (t *track) begin(ssrc uint32, level int, ask func([]rtcp.Packet)) {
 	t.tell()
 }
 
-// Makes a subscriber one of the room. The one that it was before is kept for a while, for its NACKs, where the room's 256 allow it.
+// Joins a subscriber to the room's track. Its number on the track before is kept for a while, for NACKs, if the limit of 256 subscribers allows it.
 func (t *track) join(s *subscriber) {
 	if s.waits || t.number == 0 {
 		return
@@ -158,7 +158,7 @@ func (t *track) add(s *subscriber) error {
 	return nil
 }
 
-// From now on a subscriber is sent packets.
+// Starts to send packets to a subscriber.
 func (t *track) start(s *subscriber) {
 	t.Lock()
 	defer t.Unlock()
@@ -192,7 +192,7 @@ func (t *track) aim(s *subscriber, spatial, temporal uint8) {
 	t.tell()
 }
 
-// How many nodes this one feeds. The lock is held.
+// Returns how many nodes this one feeds. The lock is held.
 func (t *track) nodes() (n int) {
 	for s := range t.subscribers {
 		if s.node {
@@ -202,7 +202,7 @@ func (t *track) nodes() (n int) {
 	return
 }
 
-// A packet of the source.
+// Adds a packet of the source to the room.
 func (t *track) packet(bytes []byte) {
 	t.Lock()
 	defer t.Unlock()
@@ -212,7 +212,7 @@ func (t *track) packet(bytes []byte) {
 	}
 }
 
-// Sends what waits for each subscriber. One whose wish isn't reached pleads for a key frame.
+// Sends each subscriber its queued packets, and requests a key frame if its wish isn't reached.
 func (t *track) flush() {
 	for s := range t.subscribers {
 		if s.number == 0 {
@@ -227,7 +227,7 @@ func (t *track) flush() {
 	}
 }
 
-// Sends the packet of a reply, and says whether there was one.
+// Sends the packet of a reply. Returns whether there was one.
 func (t *track) sends(s *subscriber, r C.zoftemar_reply) bool {
 	if r.code != C.ZOFTEMAR_PACKET {
 		return false
@@ -237,7 +237,7 @@ func (t *track) sends(s *subscriber, r C.zoftemar_reply) bool {
 	return true
 }
 
-// Every 20 ms: gaps that were waited for are given up, and the source is asked for missing packets and key frames.
+// Runs every 20 ms: ticks the room's track, which gives up gaps, and requests missing packets and key frames from the source.
 func (t *track) tick() {
 	t.Lock()
 	defer t.Unlock()
@@ -266,7 +266,7 @@ func (t *track) tick() {
 	}
 }
 
-// Feedback of a subscriber.
+// Handles a subscriber's feedback.
 func (t *track) hear(s *subscriber, packets []rtcp.Packet) {
 	t.Lock()
 	defer t.Unlock()
@@ -288,7 +288,7 @@ func (t *track) hear(s *subscriber, packets []rtcp.Packet) {
 	}
 }
 
-// Sends a packet again, which may be from before the latest change of source.
+// Retransmits a packet, which may be from before the last change of source.
 func (t *track) again(s *subscriber, n uint16) {
 	for _, number := range []C.uint32_t{s.number, s.before} {
 		if number > 0 && t.sends(s, C.zoftemar_resend(&t.room, 0, number, C.uint16_t(n), (*C.uint8_t)(&t.out[0]), C.size_t(len(t.out)))) {
@@ -297,7 +297,7 @@ func (t *track) again(s *subscriber, n uint16) {
 	}
 }
 
-// The track has no source at present.
+// Handles the loss of the source: the room gives up the gaps that are left.
 func (t *track) lose() {
 	t.Lock()
 	defer t.Unlock()

@@ -11,7 +11,7 @@ import (
 
 var (
 	tracks    = map[string]*track{} // at this node
-	published int                   // tracks that were ever published here
+	published int                   // how many tracks were ever published here
 )
 
 func locked(do func()) { lock.Lock(); defer lock.Unlock(); do() }
@@ -35,7 +35,7 @@ func remove(t *track) {
 	})
 }
 
-// Every 20 ms, for each track on its own.
+// Ticks the track every 20 ms.
 func (t *track) run() {
 	for {
 		time.Sleep(20 * time.Millisecond)
@@ -46,7 +46,7 @@ func (t *track) run() {
 	}
 }
 
-// Begins a track whose publisher is here. Its packets are brought by the function that this returns.
+// Begins a track whose publisher is at this node. Returns the track, and the function that adds a packet to it.
 func publish(d description, ssrc uint32, ask func([]rtcp.Packet)) (*track, func([]byte)) {
 	var t *track
 	locked(func() {
@@ -74,7 +74,7 @@ func publish(d description, ssrc uint32, ask func([]rtcp.Packet)) (*track, func(
 
 func (t *track) unpublish() { remove(t); t.close(); announce(false) }
 
-// Makes somebody a subscriber of a track, which comes from another node where it isn't here, and waits until it does or cannot.
+// Adds a subscriber to a track. If the track isn't here, it is requested from other nodes. Waits until it has a source, or fails.
 func subscribeTo(name string, s *subscriber) (*track, error) {
 	var t *track
 	for err := errEnded; err == errEnded; {
@@ -106,7 +106,7 @@ func subscribeTo(name string, s *subscriber) (*track, error) {
 	}
 }
 
-// The track at this node, which is made for one that another node announces.
+// Returns the track at this node. It is created if another node announces it.
 func here(name string) (*track, error) {
 	if t := get(name); t != nil {
 		return t, nil
@@ -127,7 +127,7 @@ func here(name string) (*track, error) {
 	return nil, errors.New("nobody publishes that now")
 }
 
-// The highest layers of a Dependency Descriptor that has a structure: each template has the layers of the one before it, or the next temporal
+// Returns the highest layers of a Dependency Descriptor that has a structure. Each template has the layers of the one before it, or the next temporal
 // layer, or the next spatial one (RTP Payload Format For AV1 v1.0, Appendix A.8).
 func layers(d []byte) (spatial, temporal int, is bool) {
 	if len(d) < 6 || d[3]&0x80 == 0 {

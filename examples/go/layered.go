@@ -1,4 +1,4 @@
-// layered.go: the first calls of examples/layered.script from Go, by the library. All takes behind a packet are one call of C.
+// layered.go: makes the first calls of examples/layered.script from Go with the library. One C call makes all takes of a subscriber.
 package main
 
 /*
@@ -7,7 +7,7 @@ package main
 #include "zoftemar.h"
 #include "heap.c"
 
-// What waits for a subscriber, at most `most` packets: each in 2,048 bytes of its own, and its length.
+// Takes at most `most` queued packets of a subscriber. Each is copied to its own 2,048 bytes of `out`, and its length to `lengths`.
 static size_t take_all(zoftemar_room *room, uint32_t subscriber, uint8_t *out, uint16_t *lengths, size_t most) {
     size_t count = 0;
     for (; count < most; count++) {
@@ -26,7 +26,7 @@ import (
 	"sync"
 )
 
-// Room is a room and the lock around it: one call at a time.
+// Room is a room with a lock, since a room allows one call at a time.
 type Room struct {
 	lock    sync.Mutex
 	handle  C.zoftemar_room
@@ -34,7 +34,7 @@ type Room struct {
 	lengths [64]C.uint16_t
 }
 
-// Packet brings a packet, and hands what waits for each subscriber then to `send`.
+// Packet adds a packet to a track, then takes each subscriber's queued packets and passes them to `send`.
 func (r *Room) Packet(track uint32, moment uint64, packet []byte, subscribers []uint32, send func(uint32, []byte)) C.zoftemar_reply {
 	r.lock.Lock()
 	defer r.lock.Unlock()

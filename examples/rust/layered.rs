@@ -1,4 +1,4 @@
-// layered.rs: the first calls of examples/layered.script from Rust, by the crate libzoftemar/rust.
+// layered.rs: makes the first calls of examples/layered.script from Rust with the crate libzoftemar/rust.
 use zoftemar::{Error, Room, PACKET_ROOM};
 
 fn main() -> Result<(), Error> {

@@ -2,46 +2,50 @@
 use crate::Reply;
 use std::fmt;
 
-/// Why a call was refused. It changed nothing. `Display` is the code's name in `zoftemar.h`, as `zoftemar_code_name` gives it.
+/// Why a call was refused. A refused call changes nothing. `Display` writes the code's name in `zoftemar.h`, as `zoftemar_code_name` returns it.
 #[derive(Debug, Clone, Copy, PartialEq, Eq)]
 #[non_exhaustive]
 pub enum Error {
+    /// No live track has this number, or the subscriber's track has ended.
     NoTrack,
+    /// No live subscriber has this number.
     NoSubscriber,
-    /// The number is 0, or at most the highest that was ever live.
+    /// The number isn't above `highest`, the highest that was ever live (0 if none was).
     NumberUsed { highest: u64 },
-    /// How many are live: 64 tracks or 256 subscribers.
+    /// `live` tracks or subscribers are live already: 64 or 256.
     TooMany { live: u64 },
-    /// An extension id of 0 or 15.
+    /// The id of the header extension element is 0 or 15.
     BadExtensionId,
-    /// How many bytes the packet has, more than 1,500.
+    /// The packet has `bytes` bytes, more than 1,500.
     TooBig { bytes: u64 },
-    /// Not RTP: 0 under 12 bytes, 1 the version, 2 CSRCs, 3 the header extension, 4 the padding, 5 no original number to unwrap.
+    /// Not RTP. `part` is the fault: 0 fewer than 12 bytes, 1 the version, 2 the CSRCs, 3 the header extension, 4 the padding; in
+    /// [`unwrap`](crate::unwrap) also 5: no original sequence number.
     Unreadable { part: u64 },
+    /// The packet's SSRC isn't the track's.
     WrongSsrc { packet: u64, track: u64 },
-    /// The packet's number without its wrap is 2^46 or more.
+    /// The packet's unwrapped sequence number is 2^46 or more.
     Spent,
-    /// The number that the track waits for, without the wrap.
+    /// The packet's number is below `next`, the unwrapped sequence number that the track waits for.
     Late { next: u64 },
-    /// The packet came before, and still waits behind a gap.
+    /// The packet is already buffered, behind a gap.
     Repeat,
-    /// The oldest number that is kept, and that of the next take, as on the wire.
+    /// The packet isn't kept. `oldest` is the oldest sequence number that is kept, `next` that of the next take; both are as on the wire.
     NotKept { oldest: u64, next: u64 },
-    /// The newest frame, if there is one.
+    /// The frame number is above `newest`, the newest frame's. `None`: no frame came.
     Ahead { newest: Option<u64> },
-    /// The lowest frame that may be asked for.
+    /// The frame number is below `lowest`, the lowest that may be asked for.
     TooOld { lowest: u64 },
     /// The subscriber's track is plain.
     Plain,
-    /// Only opens, publishes and joins return it.
+    /// Out of memory. Only opening, publishing and joining return it.
     NoMemory,
     /// A packet or datagram of more than 2,048 bytes, or one to wrap of more than 2,046.
     TooLong,
-    /// The session has something left to do: [`work`](crate::Session::work) until it returns `None`.
+    /// The session still has a call to make: call [`work`](crate::Session::work) until it returns `None`.
     Busy,
-    /// A retransmission stream's payload type of 128 or more, or the SSRC of the media.
+    /// A payload type of 128 or more, or a retransmission stream with the SSRC of the media.
     BadStream,
-    /// A code that these types can't meet, unless the archive is of another version.
+    /// Any other code. It can only occur if the archive is of another version.
     Other(u32),
 }
 
@@ -107,7 +111,7 @@ impl fmt::Display for Error {
 
 impl std::error::Error for Error {}
 
-/// The name of a code in `zoftemar.h`, or "ZOFTEMAR_?".
+/// The name of a code in `zoftemar.h`; "ZOFTEMAR_?" if it has none.
 pub fn code_name(code: u32) -> &'static str {
     match code {
         0 => "ZOFTEMAR_DONE",

@@ -1,4 +1,4 @@
-//! zoftemar.h, as Rust sees it.
+//! The declarations of zoftemar.h, in Rust.
 use crate::{Error, Target};
 use std::ffi::c_void;
 
@@ -12,7 +12,7 @@ pub struct Reply {
     pub second: u64,
 }
 
-/// `zoftemar_room` and `zoftemar_session`. One handle is one room or session, so it is moved and never copied.
+/// `zoftemar_room` and `zoftemar_session`. A handle owns its room or session, so it may be moved but not copied.
 #[repr(C)]
 #[derive(Debug)]
 pub struct Handle {
@@ -26,7 +26,7 @@ impl Handle {
     /// `ZOFTEMAR_ROOM_NONE`.
     pub const NONE: Handle = Handle { made: false, at: std::ptr::null_mut() };
 
-    /// The handle that this call opens.
+    /// A handle that `open` opened, or the error that it returned.
     pub fn opened(open: impl FnOnce(&mut Handle) -> u32) -> Result<Handle, Error> {
         let mut handle = Handle::NONE;
         match open(&mut handle) {
@@ -47,7 +47,7 @@ pub const NEWEST: u32 = 7;
 pub const EMPTY: u32 = 43;
 
 impl Reply {
-    /// The reply, where it has this code.
+    /// The reply if it has this code, else its error.
     pub fn expect(self, code: u32) -> Result<Reply, Error> {
         if self.code == code {
             Ok(self)
@@ -61,7 +61,7 @@ impl Reply {
     }
 }
 
-/// The part of a buffer that a reply `PACKET` says was written.
+/// The bytes of the buffer that were written, if the reply is `PACKET`; else its error.
 pub fn written(reply: Reply, out: &[u8]) -> Result<&[u8], Error> {
     reply.expect(PACKET).map(|reply| &out[..reply.first as usize])
 }

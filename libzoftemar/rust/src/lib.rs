@@ -1,7 +1,7 @@
 //! The proved room of `zoftemar.h`, behind types that no safe program can misuse.
 //!
-//! A [`Room`] has tracks and subscribers. A [`Publisher`] and a [`Subscriber`] are the feedback with one peer each: NACKs, PLIs and
-//! retransmissions. Moments and holds are milliseconds. A refused call changes nothing, and says why by an [`Error`].
+//! A [`Room`] has tracks and subscribers. A [`Publisher`] or a [`Subscriber`] is the session of one peer: it handles NACKs, PLIs and
+//! retransmissions. Moments and holds are in milliseconds. A refused call changes nothing and returns an [`Error`].
 //!
 //! ```
 //! # fn main() -> Result<(), zoftemar::Error> {
@@ -28,23 +28,24 @@ pub use verdict::Verdict;
 
 use ffi::{written, Reply};
 
-/// How many bytes a buffer for one packet has.
+/// The capacity of a buffer for one packet, in bytes.
 pub const PACKET_ROOM: usize = 2048;
 
-/// How many numbers a buffer for missing sequence numbers has.
+/// The capacity of a buffer for missing sequence numbers.
 pub const NAMES_ROOM: usize = 1024;
 
-/// The archive's version: 65,536 times the first number of this crate's version, 256 times the second, and the third.
+/// The archive's version, which is this crate's: 65,536 times the major number, plus 256 times the minor number, plus the patch number.
 pub fn version() -> u32 {
     unsafe { ffi::zoftemar_version() }
 }
 
-/// Wraps an RTP packet of at most 2,046 bytes for a retransmission stream, where it has this number (RFC 4588, section 4).
+/// Makes the retransmission of an RTP packet of at most 2,046 bytes, with this sequence number on the RTX stream (RFC 4588, section 4), and without
+/// padding.
 pub fn wrap<'a>(bytes: &[u8], number: u16, rtx_ssrc: u32, rtx_payload_type: u8, out: &'a mut [u8; PACKET_ROOM]) -> Result<&'a [u8], Error> {
     written(unsafe { ffi::zoftemar_wrap(bytes.as_ptr(), bytes.len(), number, rtx_ssrc, rtx_payload_type, out.as_mut_ptr(), out.len()) }, out)
 }
 
-/// The packet that a publisher sent on a retransmission stream, with the SSRC and the payload type that are given, and without padding.
+/// Restores the original packet from a publisher's retransmission, with the given SSRC and payload type, and without padding.
 pub fn unwrap<'a>(bytes: &[u8], ssrc: u32, payload_type: u8, out: &'a mut [u8; PACKET_ROOM]) -> Result<&'a [u8], Error> {
     written(unsafe { ffi::zoftemar_unwrap(bytes.as_ptr(), bytes.len(), ssrc, payload_type, out.as_mut_ptr(), out.len()) }, out)
 }

@@ -2,9 +2,9 @@
 use crate::ffi::*;
 use crate::{Error, Verdict, NAMES_ROOM, PACKET_ROOM};
 
-/// A room, which is closed when it is dropped. Numbers of tracks and of subscribers begin at 1 and only grow.
+/// A room. Dropping it closes it. Track numbers begin at 1 and only grow, and so do subscriber numbers.
 ///
-/// It may go to another thread, and one thread at a time uses it:
+/// A room may go to another thread; one thread at a time uses it:
 /// ```
 /// fn sent<T: Send>() {}
 /// sent::<zoftemar::Room>();
@@ -21,7 +21,7 @@ pub struct Room {
 // zoftemar.h: a room may go from one thread to another.
 unsafe impl Send for Room {}
 
-/// The decode target that a subscriber is sent, and where `known` is true its highest layers at the newest frame.
+/// The decode target that a subscriber is sent: its index and, if `known` is true, its highest layers at the newest frame.
 #[repr(C)]
 #[derive(Debug, Clone, Copy, PartialEq, Eq, Default)]
 pub struct Target {
@@ -32,7 +32,7 @@ pub struct Target {
 }
 
 impl Room {
-    /// An empty room, or [`Error::NoMemory`].
+    /// Opens a room, without tracks and subscribers. [`Error::NoMemory`].
     pub fn open() -> Result<Room, Error> {
         Ok(Room { handle: Handle::opened(|handle| unsafe { zoftemar_open(handle) })? })
     }
@@ -41,7 +41,7 @@ impl Room {
         &mut self.handle
     }
 
-    /// Begins a track of RTP packets of any codec with this SSRC. A gap in their numbers is waited for `hold` milliseconds.
+    /// Begins a track of RTP packets of any codec with this SSRC. At a gap in their sequence numbers the track waits for `hold` milliseconds.
     pub fn publish_plain(&mut self, track: u32, ssrc: u32, hold: u32) -> Result<(), Error> {
         unsafe { zoftemar_publish_plain(&mut self.handle, 0, track, ssrc, hold) }.done()
     }
@@ -51,33 +51,34 @@ impl Room {
         unsafe { zoftemar_publish_layered(&mut self.handle, 0, track, id, ssrc, hold) }.done()
     }
 
-    /// Ends a track. Its subscribers stay, and may take what waits for them.
+    /// Ends a track. Its subscribers stay, and may take their queued packets.
     pub fn unpublish(&mut self, track: u32) -> Result<(), Error> {
         unsafe { zoftemar_unpublish(&mut self.handle, 0, track) }.done()
     }
 
-    /// Brings an RTP packet to its track.
+    /// Adds an RTP packet that arrived at `moment` to its track.
     pub fn packet(&mut self, track: u32, moment: u64, bytes: &[u8]) -> Result<(), Error> {
         unsafe { zoftemar_packet(&mut self.handle, 0, track, moment, bytes.as_ptr(), bytes.len()) }.done()
     }
 
-    /// Gives up the gaps of a track that were waited for long enough. Call it every 20 ms or so.
+    /// Advances a track's clock to `moment`: gaps for which it has waited its hold are given up. Call it about every 20 ms.
     pub fn tick(&mut self, track: u32, moment: u64) -> Result<(), Error> {
         unsafe { zoftemar_tick(&mut self.handle, 0, track, moment) }.done()
     }
 
-    /// The sequence numbers that a track waits for, in the buffer.
+    /// Copies the sequence numbers that a track waits for to `out`, and returns them.
     pub fn missing<'a>(&mut self, track: u32, out: &'a mut [u16; NAMES_ROOM]) -> Result<&'a [u16], Error> {
         let reply = unsafe { zoftemar_missing(&mut self.handle, 0, track, out.as_mut_ptr(), out.len()) }.expect(NAMES)?;
         Ok(&out[..reply.first as usize])
     }
 
-    /// Whether the track's publisher is to be asked for a key frame.
+    /// Whether to request a key frame from the track's publisher.
     pub fn key_wanted(&mut self, track: u32) -> Result<bool, Error> {
         Ok(unsafe { zoftemar_key_wanted(&mut self.handle, 0, track) }.expect(KEY)?.has)
     }
 
-    /// Begins a subscriber of a track, who is sent this SSRC and sequence numbers from `first` on, of at most these spatial and temporal layers.
+    /// Begins a subscriber of a track. Packets sent to it have this SSRC, and sequence numbers from `first` on. Its wish is the highest spatial and
+    /// temporal layers that it wants.
     pub fn join(&mut self, subscriber: u32, track: u32, ssrc: u32, first: u16, (spatial, temporal): (u8, u8)) -> Result<(), Error> {
         unsafe { zoftemar_join(&mut self.handle, 0, subscriber, track, ssrc, first, spatial, temporal) }.done()
     }
@@ -92,7 +93,7 @@ impl Room {
         unsafe { zoftemar_leave(&mut self.handle, 0, subscriber) }.done()
     }
 
-    /// The oldest packet that waits for a subscriber, in the buffer, or `None` where nothing waits.
+    /// Moves a subscriber's oldest queued packet to `out`, and returns it. `None`: no packet is queued.
     pub fn take<'a>(&mut self, subscriber: u32, out: &'a mut [u8; PACKET_ROOM]) -> Result<Option<&'a [u8]>, Error> {
         let reply = unsafe { zoftemar_take(&mut self.handle, 0, subscriber, out.as_mut_ptr(), out.len()) };
         match reply.code {
@@ -101,17 +102,17 @@ impl Room {
         }
     }
 
-    /// The packet that a subscriber took under this sequence number, once more.
+    /// Copies a packet that the subscriber took before, with this sequence number, to `out`, and returns it.
     pub fn resend<'a>(&mut self, subscriber: u32, number: u16, out: &'a mut [u8; PACKET_ROOM]) -> Result<&'a [u8], Error> {
         written(unsafe { zoftemar_resend(&mut self.handle, 0, subscriber, number, out.as_mut_ptr(), out.len()) }, out)
     }
 
-    /// A subscriber asks for a key frame.
+    /// Requests a key frame for a subscriber.
     pub fn plead(&mut self, subscriber: u32) -> Result<(), Error> {
         unsafe { zoftemar_plead(&mut self.handle, 0, subscriber) }.done()
     }
 
-    /// Why the frame with this number was or wasn't forwarded to a subscriber.
+    /// Why the frame with this unwrapped number was or wasn't forwarded to a subscriber.
     pub fn why(&mut self, subscriber: u32, number: u64) -> Result<Verdict, Error> {
         Verdict::of(unsafe { zoftemar_why(&mut self.handle, 0, subscriber, number) })
     }
@@ -128,13 +129,13 @@ impl Room {
         Ok(unsafe { zoftemar_reaches_wish(&mut self.handle, subscriber) }.expect(REACHED)?.has)
     }
 
-    /// The least moment at which a tick of the track gives up a gap, if a packet waits behind one.
+    /// The earliest moment at which a tick of the track gives up a gap. `None`: no packet is buffered behind a gap, or the moment is 2^64 or more.
     pub fn due(&mut self, track: u32) -> Result<Option<u64>, Error> {
         let reply = unsafe { zoftemar_due(&mut self.handle, track) }.expect(DUE)?;
         Ok(reply.has.then_some(reply.first))
     }
 
-    /// The number of the newest whole frame of a layered track, if one came.
+    /// The unwrapped number of a track's newest whole frame. `None`: none came yet, or the track is plain.
     pub fn newest_frame(&mut self, track: u32) -> Result<Option<u64>, Error> {
         let reply = unsafe { zoftemar_newest_frame(&mut self.handle, track) }.expect(NEWEST)?;
         Ok(reply.has.then_some(reply.first))

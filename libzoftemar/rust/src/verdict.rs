@@ -1,23 +1,25 @@
 //! Why a frame was or wasn't forwarded.
 use crate::{Error, Reply};
 
-/// Why a frame was or wasn't forwarded to a subscriber. Frame numbers are without the wrap at 65,536.
+/// Why a frame was or wasn't forwarded to a subscriber. Frame numbers are unwrapped: they go on after 65,535.
 #[derive(Debug, Clone, Copy, PartialEq, Eq)]
 pub enum Verdict {
+    /// It was forwarded.
     Passed,
-    /// It isn't of the decode target, if there is one.
+    /// It isn't in this decode target. `None`: no target is open, and the wish allows none.
     NotOfTarget { target: Option<u64> },
-    /// It refers to a frame before the one with which the epoch began.
+    /// A reference, `distance` frame numbers back, is before `epoch`, the frame with which the epoch began.
     Behind { distance: u64, epoch: u64 },
-    /// It refers to this frame, which wasn't forwarded.
+    /// It refers to `frame`, which wasn't forwarded.
     Reference { frame: u64 },
-    /// The queue had too little space: packets that were queued, and packets of the frame.
+    /// The queue was too full: it had `queued` packets, and the frame has `packets`.
     Full { queued: u64, packets: u64 },
-    /// The frame at which the chain broke, and its previous frame, which wasn't forwarded.
+    /// The target's chain broke at `frame`: the chain's previous frame, `previous`, wasn't forwarded.
     Link { frame: u64, previous: u64 },
-    /// The frame since which no target has been open.
+    /// No target has been open since the frame `since`.
     Unopened { since: u64 },
-    /// The frame never came whole: the next that came, and the one before, if it is near.
+    /// No such frame came whole since the subscriber joined. `next` is the next that did, `before` the one before. `None`: there is none, or it is
+    /// 4,096 or more below the newest frame.
     Hole { next: u64, before: Option<u64> },
 }
 
