@@ -24,19 +24,19 @@ judged_at o steps n =
 judged_by : (o : Option ℕ) (steps : List Step) (n : ℕ) → newest_number steps ≡ o → judged steps n ≡ judged_at o steps n
 judged_by o steps n e = ap (λ (newest : Option ℕ). judged_at newest steps n) e
 
-pub judged_ahead : (o : Option ℕ) (slots : List (Option Step)) (n : ℕ) → IsNewest o slots → is_ahead o n ≡ true → judged (steps_to o slots) n ≡ Err (Ahead o)
-judged_ahead o slots n h ahead =
-    judged_by o (steps_to o slots) n (newest_seen o slots h)
+pub judged_ahead : (o : Option ℕ) (shift : ℕ) (slots : List (Option Step)) (n : ℕ) → IsNewest o shift slots → is_ahead o n ≡ true → judged (steps_to o shift slots) n ≡ Err (Ahead o)
+judged_ahead o shift slots n h ahead =
+    judged_by o (steps_to o shift slots) n (newest_seen o shift slots h)
     ∙ ap (λ (b : Bool). cond b (Err (Ahead o)) (cond (is_too_old o n) (Err (TooOld (oldest_asked (number_or o 0))))
-    (Ok (verdict_or_hole (verdict_among (steps_to o slots) n) (next_below (steps_to o slots) (number_or o 0) n) (next_above (steps_to o slots) n))))) ahead
+    (Ok (verdict_or_hole (verdict_among (steps_to o shift slots) n) (next_below (steps_to o shift slots) (number_or o 0) n) (next_above (steps_to o shift slots) n))))) ahead
 
-module _ (m : ℕ) (slots : List (Option Step)) (n : ℕ) (h : IsNewest (Some m) slots) (low : n ≤ m) where
+module _ (m : ℕ) (shift : ℕ) (slots : List (Option Step)) (n : ℕ) (h : IsNewest (Some m) shift slots) (low : n ≤ m) where
   abbrev steps : List Step
-  steps = steps_to (Some m) slots
+  steps = steps_to (Some m) shift slots
 
   not_ahead : judged steps n ≡ cond (nat_le (n + 4096) m) (Err (TooOld (m - 4095))) (Ok (verdict_or_hole (verdict_among steps n) (next_below steps m n) (next_above steps n)))
   not_ahead =
-      judged_by (Some m) steps n (newest_seen (Some m) slots h)
+      judged_by (Some m) steps n (newest_seen (Some m) shift slots h)
       ∙ ap (λ (b : Bool). cond b (Err (Ahead (Some m))) (cond (nat_le (n + 4096) m) (Err (TooOld (m - 4095)))
       (Ok (verdict_or_hole (verdict_among steps n) (next_below steps m n) (next_above steps n))))) (le-ltb m n low)
 
@@ -48,30 +48,30 @@ module _ (m : ℕ) (slots : List (Option Step)) (n : ℕ) (h : IsNewest (Some m)
   asked young =
       not_ahead ∙ ap (λ (b : Bool). cond b (Err (TooOld (m - 4095))) (Ok (verdict_or_hole (verdict_among steps n) (next_below steps m n) (next_above steps n)))) (lt-leb (n + 4096) m young)
 
-  found : m < n + 4096 → verdict_among steps n ≡ option_map (λ s. s.verdict) (step_at slots n)
-  found young = verdict_of slots (m - 4095) (m + 1 - (m - 4095)) n (omega (arith, young)) (omega (arith, low))
+  found : m < n + 4096 → verdict_among steps n ≡ option_map (λ s. s.verdict) (step_at shift slots n)
+  found young = verdict_of shift slots (m - 4095) (m + 1 - (m - 4095)) n (omega (arith, young)) (omega (arith, low))
 
-  pub judged_step : (step : Step) → m < n + 4096 → step_at slots n ≡ Some step → judged steps n ≡ Ok step.verdict
+  pub judged_step : (step : Step) → m < n + 4096 → step_at shift slots n ≡ Some step → judged steps n ≡ Ok step.verdict
   judged_step step young there =
       asked young
       ∙ ap (λ (o : Option Verdict). Ok (verdict_or_hole o (next_below steps m n) (next_above steps n))) (found young ∙ ap (option_map (λ s. s.verdict)) there)
 
-  below_found : (below : Option ℕ) → IsNextBelow slots (m - 4095) n below → next_below steps m n ≡ below
-  below_found None none = below_none slots (m - 4095) (m + 1 - (m - 4095)) m n none
+  below_found : (below : Option ℕ) → IsNextBelow shift slots (m - 4095) n below → next_below steps m n ≡ below
+  below_found None none = below_none shift slots (m - 4095) (m + 1 - (m - 4095)) m n none
   below_found (Some b) h =
       let ge = h.0 in
       let lt = h.1 in
-      below_is slots (m - 4095) (m + 1 - (m - 4095)) m n b ge (omega (arith, lt, low)) lt (omega (arith, ge)) h.2 h.3
+      below_is shift slots (m - 4095) (m + 1 - (m - 4095)) m n b ge (omega (arith, lt, low)) lt (omega (arith, ge)) h.2 h.3
 
   -- no step has a number above the newest
-  within : (k : ℕ) → is_some (step_at slots k) ≡ true → k ≤ m
+  within : (k : ℕ) → is_some (step_at shift slots k) ≡ true → k ≤ m
   within k there = go (nat_lt m k) refl
     where
       go : (b : Bool) → nat_lt m k ≡ b → k ≤ m
       go true higher = absurd (true≢false (sym there ∙ ap is_some (h.1 k (ltb-true m k higher))))
       go false lower = ltb-false m k lower
 
-  pub judged_hole : (below : Option ℕ) (above : ℕ) → m < n + 4096 → step_at slots n ≡ None → IsNextBelow slots (m - 4095) n below → IsNextAbove slots n above
+  pub judged_hole : (below : Option ℕ) (above : ℕ) → m < n + 4096 → step_at shift slots n ≡ None → IsNextBelow shift slots (m - 4095) n below → IsNextAbove shift slots n above
       → judged steps n ≡ Ok (Hole below above)
   judged_hole below above young none down up =
       let high = up.higher in
@@ -80,4 +80,4 @@ module _ (m : ℕ) (slots : List (Option Step)) (n : ℕ) (h : IsNewest (Some m)
       ∙ ap (λ (o : Option Verdict). Ok (verdict_or_hole o (next_below steps m n) (next_above steps n))) (found young ∙ ap (option_map (λ s. s.verdict)) none)
       ∙ ap (λ (o : Option ℕ). Ok (Hole o (number_or (next_above steps n) 0))) (below_found below down)
       ∙ ap (λ (o : Option ℕ). Ok (Hole below (number_or o 0)))
-      (above_is slots (m - 4095) (m + 1 - (m - 4095)) n above high (omega (arith, high, young)) (omega (arith, le)) up.there up.none)
+      (above_is shift slots (m - 4095) (m + 1 - (m - 4095)) n above high (omega (arith, high, young)) (omega (arith, le)) up.there up.none)

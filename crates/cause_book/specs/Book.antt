@@ -1,4 +1,4 @@
--- Which verdicts are kept, and what a book returns by them. Own rules. The code has 4,096 entries, and finds a verdict by its number. Here
+-- Which verdicts are kept, and what a book returns by them. Own rules. The code has at most 4,096 entries, and finds a verdict by its number. Here
 -- these are lists of verdicts, the newest first.
 use Rattle.std.specs.Prelude.{◌≡◌, ◌<◌, ◌+◌, ℕ, List, [], ◌∷◌, if◌then◌else◌, nat_lt, Result, Ok, Err}
 use Rattle.std.specs.List.{AllByRecursion}

@@ -11,29 +11,33 @@ if_numbered n (Some None) = None
 if_numbered n (Some (Some step)) = if step.number == n then Some step else None
 
 -- the step with this number, if it is still in its entry
-abbrev pub step_at : List (Option Step) → ℕ → Option Step
-step_at slots n = if_numbered n (slice_get slots (n % 4096))
+abbrev pub step_at : ℕ → List (Option Step) → ℕ → Option Step
+step_at shift slots n = if_numbered n (slice_get slots ((n + shift) % 4096))
+
+-- each place has the same step as before, if any
+abbrev pub AreAlike : List (Option Step) → List (Option Step) → Type 0
+AreAlike slots new = (n place : ℕ) → if_numbered n (slice_get new place) ≡ if_numbered n (slice_get slots place)
 
 abbrev pub and_step : Option Step → List Step → List Step
 and_step None steps = steps
 and_step (Some step) steps = step ∷ steps
 
 -- the steps with this many numbers from the lowest on, the highest first
-abbrev pub steps_down : List (Option Step) → ℕ → ℕ → List Step
-steps_down slots low zero = []
-steps_down slots low (suc count) = and_step (step_at slots (low + count)) (steps_down slots low count)
+abbrev pub steps_down : ℕ → List (Option Step) → ℕ → ℕ → List Step
+steps_down shift slots low zero = []
+steps_down shift slots low (suc count) = and_step (step_at shift slots (low + count)) (steps_down shift slots low count)
 
 -- no number between these two has a step
-abbrev pub NoneBetween : List (Option Step) → ℕ → ℕ → Type 0
-NoneBetween slots low high = (n : ℕ) → low ≤ n → n < high → step_at slots n ≡ None
+abbrev pub NoneBetween : ℕ → List (Option Step) → ℕ → ℕ → Type 0
+NoneBetween shift slots low high = (n : ℕ) → low ≤ n → n < high → step_at shift slots n ≡ None
 
 -- the least number above n that has a step
-pub record IsNextAbove (slots : List (Option Step)) (n above : ℕ) : Type 0 where
+pub record IsNextAbove (shift : ℕ) (slots : List (Option Step)) (n above : ℕ) : Type 0 where
   pub higher : n < above
-  pub there : is_some (step_at slots above) ≡ true
-  pub none : NoneBetween slots (n + 1) above
+  pub there : is_some (step_at shift slots above) ≡ true
+  pub none : NoneBetween shift slots (n + 1) above
 
 -- the greatest number from `low` up to, but not including, n that has a step, if one has
-abbrev pub IsNextBelow : List (Option Step) → ℕ → ℕ → Option ℕ → Type 0
-IsNextBelow slots low n None = NoneBetween slots low n
-IsNextBelow slots low n (Some below) = (low ≤ below) × (below < n) × (is_some (step_at slots below) ≡ true) × NoneBetween slots (below + 1) n
+abbrev pub IsNextBelow : ℕ → List (Option Step) → ℕ → ℕ → Option ℕ → Type 0
+IsNextBelow shift slots low n None = NoneBetween shift slots low n
+IsNextBelow shift slots low n (Some below) = (low ≤ below) × (below < n) × (is_some (step_at shift slots below) ≡ true) × NoneBetween shift slots (below + 1) n

@@ -1,8 +1,9 @@
 // The book of verdicts.
-ghost use Rattle.std.specs.Prelude.{◌≡◌, ◌<◌, ◌≤◌, ◌∷◌, [], IfOk, List, false, is_some, length, true};
+ghost use Rattle.std.specs.Prelude.{◌≡◌, ◌≢◌, ◌<◌, ◌≤◌, ◌+◌, ◌%◌, ◌∷◌, [], IfOk, List, false, is_some, length, true, vec_len};
+ghost use Rattle.std.specs.Vec.{vec_capacity};
 ghost use Rattle.forwarding_model.specs.forwarding.Causes.{is_ahead, newest_number};
 ghost use Rattle.cause_book.specs.Book.{AreFalling, IsAboveAll, IsAfter, Steps, judged, recent};
-ghost use Rattle.cause_book.specs.Slots.{IsNextAbove, IsNextBelow, step_at};
+ghost use Rattle.cause_book.specs.Slots.{AreAlike, IsNextAbove, IsNextBelow, step_at};
 
 use crate::entry::Entry;
 use sfu_base::{NoMemory, Refusal, Step, Verdict};
@@ -17,8 +18,10 @@ const SPAN: u64 = 4096;
 #[derive(Debug, Drop)]
 pub struct CauseBook {
     newest: Option<u64>,
-    // The verdict on a frame is at the index of the frame's number modulo 4,096, and replaces the entry before it.
+    // The verdict on a frame is at the index of its number plus `shift`, modulo 4,096, and replaces the entry before it. `shift` puts the
+    // first verdict at index 0, and entries are made up to the one that is written, so that a young book touches little memory.
     steps: Vec<Entry>,
+    shift: u64,
 }
 
 impl Model for CauseBook {
@@ -39,15 +42,13 @@ impl CauseBook {
     pub fn new(alloc: Global) -> Result<CauseBook, NoMemory>
         ensures { IfOk result (λ book. book ≡ []) }
     {
-        let Ok(mut steps) = Vec::with_capacity(alloc, SPAN as usize) else {
+        let Ok(steps) = Vec::with_capacity(alloc, SPAN as usize) else {
             return Err(NoMemory);
         };
-        for _ in 0..SPAN {
-            steps.push_reserved(Entry::nothing());
-        }
         Ok(CauseBook {
             newest: None,
             steps,
+            shift: 0,
         })
     }
 
@@ -64,7 +65,10 @@ impl CauseBook {
                 return;
             }
         }
-        self.steps[(number % SPAN) as usize] = Entry::new(number, verdict);
+        self.shift = shift_for(&self.steps, self.shift, number);
+        let place = place_of(self.shift, number);
+        reach(&mut self.steps, place);
+        self.steps[place] = Entry::new(number, verdict);
         self.newest = Some(number);
     }
 
@@ -88,36 +92,87 @@ impl CauseBook {
                 oldest: newest - (SPAN - 1),
             });
         }
-        if let Some(step) = step_in(&self.steps, number) {
+        if let Some(step) = step_in(&self.steps, self.shift, number) {
             return Ok(step.verdict);
         }
+        let lowest = newest.saturating_sub(SPAN - 1);
         Ok(Verdict::Hole {
-            below: next_below(&self.steps, newest.saturating_sub(SPAN - 1), number),
-            above: next_above(&self.steps, number, newest),
+            below: next_below(&self.steps, self.shift, lowest, number),
+            above: next_above(&self.steps, self.shift, number, newest),
         })
     }
 }
 
-// The step with this number, if it is still kept.
-fn step_in(steps: &[Entry], number: u64) -> Option<Step>
-    requires { length steps.now ≡ 4096 }
-    ensures { result ≡ step_at steps.now number }
+// The shift with which this number's entry is the first, or `shift` if there are entries.
+#[inline(always)]
+fn shift_for(steps: &[Entry], shift: u64, number: u64) -> u64
+    ensures { steps.now ≢ [] → result ≡ shift }
 {
-    match steps[(number % SPAN) as usize].step() {
+    if steps.is_empty() {
+        SPAN - number % SPAN
+    } else {
+        shift
+    }
+}
+
+// The index of this number's entry.
+#[inline(always)]
+fn place_of(shift: u64, number: u64) -> usize
+    ensures { result ≡ (number + shift) % 4096 }
+{
+    (number.wrapping_add(shift) % SPAN) as usize
+}
+
+// Appends entries without a step until this place has one.
+#[inline(always)]
+fn reach(steps: &mut Vec<Entry>, place: usize)
+    requires place { place < 4096 }
+    requires few { vec_len steps.old ≤ 4096 }
+    requires capacity { 4096 ≤ vec_capacity steps.old }
+    ensures made { place < length steps.new.items }
+    ensures few { vec_len steps.new ≤ 4096 }
+    ensures capacity { 4096 ≤ vec_capacity steps.new }
+    ensures same { AreAlike steps.old.items steps.new.items }
+{
+    if steps.len() <= place {
+        append(steps, place);
+    }
+}
+
+// Does what `reach` does. Out of line: each place is reached for the first time only once.
+#[inline(never)]
+fn append(steps: &mut Vec<Entry>, place: usize)
+    requires place { place < 4096 }
+    requires few { vec_len steps.old ≤ 4096 }
+    requires capacity { 4096 ≤ vec_capacity steps.old }
+    ensures made { place < length steps.new.items }
+    ensures few { vec_len steps.new ≤ 4096 }
+    ensures capacity { 4096 ≤ vec_capacity steps.new }
+    ensures same { AreAlike steps.old.items steps.new.items }
+{
+    while steps.len() <= place {
+        steps.push_reserved(Entry::nothing());
+    }
+}
+
+// The step with this number, if it is still kept.
+fn step_in(steps: &[Entry], shift: u64, number: u64) -> Option<Step>
+    ensures { result ≡ step_at shift steps.now number }
+{
+    match steps.get(place_of(shift, number))?.step() {
         Some(step) if step.number == number => Some(step),
         _ => None,
     }
 }
 
 // The least number above `number` that has a step. There is one, since `newest` has a step.
-fn next_above(steps: &[Entry], number: u64, newest: u64) -> u64
-    requires places { length steps.now ≡ 4096 }
+fn next_above(steps: &[Entry], shift: u64, number: u64, newest: u64) -> u64
     requires lower { number < newest }
-    requires newest { is_some (step_at steps.now newest) ≡ true }
-    ensures { IsNextAbove steps.now number result }
+    requires newest { is_some (step_at shift steps.now newest) ≡ true }
+    ensures { IsNextAbove shift steps.now number result }
 {
     for above in number + 1..newest {
-        if step_in(steps, above).is_some() {
+        if step_in(steps, shift, above).is_some() {
             return above;
         }
     }
@@ -125,13 +180,12 @@ fn next_above(steps: &[Entry], number: u64, newest: u64) -> u64
 }
 
 // The greatest number that has a step, from `lowest` up to, but not including, `number`; `None` if none has.
-fn next_below(steps: &[Entry], lowest: u64, number: u64) -> Option<u64>
-    requires places { length steps.now ≡ 4096 }
-    requires within { lowest ≤ number }
-    ensures { IsNextBelow steps.now lowest number result }
+fn next_below(steps: &[Entry], shift: u64, lowest: u64, number: u64) -> Option<u64>
+    requires { lowest ≤ number }
+    ensures { IsNextBelow shift steps.now lowest number result }
 {
     for below in (lowest..number).rev() {
-        if step_in(steps, below).is_some() {
+        if step_in(steps, shift, below).is_some() {
             return Some(below);
         }
     }

@@ -21,10 +21,11 @@ told value n result is steps at falls = is ∙ ap (λ (l : List Step). judged l 
 old : (c : goal.Then-newest-number-ge-SPAN) → Err (TooOld (c.in-Some.newest - 4095)) ≡ judged c.args.self.now c.args.number
 old c =
     let m : ℕ = c.in-Some.newest in
+    let shift : ℕ = c.self.inside.shift in
     let slots : List (Option Step) = c.self.inside.steps.items in
-    let newest : IsNewest (Some m) slots = subst (λ (o : Option ℕ). IsNewest o slots) c.in-Some.is c.self.invariant.newest in
-    sym (ap (λ (steps : List Step). judged steps c.args.number) (sym c.self.view_is ∙ ap (λ (o : Option ℕ). steps_to o slots) c.in-Some.is)
-    ∙ judged_old m slots c.args.number newest c.if-number-newest.false (omega arith))
+    let newest : IsNewest (Some m) shift slots = subst (λ (o : Option ℕ). IsNewest o shift slots) c.in-Some.is c.self.invariant.newest in
+    sym (ap (λ (steps : List Step). judged steps c.args.number) (sym c.self.view_is ∙ ap (λ (o : Option ℕ). steps_to o shift slots) c.in-Some.is)
+    ∙ judged_old m shift slots c.args.number newest c.if-number-newest.false (omega arith))
 
 pub returns-then-newest-number-ge-SPAN-clause-judged : goal.returns-then-newest-number-ge-SPAN-clause-judged
 returns-then-newest-number-ge-SPAN-clause-judged c = old c
@@ -37,11 +38,12 @@ returns-then-newest-number-ge-SPAN-clause-stands c = told c.args.self.now c.args
 step : (c : goal.In-Some-step_in) → Ok c.in-Some-step_in.step.verdict ≡ judged c.args.self.now c.args.number
 step c =
     let m : ℕ = c.in-Some.newest in
+    let shift : ℕ = c.self.inside.shift in
     let slots : List (Option Step) = c.self.inside.steps.items in
-    let newest : IsNewest (Some m) slots = subst (λ (o : Option ℕ). IsNewest o slots) c.in-Some.is c.self.invariant.newest in
-    sym (ap (λ (steps : List Step). judged steps c.args.number) (sym c.self.view_is ∙ ap (λ (o : Option ℕ). steps_to o slots) c.in-Some.is)
-    ∙ judged_step m slots c.args.number newest c.if-number-newest.false c.in-Some-step_in.step (omega arith)
-    (ap (λ (l : List (Option Step)). step_at l c.args.number) (sym c.deref.ensures.value) ∙ sym c.step_in.ensures ∙ c.in-Some-step_in.is))
+    let newest : IsNewest (Some m) shift slots = subst (λ (o : Option ℕ). IsNewest o shift slots) c.in-Some.is c.self.invariant.newest in
+    sym (ap (λ (steps : List Step). judged steps c.args.number) (sym c.self.view_is ∙ ap (λ (o : Option ℕ). steps_to o shift slots) c.in-Some.is)
+    ∙ judged_step m shift slots c.args.number newest c.if-number-newest.false c.in-Some-step_in.step (omega arith)
+    (ap (λ (l : List (Option Step)). step_at shift l c.args.number) (sym c.deref.ensures.value) ∙ sym c.step_in.ensures ∙ c.in-Some-step_in.is))
 
 pub returns-in-Some-step_in-clause-judged : goal.returns-in-Some-step_in-clause-judged
 returns-in-Some-step_in-clause-judged c = step c
@@ -54,16 +56,17 @@ returns-in-Some-step_in-clause-stands c = told c.args.self.now c.args.number _ (
 hole : (c : goal.After-next_above) → Ok (Hole c.next_below.result c.next_above.result) ≡ judged c.args.self.now c.args.number
 hole c =
     let m : ℕ = c.in-Some.newest in
+    let shift : ℕ = c.self.inside.shift in
     let slots : List (Option Step) = c.self.inside.steps.items in
-    let newest : IsNewest (Some m) slots = subst (λ (o : Option ℕ). IsNewest o slots) c.in-Some.is c.self.invariant.newest in
-    let below : IsNextBelow slots (m - 4095) c.args.number c.next_below.result =
-    subst (λ (l : List (Option Step)). IsNextBelow l (m - 4095) c.args.number c.next_below.result) c.deref-2.ensures.value
-    (subst (λ (low : ℕ). IsNextBelow c.deref-2.result.now low c.args.number c.next_below.result) c.saturating_sub.ensures c.next_below.ensures) in
-    let above : IsNextAbove slots c.args.number c.next_above.result =
-    subst (λ (l : List (Option Step)). IsNextAbove l c.args.number c.next_above.result) c.deref-3.ensures.value c.next_above.ensures in
-    sym (ap (λ (steps : List Step). judged steps c.args.number) (sym c.self.view_is ∙ ap (λ (o : Option ℕ). steps_to o slots) c.in-Some.is)
-    ∙ judged_hole m slots c.args.number newest c.if-number-newest.false c.next_below.result c.next_above.result (omega arith)
-    (ap (λ (l : List (Option Step)). step_at l c.args.number) (sym c.deref.ensures.value) ∙ sym c.step_in.ensures ∙ c.in_default-step_in.is) below above)
+    let newest : IsNewest (Some m) shift slots = subst (λ (o : Option ℕ). IsNewest o shift slots) c.in-Some.is c.self.invariant.newest in
+    let below : IsNextBelow shift slots (m - 4095) c.args.number c.next_below.result =
+    subst (λ (l : List (Option Step)). IsNextBelow shift l (m - 4095) c.args.number c.next_below.result) c.deref-2.ensures.value
+    (subst (λ (low : ℕ). IsNextBelow shift c.deref-2.result.now low c.args.number c.next_below.result) c.saturating_sub-lowest.ensures c.next_below.ensures) in
+    let above : IsNextAbove shift slots c.args.number c.next_above.result =
+    subst (λ (l : List (Option Step)). IsNextAbove shift l c.args.number c.next_above.result) c.deref-3.ensures.value c.next_above.ensures in
+    sym (ap (λ (steps : List Step). judged steps c.args.number) (sym c.self.view_is ∙ ap (λ (o : Option ℕ). steps_to o shift slots) c.in-Some.is)
+    ∙ judged_hole m shift slots c.args.number newest c.if-number-newest.false c.next_below.result c.next_above.result (omega arith)
+    (ap (λ (l : List (Option Step)). step_at shift l c.args.number) (sym c.deref.ensures.value) ∙ sym c.step_in.ensures ∙ c.in_default-step_in.is) below above)
 
 pub returns-clause-judged : goal.returns-clause-judged
 returns-clause-judged c = hole c
