@@ -70,8 +70,8 @@ impl Layers {
         let _ = self.assembly.push(&Mark::Gone, &[]);
     }
 
-    /// Processes the next packet, which is in `slot`. If the packet belongs to a frame, the assembly keeps that slot and leaves another in its
-    /// place. Returns whether the packet completed a frame; if so, the frame's meaning is written to `meaning`.
+    /// Processes the next packet, which is in `slot`. The assembly may keep that slot and leave another in its place.
+    /// Returns whether the packet completed a frame; if so, the frame's meaning is written to `meaning`.
     pub fn take(&mut self, slot: &mut Box<PacketSlot>, meaning: &mut FrameMeaning) -> bool
         requires taken { IsTaken slot.old.value }
         requires stood { HasStood self.old }

@@ -56,8 +56,8 @@ pub enum Advance {
 pub struct Track {
     ssrc: u32,
     window: Window,
-    // The slot with the packet that is being processed, which came from the window. On a layered track the frame under assembly takes the slot of a
-    // packet that belongs to it, and leaves another; any other packet stays in this slot.
+    // The slot with the packet that is being processed, which came from the window. On a layered track the frame under assembly may take it and
+    // leave another.
     slot: Box<PacketSlot>,
     layers: Option<Layers>,
     // Whether the last step made a packet or a frame.
