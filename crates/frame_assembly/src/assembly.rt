@@ -29,7 +29,7 @@ impl Model for Assembly {
 }
 
 impl Assembly {
-    /// An assembly without packets. All memory is allocated here: slots for 512 packets, and a spare one. `NoMemory`: out of memory.
+    /// An assembly without packets. All memory is allocated here: for 512 packets and a spare slot. `NoMemory`: out of memory.
     pub fn new(alloc: Global) -> Result<Assembly, NoMemory>
         ensures value { IfOk result (λ assembly. assembly ≡ record { unfinished = None; frame = [] }) }
         ensures stands { IfOk result (λ assembly. IsAfter assembly []) }
@@ -67,8 +67,8 @@ impl Assembly {
         self.frame.take_mark(mark, &mut self.spare)
     }
 
-    /// Processes the next packet as [`Assembly::push`] does, but in a slot. If the packet becomes a part of the frame under assembly, the
-    /// slot is swapped with one of the assembly's, so that no byte is copied. The bytes in the slot then belong to no frame.
+    /// Processes the next packet as [`Assembly::push`] does, but in a slot. If the packet becomes one of the first 32 parts of the frame under
+    /// assembly, the slot is swapped with one of the assembly's, so that no byte is copied. The bytes in the slot then belong to no frame.
     pub fn push_slot(&mut self, mark: &Mark, slot: &mut Box<PacketSlot>) -> Outcome
         ensures stands { (past : List (CutMark (List ℕ))) → IsAfter self.old past → IsAfter self.new (marked mark.now slot.old.value ∷ past) }
         ensures outcome { (past : List (CutMark (List ℕ))) → IsAfter self.old past

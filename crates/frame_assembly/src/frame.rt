@@ -54,8 +54,8 @@ impl Frame {
     }
 
     // Clauses here say how one call changes what is seen; those of `Assembly` say what follows for whole lists of marks.
-    /// Applies a mark, whose packet is in the slot, to the frame so far. If the packet is added to the frame, the slot is swapped with one
-    /// of the frame's.
+    /// Applies a mark, whose packet is in the slot, to the frame so far. If the packet is added to the frame, the slot may be swapped with
+    /// one of the frame's.
     pub fn take_mark(&mut self, mark: &Mark, slot: &mut Box<PacketSlot>) -> Outcome
         ensures seen { self.new ≡ pushed self.old (marked mark.now slot.old.value) }
         ensures made { result ≡ made_of self.old (marked mark.now slot.old.value) }

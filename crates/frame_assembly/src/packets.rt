@@ -1,5 +1,6 @@
 // The packets of one frame.
-ghost use Rattle.std.specs.Prelude.{◌≡◌, ◌<◌, ◌≤◌, ◌++◌, ◌∷◌, [], IfOk, length, Some, slice_get};
+ghost use Rattle.std.specs.Prelude.{◌≡◌, ◌<◌, ◌≤◌, ◌+◌, ◌++◌, ◌∷◌, [], IfOk, length, Some, slice_get, take, vec_len};
+ghost use Rattle.std.specs.Vec.{vec_capacity};
 
 use packet_slot::PacketSlot;
 use sfu_base::NoMemory;
@@ -10,11 +11,16 @@ use std::mem;
 /// How many packets a frame has at most (own rule).
 pub const MOST_PACKETS: usize = 512;
 
-/// Up to 512 packets, in slots that are made once and are swapped with the callers' slots. Clauses see the list of the
-/// packets' bytes.
+/// How many of them are swapped in; those after them are copied.
+const SWAPPED: usize = 32;
+
+/// Up to 512 packets. Clauses see the list of the packets' bytes.
 #[derive(Drop)]
 pub struct Packets {
-    slots: Vec<Box<PacketSlot>>,
+    // slots of the first packets, swapped with the callers'
+    swapped: Vec<Box<PacketSlot>>,
+    // Copies of the packets after those. The memory is reserved, and touched when a frame first has so many packets.
+    copied: Vec<PacketSlot>,
     count: usize,
 }
 
@@ -30,15 +36,20 @@ impl Model for Packets {
 }
 
 impl Packets {
-    /// No packets. All 512 slots are allocated here; `NoMemory`: out of memory.
+    /// No packets. The memory for 512 is allocated here; `NoMemory`: out of memory.
     pub fn new(alloc: Global) -> Result<Packets, NoMemory>
         ensures { IfOk result (λ packets. packets ≡ []) }
     {
-        let mut slots = Vec::with_capacity(alloc, MOST_PACKETS).map_err(|_| NoMemory)?;
-        while slots.len() < MOST_PACKETS {
-            slots.push_reserved(empty_slot(alloc)?);
+        let copied = Vec::with_capacity(alloc, MOST_PACKETS - SWAPPED).map_err(|_| NoMemory)?;
+        let mut swapped = Vec::with_capacity(alloc, SWAPPED).map_err(|_| NoMemory)?;
+        while swapped.len() < SWAPPED {
+            swapped.push_reserved(empty_slot(alloc)?);
         }
-        Ok(Packets { slots, count: 0 })
+        Ok(Packets {
+            swapped,
+            copied,
+            count: 0,
+        })
     }
 
     /// How many packets there are.
@@ -56,12 +67,16 @@ impl Packets {
         self.count = 0;
     }
 
-    /// Adds a packet: its slot is swapped with an unused one of these.
+    /// Adds a packet: its slot is swapped with one of the first 32, or else the packet is copied.
     pub fn push(&mut self, slot: &mut Box<PacketSlot>)
         requires { length self.old < 512 }
         ensures { self.new ≡ self.old ++ slot.old.value ∷ [] }
     {
-        mem::swap(&mut self.slots[self.count], slot);
+        if self.count < SWAPPED {
+            mem::swap(&mut self.swapped[self.count], slot);
+        } else {
+            put_copy(&mut self.copied, self.count - SWAPPED, slot);
+        }
         self.count += 1;
     }
 
@@ -70,8 +85,30 @@ impl Packets {
         requires { place < length self.now }
         ensures { slice_get self.now place ≡ Some result.now }
     {
-        self.slots[place].bytes()
+        if place < SWAPPED {
+            self.swapped[place].bytes()
+        } else {
+            self.copied[place - SWAPPED].bytes()
+        }
     }
+}
+
+// Copies a packet into the slot at this place, which is made if the slots end before it. Out of line: few frames have so many packets.
+#[inline(never)]
+fn put_copy(copied: &mut Vec<PacketSlot>, place: usize, slot: &PacketSlot)
+    requires place { place < 480 }
+    requires next { place ≤ vec_len copied.old }
+    requires few { vec_len copied.old ≤ 480 }
+    requires capacity { 480 ≤ vec_capacity copied.old }
+    ensures items { take (place + 1) copied.new.items ≡ take place copied.old.items ++ slot.now ∷ [] }
+    ensures made { place < vec_len copied.new }
+    ensures few { vec_len copied.new ≤ 480 }
+    ensures capacity { 480 ≤ vec_capacity copied.new }
+{
+    if copied.len() == place {
+        copied.push_reserved(PacketSlot::new());
+    }
+    copied[place].fill(slot.bytes());
 }
 
 /// A slot without bytes. `NoMemory`: out of memory.

@@ -23,8 +23,8 @@ use rtp_packet::Rtp;
 use sfu_base::{Dti, FrameMeaning, NoMemory};
 use std::alloc::Global;
 
-/// The state of a layered track between two items: the header extension id (RFC 8285) of its descriptors, the table with the structure in force, the
-/// frame under assembly, and the stored parts of that frame's first descriptor (`head`). `newest` is scratch space for the parser.
+/// The state of a layered track between two items: the header extension id (RFC 8285) of its descriptors, the table of what is in force, the
+/// frame under assembly, and what is kept of that frame's first descriptor. `newest` is scratch space for the parser.
 #[derive(Drop)]
 pub struct Layers {
     pub id: u8,
@@ -46,7 +46,7 @@ const NO_HEAD: FrameHead = FrameHead {
 };
 
 impl Layers {
-    /// The state of a layered track before its first packet. `id` is the header extension id of its descriptors. Allocates memory to assemble frames.
+    /// A layered track before its first packet, whose descriptors have this header extension id. Allocates the memory for the frame under assembly.
     pub fn new(alloc: Global, id: u8) -> Result<Layers, NoMemory>
         ensures id { IfOk result (λ layers. layers.id ≡ id) }
         ensures stands { IfOk result (λ layers. IsAfter layers []) }
@@ -61,7 +61,7 @@ impl Layers {
         })
     }
 
-    /// Processes a gap in sequence numbers that was given up. The frame under assembly then never becomes whole.
+    /// Processes sequence numbers that were given up: the frame under assembly is torn, so it won't be whole.
     pub fn give_up(&mut self)
         ensures id { self.new.id ≡ self.old.id }
         ensures near { self.new.table.newest ≤ self.old.table.newest }
@@ -70,7 +70,7 @@ impl Layers {
         let _ = self.assembly.push(&Mark::Gone, &[]);
     }
 
-    /// Processes the next packet, which is in `slot`. If the packet belongs to a frame, the assembly keeps that slot and leaves another in its place.
+    /// Processes the next packet, which is in `slot`. The assembly may keep that slot and leave another in its place.
     /// Returns whether the packet completed a frame; if so, the frame's meaning is written to `meaning`.
     pub fn take(&mut self, slot: &mut Box<PacketSlot>, meaning: &mut FrameMeaning) -> bool
         requires taken { IsTaken slot.old.value }
@@ -171,8 +171,8 @@ fn keep_head(mark: &Mark, table: &FrameTable, newest: &Descriptor, head: &mut Fr
     }
 }
 
-/// Processes one item of a layered track: if `came` is true, the packet in `slot`; else a gap in sequence numbers that was given up. Returns whether
-/// the item completed a frame; if so, the frame's meaning is written to `meaning`.
+/// Processes one item of a layered track: if `came`, the packet in `slot`, else sequence numbers that were given up. Returns whether the item
+/// completed a frame; if so, the frame's meaning is written to `meaning`.
 pub fn work_off(
     layers: &mut Layers,
     came: bool,

@@ -23,41 +23,41 @@ use sfu_base::{FrameMeaning, Kind, NoMemory, Refusal, SeqList};
 use std::alloc::Global;
 use std::marker::Model;
 
-/// The result of processing one item of a track.
+/// What one item made.
 #[derive(Clone, Copy, Debug)]
 pub enum Made {
-    /// No item waited.
+    /// No item waits.
     Idle,
-    /// The item made neither a packet nor a frame.
+    /// Neither a packet nor a frame.
     Nothing,
-    /// The item made a packet, on a plain track.
+    /// A packet of a plain track.
     Packet,
-    /// The item made a frame whole, on a layered track.
+    /// A whole frame of a layered track.
     Frame(FrameMeaning),
 }
 
-/// The result of processing one item of a track. The track keeps a frame's meaning.
+/// What one item made. A frame's meaning is kept by the track.
 #[derive(Clone, Copy, Debug)]
 pub enum Advance {
-    /// No item waited.
+    /// No item waits.
     Idle,
-    /// The item made neither a packet nor a frame.
+    /// Neither a packet nor a frame.
     Nothing,
-    /// The item made a packet, on a plain track.
+    /// A packet of a plain track.
     Packet,
-    /// The item made a frame whole, on a layered track. [`Track::meaning`] returns the frame's meaning.
+    /// A whole frame of a layered track, whose meaning [`Track::meaning`] returns.
     Frame,
 }
 
-/// One publisher's pipeline, from arriving packets to plain packets or whole frames. Contracts see the SSRC, the reorder window with
-/// its waiting items, the state of a layered track, the packets that the last step made, and the meaning and number of the last frame
-/// made.
+/// One publisher's packets, from their arrival to plain packets or whole frames. Clauses see the SSRC, the reorder window with the items that
+/// wait, the state of a layered track, the packets that the last step made, and the meaning and number of the last
+/// frame made.
 #[derive(Drop)]
 pub struct Track {
     ssrc: u32,
     window: Window,
-    // The slot with the packet that is being processed, which came from the window. If the packet belongs to a frame of a layered track, the frame
-    // under assembly keeps the slot and leaves another; any other packet stays in this slot.
+    // The slot with the packet that is being processed, which came from the window. On a layered track the frame under assembly may take it and
+    // leave another.
     slot: Box<PacketSlot>,
     layers: Option<Layers>,
     // Whether the last step made a packet or a frame.
@@ -81,8 +81,8 @@ impl Model for Track {
 }
 
 impl Track {
-    /// A track before its first packet. A packet behind a gap is held until the gap is filled, or is given up after `hold` milliseconds. Only this
-    /// call allocates memory for the track. `NoMemory`: out of memory.
+    /// A track before its first packet. A packet behind a gap is held until the gap is filled, or is given up after `hold` milliseconds. All
+    /// memory of the track is allocated here. `NoMemory`: out of memory.
     pub fn new(alloc: Global, kind: Kind, ssrc: u32, hold: u32) -> Result<Track, NoMemory>
         ensures stands { IfOk result (λ track. StandsFor track [] []) }
         ensures ssrc { IfOk result (λ track. track.ssrc ≡ ssrc) }
@@ -106,9 +106,9 @@ impl Track {
         })
     }
 
-    /// Accepts a packet that arrives at `moment`, in milliseconds. First call [`Track::advance`] until it returns `Idle`. The packets of the last step stay
-    /// readable. A refused packet changes nothing; the first error that applies is returned. `TooBig`: more than 1,500 bytes. `Unreadable`: not RTP.
-    /// `WrongSsrc`: another SSRC. `Spent`: the unwrapped number is 2^46 or more. `Late`: it is below the next expected one. `Repeat`: it is buffered.
+    /// Accepts a packet that arrives at `moment`, in milliseconds. First call [`Track::advance`] until it returns `Idle`. The packets of the last
+    /// step stay readable. A refused packet changes nothing; the error is the first that applies. `TooBig`: more than 1,500 bytes. `Unreadable`:
+    /// not RTP. `WrongSsrc`: another SSRC than the track's. `Spent`, `Late`, `Repeat`: the unwrapped number is 2^46 or more, passed, or buffered.
     pub fn arrive(&mut self, moment: u64, bytes: &[u8]) -> Result<(), Refusal>
         requires idle { self.old.window.waiting ≡ [] }
         requires length { length bytes.now ≤ 4294967295 }
@@ -151,7 +151,7 @@ impl Track {
         self.window.tick(moment);
     }
 
-    /// Returns the least moment, in milliseconds, at which a tick gives up a gap: the arrival moment of the lowest held packet plus the hold. `None`
+    /// Returns the least moment, in milliseconds, at which a tick gives up a gap: the moment of the lowest held packet plus the hold. `None`
     /// if no packet is held, or if the sum is 2^64 or more.
     pub fn due(&self) -> Option<u64>
         ensures { result ≡ due_of self.now.window.hold self.now.window.order }
@@ -166,8 +166,8 @@ impl Track {
         self.window.missing(out);
     }
 
-    /// The template structure in force after the items processed so far. `None` on a plain track, and on a layered track before its first key frame
-    /// starts.
+    /// The template structure in force on a layered track after the items processed so far: none before the first key start, and none on a
+    /// plain track.
     pub fn force(&self) -> Option<&Structure>
         ensures kept { option_copied result ≡ structure_in self.now.layers }
         ensures stands { (events : List Event) (worked : List Piece) → StandsFor self.now events worked
@@ -176,7 +176,7 @@ impl Track {
         structure_of(&self.layers)
     }
 
-    /// The header extension id (RFC 8285) of the track's dependency descriptors. `None` on a plain track.
+    /// The id of the header extension element (RFC 8285) with the track's dependency descriptors: `None` on a plain track.
     pub fn id(&self) -> Option<u8>
         ensures { result ≡ option_map id_of self.now.layers }
     {
@@ -237,7 +237,7 @@ impl Track {
         with_meaning(advance, self.meaning())
     }
 
-    /// Returns the number of the newest frame made. `None` before the first frame, and on a plain track.
+    /// Returns the number of the newest frame made: `None` before the first frame, and on a plain track.
     pub fn newest_frame(&self) -> Option<u64>
         ensures { (events : List Event) (worked : List Piece) → StandsFor self.now events worked
             → result ≡ newest_after (option_map id_of self.now.layers) worked }
@@ -245,14 +245,14 @@ impl Track {
         self.newest
     }
 
-    /// The meaning of the last frame made. Before the first frame it is a placeholder.
+    /// The meaning of the last frame made; before the first frame a placeholder.
     pub fn meaning(&self) -> &FrameMeaning
         ensures { result.now ≡ self.now.meaning }
     {
         &self.meaning
     }
 
-    /// How many packets the last step made: 1 for a plain packet, the number of its packets (at most 512) for a frame, else 0.
+    /// How many packets the last step made: for a plain packet 1, for a frame the number of its packets (at most 512), else 0.
     pub fn count(&self) -> u16
         ensures count { result ≡ length self.now.packets }
         ensures few { length self.now.packets ≤ 512 }
@@ -266,7 +266,7 @@ impl Track {
         }
     }
 
-    /// The bytes of one of the packets that the last step made: an RTP packet of at most 1,500 bytes. `place` is the packet's index, from 0.
+    /// The bytes of one of the packets that the last step made, which `place` counts from 0: an RTP packet of at most 1,500 bytes.
     pub fn packet(&self, place: u16) -> &[u8]
         requires { place < length self.now.packets }
         ensures at { slice_get self.now.packets place ≡ Some result.now }
@@ -317,7 +317,7 @@ fn structure_of(layers: &Option<Layers>) -> Option<&Structure>
     }
 }
 
-// Returns an item's result with the meaning of its frame, which the track keeps.
+// Adds a frame's meaning, which the track keeps, to what an item made.
 fn with_meaning(advance: Advance, meaning: &FrameMeaning) -> Made
     ensures { result ≡ with_meaning meaning.now advance }
 {
@@ -329,7 +329,7 @@ fn with_meaning(advance: Advance, meaning: &FrameMeaning) -> Made
     }
 }
 
-// Processes one item: if `came`, the packet in `slot`; else a gap that was given up. On a plain track the packet stays in the slot.
+// Processes one item: if `came`, the packet in `slot`, else sequence numbers that were given up. On a plain track the packet stays in the slot.
 fn worked(
     layers: &mut Option<Layers>,
     came: bool,
