@@ -6,4 +6,5 @@ pub mod Histories
 pub mod Modelled
 pub mod Slotted
 pub mod Turned
+pub mod Padded
 pub mod Queued

@@ -128,15 +128,13 @@ evict_there [] i head e = refl
 evict_there (h ∷ heads) zero head e = ap (λ (x : Head). record { shared = None; marker = x.marker } ∷ heads) (let same : h ≡ head = cc e in same)
 evict_there (h ∷ heads) (suc i) head e = ap (λ (hs : List Head). h ∷ hs) (evict_there heads i head e)
 
-pub none_shared_past : (heads : List Head) (i : ℕ) → length heads ≤ i → shared_at heads i ≡ None
-none_shared_past [] i past = refl
-none_shared_past (h ∷ heads) zero past = absurd (omega (arith, past))
-none_shared_past (h ∷ heads) (suc i) past = none_shared_past heads i (omega (arith, past))
-
-pub evict_past : (heads : List Head) (i : ℕ) → length heads ≤ i → evict heads i ≡ heads
-evict_past [] i past = refl
-evict_past (h ∷ heads) zero past = absurd (omega (arith, past))
-evict_past (h ∷ heads) (suc i) past = ap (λ (hs : List Head). h ∷ hs) (evict_past heads i (omega (arith, past)))
+-- a head that shares nothing stays
+pub evict_unshared : (heads : List Head) (i : ℕ) (head : Head) → slice_get heads i ≡ Some head → head.shared ≡ None → evict heads i ≡ heads
+evict_unshared [] i head e none = refl
+evict_unshared (h ∷ heads) zero head e none =
+    ap (λ (shared : Option (List ℕ)). record { shared = shared; marker = h.marker } ∷ heads)
+    (sym (ap (λ (x : Head). x.shared) (let same : h ≡ head = cc e in same) ∙ none))
+evict_unshared (h ∷ heads) (suc i) head e none = ap (λ (hs : List Head). h ∷ hs) (evict_unshared heads i head e none)
 
 pub size_evict : (heads : List Head) (i : ℕ) → length (evict heads i) ≡ length heads
 size_evict [] i = refl

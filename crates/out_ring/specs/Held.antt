@@ -7,18 +7,20 @@ use Rattle.out_ring.specs.declared.ring.OutRing.TheInside.{Inside}
 use Rattle.out_ring.specs.declared.slots.Slots.TheInside as slots
 use Rattle.out_ring.specs.Ring.{Pushed, Ring}
 use Rattle.out_ring.specs.History.{numbered}
-use Rattle.out_ring.specs.Slots.{packets_from}
+use Rattle.out_ring.specs.Slots.{packets_from, padded}
 
 -- the items from this place on, followed by those before it
 abbrev pub turned : {X : Type 0} → ℕ → List X → List X
 turned place xs = drop place xs ++ take place xs
 
 abbrev pub heads_of : heads.Inside → List Head
-heads_of a = turned a.oldest a.ring.items
+heads_of a = turned a.oldest (padded a.ring.items)
 
 pub record AreHeads (a : heads.Inside) : Type 0 where
-  pub all : length a.ring.items ≡ 1536
+  pub few : length a.ring.items ≤ 1536
+  pub capacity : 1536 ≤ vec_capacity a.ring
   pub oldest : a.oldest < 1536
+  pub put : length a.ring.items < 1536 → a.oldest ≡ length a.ring.items
 
 abbrev pub packets_of : slots.Inside → List Pushed
 packets_of a = packets_from a.first a.heads a.own.items

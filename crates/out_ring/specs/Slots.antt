@@ -1,5 +1,5 @@
 -- Which packet is in a slot: one that is shared, or a copy of the slot's own.
-use Rattle.std.specs.Prelude.{◌≡◌, ℕ, zero, suc, ◌%◌, List, [], ◌∷◌, Option, None, Some, slice_get}
+use Rattle.std.specs.Prelude.{◌≡◌, ℕ, zero, suc, ◌-◌, ◌%◌, List, [], ◌∷◌, ◌++◌, Option, None, Some, false, length, replicate, slice_get}
 use Rattle.out_ring.specs.declared.heads.Head.{Head}
 use Rattle.out_ring.specs.Packet.{least_packet}
 use Rattle.out_ring.specs.Ring.{Pushed}
@@ -17,6 +17,14 @@ packet_by head own = record { bytes = bytes_by head.shared own; marker = head.ma
 abbrev pub packets_from : ℕ → List Head → List (List ℕ) → List Pushed
 packets_from place [] own = []
 packets_from place (head ∷ heads) own = packet_by head (slice_get own (place % 1536)) ∷ packets_from (suc place) heads own
+
+-- the head of a slot that nothing was put into yet
+abbrev pub bare : Head
+bare = record { shared = None; marker = false }
+
+-- these heads, and as many bare ones as there are slots left
+unfoldable pub padded : List Head → List Head
+padded heads = heads ++ replicate (1536 - length heads) bare
 
 -- what the head at this place shares, if there is one
 abbrev pub shared_at : List Head → ℕ → Option (List ℕ)

@@ -1,5 +1,6 @@
 // The heads of the slots: the packet that each slot shares, if any, and its marker.
 ghost use Rattle.std.specs.Prelude.{◌≡◌, ◌<◌, ◌≤◌, ◌∷◌, ◌++◌, All, IfOk, None, Some, [], drop, length, slice_get};
+ghost use Rattle.std.specs.Option.{option_copied};
 ghost use Rattle.out_ring.specs.Slots.{evict, shared_at};
 
 use crate::places::{SLOTS, next_place, place_from};
@@ -16,11 +17,12 @@ pub struct Head {
     pub marker: bool,
 }
 
-/// The heads of 1,536 slots. Clauses see them as a list, the oldest first.
+/// The heads of 1,536 slots. Clauses see them as a list, the oldest first. One that wasn't put yet shares nothing, and its memory isn't touched.
 #[derive(Debug, Drop)]
 pub struct Heads {
+    // the heads that were put, up to 1,536
     ring: Vec<Head>,
-    // the index of the oldest; the others follow in order and wrap around at the end
+    // the index of the oldest; the others follow in order and wrap around after 1,536. An index behind the last item is of a head that wasn't put yet.
     oldest: usize,
 }
 
@@ -43,39 +45,36 @@ impl Heads {
         ensures size { IfOk result (λ heads. length heads ≡ 1536) }
         ensures unshared { IfOk result (λ heads. All (λ head. head.shared ≡ None) heads) }
     {
-        let Ok(mut ring) = Vec::with_capacity(alloc, SLOTS) else {
+        let Ok(ring) = Vec::with_capacity(alloc, SLOTS) else {
             return Err(NoMemory);
         };
-        while ring.len() < SLOTS {
-            ring.push_reserved(Head {
-                shared: None,
-                marker: false,
-            });
-        }
         Ok(Heads { ring, oldest: 0 })
     }
 
-    /// The head at this place, counted from 0 at the oldest.
+    /// What the head at this place shares, and its marker; places count from 0 at the oldest.
     #[inline(always)]
-    pub fn get(&self, place: usize) -> &Head
+    pub fn get(&self, place: usize) -> (Option<&SharedPacket>, bool)
         requires { place < 1536 }
-        ensures { slice_get self.now place ≡ Some result.now }
+        ensures { slice_get self.now place ≡ Some (record { shared = option_copied result.0; marker = result.1 }) }
     {
-        &self.ring[place_from(self.oldest, place)]
+        match self.ring.get(place_from(self.oldest, place)) {
+            Some(head) => (head.shared.as_ref(), head.marker),
+            None => (None, false),
+        }
     }
 
-    /// Removes and returns the shared packet of the head at this place, counted from 0 at the oldest. `None` where that head has none, or
-    /// there is no such head.
+    /// Removes and returns the shared packet of the head at this place, counted from 0 at the oldest. `None` where that head has none.
     #[inline(always)]
     pub fn evict(&mut self, place: usize) -> Option<SharedPacket>
+        requires { place < 1536 }
         ensures shared { result ≡ shared_at self.old place }
         ensures heads { self.new ≡ evict self.old place }
     {
-        let oldest = self.oldest;
-        if place >= SLOTS {
+        let index = place_from(self.oldest, place);
+        if index >= self.ring.len() {
             return None;
         }
-        self.ring[place_from(oldest, place)].shared.take()
+        self.ring[index].shared.take()
     }
 
     /// Drops the oldest head, and adds one as the newest. Returns the packet that the oldest head shared, if any.
@@ -85,11 +84,16 @@ impl Heads {
         ensures heads { self.new ≡ drop 1 self.old ++ record { shared = shared; marker = marker } ∷ [] }
     {
         let head = Head { shared, marker };
+        let index = self.oldest;
+        self.oldest = next_place(index);
+        if index >= self.ring.len() {
+            self.ring.push_reserved(head);
+            return None;
+        }
         let Head {
             shared: before,
             marker: _,
-        } = mem::replace(&mut self.ring[self.oldest], head);
-        self.oldest = next_place(self.oldest);
+        } = mem::replace(&mut self.ring[index], head);
         before
     }
 

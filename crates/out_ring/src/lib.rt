@@ -1,5 +1,5 @@
 //! What is sent to one subscriber: the packets that are queued, and the last 1,024 that were taken, for retransmissions. A packet for many
-//! subscribers is stored once, where a `PacketStore` has a free buffer for it. Only `OutRing::new` and `PacketStore::grow` allocate memory.
+//! subscribers is stored once, if a `PacketStore` has a free buffer for it. Only `OutRing::new` and `PacketStore::grow` allocate memory.
 #![tactic(auto)]
 
 mod heads;

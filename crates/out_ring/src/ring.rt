@@ -67,7 +67,8 @@ impl OutRing {
     }
 
     /// Queues an RTP packet of at most 1,536 bytes behind the others. It will be sent with the next sequence number, the subscriber's SSRC and this marker,
-    /// and with no other bit changed. Its bytes are copied once. Fewer than 512 packets must be queued before the call.
+    /// and with no other bit changed. Its bytes are copied once. Fewer than 512 packets must be queued before the call. Call `evict` first: else a packet that
+    /// the oldest slot still shares is dropped, and its buffer lost to the store.
     #[inline(always)]
     pub fn push(&mut self, packet: &[u8], marker: bool)
         requires capacity { length self.old.queued < 512 }

@@ -16,8 +16,8 @@ use std::alloc::Global;
 use std::marker::Model;
 
 /// The last 1,536 packets that were put in, each with the marker that it is sent with. A slot shares its packet, or has a copy of its own. `new`
-/// allocates the memory for all copies but doesn't touch it: the first copy touches one buffer, and each push after that at most one more. Clauses
-/// see 1,536 packets, the oldest first; a slot that nothing was put into yet has the shortest RTP packet.
+/// allocates the memory for all heads and copies but doesn't touch it: each push touches at most one more head, and from the first copy on at most
+/// one more buffer. Clauses see 1,536 packets, the oldest first; a slot that nothing was put into yet has the shortest RTP packet.
 #[derive(Debug, Drop)]
 pub struct Slots {
     heads: Heads,
@@ -82,6 +82,7 @@ impl Slots {
     /// older ones may have other packets, and the packets of all newer slots are unchanged.
     #[inline(always)]
     pub fn evict(&mut self, place: usize) -> Option<SharedPacket>
+        requires { place < 1536 }
         ensures size { length self.new ≡ length self.old }
         ensures others { (from : ℕ) → place < from → drop from self.new ≡ drop from self.old }
     {
@@ -105,13 +106,13 @@ impl Slots {
         ensures reads { first_fault out.new ≡ None }
         ensures fits { length out.new ≤ 1536 }
     {
-        let head = self.heads.get(place);
+        let (shared, marker) = self.heads.get(place);
         fill_out(
-            &head.shared,
+            shared,
             own_in(&self.own, place_from(self.first, place)),
             out,
         );
-        rewrite(out, seq, ssrc, head.marker);
+        rewrite(out, seq, ssrc, marker);
     }
 }
 
@@ -162,8 +163,8 @@ fn own_in(own: &[StoredPacket], place: usize) -> Option<&StoredPacket>
 }
 
 // Replaces the contents of `out` with the shared packet, or else with the slot's own copy, or else with the shortest packet.
-fn fill_out(shared: &Option<SharedPacket>, own: Option<&StoredPacket>, out: &mut PacketBuf)
-    ensures bytes { out.new ≡ bytes_by shared.now (option_copied own.entry) }
+fn fill_out(shared: Option<&SharedPacket>, own: Option<&StoredPacket>, out: &mut PacketBuf)
+    ensures bytes { out.new ≡ bytes_by (option_copied shared.entry) (option_copied own.entry) }
     ensures reads { first_fault out.new ≡ None }
     ensures fits { length out.new ≤ 1536 }
 {
