@@ -1,14 +1,14 @@
 //! Whether the previous frame in the chain that protects a decode target was forwarded (AV1 RTP payload format, Appendix A).
 #![tactic(auto)]
 
-ghost use Rattle.std.specs.Prelude.{◌≡◌, ◌<◌, ℕ, List, true, false};
+ghost use Rattle.std.specs.Prelude.{◌≡◌, ◌<◌, ◌==◌, List};
 ghost use Rattle.std.specs.Int.{bit_at};
 ghost use Rattle.sfu_base.specs.Frame.{IsValid};
 ghost use Rattle.sfu_base.specs.declared.frame.FrameMeaning.{FrameMeaning as Frame};
-ghost use Rattle.forwarding_model.specs.forwarding.Selection.{chain_link, is_link_broken};
+ghost use Rattle.forwarding_model.specs.forwarding.Selection.{chain_link};
 ghost use Rattle.forwarding_model.specs.forwarding.Standing.{has_below as has_frame_below};
-ghost use Rattle.ref_window.specs.Numbers.{AreBelow, IsAboveAll, has_below, held_of};
-ghost use Rattle.chain_state.specs.Links.{link_of, numbers_of};
+ghost use Rattle.ref_window.specs.Numbers.{IsAboveAll, has_below, held_of};
+ghost use Rattle.chain_state.specs.Links.{LinkedIsIntact, is_linked, link_of, numbers_of};
 
 use ref_window::RefWindow;
 use sfu_base::FrameMeaning;
@@ -47,18 +47,21 @@ pub fn link_state(frame: &FrameMeaning, target: u8, opened: u64, passed: &RefWin
     }
 }
 
-/// Whether there are no chains, or the frame before this one in the target's chain is in a mask of forwarded frames: bit d of the mask is the frame whose
-/// number is d below this one's. If so, the chain is intact, whenever the target was opened. False says nothing, since the mask has only the frames right
-/// below.
+/// Whether there are no chains, or the frame before this one in the target's chain is in a mask of forwarded frames: bit d, the lowest
+/// first, is the frame whose number is d below this one's, for d from 0 to 63.
 #[inline(always)]
 pub fn is_linked(frame: &FrameMeaning, target: u8, forwarded: u64) -> bool
     requires valid { IsValid frame.now }
     requires target { target < frame.now.target_count }
-    ensures intact { (frames : List Frame) (opened : ℕ) → AreBelow (held_of (numbers_of frames)) frame.now.number forwarded
-        → IsAboveAll frame.now.number (numbers_of frames) → result ≡ true → is_link_broken (has_frame_below frames frame.now.number) frame.now target opened ≡ false }
+    ensures { result ≡ is_linked frame.now target forwarded }
 {
     frame.chain_count == 0 || has_bit(forwarded, distance_in_chain(frame, target))
 }
+
+/// A law: where [`is_linked`] is true for a mask of forwarded frames, the chain is intact, whichever frame opened the target.
+pub fn linked_chains_are_intact()
+    ensures { LinkedIsIntact }
+{}
 
 fn distance_in_chain(frame: &FrameMeaning, target: u8) -> u8
     requires valid { IsValid frame.now }
@@ -71,7 +74,7 @@ fn distance_in_chain(frame: &FrameMeaning, target: u8) -> u8
 }
 
 fn has_bit(mask: u64, place: u8) -> bool
-    ensures { result ≡ true → bit_at mask place ≡ 1 }
+    ensures { result ≡ (bit_at mask place == 1) }
 {
     place < 64 && (mask >> place) % 2 == 1
 }

@@ -1,7 +1,6 @@
 -- The numbers in a window, by a test on the numbers below the greatest.
 use Rattle.std.proofs.Common.{◌≡◌, ◌+◌, ◌<◌, ◌≤◌, ◌/◌, ◌%◌, ℕ, zero, suc, arith, Bool, true, false, cond, ◌&&◌, ◌||◌, List, [], ◌∷◌, refl, sym, subst, ap, ◌∙◌, inl, inr, get_or}
 use Rattle.std.specs.Prelude.{◌==◌, filter, nat_lt}
-use Rattle.std.specs.declared.option.Option.{Option}
 use Rattle.std.specs.declared.option.Option.TheVariants.{None, Some}
 use Rattle.std.proofs.lemmas.Bool.{and_parts, eqb-true, cases_order, cases_eq, cases_Bool, leb-true, le-leb, lt-leb, lt-ltb, le-ltb, eq-eqb, ne_eqb}
 use Rattle.std.proofs.lemmas.Nat.Bits.{bit_at-zero}
@@ -94,10 +93,6 @@ held_test greatest words n = is_near greatest n && has_bit words n
 pub nothing_held : (words : List ℕ) → held_in None words ≡ []
 unfolding held_in
 nothing_held words = refl
-
-pub nothing_among : (words : List ℕ) (n : ℕ) → is_among (held_in None words) n ≡ false
-unfolding held_in
-nothing_among words n = refl
 
 pub held_is : (greatest : ℕ) (words : List ℕ) (n : ℕ)
     → is_among (held_in (Some greatest) words) n ≡ ((greatest == n) || (nat_lt n greatest && (is_near greatest n && has_bit words n)))
@@ -205,20 +200,3 @@ near_held greatest number old mid new lt near clears sets =
           ∙ ap (λ b. b && held_test greatest old m) (sym close)
       | inr far ↦ ap (λ b. b && has_bit new m) far ∙ ap (λ b. b && held_test greatest old m) (sym far)
     ]
-
-pub is_above_all : (greatest : ℕ) (words : List ℕ) (number : ℕ) → IsAboveAll number (held_in (Some greatest) words) → greatest < number
-unfolding held_in
-is_above_all greatest words number all = all.0
-
-pub above_none : (words : List ℕ) (number : ℕ) → IsAboveAll number (held_in None words)
-unfolding held_in
-above_none words number = tt
-
-pub none_held : (words : List ℕ) (number : ℕ) → held_of (number ∷ held_in None words) ≡ number ∷ []
-unfolding held_in
-none_held words number = refl
-
-pub greatest_below : (before : Option ℕ) (words : List ℕ) (number greatest : ℕ) → IsAboveAll number (held_in before words) → before ≡ Some greatest
-    → greatest < number
-greatest_below before words number greatest above is =
-    is_above_all greatest words number (subst (λ b. IsAboveAll number (held_in b words)) is above)

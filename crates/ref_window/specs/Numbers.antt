@@ -28,3 +28,7 @@ IsAboveAll number numbers = AllByRecursion (λ n. n < number) numbers
 -- Where bit d of the mask is set, d is at least 1 and below 64, and the list has a number that is d below n.
 abbrev pub AreBelow : List ℕ → ℕ → ℕ → Type 0
 AreBelow numbers n mask = (d : ℕ) → bit_at mask d ≡ 1 → (0 < d) × (d < 64) × (has_below numbers n d ≡ true)
+
+-- For d from 1 to 63, bit d of the mask is set exactly if the list has a number that is d below n.
+abbrev pub AreExactlyBelow : List ℕ → ℕ → ℕ → Type 0
+AreExactlyBelow numbers n mask = (d : ℕ) → 0 < d → d < 64 → (bit_at mask d == 1) ≡ has_below numbers n d

@@ -1,5 +1,5 @@
 -- What the fields of a window mean: a number's bit is in a ring of 64 words of 64 bits, at the number modulo 4,096.
-use Rattle.std.specs.Prelude.{◌≡◌, ◌≢◌, ◌+◌, ◌<◌, ◌≤◌, ◌/◌, ◌%◌, ◌==◌, ℕ, zero, suc, List, [], ◌∷◌, Bool, true, false, if◌then◌else◌, ◌&&◌, slice_index}
+use Rattle.std.specs.Prelude.{◌≡◌, ◌≢◌, ◌+◌, ◌<◌, ◌≤◌, ◌/◌, ◌%◌, ◌==◌, ℕ, zero, suc, List, [], ◌∷◌, Bool, false, if◌then◌else◌, ◌&&◌, slice_index}
 use Rattle.std.specs.declared.option.Option.{Option}
 use Rattle.std.specs.declared.option.Option.TheVariants.{None, Some}
 use Rattle.std.specs.Int.{bit_at}
@@ -23,10 +23,10 @@ unfoldable pub held_in : Option ℕ → List ℕ → List ℕ
 held_in None words = []
 held_in (Some greatest) words = greatest ∷ passing_below (λ n. is_near greatest n && has_bit words n) greatest
 
--- where bit d is set, the window contains the number d below the greatest
+-- bit d, below 64, is set exactly if the window contains the number d below the greatest
 abbrev pub AreRecent : Option ℕ → List ℕ → ℕ → Type 0
 AreRecent None words recent = Unit {0}
-AreRecent (Some greatest) words recent = (d : ℕ) → bit_at recent d ≡ 1 → has_below (held_in (Some greatest) words) greatest d ≡ true
+AreRecent (Some greatest) words recent = (d : ℕ) → d < 64 → (bit_at recent d == 1) ≡ has_below (held_in (Some greatest) words) greatest d
 
 -- a number's bit, which is also that of every number a multiple of 4,096 away, has this value now
 pub record ChangesBit (old new : List ℕ) (number : ℕ) (value : Bool) : Type 0 where

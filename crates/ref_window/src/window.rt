@@ -1,6 +1,6 @@
 // The window over the frame numbers.
 ghost use Rattle.std.specs.Prelude.{◌≡◌, ◌∷◌, ℕ, List, []};
-ghost use Rattle.ref_window.specs.Numbers.{AreBelow, IsAboveAll, held_of, is_among};
+ghost use Rattle.ref_window.specs.Numbers.{AreBelow, AreExactlyBelow, IsAboveAll, held_of, is_among};
 
 use crate::words::{SPAN, WORD_BITS, WORDS, Words, bit, clear_all, move_on};
 use std::marker::Model;
@@ -12,7 +12,7 @@ pub struct RefWindow {
     // the greatest number, and bits for the numbers below it; meaningless where the window is empty
     greatest: u64,
     words: Words,
-    // a second copy of the newest part: bit d (bit 0 is the lowest) is set only if the window contains `greatest - d`; 0 where the window is empty
+    // a second copy of the newest part: bit d (bit 0 is the lowest) is set exactly if the window contains `greatest - d`; 0 where the window is empty
     recent: u64,
 }
 
@@ -52,11 +52,13 @@ impl RefWindow {
         self.greatest - number <= SPAN && bit(&self.words, number)
     }
 
-    /// A mask of the window's numbers right below `number`: if bit d is set (bit 0 is the lowest), the window contains `number - d`.
-    /// Bit 0 is never set. A hint: a bit that isn't set says nothing, and [`RefWindow::holds`] decides.
+    /// A mask of the window's numbers right below `number`, if `number` is above all of them: for d from 1 to 63, bit d (bit 0 is the
+    /// lowest) is set exactly if the window contains `number - d`. Bit 0 is never set. For any other `number` the mask is 0.
     #[inline(always)]
     pub fn right_below(&self, number: u64) -> u64
-        ensures { AreBelow self.now number result }
+        ensures held { AreBelow self.now number result }
+        ensures exact { IsAboveAll number self.now → AreExactlyBelow self.now number result }
+        ensures others { (IsAboveAll number self.now → ⊥) → result ≡ 0 }
     {
         if number <= self.greatest || number - self.greatest >= WORD_BITS {
             return 0;

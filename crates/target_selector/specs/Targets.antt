@@ -1,11 +1,13 @@
 -- Facts that keep indexes within arrays, and tests as the code makes them, by the layers of a frame's targets.
-use Rattle.std.specs.Prelude.{◌≡◌, ◌<◌, ◌/◌, ◌%◌, ◌^◌, ◌==◌, ◌&&◌, ◌+◌, ◌*◌, ℕ, zero, suc, List, Bool, if◌then◌else◌, slice_index_or}
+use Rattle.std.specs.Prelude.{◌≡◌, ◌<◌, ◌/◌, ◌%◌, ◌^◌, ◌==◌, ◌&&◌, ◌+◌, ◌*◌, ℕ, zero, suc, List, Bool, true, if◌then◌else◌, slice_index_or}
 use Rattle.std.specs.declared.option.Option.{Option}
 use Rattle.std.specs.declared.option.Option.TheVariants.{None, Some}
+use Rattle.sfu_base.specs.declared.frame.FrameMeaning.{FrameMeaning}
 use Rattle.sfu_base.specs.declared.frame.Wish.{Wish}
 use Rattle.forwarding_model.specs.declared.target.CurrentTarget.{CurrentTarget}
 use Rattle.forwarding_model.specs.declared.target.CurrentTarget.TheVariants.{Open, Closed}
-use Rattle.forwarding_model.specs.forwarding.Targets.{is_better_of, is_within}
+use Rattle.forwarding_model.specs.forwarding.Targets.{is_active, is_better_of, is_within}
+use Rattle.chain_state.specs.Links.{is_linked}
 use Rattle.target_selector.specs.declared.frame_targets.Ranked.{Ranked}
 
 abbrev pub IsIndexBelow : ℕ → CurrentTarget → Type 0
@@ -15,6 +17,11 @@ IsIndexBelow n (Closed reason) = Unit {0}
 abbrev pub IsBelow : ℕ → Option ℕ → Type 0
 IsBelow n None = Unit {0}
 IsBelow n (Some target) = target < n
+
+-- no target is open; or the open one is active at f and, by a mask of passed frames, linked
+abbrev pub stays : FrameMeaning → CurrentTarget → ℕ → Bool
+stays f (Open target opened) passed = is_active f target && is_linked f target passed
+stays f (Closed reason) passed = true
 
 -- the target's bit is set in the mask, the lowest bit for target 0
 abbrev pub is_bit : ℕ → ℕ → Bool

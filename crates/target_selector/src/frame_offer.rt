@@ -1,12 +1,14 @@
 // What a frame says to all subscribers of its track, found once.
-ghost use Rattle.std.specs.Prelude.{◌≡◌, ◌≤◌, ◌<◌, ◌||◌, ◌&&◌, ℕ, List, None, Some, true, false, slice_index};
+ghost use Rattle.std.specs.Prelude.{◌≡◌, ◌≤◌, ◌<◌, ◌==◌, ◌^◌, ◌||◌, ◌&&◌, ℕ, List, None, Some, true, false};
+ghost use Rattle.std.specs.Int.{bit_at};
+ghost use Rattle.std.specs.List.{list_all};
 ghost use Rattle.sfu_base.specs.Frame.{IsValid};
 ghost use Rattle.forwarding_model.specs.forwarding.Outgoing.{is_top_layer};
 ghost use Rattle.forwarding_model.specs.forwarding.Selection.{can_open, has_room, is_present_in, is_upgrade, missing_reference, opened_or};
-ghost use Rattle.forwarding_model.specs.forwarding.Targets.{aim, best, is_present};
+ghost use Rattle.forwarding_model.specs.forwarding.Targets.{aim, best, is_present, references};
 ghost use Rattle.ref_window.specs.Numbers.{AreBelow, has_below};
 ghost use Rattle.target_selector.specs.Masks.{mask_for, targets_where};
-ghost use Rattle.target_selector.specs.Offers.{IsBegun, IsNeeded, begins, begins_within, everything, says_begin};
+ghost use Rattle.target_selector.specs.Offers.{AreNeeded, IsBegun, begins, begins_within, everything, needed_bit, says_begin};
 ghost use Rattle.target_selector.specs.Targets.{IsBelow, IsIndexBelow};
 
 use crate::frame_targets::{
@@ -33,13 +35,13 @@ pub struct Begun {
     pub top: Option<u8>,
 }
 
-/// A frame, how many packets it has, and what is the same for all subscribers of its track: which frames it refers to, at which of its targets a decoder
-/// can begin, and which of these is best. An offer is made once a frame. Clauses see the frame and the count of packets.
+/// A frame, how many packets it has, and what is the same for all subscribers of its track: which frames it refers to, at which of its
+/// targets a decoder can begin, and which of these is best. An offer is made once a frame. Clauses see the frame and the count of packets.
 #[derive(Debug, Drop)]
 pub struct FrameOffer<'a> {
     frame: &'a FrameMeaning,
     packets: u16,
-    // the distances of its references, each as a bit; bit 0 where one has none of 64
+    // the distances of its references, each as a bit; bit 0 stands for those of 64 or more
     needed: u64,
     begun: Begun,
 }
@@ -90,10 +92,11 @@ impl<'a> FrameOffer<'a> {
         self.packets
     }
 
-    /// Whether all references of the frame are in a mask of passed frames: bit d of the mask is the frame whose number is d below this one's. False says
-    /// nothing, since the mask has only the frames right below.
+    /// Whether all references of the frame are in a mask of passed frames: bit d of the mask, for d from 1 to 63, is the frame whose number
+    /// is d below this one's. For a reference further below bit 0 has to be set, which stands for no frame.
     pub fn refers_within(&self, passed: u64) -> bool
         ensures valid { IsValid self.now.frame }
+        ensures exact { result ≡ list_all (λ distance. bit_at passed (needed_bit distance) == 1) (references self.now.frame) }
         ensures passed { (numbers : List ℕ) → AreBelow numbers self.now.frame.number passed → result ≡ true
             → missing_reference (has_below numbers self.now.frame.number) self.now.frame ≡ None }
     {
@@ -236,7 +239,7 @@ impl<'a> FrameOffer<'a> {
 // The distances of the frame's references, as a mask. Bit 0 stands in for a distance of 64 or more.
 fn distances(frame: &FrameMeaning) -> u64
     requires { IsValid frame.now }
-    ensures { (i : ℕ) → i < frame.now.ref_count → IsNeeded result (slice_index frame.now.refs i) }
+    ensures { AreNeeded result (references frame.now) }
 {
     let mut needed = 0;
     for place in 0..frame.ref_count {
@@ -246,7 +249,7 @@ fn distances(frame: &FrameMeaning) -> u64
 }
 
 fn distance_bit(distance: u16) -> u64
-    ensures { IsNeeded result distance }
+    ensures { result ≡ 2 ^ needed_bit distance }
 {
     if distance < 64 { 1 << distance } else { 1 }
 }

@@ -153,8 +153,8 @@ impl Selector {
         withheld(offer, self.wish, missing, opening, &self.target, queued)
     }
 
-    /// Whether the last frame was passed and has the spatial id of its target's layers, so that the frame's last packet ends the temporal
-    /// unit.
+    /// Whether the last frame was passed and has the highest spatial id of the subscriber's open target, so that the frame's last packet
+    /// ends the temporal unit.
     pub fn marks_last(&self) -> bool
         ensures { result ≡ self.now.top }
     {

@@ -2,7 +2,7 @@ use Rattle.std.proofs.Common.{◌∷◌, ap, arith, sym, subst, ◌∙◌}
 use Rattle.ref_window.specs.Numbers.{IsAboveAll, held_of}
 use Rattle.ref_window.proofs.Forgetting.{forgets_for_good, above_all_held}
 use Rattle.ref_window.proofs.Held.{above_held, not_above_held}
-use Rattle.ref_window.proofs.Recent.{next_are, next_held, seen_none, seen_some}
+use Rattle.ref_window.proofs.Recent.{above_seen, next_are, next_held, seen_none, seen_some}
 use Rattle.ref_window.proofs.window.RefWindow.insert.Goals as goal
 
 pub returns-then-self-eq0-clause-inserted : goal.returns-then-self-eq0-clause-inserted
@@ -46,4 +46,5 @@ pub invariant_of-self : goal.invariant_of-self
 invariant_of-self c =
     next_are c.args.number c.right_below.result c.move_on.new.words c.args.self.now
     (c.move_on.ensures ∙ ap (λ l. held_of (c.args.number ∷ l)) (seen_some c.self.inside.greatest c.self.inside.recent c.self.inside.words c.args.self.now c.self.view_is (λ none. omega (arith, none))))
-    c.right_below.ensures
+    (c.right_below.ensures.exact
+    (above_seen c.self.inside.greatest c.self.inside.recent c.args.number c.self.inside.words c.args.self.now c.self.view_is (omega arith)))
