@@ -1,9 +1,7 @@
--- How many buffers of a store the subscribers need.
-use Rattle.std.specs.Prelude.{◌+◌, ◌*◌, min, zero, suc, ℕ}
+-- How many buffers a store has for the subscribers of its track.
+use Rattle.std.specs.Prelude.{◌+◌, ◌*◌, ◌-◌, min, ℕ}
 
--- for n subscribers: 512 buffers for a queue, 1,024 for each of up to three subscribers that keep packets apart from the others, and
--- 12 of its own for each of up to 256 subscribers; none where fewer than two subscribers could share them
+-- for n subscribers: none for up to four; 288 for each from the fifth to the eighth, 1,152 for eight: by then nearly all packets are shared that
+-- eight subscribers with one wish keep or have queued; 32 for each further one, up to 256
 abbrev pub capacity_for : ℕ → ℕ
-capacity_for zero = 0
-capacity_for (suc zero) = 0
-capacity_for (suc (suc n)) = 512 + 1024 * min (suc (suc n)) 3 + 12 * min (suc (suc n)) 256
+capacity_for n = 288 * (min n 8 - 4) + 32 * (min n 256 - 8)

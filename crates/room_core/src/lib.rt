@@ -9,6 +9,7 @@ mod feed;
 mod keep_all;
 mod laws;
 mod live;
+mod memory;
 mod note;
 mod passing;
 mod recorder;

@@ -31,7 +31,7 @@ pub fn take_place(tracks: &mut IndexMap<u32, LiveTrack>, track: u32, place: usiz
     }
 }
 
-/// After a subscriber was removed from `place`: records in its track's set that the one that was last in the table is at `place` now.
+/// Removing the subscriber at `place` moved the table's last subscriber there. Records the new place in the set of that subscriber's track.
 pub fn move_last(
     tracks: &mut IndexMap<u32, LiveTrack>,
     subscribers: &IndexMap<u32, LiveSubscriber>,
