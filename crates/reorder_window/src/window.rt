@@ -6,7 +6,7 @@ ghost use Rattle.reorder_window.specs.Events.{Event, Arrives, Ticks};
 ghost use Rattle.reorder_window.specs.Missing.{missing_sequences};
 ghost use Rattle.reorder_window.specs.Order.{added, after, before_all, judged_sequence, number_of};
 ghost use Rattle.reorder_window.specs.Kept.{waiting_from};
-ghost use Rattle.reorder_window.specs.Slots.{held_at, waiting_at};
+ghost use Rattle.reorder_window.specs.Held.{held_at};
 ghost use Rattle.reorder_window.specs.Steps.{in_range, newest_below};
 ghost use Rattle.reorder_window.specs.Window.{IsAfter, filled, item_of, refusal};
 
@@ -70,7 +70,7 @@ impl Window {
     }
 
     /// Accepts or refuses a packet of at most 1,500 bytes that arrives at `moment`, in milliseconds. All
-    /// waiting items must be fetched before this call. The bytes are copied once. A refusal changes nothing.
+    /// waiting items must be fetched before this call. The bytes are copied. A refusal changes nothing.
     pub fn arrive(&mut self, seq: u16, moment: u64, bytes: &[u8]) -> Result<(), Arrival>
         requires length { length bytes.now ≤ 1500 }
         requires fetched { self.old.waiting ≡ [] }
@@ -105,15 +105,14 @@ impl Window {
         ensures stands { (past : List Event) → IsAfter self.old past → IsAfter self.new (Ticks moment ∷ past) }
     {
         self.moment = self.moment.max(moment);
-        self.ring.clear_spare();
         self.given = self.next;
         self.next = self
             .ring
             .due_end(self.next, self.end, self.moment, self.hold);
     }
 
-    /// Returns the next item that waits to be fetched, or `None`. If the item is a packet, its
-    /// buffer is swapped with `slot`, so that no byte is copied; otherwise `slot` stays as it was.
+    /// Returns the next item that waits to be fetched, or `None`. If the item is a packet, `slot` then has its bytes: buffers are swapped
+    /// if the packet arrived last, as each one did that came in order, otherwise bytes are copied. If it isn't, `slot` stays as it was.
     pub fn next_slot(&mut self, slot: &mut Box<PacketSlot>) -> Option<Item>
         ensures none { IsNone result ↔ (self.old.waiting ≡ []) }
         ensures item { result ≡ option_map item_of (slice_get self.old.waiting 0) }
@@ -162,19 +161,21 @@ impl Window {
     }
 }
 
-// Returns the first item among the numbers from `given` to below `next`, and moves `given` past it. If the item is a packet, its buffer is
-// swapped with `slot`.
+// Returns the first item among the numbers from `given` to below `next`, and moves `given` past it. If the item is a packet, `slot` then
+// has its bytes.
 #[inline(always)]
 fn fetch(ring: &mut Ring, given: &mut u64, next: u64, slot: &mut Box<PacketSlot>) -> Option<Item>
     requires within { given.old ≤ next }
-    requires near { (n : ℕ) → given.old + SPAN < n → n < next → waiting_at ring.old.slots.items ring.old.spare n ≡ None }
+    requires below { (n : ℕ) → n < given.old → held_at ring.old.pool ring.old.latest n ≡ None }
+    requires near { (n : ℕ) → given.old + SPAN < n → n < next → held_at ring.old.pool ring.old.latest n ≡ None }
     ensures none { IsNone result ↔ (waiting_from ring.old given.old next ≡ []) }
     ensures item { result ≡ option_map item_of (slice_get (waiting_from ring.old given.old next) 0) }
     ensures bytes { slot.new.value ≡ filled (slice_get (waiting_from ring.old given.old next) 0) slot.old.value }
     ensures rest { waiting_from ring.new given.new next ≡ drop 1 (waiting_from ring.old given.old next) }
-    ensures held { (n : ℕ) → next ≤ n → held_at ring.new.slots.items n ≡ held_at ring.old.slots.items n }
+    ensures below { (n : ℕ) → n < given.new → held_at ring.new.pool ring.new.latest n ≡ None }
+    ensures held { (n : ℕ) → next ≤ n → held_at ring.new.pool ring.new.latest n ≡ held_at ring.old.pool ring.old.latest n }
     ensures within { given.new ≤ next }
-    ensures near { (n : ℕ) → given.new + SPAN < n → n < next → waiting_at ring.new.slots.items ring.new.spare n ≡ None }
+    ensures near { (n : ℕ) → given.new + SPAN < n → n < next → held_at ring.new.pool ring.new.latest n ≡ None }
 {
     let from = *given;
     if from == next {
