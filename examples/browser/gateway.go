@@ -29,7 +29,7 @@ var (
 	address = flag.String("address", "127.0.0.1", "this machine's address, at which browsers find it")
 	web     = flag.Int("http", 8080, "the TCP port of the pages")
 	base    = flag.Int("port", 7000, "1,000 below the UDP port of all browsers; of serve, the room's first, and this program's ports lie 500 above")
-	hold    = flag.Int("hold", 120, "milliseconds for which lost packets are waited for: more than the way there and back and 50")
+	hold    = flag.Int("hold", 80, "milliseconds for which lost packets are waited for: more than the way there and back and 50")
 	setting webrtc.SettingEngine // puts all connections on one socket
 	lock    sync.Mutex           // of tracks, players and people, and of what they hold
 )
