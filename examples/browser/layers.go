@@ -79,20 +79,20 @@ func (p *person) choose() {
 			}
 			left, s.best = left-more, layers
 		}
-		s.follow(p.path.lost > much)
+		s.follow(p.path.falls)
 	}
 }
 
-func (s *seat) follow(jammed bool) {
+// Where the path bears less all of a sudden, a browser lacks packets of what it was sent, and decodes what it is sent now from a key frame on.
+func (s *seat) follow(falls bool) {
 	if s.best <= s.now {
 		s.fits = time.Now()
 	}
-	if s.best < s.now && jammed {
-		s.plead()
-	}
 	if s.best < s.now || time.Since(s.fits) >= patience {
 		s.now, s.fits = s.best, time.Now()
-		s.aim()
+		if s.aim(); falls {
+			s.plead()
+		}
 	}
 }
 

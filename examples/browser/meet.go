@@ -150,11 +150,8 @@ func (p *person) bring(media *webrtc.TrackRemote, receiver *webrtc.RTPReceiver) 
 
 // Hears an answer to an offer, `wish PERSON SPATIAL PLACE`, where the picture in place 0 is the big one, or `plead PERSON`.
 func (p *person) hear(line string) {
-	if strings.HasPrefix(line, "v=0") {
-		if p.pc.SetRemoteDescription(webrtc.SessionDescription{Type: webrtc.SDPTypeAnswer, SDP: line}) != nil {
-			go p.pc.Close()
-		}
-		return
+	if strings.HasPrefix(line, "v=0") && p.pc.SetRemoteDescription(webrtc.SessionDescription{Type: webrtc.SDPTypeAnswer, SDP: line}) != nil {
+		go p.pc.Close()
 	}
 	var word, id string
 	var spatial, place int

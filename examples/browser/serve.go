@@ -162,8 +162,6 @@ func ask(words ...interface{}) string {
 	defer asking.Unlock()
 	answer := make([]byte, 200)
 	control.Write([]byte(strings.TrimSpace(fmt.Sprintln(words...))))
-	if n, err := control.Read(answer); err == nil {
-		return string(answer[:n])
-	}
-	return "no answer"
+	n, _ := control.Read(answer)
+	return string(answer[:n])
 }
