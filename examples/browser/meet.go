@@ -55,11 +55,15 @@ func start() map[string]answerer {
 }
 
 // 20 milliseconds have passed: gaps that were waited for are given up. A PLI is said each time while no key frame came whole: a browser makes one each 300 ms
-// and passes over all others. Sees who came and went and chooses layers each fifth time, and tells the pages each 25th.
+// and passes over all others, so where one came torn, its page is asked, too. Sees who came and went and chooses layers each fifth time, and tells the pages
+// each 25th.
 func pass(turn int) {
 	for t := range tracks {
 		if t.packet(nil); t.wantsKey() {
 			t.whose.pc.WriteRTCP([]rtcp.Packet{&rtcp.PictureLossIndication{MediaSSRC: uint32(t.media.SSRC())}})
+			if t.torn() {
+				t.whose.say("key")
+			}
 		}
 	}
 	for p := range people {

@@ -29,10 +29,10 @@ type path struct {
 	late, falls bool                            // whether feedback is 200 ms late, and whether the path bears less than is sent
 	short       bool                            // whether wishes take more than fits
 	spare       float64                         // bits that may be sent again
-	tried       float64                         // or 0
-	bears       float64
-	wait        time.Duration // for which the path has to be calm before more is tried
-	calm        time.Time     // since when it is
+	wait        time.Duration                   // for which the path has to be calm before more is tried
+	calm        time.Time                       // since when it is
+
+	tried, bears float64 // what is tried, or 0, and what the path is taken to bear
 }
 
 func newPath() (*path, interceptor.Factory) {

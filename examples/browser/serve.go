@@ -17,8 +17,8 @@ import (
 	"github.com/pion/webrtc"
 )
 
-const publishers, players = 15, 48 // that serve.lines has ports for, which lie behind the controller's
-const trackSSRC, playerSSRC = 0x10000000, 0x20000000
+// serve.lines has ports for so many, which lie behind the controller's, and SSRCs above these.
+const publishers, players, trackSSRC, playerSSRC = 15, 48, 0x10000000, 0x20000000
 
 var (
 	dump    = flag.Bool("dump", false, "write each packet that comes from the room: whom it is for, and its bytes in hex")
