@@ -18,7 +18,7 @@ from browsers import GAP, HERE, MODES, PROXY, Browser, Choice, Relay, complain, 
 
 FELL, AGAIN, HELD, GOOD, HOME = 3000, 10000, 1000, 700, 3000   # milliseconds: until S0 and S2, of pictures meanwhile, lost for good, until one is back
 HEAD = 'row', 'mode', 'people', 'lost', 'decoded', 'drawn', 'longest gap', 'budget', 'more', 'load'
-table = []
+table, modes = [], list(MODES)   # modes: of the rows that have one for each
 
 
 class Meeting:
@@ -99,7 +99,7 @@ def four(browser, pictures):
 
 def lost(browser, _):
     """3 % of all RTP packets before the room and 3 % behind it, five times in each mode."""
-    for mode in MODES:
+    for mode in modes:
         meeting = Meeting(browser, mode, 2)
         time.sleep(3)
         lose(0.03, 0.03)
@@ -171,7 +171,7 @@ def back(browser, _):
 
 def good(browser, _):
     """2 % of all RTP packets before the room, resends too."""
-    for mode in MODES:
+    for mode in modes:
         meeting = Meeting(browser, mode, 2)
         time.sleep(3)
         lose(0.02, for_good=True)
@@ -191,7 +191,8 @@ def processor():
 def rows(asked, pictures):
     version = subprocess.run(['chromium', '--version'], capture_output=True, text=True).stdout.split()
     print(f'| {" | ".join(HEAD)} |\n|' + '---|' * len(HEAD), flush=True)
-    for name in asked or ROWS:
+    modes[:] = [mode for mode in MODES if mode in asked] or MODES
+    for name in [name for name in asked if name not in MODES] or ROWS:
         with open(f'{HERE}/out/meet.log', 'w') as log:
             gateway, browser = gate(subprocess.DEVNULL, log), Browser()
             try:

@@ -1,10 +1,9 @@
 // gateway puts browsers into a room: it speaks ICE, DTLS and SRTP with them, and plain RTP and RTCP with a room. Nothing of it is proved.
 //
-// gateway.go has the flags, and who answers an offer; page.go a browser's connection: codecs, header extensions, the answer to its offer; publisher.go a
-// track on its way from a browser; player.go one on its way to a browser: markers, repeated NACKs. Built without a tag it serves those who publish and
-// play, by `serve`: serve.go. Built with -tags library it serves conferences: library.go has every call of the library, and nothing else; meet.go who comes
-// and goes, offers, sender reports; layers.go which layers each person is sent; path.go what their path bears. pages has the three pages, what they share,
-// and their style.
+// gateway.go has the flags, and who answers an offer; page.go a browser's connection: codecs, header extensions, the answer to its offer; tracks.go a track
+// on its way from a browser or to one: markers, repeated NACKs. Built without a tag it serves those who publish and play, by `serve`: serve.go. Built with
+// -tags library it serves conferences: library.go has every call of the library, and nothing else; meet.go who comes and goes, offers, sender reports;
+// layers.go which layers each person is sent; path.go what their path bears. pages has the three pages, what they share, and their style.
 package main
 
 import (
@@ -29,7 +28,7 @@ var (
 	address = flag.String("address", "127.0.0.1", "this machine's address, at which browsers find it")
 	web     = flag.Int("http", 8080, "the TCP port of the pages")
 	base    = flag.Int("port", 7000, "1,000 below the UDP port of all browsers; of serve, the room's first, and this program's ports lie 500 above")
-	hold    = flag.Int("hold", 120, "milliseconds for which lost packets are waited for: more than the way there and back and 50")
+	hold    = flag.Int("hold", 80, "milliseconds for which lost packets are waited for: more than the way there and back and 50")
 	setting webrtc.SettingEngine // puts all connections on one socket
 	lock    sync.Mutex           // of tracks, players and people, and of what they hold
 )

@@ -10,10 +10,10 @@ import (
 
 // What the layers of a track take, in bits a second, counted as they come. A layer's place is 8 times the spatial and the temporal one.
 type rates struct {
-	layers [64]byte    // by template
-	bytes  [32]float64 // since the latest half second began
-	bits   [32]float64 // the mean of some seconds
-	since  time.Time
+	layers [64]byte  // by template
+	since  time.Time // when the latest half second began
+
+	bytes, bits [32]float64 // since then, and the mean of some seconds
 }
 
 // Sound counts as the lowest layer. A key frame brings all templates: each has the layers of the one before it, or the next temporal layer, or the next
@@ -25,11 +25,7 @@ func (r *rates) count(d []byte, size int) {
 			layer = [4]byte{layer, layer + 1, layer&^7 + 8}[step]
 		}
 	}
-	layer := byte(0)
-	if len(d) > 0 {
-		layer = r.layers[d[0]&63] & 31
-	}
-	r.bytes[layer] += float64(size)
+	r.bytes[r.layers[append(d, 0)[0]&63]&31] += float64(size)
 	if took := time.Since(r.since).Seconds(); took > 0.5 {
 		for n := range r.bits {
 			r.bits[n] += (r.bytes[n]*8/took - r.bits[n]) / 4
@@ -79,20 +75,20 @@ func (p *person) choose() {
 			}
 			left, s.best = left-more, layers
 		}
-		s.follow(p.path.lost > much)
+		s.follow(p.path.falls)
 	}
 }
 
-func (s *seat) follow(jammed bool) {
+// Where the path bears less all of a sudden, a browser lacks packets of what it was sent, and decodes what it is sent now from a key frame on.
+func (s *seat) follow(falls bool) {
 	if s.best <= s.now {
 		s.fits = time.Now()
 	}
-	if s.best < s.now && jammed {
-		s.plead()
-	}
 	if s.best < s.now || time.Since(s.fits) >= patience {
 		s.now, s.fits = s.best, time.Now()
-		s.aim()
+		if s.aim(); falls {
+			s.plead()
+		}
 	}
 }
 

@@ -81,6 +81,12 @@ func (t *source) packet(bytes []byte) {
 // Whether no key frame came whole since one was pleaded for.
 func (t *source) wantsKey() bool { return bool(C.zoftemar_key_wanted(&room, 0, t.number).has) }
 
+// Whether two NACKs for a packet have brought nothing: it has been waited for longer than twice the way there and back and 30 ms.
+func (t *source) torn() bool {
+	due := C.zoftemar_due(&room, t.number)
+	return bool(due.has) && float64(due.first) < time.Since(began).Seconds()*1000+float64(*hold)-30-2000*t.whose.path.trip
+}
+
 // The room is told those layers that were chosen before the browser could be sent the track.
 func (s *seat) join(ssrc uint32) {
 	numbers++

@@ -54,12 +54,16 @@ func start() map[string]answerer {
 	return map[string]answerer{"/meet": meet}
 }
 
-// 20 milliseconds have passed: gaps that were waited for are given up. A PLI is said again each second time while no key frame came whole: a browser makes one
-// each 300 ms and passes over all others. Sees who came and went and chooses layers each fifth time, and tells the pages each 25th.
+// 20 milliseconds have passed: gaps that were waited for are given up. A PLI is said each time while no key frame came whole: a browser makes one each 300 ms
+// and passes over all others, so where one came torn, its page is asked, too. Sees who came and went and chooses layers each fifth time, and tells the pages
+// each 25th.
 func pass(turn int) {
 	for t := range tracks {
-		if t.packet(nil); turn%2 == 0 && t.wantsKey() {
+		if t.packet(nil); t.wantsKey() {
 			t.whose.pc.WriteRTCP([]rtcp.Packet{&rtcp.PictureLossIndication{MediaSSRC: uint32(t.media.SSRC())}})
+			if t.torn() {
+				t.whose.say("key")
+			}
 		}
 	}
 	for p := range people {
@@ -150,11 +154,8 @@ func (p *person) bring(media *webrtc.TrackRemote, receiver *webrtc.RTPReceiver) 
 
 // Hears an answer to an offer, `wish PERSON SPATIAL PLACE`, where the picture in place 0 is the big one, or `plead PERSON`.
 func (p *person) hear(line string) {
-	if strings.HasPrefix(line, "v=0") {
-		if p.pc.SetRemoteDescription(webrtc.SessionDescription{Type: webrtc.SDPTypeAnswer, SDP: line}) != nil {
-			go p.pc.Close()
-		}
-		return
+	if strings.HasPrefix(line, "v=0") && p.pc.SetRemoteDescription(webrtc.SessionDescription{Type: webrtc.SDPTypeAnswer, SDP: line}) != nil {
+		go p.pc.Close()
 	}
 	var word, id string
 	var spatial, place int

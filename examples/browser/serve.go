@@ -17,8 +17,8 @@ import (
 	"github.com/pion/webrtc"
 )
 
-const publishers, players = 15, 48 // that serve.lines has ports for, which lie behind the controller's
-const trackSSRC, playerSSRC = 0x10000000, 0x20000000
+// serve.lines has ports for so many, which lie behind the controller's, and SSRCs above these.
+const publishers, players, trackSSRC, playerSSRC = 15, 48, 0x10000000, 0x20000000
 
 var (
 	dump    = flag.Bool("dump", false, "write each packet that comes from the room: whom it is for, and its bytes in hex")
@@ -162,8 +162,6 @@ func ask(words ...interface{}) string {
 	defer asking.Unlock()
 	answer := make([]byte, 200)
 	control.Write([]byte(strings.TrimSpace(fmt.Sprintln(words...))))
-	if n, err := control.Read(answer); err == nil {
-		return string(answer[:n])
-	}
-	return "no answer"
+	n, _ := control.Read(answer)
+	return string(answer[:n])
 }

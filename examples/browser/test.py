@@ -2,11 +2,11 @@
 """Runs the example in a headless Chromium, and complains of freezes, wishes that aren't met, and packets that `sfu check` doesn't like.
 
 usage: examples/browser/test.py [--sfu PROGRAM] [--seconds N] [--pictures DIR] [MODE...]
-       examples/browser/test.py --meet [--pictures DIR] [ROW...]
+       examples/browser/test.py --meet [--pictures DIR] [ROW...] [MODE...]
 MODE is L1T1, L1T3, L2T2, L3T3 or L3T3_KEY; all of them by default. Each has a run from page to page, for comparison, and one through the room of
 `serve`, with a table's row for each measurement of N seconds (8). Both ways go through a relay that loses 3 % of the RTP packets where the row says so.
-With --meet it runs conferences, on the library; ROW is four, lost, choice, path, back or good. All of them, by default, write their table to meet.tsv,
-and some to out/meet.tsv.
+With --meet it runs conferences, on the library; ROW is four, lost, choice, path, back or good; MODE limits lost and good. All of them, by default, write their
+table to meet.tsv, and some to out/meet.tsv.
 
 example: examples/browser/test.py --seconds 8 L1T1
 """
