@@ -1,7 +1,9 @@
 -- How many buffers a store has for the subscribers of its track.
-use Rattle.std.specs.Prelude.{◌+◌, ◌*◌, ◌-◌, min, ℕ}
+use Rattle.std.specs.Prelude.{◌+◌, ◌*◌, min, zero, suc, ℕ}
 
--- for n subscribers: none for up to four; 288 for each from the fifth to the eighth, 1,152 for eight: by then nearly all packets are shared that
--- eight subscribers with one wish keep or have queued; 32 for each further one, up to 256
+-- for n subscribers: 640, 256 for each of up to 15, and 12 for each of up to 256, so that two with one wish share the 1,024 packets that each
+-- keeps; none if fewer than two subscribers could share them
 abbrev pub capacity_for : ℕ → ℕ
-capacity_for n = 288 * (min n 8 - 4) + 32 * (min n 256 - 8)
+capacity_for zero = 0
+capacity_for (suc zero) = 0
+capacity_for (suc (suc n)) = 640 + 256 * min (suc (suc n)) 15 + 12 * min (suc (suc n)) 256

@@ -18,18 +18,14 @@ use std::alloc::Global;
 /// The most packets of a frame that are shared: the capacity of a subscriber's queue, since no longer frame is forwarded.
 const MOST_SHARED: usize = 512;
 
-/// Up to this many subscribers share nothing: a store has no buffers for them.
-const ALONE: usize = 4;
+/// How many buffers a store has before its track's subscribers add theirs.
+const FIRST: usize = 640;
 
-/// If this many subscribers have one wish, they share all packets that they keep.
-const MANY: usize = 8;
+/// How many buffers each of the first 15 subscribers adds. Two with one wish share the 1,024 packets that each keeps; 15 may keep different ones.
+const EARLY: usize = 256;
 
-/// How many buffers a join adds from the fifth subscriber to the eighth. Eight have 1,152: 1,024 for kept packets, the rest for queued ones.
-const STEP: usize = 288;
-
-/// How many buffers each further join adds: for packets with the subscriber's own mask, queued for it alone, or kept by subscribers with
-/// other wishes.
-const OWN: usize = 32;
+/// How many more buffers each subscriber adds: for packets with its own mask, or queued for it alone.
+const OWN: usize = 12;
 
 /// Caches what the subscribers of a track are sent of its current frame: the frame's packets, each stored once for all subscribers that get
 /// it, and the first packet rewritten with one mask of active decode targets. Only the mask that was requested last is cached, since most
@@ -68,8 +64,9 @@ impl FrameCache {
         })
     }
 
-    /// Allocates the buffers that this many subscribers need and the store doesn't have yet. Up to four subscribers need none: packets are
-    /// copied into each one's ring. `NoMemory`: out of memory; some buffers may have been allocated.
+    /// Allocates the buffers that this many subscribers need and the store doesn't have yet: for queued packets, for packets that
+    /// subscribers with different wishes keep, and for some of each subscriber's own. A single subscriber needs none: its packets are
+    /// copied into its ring. `NoMemory`: out of memory; some buffers may have been allocated.
     pub fn reserve(&mut self, alloc: Global, subscribers: usize) -> Result<(), NoMemory>
         ensures free { self.old.store.free ≤ self.new.store.free }
         ensures grown { self.new.store.free + self.old.store.all ≡ self.old.store.free + self.new.store.all }
@@ -247,11 +244,13 @@ fn push_shared(store: &mut PacketStore, ring: &mut OutRing, packet: SharedPacket
     }
 }
 
-// How many buffers this many subscribers need to share packets: none for up to four, and at most 144 for each.
+// How many buffers this many subscribers need to share packets: none for fewer than two.
 fn capacity_for(subscribers: usize) -> usize
     ensures count { result ≡ capacity_for subscribers }
-    ensures few { result ≤ 144 * subscribers }
+    ensures few { result ≤ 640 + 268 * subscribers }
 {
-    STEP * subscribers.min(MANY).saturating_sub(ALONE)
-        + OWN * subscribers.min(256).saturating_sub(MANY)
+    if subscribers < 2 {
+        return 0;
+    }
+    FIRST + EARLY * subscribers.min(15) + OWN * subscribers.min(256)
 }

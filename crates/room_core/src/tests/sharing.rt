@@ -7,9 +7,6 @@ use crate::{KeepNone, Room};
 use sfu_base::{Call, Kind, Reply};
 use std::test::Fail;
 
-// How many buffers a track's store has for six subscribers.
-const SIX: usize = 2 * 288;
-
 // How many free buffers a track's store has now.
 fn free(room: &Room<KeepNone>, track: u32) -> usize {
     match room.content.tracks.get(&track) {
@@ -30,26 +27,20 @@ fn subscribers_share_a_packet_and_its_room_is_free_when_none_has_it(
         publish(1, Kind::Plain),
         join(1, 1, LOWEST),
         join(2, 1, LOWEST),
-        join(3, 1, LOWEST),
-        join(4, 1, LOWEST),
-        join(5, 1, LOWEST),
-        join(6, 1, LOWEST),
         packet(1, &PLAIN),
     ] {
         assert_eq!(rt; room.serve(0, &call, &mut out), Reply::Done);
     }
-    assert_eq!(rt; free(&room, 1), SIX - 1);
-    for subscriber in 1..7u32 {
+    assert_eq!(rt; free(&room, 1), 640 + 2 * 256 + 2 * 12 - 1);
+    for subscriber in 1..3u32 {
         assert_eq!(rt; room.serve(0, &take(subscriber), &mut out), Reply::Packet);
         assert_eq!(rt; out.packet.bytes(), outgoing(&PLAIN, 7, false).bytes());
     }
-    // The other subscribers still have it, and the store deallocates all unused buffers: four subscribers share nothing.
-    for subscriber in 5..7u32 {
-        assert_eq!(rt;
-            room.serve(0, &Call::Leave { subscriber }, &mut out),
-            Reply::Done
-        );
-    }
+    // The other subscriber still has it, and the store deallocates all unused buffers: a single subscriber shares with nobody.
+    assert_eq!(rt;
+        room.serve(0, &Call::Leave { subscriber: 2 }, &mut out),
+        Reply::Done
+    );
     assert_eq!(rt; free(&room, 1), 0);
     // A packet that is queued when the track ends can still be taken.
     assert_eq!(rt; room.serve(0, &packet(1, &next), &mut out), Reply::Done);
@@ -70,16 +61,13 @@ fn a_first_packet_is_stored_once_for_each_mask(rt: HostRuntime) -> Result<(), Fa
         publish(1, LAYERED),
         join(1, 1, HIGHEST),
         join(2, 1, HIGHEST),
-        join(3, 1, HIGHEST),
-        join(4, 1, HIGHEST),
-        join(5, 1, HIGHEST),
-        join(6, 1, LOWEST),
+        join(3, 1, LOWEST),
         packet(1, &KEY),
     ] {
         assert_eq!(rt; room.serve(0, &call, &mut out), Reply::Done);
     }
     // Three buffers are used: for the packet as it came, and for the packet with each of two masks.
-    assert_eq!(rt; free(&room, 1), SIX - 3);
+    assert_eq!(rt; free(&room, 1), 640 + 3 * 256 + 3 * 12 - 3);
     Ok(())
 }
 
@@ -91,16 +79,12 @@ fn a_packet_that_tells_nothing_is_stored_once(rt: HostRuntime) -> Result<(), Fai
         publish(1, LAYERED),
         join(1, 1, HIGHEST),
         join(2, 1, HIGHEST),
-        join(3, 1, HIGHEST),
-        join(4, 1, HIGHEST),
-        join(5, 1, HIGHEST),
-        join(6, 1, HIGHEST),
         packet(1, &KEY),
         packet(1, &frame(1, 1, 3)),
     ] {
         assert_eq!(rt; room.serve(0, &call, &mut out), Reply::Done);
     }
-    // Two buffers are used: for the key frame's packet with its mask, which all subscribers have yet to take, and for this packet.
-    assert_eq!(rt; free(&room, 1), SIX - 2);
+    // Two buffers are used: for the key frame's packet with its mask, which both subscribers have yet to take, and for this packet.
+    assert_eq!(rt; free(&room, 1), 640 + 2 * 256 + 2 * 12 - 2);
     Ok(())
 }
