@@ -1,15 +1,15 @@
 -- What a pool holds after a packet is put in or taken out.
-use Rattle.std.proofs.Common.{◌≡◌, ◌≢◌, ◌⊎◌, inl, inr, ◌==◌, set, ◌%◌, ◌+◌, ◌<◌, ◌≤◌, ℕ, zero, suc, arith, Bool, true, false, List, [], ◌∷◌, ◌++◌, refl, sym, ◌∙◌, ap, subst, get_or, length}
-use Rattle.std.specs.Prelude.{Option, None, Some, is_some, slice_get}
+use Rattle.std.proofs.Common.{◌≡◌, ◌≢◌, inl, inr, ◌==◌, set, ◌%◌, ◌+◌, ◌<◌, ◌≤◌, ℕ, zero, suc, arith, true, false, List, [], ◌∷◌, ◌++◌, refl, sym, ◌∙◌, ap, subst, get_or, length}
+use Rattle.std.specs.Prelude.{Option, None, Some, slice_get}
 use Rattle.std.proofs.lemmas.Option.{slice_get_read}
 use Rattle.std.specs.Option.{option_map}
 use Rattle.std.proofs.lemmas.Bool.{cases_eq, cond-true, cond-false, eq-eqb, ne_eqb}
 use Rattle.std.proofs.lemmas.List.{length-set, length_push}
 use Rattle.reorder_window.specs.declared.slot.Place.{Place}
 use Rattle.reorder_window.specs.Numbers.{is_number}
-use Rattle.reorder_window.specs.Slots.{IsChosen, Reused, Made, Kept, kept_as, kept_at, place_at, pool_at, modulo, entry_of, taken, with_kept, IsPooled}
+use Rattle.reorder_window.specs.Slots.{IsChosen, Reused, Made, Kept, kept_at, place_at, pool_at, modulo, entry_of, taken, with_kept, IsPooled}
 use Rattle.reorder_window.specs.Steps.{Gives}
-use Rattle.reorder_window.proofs.Slots.{get-set_same, get-set_other, get-within, get-push_before, get-push_last, get-push_cases, taken-open, taken-more, taken-less}
+use Rattle.reorder_window.proofs.Slots.{get-set_same, get-set_other, get-within, get-push_before, get-push_last, taken-open, taken-more}
 
 -- a place that keeps a number
 pub record IsIn (place : Place) (number : ℕ) (kept : Kept) : Type 0 where

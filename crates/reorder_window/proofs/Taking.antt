@@ -1,12 +1,12 @@
 -- What a pool holds after a packet is taken out.
-use Rattle.std.proofs.Common.{◌≡◌, ◌≢◌, ◌⊎◌, inl, inr, ◌==◌, set, get_or, ◌%◌, ◌+◌, ◌<◌, ◌≤◌, ℕ, zero, suc, arith, Bool, true, false, List, [], ◌∷◌, ◌++◌, refl, sym, ◌∙◌, ap, length}
-use Rattle.std.specs.Prelude.{Option, None, Some, is_some, slice_get}
-use Rattle.std.proofs.lemmas.Bool.{cases_eq, cond-true, cond-false, eqb-true, ne_eqb}
+use Rattle.std.proofs.Common.{◌≡◌, ◌≢◌, inl, inr, set, ◌%◌, ◌+◌, ◌<◌, ℕ, zero, suc, arith, true, false, List, [], ◌∷◌, ◌++◌, refl, sym, ◌∙◌, ap, length}
+use Rattle.std.specs.Prelude.{Option, None, Some, slice_get}
+use Rattle.std.proofs.lemmas.Bool.{cases_eq, cond-false, eqb-true, ne_eqb}
 use Rattle.std.proofs.lemmas.List.{length-set, length_push}
 use Rattle.reorder_window.specs.declared.slot.Place.{Place}
 use Rattle.reorder_window.specs.Numbers.{is_number}
-use Rattle.reorder_window.specs.Slots.{Kept, kept_as, kept_at, place_at, pool_at, modulo, entry_of, taken, IsPooled}
-use Rattle.reorder_window.proofs.Slots.{get-set_same, get-set_other, get-within, get-push_before, get-push_last, get-push_cases, taken-less}
+use Rattle.reorder_window.specs.Slots.{kept_at, place_at, pool_at, modulo, entry_of, taken, IsPooled}
+use Rattle.reorder_window.proofs.Slots.{get-set_same, get-set_other, get-push_cases, taken-less}
 
 other_number : (o : Option ℕ) (number n : ℕ) → is_number o number ≡ true → n ≢ number → is_number o n ≡ false
 other_number None number n is apart = cc

@@ -1,4 +1,4 @@
-use Rattle.std.proofs.Common.{rules, arith}
+use Rattle.std.proofs.Common.{rules}
 use Rattle.reorder_window.proofs.Slots.{pooled-empty}
 use Rattle.reorder_window.proofs.pool.Pool.new.Goals as goal
 

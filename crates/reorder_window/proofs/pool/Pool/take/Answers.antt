@@ -1,5 +1,5 @@
-use Rattle.std.proofs.Common.{◌≡◌, ◌%◌, ◌<◌, ◌∙◌, arith, sym, subst, true, List, ℕ, length, set}
-use Rattle.std.specs.Prelude.{None, Some, slice_get}
+use Rattle.std.proofs.Common.{◌%◌, ◌∙◌, arith, sym, subst, List, ℕ, set}
+use Rattle.std.specs.Prelude.{None}
 use Rattle.reorder_window.specs.Slots.{IsPooled}
 use Rattle.reorder_window.proofs.Places.{at-false, at-true, entry-made, gives-none, gives-some, read-entry, read-place, same-place}
 use Rattle.reorder_window.proofs.Taking.{at-gone, at-others, few-free, pooled-take}
