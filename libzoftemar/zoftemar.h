@@ -25,8 +25,8 @@
  * Ownership. A zoftemar_room is the caller's, all bytes 0 at first (ZOFTEMAR_ROOM_NONE). zoftemar_open puts a room behind it,
  * zoftemar_close gives that back; both may be repeated. No pointer to a packet, a buffer or a zoftemar_room is kept after a call.
  *
- * Threads. One call at a time on a room: a lock around it, or one thread for it. Different rooms have nothing in common, and a room may go
- * from one thread to another under a lock, a start or a join.
+ * Threads. One call at a time on a room, a question too: a lock around it, or one thread for it. Different rooms have nothing in common, and a
+ * room may go from one thread to another under a lock, a start or a join.
  *
  * What the caller owes.
  *   - `room` points to a zoftemar_room that was all 0 or was last written by this library. It may be moved to another address, but then
@@ -56,7 +56,7 @@ extern "C" {
 #endif
 
 /* Where the compiler has them: a warning where the answer of an open, a question or a call that fills `out` isn't used, and one at a NULL that may not be
- * passed. No handle is const: each call writes to the handle, a question too, which in the end leaves it as it was. */
+ * passed. The handle is const for a question, which reads it alone; each other call writes to it. */
 #ifndef ZOFTEMAR_USE
 #if defined(__GNUC__)
 #define ZOFTEMAR_USE __attribute__((warn_unused_result))
@@ -221,16 +221,16 @@ typedef struct zoftemar_target {
     uint8_t temporal;
 } zoftemar_target;
 
-/* Two questions, which change nothing of the room; the handle they write to, as each call does. The target that the subscriber is sent, if it has one (ZOFTEMAR_TARGET); and whether that is the best
+/* Two questions, which only read the room. The target that the subscriber is sent, if it has one (ZOFTEMAR_TARGET); and whether that is the best
  * that its wish allows (ZOFTEMAR_REACHED), as of the newest frame. Who finds that a wish isn't reached pleads: most encoders let a subscriber
  * up at a key frame alone, and make none unasked. A subscriber of a plain track has no target. */
-ZOFTEMAR_USE ZOFTEMAR_NONNULL(1, 3) zoftemar_reply zoftemar_target_of(zoftemar_room *room, uint32_t subscriber, zoftemar_target *out);
-ZOFTEMAR_USE ZOFTEMAR_NONNULL(1) zoftemar_reply zoftemar_reaches_wish(zoftemar_room *room, uint32_t subscriber);
+ZOFTEMAR_USE ZOFTEMAR_NONNULL(1, 3) zoftemar_reply zoftemar_target_of(const zoftemar_room *room, uint32_t subscriber, zoftemar_target *out);
+ZOFTEMAR_USE ZOFTEMAR_NONNULL(1) zoftemar_reply zoftemar_reaches_wish(const zoftemar_room *room, uint32_t subscriber);
 
 /* Two questions about a track: the least moment at which zoftemar_tick gives up a gap (ZOFTEMAR_DUE), which no packet waits for where `has` is false; and
  * the number of the newest whole frame, for zoftemar_why (ZOFTEMAR_NEWEST). A plain track has no frames. */
-ZOFTEMAR_USE ZOFTEMAR_NONNULL(1) zoftemar_reply zoftemar_due(zoftemar_room *room, uint32_t track);
-ZOFTEMAR_USE ZOFTEMAR_NONNULL(1) zoftemar_reply zoftemar_newest_frame(zoftemar_room *room, uint32_t track);
+ZOFTEMAR_USE ZOFTEMAR_NONNULL(1) zoftemar_reply zoftemar_due(const zoftemar_room *room, uint32_t track);
+ZOFTEMAR_USE ZOFTEMAR_NONNULL(1) zoftemar_reply zoftemar_newest_frame(const zoftemar_room *room, uint32_t track);
 
 /* ---- Sessions: NACKs, PLIs and retransmissions by the library
  *
