@@ -27,8 +27,8 @@
  * zoftemar_close frees that room. Opening twice returns ZOFTEMAR_HAS_ROOM, closing twice does nothing. After a call the library keeps no pointer to a
  * packet, a buffer or a zoftemar_room.
  *
- * Threads. One call at a time on a room: put a lock around it, or let one thread make all its calls. Different rooms share nothing. A room may go to
- * another thread under a lock, or when a thread is started or joined.
+ * Threads. One call at a time on a room, a question too: put a lock around it, or let one thread make all its calls. Different rooms share nothing.
+ * A room may go to another thread under a lock, or when a thread is started or joined.
  *
  * What the caller owes.
  *   - `room` points to a zoftemar_room that is all 0 or was last written by this library. It may be moved to another address; then only the new
@@ -58,7 +58,7 @@ extern "C" {
 #endif
 
 /* With compilers that support it: a warning if the result of an open, a question or a call that fills `out` isn't used, or if NULL is passed where it
- * isn't allowed. No handle is const: each call writes to it, even a question, which restores it before it returns. */
+ * isn't allowed. A question takes a const handle, which it only reads; each other call writes to the handle. */
 #ifndef ZOFTEMAR_USE
 #if defined(__GNUC__)
 #define ZOFTEMAR_USE __attribute__((warn_unused_result))
@@ -233,14 +233,14 @@ typedef struct zoftemar_target {
  * (ZOFTEMAR_TARGET). zoftemar_reaches_wish: whether that target is the best that its wish allows, as of the newest frame (ZOFTEMAR_REACHED). If it
  * isn't, call zoftemar_plead: with most encoders a subscriber can switch to higher layers only at a key frame, and they make none unasked. A
  * subscriber of a plain track has no target. */
-ZOFTEMAR_USE ZOFTEMAR_NONNULL(1, 3) zoftemar_reply zoftemar_target_of(zoftemar_room *room, uint32_t subscriber, zoftemar_target *out);
-ZOFTEMAR_USE ZOFTEMAR_NONNULL(1) zoftemar_reply zoftemar_reaches_wish(zoftemar_room *room, uint32_t subscriber);
+ZOFTEMAR_USE ZOFTEMAR_NONNULL(1, 3) zoftemar_reply zoftemar_target_of(const zoftemar_room *room, uint32_t subscriber, zoftemar_target *out);
+ZOFTEMAR_USE ZOFTEMAR_NONNULL(1) zoftemar_reply zoftemar_reaches_wish(const zoftemar_room *room, uint32_t subscriber);
 
 /* Two questions about a track, which don't change the room. zoftemar_due: the earliest moment at which zoftemar_tick gives up a gap (ZOFTEMAR_DUE);
  * `has` is false if no packet is buffered behind a gap, or if the moment is 2^64 or more. zoftemar_newest_frame: the unwrapped number of the newest
  * whole frame, for zoftemar_why (ZOFTEMAR_NEWEST). A plain track has no frames. */
-ZOFTEMAR_USE ZOFTEMAR_NONNULL(1) zoftemar_reply zoftemar_due(zoftemar_room *room, uint32_t track);
-ZOFTEMAR_USE ZOFTEMAR_NONNULL(1) zoftemar_reply zoftemar_newest_frame(zoftemar_room *room, uint32_t track);
+ZOFTEMAR_USE ZOFTEMAR_NONNULL(1) zoftemar_reply zoftemar_due(const zoftemar_room *room, uint32_t track);
+ZOFTEMAR_USE ZOFTEMAR_NONNULL(1) zoftemar_reply zoftemar_newest_frame(const zoftemar_room *room, uint32_t track);
 
 /* ---- Sessions: NACKs, PLIs and retransmissions by the library
  *

@@ -34,6 +34,7 @@ public:
     void close() noexcept { Close(&owned); }
     // For calls of zoftemar.h. The object still owns it.
     [[nodiscard]] Handle *handle() noexcept { return &owned; }
+    [[nodiscard]] const Handle *handle() const noexcept { return &owned; }
 
 private:
     Handle owned{};
@@ -58,8 +59,8 @@ public:
         return zoftemar_missing(handle(), 0, track, out, count);
     }
     [[nodiscard]] Reply key_wanted(std::uint32_t track) noexcept { return zoftemar_key_wanted(handle(), 0, track); }
-    [[nodiscard]] Reply due(std::uint32_t track) noexcept { return zoftemar_due(handle(), track); }
-    [[nodiscard]] Reply newest_frame(std::uint32_t track) noexcept { return zoftemar_newest_frame(handle(), track); }
+    [[nodiscard]] Reply due(std::uint32_t track) const noexcept { return zoftemar_due(handle(), track); }
+    [[nodiscard]] Reply newest_frame(std::uint32_t track) const noexcept { return zoftemar_newest_frame(handle(), track); }
 
     [[nodiscard]] Reply join(std::uint32_t subscriber, std::uint32_t track, std::uint32_t ssrc, std::uint16_t first, std::uint8_t spatial,
                              std::uint8_t temporal) noexcept {
@@ -78,8 +79,8 @@ public:
     Reply plead(std::uint32_t subscriber) noexcept { return zoftemar_plead(handle(), 0, subscriber); }
 
     [[nodiscard]] Reply why(std::uint32_t subscriber, std::uint64_t number) noexcept { return zoftemar_why(handle(), 0, subscriber, number); }
-    [[nodiscard]] Reply target_of(std::uint32_t subscriber, Target &out) noexcept { return zoftemar_target_of(handle(), subscriber, &out); }
-    [[nodiscard]] Reply reaches_wish(std::uint32_t subscriber) noexcept { return zoftemar_reaches_wish(handle(), subscriber); }
+    [[nodiscard]] Reply target_of(std::uint32_t subscriber, Target &out) const noexcept { return zoftemar_target_of(handle(), subscriber, &out); }
+    [[nodiscard]] Reply reaches_wish(std::uint32_t subscriber) const noexcept { return zoftemar_reaches_wish(handle(), subscriber); }
 };
 
 // The methods of Publisher and Subscriber.

@@ -27,11 +27,12 @@ int main() {
     rtp[3] = 4;
     IS(room.packet(2, 0, rtp, sizeof rtp).code == ZOFTEMAR_DONE);
     IS(room.missing(2, names, ZOFTEMAR_NAMES_ROOM).first == 2 && names[0] == 2 && names[1] == 3);
-    IS(room.due(2).has && room.due(2).first == 300 && room.newest_frame(2).code == ZOFTEMAR_NEWEST);
+    const zoftemar::Room &asked = room;
+    IS(asked.due(2).has && asked.due(2).first == 300 && asked.newest_frame(2).code == ZOFTEMAR_NEWEST);
     IS(room.take(1, out, sizeof out).first == sizeof rtp && out[3] == 7 && room.take(1, out, sizeof out).code == ZOFTEMAR_EMPTY);
     IS(room.resend(1, 7, out, sizeof out).first == sizeof rtp && room.plead(1).code == ZOFTEMAR_PLAIN);
     IS(room.why(1, 0).code == ZOFTEMAR_AHEAD);
-    IS(!room.target_of(1, target).has && room.reaches_wish(1).code == ZOFTEMAR_REACHED);
+    IS(!asked.target_of(1, target).has && asked.reaches_wish(1).code == ZOFTEMAR_REACHED);
 
     IS(publisher.open(2, 0x11111111) == ZOFTEMAR_DONE && plain.open(1, 0x22222222) == ZOFTEMAR_DONE);
     IS(rtx.open_rtx(1, 0x22222222, 0x22222222, 97) == ZOFTEMAR_BAD_STREAM);

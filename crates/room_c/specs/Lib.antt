@@ -1,4 +1,5 @@
 pub mod Owned
+pub mod Lending
 pub mod Codes
 pub mod Recording
 pub mod Reading

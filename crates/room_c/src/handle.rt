@@ -41,6 +41,13 @@ impl Handle {
         }
     }
 
+    /// Whether the handle has a room.
+    pub fn has_home(&self) -> bool
+        ensures { result ≡ is_some self.now.held.home }
+    {
+        self.made
+    }
+
     /// The handle's room, or `None` if it has none.
     pub fn into_home(self) -> Option<Box<Home>>
         ensures { self.held.home ≡ option_map (λ home. home.value) result }

@@ -25,6 +25,9 @@ impl Model for Held {
 unsafe impl Send for Held {}
 
 impl Held {
+    ghost use Rattle.std.specs.Borrow.{sem};
+    ghost use Rattle.room_c.specs.Lending.{KeepsRoom};
+
     /// A value that owns the box with these parts.
     pub fn of_parts(parts: Parts<Home, Global>) -> Held
         ensures { result.home ≡ Some parts.value }
@@ -46,6 +49,15 @@ impl Held {
             ptr: at as *mut Home,
             alloc,
         }
+    }
+
+    /// The room of the box that this value owns. Only the pointer is read.
+    pub fn home(&mut self) -> &Home
+        requires { is_some self.old.home ≡ true }
+        ensures* keeps { sem 𝓛 (KeepsRoom self.entry) }
+        ensures value { Some result.now ≡ self.old.home }
+    {
+        unsafe { &*(self.at as *const Home) }
     }
 
     /// A value that owns nothing: the pointer is null.

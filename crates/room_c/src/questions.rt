@@ -1,4 +1,5 @@
-// Questions about a subscriber or a track. A question isn't a call: the room doesn't change. `NoRoom`: the handle has no room.
+// Questions about a subscriber or a track. A question isn't a call: it reads the handle and the room, and writes to neither, so in C the handle is const.
+// It is `&mut` here since an export can't read through a `&` to what owns memory. `NoRoom`: the handle has no room.
 ghost use Rattle.std.specs.Prelude.{◌≡◌, ◌<◌};
 ghost use Rattle.room_c.specs.Codes.{code_number};
 ghost use Rattle.room_c.specs.Reading.{number_in, reached_in, target_in};
@@ -11,13 +12,11 @@ use crate::plain_reply::PlainReply;
 use crate::plain_target::PlainTarget;
 use room_core::DecodeTarget;
 use sfu_base::Refusal;
-use std::alloc::Global;
 
 /// Writes to `out` the decode target that a subscriber is sent (see `Room::target_of`). Returns `Target`; `has` is true. If there is no target, `has`
 /// is false and `out` is unchanged. Refusal: `NoSubscriber`.
 #[unsafe(no_mangle)]
 pub extern "C" fn zoftemar_target_of(
-    alloc: Global,
     room: &mut Handle,
     subscriber: u32,
     out: &mut PlainTarget,
@@ -25,69 +24,49 @@ pub extern "C" fn zoftemar_target_of(
     ensures asks { AsksTarget room.old.held.home subscriber result out.old out.new }
     ensures same { room.new.held.home ≡ room.old.held.home }
 {
-    match room.take(alloc) {
-        None => PlainReply::bare(Code::NoRoom),
-        Some(home) => {
-            let told = tell_target(home.room.target_of(subscriber), out);
-            room.put(home);
-            told
-        }
+    if !room.has_home() {
+        return PlainReply::bare(Code::NoRoom);
     }
+    tell_target(room.held.home().room.target_of(subscriber), out)
 }
 
 /// Returns `Reached`. `has` is the result of `Room::reaches_wish`: whether a subscriber is sent the best decode target that its wish allows. Refusal:
 /// `NoSubscriber`.
 #[unsafe(no_mangle)]
-pub extern "C" fn zoftemar_reaches_wish(
-    alloc: Global,
-    room: &mut Handle,
-    subscriber: u32,
-) -> PlainReply
+pub extern "C" fn zoftemar_reaches_wish(room: &mut Handle, subscriber: u32) -> PlainReply
     ensures asks { AsksReached room.old.held.home subscriber result }
     ensures same { room.new.held.home ≡ room.old.held.home }
 {
-    match room.take(alloc) {
-        None => PlainReply::bare(Code::NoRoom),
-        Some(home) => {
-            let told = tell_reached(home.room.reaches_wish(subscriber));
-            room.put(home);
-            told
-        }
+    if !room.has_home() {
+        return PlainReply::bare(Code::NoRoom);
     }
+    tell_reached(room.held.home().room.reaches_wish(subscriber))
 }
 
 /// Returns `Due`. `first` is the result of `Room::due`: the moment at which a tick of a track gives up a gap. If there is none, `has` is false.
 /// Refusal: `NoTrack`.
 #[unsafe(no_mangle)]
-pub extern "C" fn zoftemar_due(alloc: Global, room: &mut Handle, track: u32) -> PlainReply
+pub extern "C" fn zoftemar_due(room: &mut Handle, track: u32) -> PlainReply
     ensures asks { AsksDue room.old.held.home track result }
     ensures same { room.new.held.home ≡ room.old.held.home }
 {
-    match room.take(alloc) {
-        None => PlainReply::bare(Code::NoRoom),
-        Some(home) => {
-            let told = tell_number(Code::Due, home.room.due(track));
-            room.put(home);
-            told
-        }
+    if !room.has_home() {
+        return PlainReply::bare(Code::NoRoom);
     }
+    tell_number(Code::Due, room.held.home().room.due(track))
 }
 
 /// Returns `Newest`. `first` is the result of `Room::newest_frame`: the number of a track's newest whole frame. If there is none, `has` is false.
 /// Refusal: `NoTrack`.
 #[unsafe(no_mangle)]
-pub extern "C" fn zoftemar_newest_frame(alloc: Global, room: &mut Handle, track: u32) -> PlainReply
+pub extern "C" fn zoftemar_newest_frame(room: &mut Handle, track: u32) -> PlainReply
     ensures asks { AsksNewest room.old.held.home track result }
     ensures same { room.new.held.home ≡ room.old.held.home }
 {
-    match room.take(alloc) {
-        None => PlainReply::bare(Code::NoRoom),
-        Some(home) => {
-            let told = tell_number(Code::Newest, home.room.newest_frame(track));
-            room.put(home);
-            told
-        }
+    if !room.has_home() {
+        return PlainReply::bare(Code::NoRoom);
     }
+    tell_number(Code::Newest, room.held.home().room.newest_frame(track))
 }
 
 #[tactic(auto, unfolding(crate::specs::Telling::target_reply, crate::specs::Telling::target_written))]

@@ -83,10 +83,10 @@ extern "C" {
     pub fn zoftemar_resend(room: &mut Handle, seat: u32, subscriber: u32, number: u16, out: *mut u8, count: usize) -> Reply;
     pub fn zoftemar_plead(room: &mut Handle, seat: u32, subscriber: u32) -> Reply;
     pub fn zoftemar_why(room: &mut Handle, seat: u32, subscriber: u32, number: u64) -> Reply;
-    pub fn zoftemar_target_of(room: &mut Handle, subscriber: u32, out: &mut Target) -> Reply;
-    pub fn zoftemar_reaches_wish(room: &mut Handle, subscriber: u32) -> Reply;
-    pub fn zoftemar_due(room: &mut Handle, track: u32) -> Reply;
-    pub fn zoftemar_newest_frame(room: &mut Handle, track: u32) -> Reply;
+    pub fn zoftemar_target_of(room: &Handle, subscriber: u32, out: &mut Target) -> Reply;
+    pub fn zoftemar_reaches_wish(room: &Handle, subscriber: u32) -> Reply;
+    pub fn zoftemar_due(room: &Handle, track: u32) -> Reply;
+    pub fn zoftemar_newest_frame(room: &Handle, track: u32) -> Reply;
     pub fn zoftemar_open_publisher(session: &mut Handle, track: u32, ssrc: u32) -> u32;
     pub fn zoftemar_open_subscriber(session: &mut Handle, subscriber: u32, ssrc: u32) -> u32;
     pub fn zoftemar_open_rtx_subscriber(session: &mut Handle, subscriber: u32, ssrc: u32, rtx_ssrc: u32, rtx_payload_type: u8) -> u32;

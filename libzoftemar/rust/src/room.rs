@@ -118,26 +118,26 @@ impl Room {
     }
 
     /// The decode target that a subscriber is sent, if it has one.
-    pub fn target_of(&mut self, subscriber: u32) -> Result<Option<Target>, Error> {
+    pub fn target_of(&self, subscriber: u32) -> Result<Option<Target>, Error> {
         let mut target = Target::default();
-        let reply = unsafe { zoftemar_target_of(&mut self.handle, subscriber, &mut target) }.expect(TARGET)?;
+        let reply = unsafe { zoftemar_target_of(&self.handle, subscriber, &mut target) }.expect(TARGET)?;
         Ok(reply.has.then_some(target))
     }
 
     /// Whether a subscriber's target is the best that its wish allows.
-    pub fn reaches_wish(&mut self, subscriber: u32) -> Result<bool, Error> {
-        Ok(unsafe { zoftemar_reaches_wish(&mut self.handle, subscriber) }.expect(REACHED)?.has)
+    pub fn reaches_wish(&self, subscriber: u32) -> Result<bool, Error> {
+        Ok(unsafe { zoftemar_reaches_wish(&self.handle, subscriber) }.expect(REACHED)?.has)
     }
 
     /// The earliest moment at which a tick of the track gives up a gap. `None`: no packet is buffered behind a gap, or the moment is 2^64 or more.
-    pub fn due(&mut self, track: u32) -> Result<Option<u64>, Error> {
-        let reply = unsafe { zoftemar_due(&mut self.handle, track) }.expect(DUE)?;
+    pub fn due(&self, track: u32) -> Result<Option<u64>, Error> {
+        let reply = unsafe { zoftemar_due(&self.handle, track) }.expect(DUE)?;
         Ok(reply.has.then_some(reply.first))
     }
 
     /// The unwrapped number of a track's newest whole frame. `None`: none came yet, or the track is plain.
-    pub fn newest_frame(&mut self, track: u32) -> Result<Option<u64>, Error> {
-        let reply = unsafe { zoftemar_newest_frame(&mut self.handle, track) }.expect(NEWEST)?;
+    pub fn newest_frame(&self, track: u32) -> Result<Option<u64>, Error> {
+        let reply = unsafe { zoftemar_newest_frame(&self.handle, track) }.expect(NEWEST)?;
         Ok(reply.has.then_some(reply.first))
     }
 }
