@@ -24,7 +24,7 @@
  * opening, publishing and joining can return ZOFTEMAR_NO_MEMORY.
  *
  * Ownership. The caller owns the zoftemar_room, whose bytes are all 0 at first (ZOFTEMAR_ROOM_NONE). zoftemar_open allocates a room behind it, and
- * zoftemar_close frees that room. Opening twice returns ZOFTEMAR_HAS_ROOM, closing twice does nothing. After a call the library keeps no pointer to a
+ * zoftemar_close frees that room. Opening again returns ZOFTEMAR_HAS_ROOM, closing again does nothing. After a call the library keeps no pointer to a
  * packet, a buffer or a zoftemar_room.
  *
  * Threads. One call at a time on a room, a question too: put a lock around it, or let one thread make all its calls. Different rooms share nothing.
@@ -126,7 +126,7 @@ enum zoftemar_code {
     ZOFTEMAR_REPEAT = 42,           /* the packet is already buffered, behind a gap; once it has left the buffer: ZOFTEMAR_LATE */
     ZOFTEMAR_EMPTY = 43,            /* no packet is queued for the subscriber */
     ZOFTEMAR_NOT_KEPT = 44,         /* first: the oldest sequence number that is kept; second: that of the next take; both as on the wire */
-    ZOFTEMAR_AHEAD = 45,            /* has: whether a frame came (never on a plain track); first: the newest one's number, if so */
+    ZOFTEMAR_AHEAD = 45,            /* has: whether a frame came since the join (never on a plain track); first: the newest one's number, if so */
     ZOFTEMAR_TOO_OLD = 46,          /* first: the lowest frame number that may be asked for */
     ZOFTEMAR_PLAIN = 47,            /* the subscriber's track is plain */
     ZOFTEMAR_NO_MEMORY = 48,        /* out of memory */

@@ -93,7 +93,7 @@ func (t *track) keep() {
 
 // Requests the track from one node after the other, until one sends it. A node that feeds others never takes the track from a deeper level than before,
 // so that nodes never form a loop. If no node at an allowed level has it, this node ends the feeds that it gives: the nodes behind them look elsewhere,
-// and this one may then take the track from any level.
+// and this one may then take the track from any node that may feed.
 func (t *track) find() error {
 	t.Lock()
 	level, avoid, children := deepest-1, t.from, t.nodes() > 0
@@ -123,7 +123,7 @@ func (t *track) dismiss() {
 	}
 }
 
-// Takes the track from a node that has it at `level` or above.
+// Takes the track from a node, if that has it at `level` or above.
 func (t *track) take(node string, level int) error {
 	l, at, err := newLink()
 	if err != nil {

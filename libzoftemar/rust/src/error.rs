@@ -31,7 +31,7 @@ pub enum Error {
     Repeat,
     /// The packet isn't kept. `oldest` is the oldest sequence number that is kept, `next` that of the next take; both are as on the wire.
     NotKept { oldest: u64, next: u64 },
-    /// The frame number is above `newest`, the newest frame's. `None`: no frame came.
+    /// The frame number is above `newest`, the newest frame's. `None`: no frame came since the subscriber joined.
     Ahead { newest: Option<u64> },
     /// The frame number is below `lowest`, the lowest that may be asked for.
     TooOld { lowest: u64 },
