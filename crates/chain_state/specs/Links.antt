@@ -24,7 +24,7 @@ numbers_of frames = map number_of frames
 abbrev pub is_linked : FrameMeaning → ℕ → ℕ → Bool
 is_linked f target mask = f.chain_count == 0 || bit_at mask (chain_link f target) == 1
 
--- If each bit of the mask is a forwarded frame, the chain is then intact, whichever frame opened the target.
+-- If f is above all forwarded frames and each bit of the mask is one of them, the chain is then intact, whichever frame opened the target.
 abbrev pub LinkedIsIntact : Type 0
 LinkedIsIntact = (frames : List FrameMeaning) (f : FrameMeaning) (target opened mask : ℕ) → AreBelow (held_of (numbers_of frames)) f.number mask
     → IsAboveAll f.number (numbers_of frames) → is_linked f target mask ≡ true → is_link_broken (has_frame_below frames f.number) f target opened ≡ false

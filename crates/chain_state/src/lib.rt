@@ -58,7 +58,7 @@ pub fn is_linked(frame: &FrameMeaning, target: u8, forwarded: u64) -> bool
     frame.chain_count == 0 || has_bit(forwarded, distance_in_chain(frame, target))
 }
 
-/// A law: where [`is_linked`] is true for a mask of forwarded frames, the chain is intact, whichever frame opened the target.
+/// A law: where [`is_linked`] is true for a mask of forwarded frames, all below this one, the chain is intact, whichever frame opened the target.
 pub fn linked_chains_are_intact()
     ensures { LinkedIsIntact }
 {}

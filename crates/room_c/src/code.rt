@@ -22,7 +22,7 @@ pub enum Code {
     Newest = 7,
     /// The frame was forwarded.
     Passed = 16,
-    /// The frame isn't present in the subscriber's target, whose index is `first`. If `has` is false, the subscriber has no target.
+    /// The frame isn't present in the subscriber's target, whose index is `first`. If `has` is false, no target is open and the wish allows none.
     NotOfTarget = 17,
     /// The frame refers to a frame `first` numbers back, which is before the epoch's first frame, number `second`.
     Behind = 18,
@@ -64,7 +64,7 @@ pub enum Code {
     Empty = 43,
     /// No kept packet has the number. `first`: the oldest kept number. `second`: the number of the next take. If no packet is kept, both are equal.
     NotKept = 44,
-    /// The number is above `first`, the newest frame's number. If `has` is false, no frame came.
+    /// The number is above `first`, the newest frame's number. If `has` is false, no frame came since the subscriber joined.
     Ahead = 45,
     /// The number is below `first`, the lowest number that may be asked about.
     TooOld = 46,

@@ -13,8 +13,8 @@ use crate::plain_target::PlainTarget;
 use room_core::DecodeTarget;
 use sfu_base::Refusal;
 
-/// Writes to `out` the decode target that a subscriber is sent (see `Room::target_of`). Returns `Target`; `has` is true. If there is no target, `has`
-/// is false and `out` is unchanged. Refusal: `NoSubscriber`.
+/// Writes to `out` the decode target that a subscriber is sent, if there is one (see `Room::target_of`). Returns `Target`; `has` says whether there
+/// is one. If not, or on a refusal, `out` is unchanged. Refusal: `NoSubscriber`.
 #[unsafe(no_mangle)]
 pub extern "C" fn zoftemar_target_of(
     room: &mut Handle,

@@ -108,7 +108,7 @@ pub extern "C" fn zoftemar_take(
     }
 }
 
-/// Writes the packet that was taken with this sequence number to the start of `out` again, as `Room::resend` does for a NACK (RFC 4585, section
+/// Writes a packet that was taken before, with this sequence number, to the start of `out`, as `Room::resend` does for a NACK (RFC 4585, section
 /// 6.2.1). Returns `Packet`. Refusals: `NoSubscriber`, `NotKept`. `NoSpace`: `out` has fewer than 2,048 bytes; nothing changes.
 #[unsafe(no_mangle)]
 pub extern "C" fn zoftemar_resend(

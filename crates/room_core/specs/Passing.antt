@@ -33,7 +33,7 @@ pub record IsPassed (R : Feed → Feed → Type 0) (number : ℕ) (old new : Liv
   pub passed : old.track ≡ number → R old.feed.value new.feed.value
   pub other : (old.track ≡ number → ⊥) → new ≡ old
 
--- the same for each subscriber in the table, under its number
+-- the same for each subscriber, under its number; the two tables have the same numbers
 abbrev pub PassedTo : (Feed → Feed → Type 0) → ℕ → (ℕ → Option LiveSubscriber) → (ℕ → Option LiveSubscriber) → Type 0
 PassedTo R number old new = (n : ℕ) → Both (IsPassed R number) (old n) (new n)
 

@@ -34,8 +34,8 @@ impl Content {
         }
     }
 
-    /// Allocates the memory that a call needs: the pipeline, the frame cache and the table entry for an accepted publish, or the feed and the table
-    /// entry for an accepted join. `NoMemory`: out of memory.
+    /// Allocates the memory that a call needs: the pipeline, the frame cache and the table entry for an accepted publish, or the feed, the table
+    /// entry and buffers of the track's store for an accepted join. `NoMemory`: out of memory.
     pub fn prepare(&mut self, alloc: Global, call: &Call) -> Result<Ready, NoMemory>
         ensures same { (past : List Call) → IsAfter self.old past → IsAfter self.new past }
         ensures ready { IfOk result (IsReady self.new call.now) }

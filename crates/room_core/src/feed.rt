@@ -122,7 +122,7 @@ impl Feed {
         self.selector.target().is_none()
     }
 
-    /// Returns why the frame with this unwrapped number was or wasn't passed. `Ahead`: the number is above the newest frame's, or no frame came yet.
+    /// Returns why the frame with this unwrapped number was or wasn't passed. `Ahead`: the number is above the newest frame's, or no frame came since the join.
     /// `TooOld`: the number is 4,096 or more below the newest frame's.
     pub fn why(&self, number: u64) -> Result<Verdict, Refusal>
         ensures tells { Tells self.now number result }

@@ -1,7 +1,7 @@
 // How much memory a full room, with 64 tracks and 256 subscribers, allocates for packets and verdicts, in bytes.
 
-// The reorder window of a track: 1,024 packets and a spare one (`reorder_window`), each with its number, its moment, and what the heap adds to a
-// block. A slot for a packet has 1,512 bytes (`packet_slot`).
+// The reorder window of a track: places for 1,024 packets (`reorder_window`), each with its number and its moment. What is more is for two slots, the
+// index and what the heap adds to a block. A slot for a packet has 1,512 bytes (`packet_slot`).
 const WINDOW: usize = 1025 * (1512 + 48);
 
 // The frame under assembly: 512 packets and a spare one (`frame_assembly`).

@@ -241,7 +241,7 @@ impl<R: Recorder> Room<R> {
     }
 
     /// Returns why a frame was or wasn't passed to a subscriber, as [`Call::Why`] does. `NoSubscriber`: no live subscriber has the number.
-    /// `Ahead`: the frame number is above the newest frame's, or no frame came yet. `TooOld`: it is 4,096 or more below the newest frame's.
+    /// `Ahead`: the frame number is above the newest frame's, or no frame came since the join. `TooOld`: it is 4,096 or more below the newest frame's.
     pub fn why(&mut self, seat: u32, subscriber: u32, number: u64) -> Reply
         ensures { DoesAsServe R.noted R.may_refuse self.old self.new seat (call.Why subscriber number) result }
     {

@@ -31,7 +31,7 @@ pub fn take_place(tracks: &mut IndexMap<u32, LiveTrack>, track: u32, place: usiz
     }
 }
 
-/// Removing the subscriber at `place` moved the table's last subscriber there. Records the new place in the set of that subscriber's track.
+/// Removing the subscriber at `place` moved the table's last subscriber there, if that was another. Records the new place in the set of its track.
 pub fn move_last(
     tracks: &mut IndexMap<u32, LiveTrack>,
     subscribers: &IndexMap<u32, LiveSubscriber>,

@@ -47,8 +47,8 @@ impl<'a, R: Recorder, C, W> Stage<'a, R, C, W> {
     }
 }
 
-/// Receives a datagram, and then reads the clock. Each turn of a session does both exactly once, even if the session doesn't use the results (own
-/// rule). Returns whether a datagram came, and the moment.
+/// Receives a datagram and, unless that fails, reads the clock. Each turn of a session does this exactly once, even if the session doesn't use the
+/// results (own rule). Returns whether a datagram came, and the moment.
 fn listen<L: Link, C: Clock>(
     link: &mut L,
     clock: &C,
