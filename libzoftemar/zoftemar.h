@@ -21,7 +21,7 @@
  * A seat is any number that names the caller; it changes no reply, and 0 will do.
  *
  * Codes. Nothing aborts or throws. A call returns a zoftemar_reply, an open only its code, a close nothing. A refused call changes nothing. Only
- * opening, publishing and joining can return ZOFTEMAR_NO_MEMORY.
+ * opening, publishing, joining and zoftemar_recorder_feed can return ZOFTEMAR_NO_MEMORY.
  *
  * Ownership. The caller owns the zoftemar_room, whose bytes are all 0 at first (ZOFTEMAR_ROOM_NONE). zoftemar_open allocates a room behind it, and
  * zoftemar_close frees that room. Opening again returns ZOFTEMAR_HAS_ROOM, closing again does nothing. After a call the library keeps no pointer to a
@@ -99,6 +99,7 @@ enum zoftemar_code {
     ZOFTEMAR_TARGET = 5,            /* has: whether the subscriber has a decode target; if so, it was written to `out` */
     ZOFTEMAR_DUE = 6,               /* has: whether a tick of the track will be due; first: the moment, if so */
     ZOFTEMAR_NEWEST = 7,            /* has: whether a whole frame of the track came; first: the newest one's number, if so */
+    ZOFTEMAR_FILE_PIECE = 8,        /* first: the number of bytes of the file that were written to `out`; second: how many are left */
 
     /* Why a frame was or wasn't forwarded to a subscriber. Frame numbers are unwrapped: they go on after 65,535. */
     ZOFTEMAR_PASSED = 16,
@@ -116,7 +117,7 @@ enum zoftemar_code {
     ZOFTEMAR_NO_SUBSCRIBER = 33,    /* no live subscriber has this number */
     ZOFTEMAR_NUMBER_USED = 34,      /* the number isn't above `first`, the highest that was ever live (0 if none was) */
     ZOFTEMAR_TOO_MANY = 35,         /* first: how many are live (64 tracks, 256 subscribers) */
-    ZOFTEMAR_BAD_EXTENSION_ID = 36, /* 0 or 15 */
+    ZOFTEMAR_BAD_EXTENSION_ID = 36, /* 0 or 15; of a recorder: 0 */
     ZOFTEMAR_TOO_BIG = 37,          /* first: the packet's length in bytes, more than 1,500 */
     ZOFTEMAR_UNREADABLE = 38,       /* not RTP. first, the fault: 0 fewer than 12 bytes, 1 the version, 2 the CSRCs, 3 the header extension,
                                      * 4 the padding; in zoftemar_unwrap also 5: no original sequence number */
@@ -134,23 +135,37 @@ enum zoftemar_code {
     /* Errors found before the room is called: nothing changes. */
     ZOFTEMAR_NO_ROOM = 64,          /* the handle has no room */
     ZOFTEMAR_HAS_ROOM = 65,         /* zoftemar_open: the handle already has a room */
-    ZOFTEMAR_NO_SPACE = 66,         /* `out` has fewer than ZOFTEMAR_PACKET_ROOM bytes or ZOFTEMAR_NAMES_ROOM sequence numbers */
+    ZOFTEMAR_NO_SPACE = 66,         /* `out` has fewer than ZOFTEMAR_PACKET_ROOM bytes or ZOFTEMAR_NAMES_ROOM sequence numbers; of a file: no byte */
     ZOFTEMAR_TOO_LONG = 67,         /* a packet or datagram of more than ZOFTEMAR_PACKET_ROOM bytes; in zoftemar_wrap, of more than 2,046 */
     ZOFTEMAR_NO_SESSION = 68,       /* the handle has no session */
     ZOFTEMAR_HAS_SESSION = 69,      /* opening a session: the handle already has one */
     ZOFTEMAR_BUSY = 70,             /* the session still has a call to make: call zoftemar_session_work until ZOFTEMAR_DONE */
-    ZOFTEMAR_BAD_STREAM = 71        /* a payload type of 128 or more, or a retransmission stream with the SSRC of the media */
+    ZOFTEMAR_BAD_STREAM = 71,       /* a payload type of 128 or more, or a retransmission stream with the SSRC of the media */
+    ZOFTEMAR_NO_RECORDER = 72,      /* the handle has no recorder */
+    ZOFTEMAR_HAS_RECORDER = 73,     /* zoftemar_recorder_open: the handle already has a recorder */
+    ZOFTEMAR_FINISHED = 74,         /* the recorder is finished, and takes no packets */
+
+    /* Faults of a recorder's packets. The first one is returned by each later zoftemar_recorder_feed. */
+    ZOFTEMAR_UNREAD = 80,           /* not RTP, no or a bad payload, no or a bad descriptor, or a structure that isn't in force, without a key frame */
+    ZOFTEMAR_OTHER_SOURCE = 81,     /* first: the packet's SSRC; second: the first packet's */
+    ZOFTEMAR_OUT_OF_SEQUENCE = 82,  /* first: the packet's sequence number; second: the last packet's, which should be one less */
+    ZOFTEMAR_NO_STRUCTURE = 83,     /* the descriptor needs a template dependency structure, and none came */
+    ZOFTEMAR_NOT_WHOLE = 84,        /* the packets of a frame don't form a whole frame */
+    ZOFTEMAR_MISSING_REFERENCE = 85, /* first: the frame's 16-bit number; second: how many frame numbers back the frame is that it lacks */
+    ZOFTEMAR_NOT_OBU = 86           /* an element of the frame that the packet ends isn't an OBU (AV1, section 5.3.1) */
 };
 
 /* X(name) for each code. */
 #define ZOFTEMAR_EACH_CODE(X) \
     X(ZOFTEMAR_DONE) X(ZOFTEMAR_PACKET) X(ZOFTEMAR_NAMES) X(ZOFTEMAR_KEY) X(ZOFTEMAR_REACHED) X(ZOFTEMAR_TARGET) X(ZOFTEMAR_DUE) \
-    X(ZOFTEMAR_NEWEST) X(ZOFTEMAR_PASSED) X(ZOFTEMAR_NOT_OF_TARGET) X(ZOFTEMAR_BEHIND) X(ZOFTEMAR_REFERENCE) X(ZOFTEMAR_FULL) \
-    X(ZOFTEMAR_LINK) X(ZOFTEMAR_UNOPENED) X(ZOFTEMAR_HOLE) X(ZOFTEMAR_NO_TRACK) X(ZOFTEMAR_NO_SUBSCRIBER) X(ZOFTEMAR_NUMBER_USED) \
+    X(ZOFTEMAR_NEWEST) X(ZOFTEMAR_FILE_PIECE) X(ZOFTEMAR_PASSED) X(ZOFTEMAR_NOT_OF_TARGET) X(ZOFTEMAR_BEHIND) X(ZOFTEMAR_REFERENCE) \
+    X(ZOFTEMAR_FULL) X(ZOFTEMAR_LINK) X(ZOFTEMAR_UNOPENED) X(ZOFTEMAR_HOLE) X(ZOFTEMAR_NO_TRACK) X(ZOFTEMAR_NO_SUBSCRIBER) X(ZOFTEMAR_NUMBER_USED) \
     X(ZOFTEMAR_TOO_MANY) X(ZOFTEMAR_BAD_EXTENSION_ID) X(ZOFTEMAR_TOO_BIG) X(ZOFTEMAR_UNREADABLE) X(ZOFTEMAR_WRONG_SSRC) X(ZOFTEMAR_SPENT) \
     X(ZOFTEMAR_LATE) X(ZOFTEMAR_REPEAT) X(ZOFTEMAR_EMPTY) X(ZOFTEMAR_NOT_KEPT) X(ZOFTEMAR_AHEAD) X(ZOFTEMAR_TOO_OLD) X(ZOFTEMAR_PLAIN) \
     X(ZOFTEMAR_NO_MEMORY) X(ZOFTEMAR_NO_ROOM) X(ZOFTEMAR_HAS_ROOM) X(ZOFTEMAR_NO_SPACE) X(ZOFTEMAR_TOO_LONG) X(ZOFTEMAR_NO_SESSION) \
-    X(ZOFTEMAR_HAS_SESSION) X(ZOFTEMAR_BUSY) X(ZOFTEMAR_BAD_STREAM)
+    X(ZOFTEMAR_HAS_SESSION) X(ZOFTEMAR_BUSY) X(ZOFTEMAR_BAD_STREAM) X(ZOFTEMAR_NO_RECORDER) X(ZOFTEMAR_HAS_RECORDER) X(ZOFTEMAR_FINISHED) \
+    X(ZOFTEMAR_UNREAD) X(ZOFTEMAR_OTHER_SOURCE) X(ZOFTEMAR_OUT_OF_SEQUENCE) X(ZOFTEMAR_NO_STRUCTURE) X(ZOFTEMAR_NOT_WHOLE) \
+    X(ZOFTEMAR_MISSING_REFERENCE) X(ZOFTEMAR_NOT_OBU)
 
 /* The name of a code, such as "ZOFTEMAR_DONE"; "ZOFTEMAR_?" for any other number. */
 #if defined(__STDC_VERSION__) && __STDC_VERSION__ >= 199901L || defined(__cplusplus)
@@ -296,6 +311,45 @@ ZOFTEMAR_NONNULL(1) zoftemar_reply zoftemar_session_waited(zoftemar_session *ses
 ZOFTEMAR_USE ZOFTEMAR_NONNULL(1, 2) zoftemar_reply zoftemar_session_work(zoftemar_session *session, zoftemar_room *room, uint32_t seat,
                                                                          uint8_t *out, size_t count);
 
+/* ---- Recording: the packets of a subscriber as a file
+ *
+ * A recorder makes an IVF file, as `sfu record` does, of the packets that a subscriber of a layered track takes, from its first take on. dav1d and
+ * ffmpeg play it. The file stays in memory until the recorder is closed, since its header has the number of units.
+ *
+ *     zoftemar_recorder recorder = ZOFTEMAR_RECORDER_NONE;
+ *     if (zoftemar_recorder_open(&recorder, 4) != ZOFTEMAR_DONE) return 1;         // descriptors under id 4
+ *     zoftemar_recorder_feed(&recorder, out, r.first);                             // after each zoftemar_take that returns a packet
+ *     while ((r = zoftemar_recorder_finish(&recorder, out, sizeof out)).code == ZOFTEMAR_FILE_PIECE)
+ *         fwrite(out, 1, r.first, file);
+ *     zoftemar_recorder_close(&recorder);
+ *
+ * Threads. One call at a time on a recorder; it has no room. */
+
+/* A recorder's handle. As with a room's, the caller owns it, its bytes are all 0 at first, and its fields are private to the library. */
+typedef struct zoftemar_recorder {
+    bool made;
+    struct { void *at; } held;
+} zoftemar_recorder;
+
+#define ZOFTEMAR_RECORDER_NONE ZOFTEMAR_ROOM_NONE
+
+/* Opens a recorder of packets with descriptors in the header extension element `id`, 1 to 255: ZOFTEMAR_DONE, ZOFTEMAR_HAS_RECORDER,
+ * ZOFTEMAR_NO_MEMORY or ZOFTEMAR_BAD_EXTENSION_ID. */
+ZOFTEMAR_USE ZOFTEMAR_NONNULL(1) uint32_t zoftemar_recorder_open(zoftemar_recorder *recorder, uint8_t id);
+
+/* Records the next packet. A code from ZOFTEMAR_UNREAD to ZOFTEMAR_NOT_OBU: a strict receiver finds this fault; the file has the frames before it,
+ * and no more. ZOFTEMAR_NO_MEMORY, ZOFTEMAR_TOO_LONG, ZOFTEMAR_NO_RECORDER, ZOFTEMAR_FINISHED: nothing changes, and after ZOFTEMAR_NO_MEMORY the
+ * packet may be passed again. Packets that one subscriber takes have no fault but possibly ZOFTEMAR_NOT_OBU. */
+ZOFTEMAR_NONNULL(1) zoftemar_reply zoftemar_recorder_feed(zoftemar_recorder *recorder, const uint8_t *bytes, size_t count);
+
+/* Finishes the recorder, and copies the next bytes of its file to `out`, `count` or all that are left: ZOFTEMAR_FILE_PIECE. ZOFTEMAR_DONE: the file
+ * ended with the bytes before. The first reply tells the size of the file, `first` plus `second`. ZOFTEMAR_NO_SPACE (`count` is 0): nothing
+ * changes. It needs no memory. */
+ZOFTEMAR_USE ZOFTEMAR_NONNULL(1) zoftemar_reply zoftemar_recorder_finish(zoftemar_recorder *recorder, uint8_t *out, size_t count);
+
+/* Frees the recorder and its file. Does nothing if the handle has no recorder. */
+ZOFTEMAR_NONNULL(1) void zoftemar_recorder_close(zoftemar_recorder *recorder);
+
 /* ---- Without a room
  *
  * zoftemar_wrap makes the retransmission of an RTP packet of at most 2,046 bytes, with sequence number `number` on an RTX stream (RFC 4588,
@@ -324,6 +378,7 @@ ZOFTEMAR_USE uint32_t zoftemar_version(void);
 #endif
 ZOFTEMAR_HOLDS(room, sizeof(zoftemar_room) == 16 && offsetof(zoftemar_room, held) == 8);
 ZOFTEMAR_HOLDS(session, sizeof(zoftemar_session) == 16 && offsetof(zoftemar_session, held) == 8);
+ZOFTEMAR_HOLDS(recorder, sizeof(zoftemar_recorder) == 16 && offsetof(zoftemar_recorder, held) == 8);
 ZOFTEMAR_HOLDS(reply, sizeof(zoftemar_reply) == 24 && offsetof(zoftemar_reply, has) == 4);
 ZOFTEMAR_HOLDS(numbers, offsetof(zoftemar_reply, first) == 8 && offsetof(zoftemar_reply, second) == 16);
 ZOFTEMAR_HOLDS(target, sizeof(zoftemar_target) == 4 && offsetof(zoftemar_target, known) == 1 && offsetof(zoftemar_target, temporal) == 3);

@@ -1,6 +1,7 @@
-// zoftemar.hpp: zoftemar.h as move-only classes, for C++17. An object owns at most one room or session, and closes it when it is destroyed. An object
-// that isn't open, or was moved from, owns none: its calls return ZOFTEMAR_NO_ROOM or ZOFTEMAR_NO_SESSION. Each method calls the function of its name
-// in zoftemar.h, with seat 0; codes, units and what the caller owes are as there. Nothing throws, and the classes allocate and copy nothing.
+// zoftemar.hpp: zoftemar.h as move-only classes, for C++17. An object owns at most one room, session or recorder, and closes it when it is destroyed.
+// An object that isn't open, or was moved from, owns none: its calls return ZOFTEMAR_NO_ROOM, ZOFTEMAR_NO_SESSION or ZOFTEMAR_NO_RECORDER. Each method
+// calls the function of its name in zoftemar.h, with seat 0; codes, units and what the caller owes are as there. Nothing throws, and the classes
+// allocate and copy nothing.
 // One thread at a time may use an object, and the object may go to another thread.
 #ifndef ZOFTEMAR_HPP
 #define ZOFTEMAR_HPP
@@ -111,6 +112,13 @@ public:
     [[nodiscard]] std::uint32_t open_rtx(std::uint32_t subscriber, std::uint32_t ssrc, std::uint32_t rtx_ssrc, std::uint8_t rtx_payload_type) noexcept {
         return zoftemar_open_rtx_subscriber(handle(), subscriber, ssrc, rtx_ssrc, rtx_payload_type);
     }
+};
+
+class Recorder : public Owner<zoftemar_recorder, zoftemar_recorder_close> {
+public:
+    [[nodiscard]] std::uint32_t open(std::uint8_t id) noexcept { return zoftemar_recorder_open(handle(), id); }
+    Reply feed(const std::uint8_t *bytes, std::size_t count) noexcept { return zoftemar_recorder_feed(handle(), bytes, count); }
+    [[nodiscard]] Reply finish(std::uint8_t *out, std::size_t count) noexcept { return zoftemar_recorder_finish(handle(), out, count); }
 };
 
 } // namespace zoftemar

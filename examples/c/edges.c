@@ -1,5 +1,6 @@
 /* edges.c: tests the codes that the library returns at its limits, each allocation failing in turn, and calls from another thread. It exits with 0 if
- * all is as the header says. With the argument `sizes` it prints how many bytes a room, a track, a subscriber and a session allocate. */
+ * all is as the header says. With the argument `sizes` it prints how many bytes a room, a track, a subscriber, a session and a recorder
+ * allocate. */
 #include <pthread.h>
 #include <stdio.h>
 #include <stdlib.h>
@@ -125,6 +126,82 @@ static void wrapping(void) {
     IS(zoftemar_unwrap(out, 15, 1, 128, back, sizeof back).code == ZOFTEMAR_BAD_STREAM);
 }
 
+/* A key frame of one packet, and a frame that refers to it. */
+static const uint8_t key[31] = { 0x90, 0xe0, 0xff, 0xff, 0, 0, 0, 0, 0x22, 0x22, 0x22, 0x22, 0xbe, 0xde, 0, 3, 0x48, 0xc0, 0, 1, 0xc0, 0, 0x3a, 0x41, 1,
+    0x40, 0, 0, 0x18, 0x30, 0 };
+static const uint8_t next[23] = { 0x90, 0xe0, 0, 0, 0, 0, 0, 0, 0x22, 0x22, 0x22, 0x22, 0xbe, 0xde, 0, 1, 0x42, 0xc1, 0, 2, 0x10, 0x30, 0 };
+
+static uint32_t record(zoftemar_recorder *recorder, const uint8_t *bytes, size_t count) { return zoftemar_recorder_feed(recorder, bytes, count).code; }
+
+/* The fault of the second frame if its byte at `at` is `value`, as two calls say; the file has the frame before. */
+static zoftemar_reply fault_of(size_t at, uint8_t value) {
+    zoftemar_recorder recorder = ZOFTEMAR_RECORDER_NONE;
+    uint8_t other[sizeof next];
+    memcpy(other, next, sizeof next);
+    other[at] = value;
+    IS(zoftemar_recorder_open(&recorder, 4) == ZOFTEMAR_DONE && record(&recorder, key, sizeof key) == ZOFTEMAR_DONE);
+    zoftemar_reply fault = zoftemar_recorder_feed(&recorder, other, sizeof other), again = zoftemar_recorder_feed(&recorder, next, sizeof next);
+    IS(again.code == fault.code && again.has == fault.has && again.first == fault.first && again.second == fault.second);
+    IS(zoftemar_recorder_finish(&recorder, out, sizeof out).first == 49 && out[24] == 1);
+    zoftemar_recorder_close(&recorder);
+    return fault;
+}
+
+static void recording(void) {
+    zoftemar_recorder recorder = ZOFTEMAR_RECORDER_NONE;
+    zoftemar_reply r;
+    IS(record(&recorder, key, sizeof key) == ZOFTEMAR_NO_RECORDER && zoftemar_recorder_finish(&recorder, out, 1).code == ZOFTEMAR_NO_RECORDER);
+    zoftemar_recorder_close(&recorder);
+    IS(zoftemar_recorder_open(&recorder, 0) == ZOFTEMAR_BAD_EXTENSION_ID && record(&recorder, key, sizeof key) == ZOFTEMAR_NO_RECORDER);
+    IS(zoftemar_recorder_open(&recorder, 4) == ZOFTEMAR_DONE && zoftemar_recorder_open(&recorder, 4) == ZOFTEMAR_HAS_RECORDER);
+    IS(record(&recorder, big, 2049) == ZOFTEMAR_TOO_LONG && zoftemar_recorder_finish(&recorder, NULL, 0).code == ZOFTEMAR_NO_SPACE);
+    IS(record(&recorder, key, sizeof key) == ZOFTEMAR_DONE && record(&recorder, next, sizeof next) == ZOFTEMAR_DONE);
+    for (size_t at = 0; at < 52; at++) { /* one byte at a time */
+        r = zoftemar_recorder_finish(&recorder, out + at, 1);
+        IS(r.code == ZOFTEMAR_FILE_PIECE && r.has && r.first == 1 && r.second == 51 - at);
+    }
+    IS(memcmp(out, "DKIF\0\0\40\0AV01", 12) == 0 && memcmp(out + 44, "\22\0\62\1\0\62\1\0", 8) == 0);
+    IS(zoftemar_recorder_finish(&recorder, out, 1).code == ZOFTEMAR_DONE && zoftemar_recorder_finish(&recorder, NULL, 0).code == ZOFTEMAR_NO_SPACE);
+    IS(record(&recorder, next, sizeof next) == ZOFTEMAR_FINISHED && zoftemar_recorder_open(&recorder, 4) == ZOFTEMAR_HAS_RECORDER);
+    zoftemar_recorder_close(&recorder);
+
+    IS(zoftemar_recorder_open(&recorder, 4) == ZOFTEMAR_DONE && record(&recorder, next, sizeof next) == ZOFTEMAR_NO_STRUCTURE);
+    IS(zoftemar_recorder_finish(&recorder, out, sizeof out).first == 32);
+    zoftemar_recorder_close(&recorder);
+    zoftemar_recorder_close(&recorder);
+    IS(fault_of(0, 0x50).code == ZOFTEMAR_UNREAD && fault_of(17, 0x41).code == ZOFTEMAR_NOT_WHOLE && fault_of(21, 0xb0).code == ZOFTEMAR_NOT_OBU);
+    r = fault_of(11, 0x33);
+    IS(r.code == ZOFTEMAR_OTHER_SOURCE && r.first == 0x22222233 && r.second == 0x22222222);
+    r = fault_of(3, 5);
+    IS(r.code == ZOFTEMAR_OUT_OF_SEQUENCE && r.first == 5 && r.second == 65535);
+    r = fault_of(19, 3);
+    IS(r.code == ZOFTEMAR_MISSING_REFERENCE && r.first == 3 && r.second == 1 && blocks == 0);
+}
+
+/* Each allocation of a recorder fails in turn. A call that was refused succeeds afterwards. */
+static void recorder_memory(void) {
+    for (long n = 0;; n++) {
+        zoftemar_recorder recorder = ZOFTEMAR_RECORDER_NONE;
+        left = n;
+        uint32_t code = zoftemar_recorder_open(&recorder, 4);
+        if (code != ZOFTEMAR_DONE) {
+            IS(code == ZOFTEMAR_NO_MEMORY && record(&recorder, key, sizeof key) == ZOFTEMAR_NO_RECORDER && blocks == 0);
+            continue;
+        }
+        uint32_t first = record(&recorder, key, sizeof key);
+        uint32_t second = first == ZOFTEMAR_DONE ? record(&recorder, next, sizeof next) : ZOFTEMAR_NO_MEMORY;
+        left = -1;
+        if (first != ZOFTEMAR_DONE) IS(first == ZOFTEMAR_NO_MEMORY && record(&recorder, key, sizeof key) == ZOFTEMAR_DONE);
+        if (second != ZOFTEMAR_DONE) IS(second == ZOFTEMAR_NO_MEMORY && record(&recorder, next, sizeof next) == ZOFTEMAR_DONE);
+        left = 0;
+        IS(zoftemar_recorder_finish(&recorder, out, sizeof out).first == 52 && zoftemar_recorder_finish(&recorder, out, 1).code == ZOFTEMAR_DONE);
+        left = -1;
+        zoftemar_recorder_close(&recorder);
+        IS(blocks == 0);
+        if (first == ZOFTEMAR_DONE && second == ZOFTEMAR_DONE) return;
+    }
+}
+
 /* Each allocation fails in turn. A call that was refused succeeds afterwards, and all blocks are freed. */
 static void memory(void) {
     zoftemar_reply publish, join;
@@ -187,6 +264,10 @@ static void sizes(void) {
     IS(zoftemar_open_publisher(&session, 1, 1) == ZOFTEMAR_DONE);
     size_of("a session");
     zoftemar_close_session(&session);
+    zoftemar_recorder recorder = ZOFTEMAR_RECORDER_NONE;
+    IS(zoftemar_recorder_open(&recorder, 4) == ZOFTEMAR_DONE);
+    size_of("a recorder");
+    zoftemar_recorder_close(&recorder);
     zoftemar_close(&room);
 }
 
@@ -194,6 +275,8 @@ int main(int argc, char **argv) {
     codes();
     sessions();
     wrapping();
+    recording();
+    recorder_memory();
     memory();
     threads();
     if (argc > 1 && strcmp(argv[1], "sizes") == 0) sizes();

@@ -42,5 +42,11 @@ int main() {
     IS(publisher.work(room, out, sizeof out).code == ZOFTEMAR_PACKET && out[1] == 205 && out[13] == 2);
     IS(rtx.received(20, nack, sizeof nack).code == ZOFTEMAR_DONE);
     IS(rtx.work(room, out, sizeof out).first == sizeof rtp + 2 && out[1] == 97);
+
+    zoftemar::Recorder recorder;
+    IS(recorder.feed(rtp, sizeof rtp).code == ZOFTEMAR_NO_RECORDER && recorder.open(4) == ZOFTEMAR_DONE && recorder.open(4) == ZOFTEMAR_HAS_RECORDER);
+    IS(recorder.feed(rtp, sizeof rtp).code == ZOFTEMAR_UNREAD);
+    IS(recorder.finish(out, sizeof out).first == 32 && out[0] == 'D' && recorder.finish(out, sizeof out).code == ZOFTEMAR_DONE);
+    IS(recorder.feed(rtp, sizeof rtp).code == ZOFTEMAR_FINISHED);
     IS(room.leave(1).code == ZOFTEMAR_DONE && zoftemar_tick(room.handle(), 0, 2, 40).code == ZOFTEMAR_DONE);
 }

@@ -25,8 +25,8 @@ void rattle_dealloc(void *at) {
 template <class T>
 constexpr bool only_moves = !std::is_copy_constructible_v<T> && !std::is_copy_assignable_v<T> && std::is_nothrow_move_constructible_v<T> &&
                             std::is_nothrow_move_assignable_v<T>;
-static_assert(only_moves<Room> && only_moves<Session> && only_moves<Publisher> && only_moves<Subscriber>);
-static_assert(sizeof(Room) == sizeof(zoftemar_room) && sizeof(Publisher) == sizeof(zoftemar_session));
+static_assert(only_moves<Room> && only_moves<Session> && only_moves<Publisher> && only_moves<Subscriber> && only_moves<Recorder>);
+static_assert(sizeof(Room) == sizeof(zoftemar_room) && sizeof(Publisher) == sizeof(zoftemar_session) && sizeof(Recorder) == sizeof(zoftemar_recorder));
 
 int main() {
     {

@@ -6,4 +6,5 @@ pub mod Reading
 pub mod Telling
 pub mod Serving
 pub mod Attending
+pub mod Taping
 pub mod Wrapping

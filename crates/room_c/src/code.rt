@@ -1,7 +1,7 @@
 // The codes of replies and their numbers for C.
 
-/// The kind of a reply, as a number that C reads: 0 to 3 for accepted calls, 4 to 7 for answers to a question, 16 to 23 for verdicts on a frame, 32 to 48 for
-/// refusals of the room, 64 to 71 for errors found before the room is called. Each code says what `has`, `first` and `second` mean. Own rule.
+/// The kind of a reply, as a number that C reads: 0 to 3 for accepted calls, 4 to 7 for answers to a question, 8 for a piece of a file, 16 to 23 for verdicts
+/// on a frame, 32 to 48 for refusals of the room, 64 to 74 for errors found before, 80 to 86 for faults of recorded packets. Each code says what `has`, `first` and `second` mean. Own rule.
 #[derive(Clone, Copy, Debug, PartialEq, Eq)]
 pub enum Code {
     /// The call was done.
@@ -20,6 +20,8 @@ pub enum Code {
     Due = 6,
     /// `has`: whether the track had a whole frame yet. If so, `first` is the newest frame's number.
     Newest = 7,
+    /// `first` bytes of a recorder's file were written, and `second` are left.
+    FilePiece = 8,
     /// The frame was forwarded.
     Passed = 16,
     /// The frame isn't present in the subscriber's target, whose index is `first`. If `has` is false, no target is open and the wish allows none.
@@ -45,7 +47,7 @@ pub enum Code {
     NumberUsed = 34,
     /// `first` tracks or subscribers are live already, which is the maximum.
     TooMany = 35,
-    /// The id of the header extension element is 0 or 15.
+    /// The id of the header extension element is 0 or, for a track, 15.
     BadExtensionId = 36,
     /// The packet has `first` bytes, more than 1,500.
     TooBig = 37,
@@ -76,7 +78,7 @@ pub enum Code {
     NoRoom = 64,
     /// The handle already has a room.
     HasRoom = 65,
-    /// The buffer is too small: less than 2,048 bytes for a packet, or less than 1,024 items for sequence numbers.
+    /// The buffer is too small: less than 2,048 bytes for a packet, less than 1,024 items for sequence numbers, or none for a file.
     NoSpace = 66,
     /// The packet has more than 2,048 bytes or, to be wrapped, more than 2,046.
     TooLong = 67,
@@ -88,4 +90,25 @@ pub enum Code {
     Busy = 70,
     /// The payload type is 128 or more, or the retransmission stream has the SSRC of the media.
     BadStream = 71,
+    /// The handle has no recorder.
+    NoRecorder = 72,
+    /// The handle already has a recorder.
+    HasRecorder = 73,
+    /// The recorder is finished.
+    Finished = 74,
+    /// The recorded packet isn't RTP with a payload and a readable dependency descriptor, or it carries a structure that isn't in force and begins no key
+    /// frame.
+    Unread = 80,
+    /// The recorded packet's SSRC is `first`, but the first packet's is `second`.
+    OtherSource = 81,
+    /// The recorded packet's sequence number is `first`, which isn't one more than `second`, the last packet's.
+    OutOfSequence = 82,
+    /// The recorded packet's descriptor needs a template dependency structure, and none came.
+    NoStructure = 83,
+    /// The recorded packets of a frame don't form a whole frame.
+    NotWhole = 84,
+    /// The recorded frame with the 16-bit number `first` refers to the frame `second` numbers back, which doesn't count as received.
+    MissingReference = 85,
+    /// The recorded packet ends a frame in which an element isn't an OBU (AV1 Bitstream Specification, section 5.3.1).
+    NotObu = 86,
 }

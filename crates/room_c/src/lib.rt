@@ -1,12 +1,14 @@
-//! The room for callers in C. C keeps a handle for each room, and one for each session of a publisher or a subscriber. Sessions make calls on a
-//! room. Whatever numbers C passes, each call is served or returns a code. The header is `libzoftemar/zoftemar.h`.
+//! The room for callers in C. C keeps a handle for each room, for each session of a publisher or a subscriber, and for each recorder. Sessions make
+//! calls on a room; a recorder makes a file of packets. Whatever numbers C passes, each call is served or returns a code. The header is `libzoftemar/zoftemar.h`.
 #![tactic(auto)]
 
 mod answers;
 mod attended;
 mod code;
+mod file_rest;
 mod handle;
 mod held;
+mod held_recorder;
 mod held_session;
 mod home;
 mod opening;
@@ -14,10 +16,13 @@ mod parts;
 mod plain_reply;
 mod plain_target;
 mod questions;
+mod recorder_calls;
+mod recorder_handle;
 mod rtx_calls;
 mod session_calls;
 mod session_handle;
 mod session_opening;
 mod subscriber_calls;
+mod tape;
 mod track_calls;
 mod version;

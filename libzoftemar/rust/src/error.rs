@@ -14,7 +14,7 @@ pub enum Error {
     NumberUsed { highest: u64 },
     /// `live` tracks or subscribers are live already: 64 or 256.
     TooMany { live: u64 },
-    /// The id of the header extension element is 0 or 15.
+    /// The id of the header extension element is 0 or 15; of a recorder 0.
     BadExtensionId,
     /// The packet has `bytes` bytes, more than 1,500.
     TooBig { bytes: u64 },
@@ -37,7 +37,7 @@ pub enum Error {
     TooOld { lowest: u64 },
     /// The subscriber's track is plain.
     Plain,
-    /// Out of memory. Only opening, publishing and joining return it.
+    /// Out of memory. Only opening, publishing, joining and [`Recorder::feed`](crate::Recorder::feed) return it.
     NoMemory,
     /// A packet or datagram of more than 2,048 bytes, or one to wrap of more than 2,046.
     TooLong,
@@ -45,6 +45,20 @@ pub enum Error {
     Busy,
     /// A payload type of 128 or more, or a retransmission stream with the SSRC of the media.
     BadStream,
+    /// A recorded packet isn't RTP, has no or a bad payload or descriptor, or has a structure that isn't in force and begins no key frame.
+    Unread,
+    /// The recorded packet's SSRC is `got`, and the first packet's is `had`.
+    OtherSource { got: u64, had: u64 },
+    /// The recorded packet's sequence number is `got`, and the last packet's, which should be one less, is `had`.
+    OutOfSequence { got: u64, had: u64 },
+    /// The recorded packet's descriptor needs a template dependency structure, and none came.
+    NoStructure,
+    /// The recorded packets of a frame don't form a whole frame.
+    NotWhole,
+    /// The recorded frame with the 16-bit number `frame` lacks the frame that is `fdiff` numbers back.
+    MissingReference { frame: u64, fdiff: u64 },
+    /// An element of the frame that the recorded packet ends isn't an OBU (AV1, section 5.3.1).
+    NotObu,
     /// Any other code. It can only occur if the archive is of another version.
     Other(u32),
 }
@@ -72,6 +86,13 @@ impl Error {
             67 => Error::TooLong,
             70 => Error::Busy,
             71 => Error::BadStream,
+            80 => Error::Unread,
+            81 => Error::OtherSource { got: first, had: second },
+            82 => Error::OutOfSequence { got: first, had: second },
+            83 => Error::NoStructure,
+            84 => Error::NotWhole,
+            85 => Error::MissingReference { frame: first, fdiff: second },
+            86 => Error::NotObu,
             code => Error::Other(code),
         }
     }
@@ -98,6 +119,13 @@ impl Error {
             Error::TooLong => 67,
             Error::Busy => 70,
             Error::BadStream => 71,
+            Error::Unread => 80,
+            Error::OtherSource { .. } => 81,
+            Error::OutOfSequence { .. } => 82,
+            Error::NoStructure => 83,
+            Error::NotWhole => 84,
+            Error::MissingReference { .. } => 85,
+            Error::NotObu => 86,
             Error::Other(code) => code,
         }
     }
@@ -122,6 +150,7 @@ pub fn code_name(code: u32) -> &'static str {
         5 => "ZOFTEMAR_TARGET",
         6 => "ZOFTEMAR_DUE",
         7 => "ZOFTEMAR_NEWEST",
+        8 => "ZOFTEMAR_FILE_PIECE",
         16 => "ZOFTEMAR_PASSED",
         17 => "ZOFTEMAR_NOT_OF_TARGET",
         18 => "ZOFTEMAR_BEHIND",
@@ -155,6 +184,16 @@ pub fn code_name(code: u32) -> &'static str {
         69 => "ZOFTEMAR_HAS_SESSION",
         70 => "ZOFTEMAR_BUSY",
         71 => "ZOFTEMAR_BAD_STREAM",
+        72 => "ZOFTEMAR_NO_RECORDER",
+        73 => "ZOFTEMAR_HAS_RECORDER",
+        74 => "ZOFTEMAR_FINISHED",
+        80 => "ZOFTEMAR_UNREAD",
+        81 => "ZOFTEMAR_OTHER_SOURCE",
+        82 => "ZOFTEMAR_OUT_OF_SEQUENCE",
+        83 => "ZOFTEMAR_NO_STRUCTURE",
+        84 => "ZOFTEMAR_NOT_WHOLE",
+        85 => "ZOFTEMAR_MISSING_REFERENCE",
+        86 => "ZOFTEMAR_NOT_OBU",
         _ => "ZOFTEMAR_?",
     }
 }

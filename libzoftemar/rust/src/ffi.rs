@@ -12,7 +12,7 @@ pub struct Reply {
     pub second: u64,
 }
 
-/// `zoftemar_room` and `zoftemar_session`. A handle owns its room or session, so it may be moved but not copied.
+/// `zoftemar_room`, `zoftemar_session` and `zoftemar_recorder`. A handle owns what it opened, so it may be moved but not copied.
 #[repr(C)]
 #[derive(Debug)]
 pub struct Handle {
@@ -44,6 +44,7 @@ pub const REACHED: u32 = 4;
 pub const TARGET: u32 = 5;
 pub const DUE: u32 = 6;
 pub const NEWEST: u32 = 7;
+pub const FILE_PIECE: u32 = 8;
 pub const EMPTY: u32 = 43;
 
 impl Reply {
@@ -94,6 +95,10 @@ extern "C" {
     pub fn zoftemar_session_received(session: &mut Handle, moment: u64, bytes: *const u8, count: usize) -> Reply;
     pub fn zoftemar_session_waited(session: &mut Handle, moment: u64) -> Reply;
     pub fn zoftemar_session_work(session: &mut Handle, room: &mut Handle, seat: u32, out: *mut u8, count: usize) -> Reply;
+    pub fn zoftemar_recorder_open(recorder: &mut Handle, id: u8) -> u32;
+    pub fn zoftemar_recorder_feed(recorder: &mut Handle, bytes: *const u8, count: usize) -> Reply;
+    pub fn zoftemar_recorder_finish(recorder: &mut Handle, out: *mut u8, count: usize) -> Reply;
+    pub fn zoftemar_recorder_close(recorder: &mut Handle);
     pub fn zoftemar_wrap(bytes: *const u8, count: usize, number: u16, rtx_ssrc: u32, rtx_payload_type: u8, out: *mut u8, room_of_out: usize) -> Reply;
     pub fn zoftemar_unwrap(bytes: *const u8, count: usize, ssrc: u32, payload_type: u8, out: *mut u8, room_of_out: usize) -> Reply;
     pub fn zoftemar_version() -> u32;

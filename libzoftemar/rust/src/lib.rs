@@ -1,7 +1,7 @@
 //! The proved room of `zoftemar.h`, behind types that no safe program can misuse.
 //!
 //! A [`Room`] has tracks and subscribers. A [`Publisher`] or a [`Subscriber`] is the session of one peer: it handles NACKs, PLIs and
-//! retransmissions. Moments and holds are in milliseconds. A refused call changes nothing and returns an [`Error`].
+//! retransmissions. A [`Recorder`] makes a file. Moments and holds are in milliseconds. A refused call changes nothing and returns an [`Error`].
 //!
 //! ```
 //! # fn main() -> Result<(), zoftemar::Error> {
@@ -17,11 +17,13 @@
 //! ```
 mod error;
 mod ffi;
+mod recorder;
 mod room;
 mod session;
 mod verdict;
 
 pub use error::{code_name, Error};
+pub use recorder::Recorder;
 pub use room::{Room, Target};
 pub use session::{Publisher, Session, Subscriber};
 pub use verdict::Verdict;

@@ -1,7 +1,7 @@
 //! A browser's stream, captured (examples/capture/l3t3.pcap), is relayed.
 use std::collections::VecDeque;
 use std::thread;
-use zoftemar::{unwrap, wrap, Error, Publisher, Room, Session, Subscriber, Verdict, NAMES_ROOM, PACKET_ROOM};
+use zoftemar::{unwrap, wrap, Error, Publisher, Recorder, Room, Session, Subscriber, Verdict, NAMES_ROOM, PACKET_ROOM};
 
 const MEDIA: u32 = 0x1000_0001; // the stream's SSRC
 const SENT: u32 = 0x2222_2222;
@@ -159,6 +159,28 @@ fn sessions_ask_and_answer() {
     assert_eq!(unwrap(again, SENT, 45, &mut back).unwrap(), sent[10]);
     assert_eq!(wrap(&sent[10], 0, RTX, 97, &mut back).unwrap(), again);
     assert_eq!(subscriber.work(&mut room, &mut out), None);
+}
+
+#[test]
+fn a_recorder_makes_a_file_of_what_is_sent() {
+    let sent = relayed(&captured()[..300]);
+    let mut recorder = Recorder::open(4).unwrap();
+    for packet in &sent {
+        recorder.feed(packet).unwrap();
+    }
+    assert_eq!(recorder.feed(&[0; 2049]), Err(Error::TooLong));
+    assert_eq!(recorder.feed(&sent[109]), Err(Error::OutOfSequence { got: 109, had: 109 }));
+    let file = recorder.finish();
+    let number = |at: usize| u32::from_le_bytes(file[at..at + 4].try_into().unwrap());
+    assert_eq!(&file[..12], b"DKIF\0\0\x20\0AV01");
+    let (mut at, mut units) = (32, 0);
+    while at < file.len() {
+        at += 12 + number(at) as usize;
+        units += 1;
+    }
+    assert_eq!((at, units), (file.len(), number(24)));
+    assert!(units > 0);
+    assert!(matches!(Recorder::open(0), Err(Error::BadExtensionId)));
 }
 
 #[test]

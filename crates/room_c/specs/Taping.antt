@@ -1,0 +1,93 @@
+-- What the functions on a recorder do.
+use Rattle.std.specs.Prelude.{◌≡◌, ◌==◌, ℕ, [], List, drop, length, min, take, if◌then◌else◌, Option, Some, None, Result, Ok, Err}
+use Rattle.forwarding_model.specs.declared.complaint.Complaint.{Complaint}
+use Rattle.forwarding_model.specs.declared.complaint.Complaint.TheVariants as complaint
+use Rattle.ivf_recorder.specs.Frames.{ivf_over}
+use Rattle.ivf_recorder.specs.Recorders.{Feeds as FeedsRecorder, StandsFor}
+use Rattle.ivf_recorder.specs.declared.fault.RecordFault.{RecordFault}
+use Rattle.ivf_recorder.specs.declared.fault.RecordFault.TheVariants as fault
+use Rattle.ivf_recorder.specs.declared.recording.Recording.{Recording}
+use Rattle.room_c.specs.declared.code.Code.TheVariants as code
+use Rattle.room_c.specs.declared.plain_reply.PlainReply.{PlainReply}
+use Rattle.room_c.specs.declared.tape.Tape.{Tape}
+use Rattle.room_c.specs.declared.tape.Tape.TheVariants.{Taking, Giving}
+use Rattle.room_c.specs.Codes.{code_number}
+use Rattle.room_c.specs.Telling.{bare_of, two_of}
+
+-- ---- opening
+
+-- The handle had no recorder and now has one without packets; or it had one, which is unchanged; or memory ran out.
+abbrev pub OpensRecorder : ℕ → Option Tape → Option Tape → ℕ → Type 0
+OpensRecorder id (Some old) new told = (told ≡ code_number code.HasRecorder) × (new ≡ Some old)
+OpensRecorder id None None told = told ≡ code_number code.NoMemory
+OpensRecorder id None (Some (Taking new)) told = (told ≡ code_number code.Done) × (new.receiver.id ≡ id) × StandsFor new []
+OpensRecorder id None (Some (Giving rest)) told = ⊥
+
+-- ---- a packet
+
+-- what the strict receiver complains about, as numbers: the packet's come first
+abbrev pub complaint_reply : Complaint → PlainReply
+complaint_reply complaint.Unread = bare_of code.Unread
+complaint_reply (complaint.OtherSource had got) = two_of code.OtherSource got had
+complaint_reply (complaint.Sequence had got) = two_of code.OutOfSequence got had
+complaint_reply complaint.NoStructure = bare_of code.NoStructure
+complaint_reply complaint.NotWhole = bare_of code.NotWhole
+complaint_reply (complaint.MissingReference frame fdiff) = two_of code.MissingReference frame fdiff
+
+-- the outcome of a packet as numbers
+abbrev pub fed_reply : Result (Unit {0}) RecordFault → PlainReply
+fed_reply (Ok _) = bare_of code.Done
+fed_reply (Err (fault.Complaint c)) = complaint_reply c
+fed_reply (Err fault.Obu) = bare_of code.NotObu
+fed_reply (Err fault.NoMemory) = bare_of code.NoMemory
+
+-- The recorder was fed this packet, and its outcome is told. After a fault it returns that fault, and changes nothing.
+pub record FeedsAs (old new : Recording) (packet : List ℕ) (told : PlainReply) : Type 0 where
+  pub answer : Result (Unit {0}) RecordFault
+  pub feeds : (history : List (List ℕ)) → StandsFor old history → FeedsRecorder old.fault old.receiver.id new history packet answer
+  pub id : new.receiver.id ≡ old.receiver.id
+  pub again : (fault : RecordFault) → old.fault ≡ Some fault → (answer ≡ Err fault) × (new ≡ old)
+  pub tells : told ≡ fed_reply answer
+
+abbrev pub FeedsTape : Tape → Tape → List ℕ → PlainReply → Type 0
+FeedsTape (Taking old) (Taking new) packet told = FeedsAs old new packet told
+FeedsTape (Taking old) (Giving rest) packet told = ⊥
+FeedsTape (Giving rest) new packet told = (told ≡ bare_of code.Finished) × (new ≡ Giving rest)
+
+abbrev pub Feeds : Option Tape → Option Tape → List ℕ → PlainReply → Type 0
+Feeds None new packet told = (told ≡ bare_of code.NoRecorder) × (new ≡ None)
+Feeds (Some old) None packet told = ⊥
+Feeds (Some old) (Some new) packet told = FeedsTape old new packet told
+
+-- ---- the file
+
+-- how many bytes of a file were written according to the reply
+abbrev pub file_bytes_written : PlainReply → ℕ
+file_bytes_written r = if r.code == 8 then r.first else 0
+
+-- how many of these bytes are written to a buffer with this space
+abbrev pub piece_of : ℕ → List ℕ → ℕ
+piece_of space left = min space (length left)
+
+-- so many bytes were written, and so many are left
+abbrev pub piece_reply : (count left : ℕ) → PlainReply
+piece_reply count left = if count == 0 then bare_of code.Done else two_of code.FilePiece count left
+
+-- The next bytes of these are at the start of the buffer, as many as it has space for, and the others are left.
+pub record GivesOf (left : List ℕ) (new : Tape) (space : ℕ) (told : PlainReply) (out : List ℕ) : Type 0 where
+  pub tells : told ≡ piece_reply (piece_of space left) (length (drop (piece_of space left) left))
+  pub gives : take (piece_of space left) out ≡ take (piece_of space left) left
+  pub others : new ≡ Giving (drop (piece_of space left) left)
+
+-- These bytes are still to be fetched: the file of packets that a recorder stands for or, once it is finished, what is left.
+abbrev pub HasLeft : Tape → List ℕ → Type 0
+HasLeft (Taking recorder) left = (history : List (List ℕ)) × StandsFor recorder history × (left ≡ ivf_over recorder.receiver.id history)
+HasLeft (Giving rest) left = left ≡ rest
+
+abbrev pub GivesPiece : Tape → Tape → ℕ → PlainReply → List ℕ → Type 0
+GivesPiece old new space told out = (left : List ℕ) → HasLeft old left → GivesOf left new space told out
+
+abbrev pub Gives : Option Tape → Option Tape → ℕ → PlainReply → List ℕ → Type 0
+Gives None new space told out = (told ≡ bare_of code.NoRecorder) × (new ≡ None)
+Gives (Some old) None space told out = ⊥
+Gives (Some old) (Some new) space told out = GivesPiece old new space told out

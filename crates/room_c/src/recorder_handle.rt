@@ -1,0 +1,67 @@
+// A recorder's handle.
+ghost use Rattle.std.specs.Prelude.{◌≡◌, None, Some, is_some};
+ghost use Rattle.std.specs.Option.{option_map};
+
+use crate::held_recorder::HeldRecorder;
+use crate::parts::Parts;
+use crate::tape::Tape;
+use std::alloc::Global;
+use std::mem::replace;
+
+/// A handle that has a recorder or none. C keeps its 16 bytes, at first all 0, and may pass it from thread to thread.
+#[repr(C)]
+pub struct RecorderHandle {
+    made: bool,
+    pub held: HeldRecorder,
+    pub ghost agree: { is_some held.tape ≡ made },
+}
+
+impl RecorderHandle {
+    /// A handle that has no recorder.
+    pub fn empty(alloc: Global) -> RecorderHandle
+        ensures { result.held.tape ≡ None }
+    {
+        RecorderHandle {
+            made: false,
+            held: HeldRecorder::nothing(alloc),
+        }
+    }
+
+    /// A handle that has this recorder.
+    pub fn of(tape: Box<Tape>) -> RecorderHandle
+        ensures { result.held.tape ≡ Some tape.value }
+    {
+        RecorderHandle {
+            made: true,
+            held: HeldRecorder::of_parts(Parts::of(tape)),
+        }
+    }
+
+    /// The handle's recorder, or `None` if it has none.
+    pub fn into_tape(self) -> Option<Box<Tape>>
+        ensures { self.held.tape ≡ option_map (λ tape. tape.value) result }
+    {
+        let RecorderHandle { made, held } = self;
+        if made {
+            Some(held.into_parts().into_box())
+        } else {
+            held.end();
+            None
+        }
+    }
+
+    /// Takes the recorder out of the handle, which then has no recorder.
+    pub fn take(&mut self, alloc: Global) -> Option<Box<Tape>>
+        ensures taken { self.old.held.tape ≡ option_map (λ tape. tape.value) result }
+        ensures empty { self.new.held.tape ≡ None }
+    {
+        replace(self, RecorderHandle::empty(alloc)).into_tape()
+    }
+
+    /// Puts a recorder into the handle. Drops the recorder that the handle had before, if any.
+    pub fn put(&mut self, tape: Box<Tape>)
+        ensures { self.new.held.tape ≡ Some tape.value }
+    {
+        drop(replace(self, RecorderHandle::of(tape)).into_tape());
+    }
+}
