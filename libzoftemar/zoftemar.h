@@ -11,23 +11,23 @@
  *         send_to_subscriber(out, r.first);
  *     zoftemar_close(&room);
  *
- * A room has tracks and subscribers. A track has one publisher's packets, and each subscriber is of one track. What each call does in the room is
- * proved (crates/room_core/README.md), and so is that these functions make those calls (crates/room_c/README.md), for callers that keep to "What the
- * caller owes". Nothing checks a caller in C.
+ * A room has tracks and subscribers. A track has one publisher's packets, and each subscriber is of one track. For callers that keep to "What the
+ * caller owes", it is proved what each call does in the room (crates/room_core/README.md), and that these functions make those calls
+ * (crates/room_c/README.md). Nothing checks a caller in C.
  *
  * Units. Moments and holds are in milliseconds. Packets and ticks use the same clock, which may start anywhere. SSRCs, sequence numbers, and the
  * numbers of tracks and subscribers are in host byte order; packets are the bytes on the wire. The caller numbers the tracks of a room: each new
  * track's number is above 0 and above the numbers of all earlier tracks. Subscribers are numbered in the same way, independently of the tracks.
  * A seat is any number that names the caller; it changes no reply, and 0 will do.
  *
- * Codes. Nothing aborts or throws. A call returns a zoftemar_reply, an open only its code, a close nothing. A refused call changes nothing. Only
- * opening, publishing, joining and zoftemar_recorder_feed can return ZOFTEMAR_NO_MEMORY.
+ * Codes. Nothing aborts or throws. A call returns a zoftemar_reply, but an open returns only a code, and a close returns nothing. A refused call
+ * changes nothing. Only opening, publishing, joining and zoftemar_recorder_feed can return ZOFTEMAR_NO_MEMORY.
  *
  * Ownership. The caller owns the zoftemar_room, whose bytes are all 0 at first (ZOFTEMAR_ROOM_NONE). zoftemar_open allocates a room behind it, and
  * zoftemar_close frees that room. Opening again returns ZOFTEMAR_HAS_ROOM, closing again does nothing. After a call the library keeps no pointer to a
  * packet, a buffer or a zoftemar_room.
  *
- * Threads. One call at a time on a room, a question too: put a lock around it, or let one thread make all its calls. Different rooms share nothing.
+ * Threads. Make one call or question at a time on a room: put a lock around the room, or let one thread make all its calls. Rooms share nothing.
  * A room may go to another thread under a lock, or when a thread is started or joined.
  *
  * What the caller owes.
@@ -81,8 +81,8 @@ typedef struct zoftemar_room {
 #define ZOFTEMAR_ROOM_NONE { 0 }
 #endif
 
-/* What a call returns. The comment on each code says what `first` and `second` are; a number that it doesn't name is 0. `has` is true exactly if
- * `first` is named, unless the comment gives `has` a meaning of its own. */
+/* What a call returns. The comment on each code says what `first` and `second` are; a number that the comment doesn't name is 0. `has` is true
+ * exactly if `first` is named, unless the comment gives `has` a meaning of its own. */
 typedef struct zoftemar_reply {
     uint32_t code;
     bool has;
@@ -98,36 +98,36 @@ enum zoftemar_code {
     ZOFTEMAR_REACHED = 4,           /* has: whether the wish is reached */
     ZOFTEMAR_TARGET = 5,            /* has: whether the subscriber has a decode target; if so, it was written to `out` */
     ZOFTEMAR_DUE = 6,               /* has: whether a tick of the track will be due; first: the moment, if so */
-    ZOFTEMAR_NEWEST = 7,            /* has: whether a whole frame of the track came; first: the newest one's number, if so */
+    ZOFTEMAR_NEWEST = 7,            /* has: whether a whole frame of the track came; first: the newest frame's number, if so */
     ZOFTEMAR_FILE_PIECE = 8,        /* first: the number of bytes of the file that were written to `out`; second: how many are left */
 
     /* Why a frame was or wasn't forwarded to a subscriber. Frame numbers are unwrapped: they go on after 65,535. */
     ZOFTEMAR_PASSED = 16,
     ZOFTEMAR_NOT_OF_TARGET = 17,    /* the frame isn't in decode target `first`. has: false if no target is open and the wish allows none */
     ZOFTEMAR_BEHIND = 18,           /* first: how many frame numbers back the reference is; second: the frame with which the epoch began */
-    ZOFTEMAR_REFERENCE = 19,        /* first: the frame that it refers to, which wasn't forwarded */
+    ZOFTEMAR_REFERENCE = 19,        /* first: a frame that the frame refers to, and that wasn't forwarded */
     ZOFTEMAR_FULL = 20,             /* first: how many packets were queued; second: how many the frame has */
     ZOFTEMAR_LINK = 21,             /* first: the frame at which the chain broke; second: the chain's previous frame, which wasn't forwarded */
     ZOFTEMAR_UNOPENED = 22,         /* first: the frame since which no target has been open */
-    ZOFTEMAR_HOLE = 23,             /* no such frame came whole since the join. first: the next one that did; has: whether an earlier one did, less
-                                     * than 4,096 below the newest; second: the latest of those, if so */
+    ZOFTEMAR_HOLE = 23,             /* no whole frame with this number came since the join. first: the next higher number that came; has: whether a
+                                     * lower one came, less than 4,096 below the newest; second: the highest of those, if so */
 
     /* Why a call was refused. */
     ZOFTEMAR_NO_TRACK = 32,         /* no live track has this number, or the subscriber's track has ended */
     ZOFTEMAR_NO_SUBSCRIBER = 33,    /* no live subscriber has this number */
     ZOFTEMAR_NUMBER_USED = 34,      /* the number isn't above `first`, the highest that was ever live (0 if none was) */
-    ZOFTEMAR_TOO_MANY = 35,         /* first: how many are live (64 tracks, 256 subscribers) */
-    ZOFTEMAR_BAD_EXTENSION_ID = 36, /* 0 or 15; of a recorder: 0 */
+    ZOFTEMAR_TOO_MANY = 35,         /* first: how many are live, which is the maximum: 64 tracks or 256 subscribers */
+    ZOFTEMAR_BAD_EXTENSION_ID = 36, /* the id is 0 or 15; a recorder's is 0 */
     ZOFTEMAR_TOO_BIG = 37,          /* first: the packet's length in bytes, more than 1,500 */
     ZOFTEMAR_UNREADABLE = 38,       /* not RTP. first, the fault: 0 fewer than 12 bytes, 1 the version, 2 the CSRCs, 3 the header extension,
                                      * 4 the padding; in zoftemar_unwrap also 5: no original sequence number */
-    ZOFTEMAR_WRONG_SSRC = 39,       /* first: the packet's; second: the track's */
+    ZOFTEMAR_WRONG_SSRC = 39,       /* first: the packet's SSRC; second: the track's SSRC */
     ZOFTEMAR_SPENT = 40,            /* the packet's unwrapped sequence number is 2^46 or more */
     ZOFTEMAR_LATE = 41,             /* first: the unwrapped sequence number that the track waits for, above the packet's */
     ZOFTEMAR_REPEAT = 42,           /* the packet is already buffered, behind a gap; once it has left the buffer: ZOFTEMAR_LATE */
     ZOFTEMAR_EMPTY = 43,            /* no packet is queued for the subscriber */
-    ZOFTEMAR_NOT_KEPT = 44,         /* first: the oldest sequence number that is kept; second: that of the next take; both as on the wire */
-    ZOFTEMAR_AHEAD = 45,            /* has: whether a frame came since the join (never on a plain track); first: the newest one's number, if so */
+    ZOFTEMAR_NOT_KEPT = 44,         /* first: the oldest kept sequence number; second: the next take's sequence number; both as on the wire */
+    ZOFTEMAR_AHEAD = 45,            /* has: whether a frame came since the join (never on a plain track); first: the newest frame's number, if so */
     ZOFTEMAR_TOO_OLD = 46,          /* first: the lowest frame number that may be asked for */
     ZOFTEMAR_PLAIN = 47,            /* the subscriber's track is plain */
     ZOFTEMAR_NO_MEMORY = 48,        /* out of memory */
@@ -198,12 +198,12 @@ ZOFTEMAR_NONNULL(1) zoftemar_reply zoftemar_publish_layered(zoftemar_room *room,
 /* Ends a track. Its subscribers stay: zoftemar_take still returns their queued packets, and zoftemar_resend their retransmissions. */
 ZOFTEMAR_NONNULL(1) zoftemar_reply zoftemar_unpublish(zoftemar_room *room, uint32_t seat, uint32_t track);
 
-/* Adds an RTP packet that arrived at `moment` to its track. The first packet begins the track: one with a lower number is ZOFTEMAR_LATE. A packet
- * that is 1,024 or more ahead of the number that the track waits for makes it give up the oldest gaps. */
+/* Adds an RTP packet that arrived at `moment` to its track. The first packet begins the track: a packet with a lower number is
+ * ZOFTEMAR_LATE. If a packet is 1,024 or more ahead of the number that the track waits for, the track gives up the oldest gaps. */
 ZOFTEMAR_NONNULL(1) zoftemar_reply zoftemar_packet(zoftemar_room *room, uint32_t seat, uint32_t track, uint64_t moment, const uint8_t *bytes,
                                                    size_t count);
 
-/* Advances the track's clock to `moment`: gaps for which it has waited `hold` milliseconds are given up. Call it about every 20 ms. */
+/* Advances the track's clock to `moment`: gaps at which the track has waited `hold` milliseconds are given up. Call it about every 20 ms. */
 ZOFTEMAR_NONNULL(1) zoftemar_reply zoftemar_tick(zoftemar_room *room, uint32_t seat, uint32_t track, uint64_t moment);
 
 /* Copies to `out` the sequence numbers that a track waits for (ZOFTEMAR_NAMES), for NACKs to the publisher (RFC 4585, section 6.2.1). `count` is at
@@ -223,8 +223,8 @@ ZOFTEMAR_NONNULL(1) zoftemar_reply zoftemar_aim(zoftemar_room *room, uint32_t se
 ZOFTEMAR_NONNULL(1) zoftemar_reply zoftemar_leave(zoftemar_room *room, uint32_t seat, uint32_t subscriber);
 
 /* zoftemar_take moves a subscriber's oldest queued packet to `out`: ZOFTEMAR_PACKET, or ZOFTEMAR_EMPTY. zoftemar_resend copies to `out` a packet that
- * was taken before, with this sequence number, for a NACK of the subscriber (RFC 4585, section 6.2.1): ZOFTEMAR_PACKET, or ZOFTEMAR_NOT_KEPT if it
- * isn't among the last 1,024 taken. `count` is at least ZOFTEMAR_PACKET_ROOM. */
+ * was taken before, with this sequence number, for a NACK of the subscriber (RFC 4585, section 6.2.1): ZOFTEMAR_PACKET, or ZOFTEMAR_NOT_KEPT if the
+ * packet isn't among the last 1,024 taken. `count` is at least ZOFTEMAR_PACKET_ROOM. */
 ZOFTEMAR_USE ZOFTEMAR_NONNULL(1) zoftemar_reply zoftemar_take(zoftemar_room *room, uint32_t seat, uint32_t subscriber, uint8_t *out, size_t count);
 ZOFTEMAR_USE ZOFTEMAR_NONNULL(1) zoftemar_reply zoftemar_resend(zoftemar_room *room, uint32_t seat, uint32_t subscriber, uint16_t number,
                                                                 uint8_t *out, size_t count);
@@ -246,7 +246,7 @@ typedef struct zoftemar_target {
 
 /* Two questions about a subscriber, which don't change the room. zoftemar_target_of: the decode target that the subscriber is sent, if any
  * (ZOFTEMAR_TARGET). zoftemar_reaches_wish: whether that target is the best that its wish allows, as of the newest frame (ZOFTEMAR_REACHED). If it
- * isn't, call zoftemar_plead: with most encoders a subscriber can switch to higher layers only at a key frame, and they make none unasked. A
+ * isn't, call zoftemar_plead: with most encoders a subscriber can switch to higher layers only at a key frame, and these encoders make none unasked. A
  * subscriber of a plain track has no target. */
 ZOFTEMAR_USE ZOFTEMAR_NONNULL(1, 3) zoftemar_reply zoftemar_target_of(const zoftemar_room *room, uint32_t subscriber, zoftemar_target *out);
 ZOFTEMAR_USE ZOFTEMAR_NONNULL(1) zoftemar_reply zoftemar_reaches_wish(const zoftemar_room *room, uint32_t subscriber);
@@ -272,15 +272,15 @@ ZOFTEMAR_USE ZOFTEMAR_NONNULL(1) zoftemar_reply zoftemar_newest_frame(const zoft
  * A turn is one zoftemar_session_received or zoftemar_session_waited, and the work after it.
  *
  * In each turn a publisher's session calls zoftemar_packet if an RTP datagram came, and then zoftemar_tick. In the first turn, and then at least
- * 20 ms apart, it sends one generic NACK for all sequence numbers of zoftemar_missing, if there are any (RFC 4585, section 6.2.1; at most 256 bytes),
- * and a PLI if zoftemar_key_wanted says so, at least 500 ms apart (section 6.3.1; 12 bytes). The sender's SSRC in both is 1.
+ * 20 ms apart, it sends one generic NACK for all sequence numbers of zoftemar_missing, if there are any (RFC 4585, section 6.2.1; at most 256 bytes).
+ * If zoftemar_key_wanted says so, it then sends a PLI, at least 500 ms after the last one (section 6.3.1; 12 bytes). Both have the sender's SSRC 1.
  *
  * In each turn a subscriber's session reads the RTCP that came. For each packet that a NACK of its SSRC names it calls zoftemar_resend and sends the
  * retransmission; for each PLI it calls zoftemar_plead. It ignores RTCP with a fault, RTP, and feedback on other SSRCs. Then it takes and sends at
- * most 32 packets. To send all that is queued, wait and work until the first zoftemar_session_work of a turn returns ZOFTEMAR_DONE. With an RTX
- * stream (RFC 4588) retransmissions are sent on it, numbered from 0.
+ * most 32 packets. To send all that is queued, make turns until the first zoftemar_session_work of a turn returns ZOFTEMAR_DONE. If there is an
+ * RTX stream (RFC 4588), retransmissions are sent on it, numbered from 0.
  *
- * Threads. One call at a time on a session; zoftemar_session_work is a call on the room too. */
+ * Threads. Make one call at a time on a session; zoftemar_session_work is a call on the room too. */
 
 /* A session's handle. As with a room's, the caller owns it, its bytes are all 0 at first, and its fields are private to the library. */
 typedef struct zoftemar_session {
@@ -291,7 +291,7 @@ typedef struct zoftemar_session {
 #define ZOFTEMAR_SESSION_NONE ZOFTEMAR_ROOM_NONE
 
 /* Opens the session of a track's publisher or of a subscriber: ZOFTEMAR_DONE, ZOFTEMAR_HAS_SESSION or ZOFTEMAR_NO_MEMORY. `ssrc` is the SSRC of the
- * publisher's packets, or of the packets sent to the subscriber. zoftemar_open_rtx_subscriber adds an RTX stream: ZOFTEMAR_BAD_STREAM too. */
+ * publisher's packets, or of the packets sent to the subscriber. zoftemar_open_rtx_subscriber adds an RTX stream; it may return ZOFTEMAR_BAD_STREAM. */
 ZOFTEMAR_USE ZOFTEMAR_NONNULL(1) uint32_t zoftemar_open_publisher(zoftemar_session *session, uint32_t track, uint32_t ssrc);
 ZOFTEMAR_USE ZOFTEMAR_NONNULL(1) uint32_t zoftemar_open_subscriber(zoftemar_session *session, uint32_t subscriber, uint32_t ssrc);
 ZOFTEMAR_USE ZOFTEMAR_NONNULL(1) uint32_t zoftemar_open_rtx_subscriber(zoftemar_session *session, uint32_t subscriber, uint32_t ssrc,
@@ -300,7 +300,7 @@ ZOFTEMAR_USE ZOFTEMAR_NONNULL(1) uint32_t zoftemar_open_rtx_subscriber(zoftemar_
 /* Frees the session; the room stays as it is. Does nothing if the handle has no session. */
 ZOFTEMAR_NONNULL(1) void zoftemar_close_session(zoftemar_session *session);
 
-/* Begins a turn of the session at `moment`: zoftemar_session_received with a datagram that came, decrypted, zoftemar_session_waited without one.
+/* Begins a turn of the session at `moment`: zoftemar_session_received with a datagram that came (decrypted), zoftemar_session_waited if none came.
  * ZOFTEMAR_DONE: call zoftemar_session_work next. ZOFTEMAR_BUSY, ZOFTEMAR_NO_SESSION, ZOFTEMAR_TOO_LONG: nothing changes. */
 ZOFTEMAR_NONNULL(1) zoftemar_reply zoftemar_session_received(zoftemar_session *session, uint64_t moment, const uint8_t *bytes, size_t count);
 ZOFTEMAR_NONNULL(1) zoftemar_reply zoftemar_session_waited(zoftemar_session *session, uint64_t moment);

@@ -1,7 +1,7 @@
-// zoftemar.hpp: zoftemar.h as move-only classes, for C++17. An object owns at most one room, session or recorder, and closes it when it is destroyed.
-// An object that isn't open, or was moved from, owns none: its calls return ZOFTEMAR_NO_ROOM, ZOFTEMAR_NO_SESSION or ZOFTEMAR_NO_RECORDER. Each method
-// calls the function of its name in zoftemar.h, with seat 0; codes, units and what the caller owes are as there. Nothing throws, and the classes
-// allocate and copy nothing.
+// zoftemar.hpp: zoftemar.h as move-only classes, for C++17. An object owns at most one room, session or recorder, and its destructor closes that. An
+// object that isn't open, or was moved from, owns none: its calls return ZOFTEMAR_NO_ROOM, ZOFTEMAR_NO_SESSION or ZOFTEMAR_NO_RECORDER. Each method
+// calls the function of its name in zoftemar.h, with seat 0; zoftemar.h has the codes, the units and what the caller owes. Nothing throws, and the
+// classes allocate and copy nothing.
 // One thread at a time may use an object, and the object may go to another thread.
 #ifndef ZOFTEMAR_HPP
 #define ZOFTEMAR_HPP
@@ -33,7 +33,7 @@ public:
     ~Owner() { close(); }
 
     void close() noexcept { Close(&owned); }
-    // For calls of zoftemar.h. The object still owns it.
+    // The handle, for calls of zoftemar.h. The object still owns it.
     [[nodiscard]] Handle *handle() noexcept { return &owned; }
     [[nodiscard]] const Handle *handle() const noexcept { return &owned; }
 
@@ -84,7 +84,7 @@ public:
     [[nodiscard]] Reply reaches_wish(std::uint32_t subscriber) const noexcept { return zoftemar_reaches_wish(handle(), subscriber); }
 };
 
-// The methods of Publisher and Subscriber.
+// The methods that Publisher and Subscriber share.
 class Session : public Owner<zoftemar_session, zoftemar_close_session> {
 public:
     [[nodiscard]] Reply received(std::uint64_t moment, const std::uint8_t *bytes, std::size_t count) noexcept {

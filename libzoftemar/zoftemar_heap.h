@@ -1,5 +1,5 @@
 /* zoftemar_heap.h: the three functions by which the library allocates memory. heap.c defines them with malloc, realloc and free. A program with its
- * own allocator defines all three, in C or C++, and the linker leaves heap.c out. Rooms of different threads may call them at the same time. */
+ * own allocator defines all three, in C or C++, and the linker leaves heap.c out. Rooms of different threads may call these functions at once. */
 #ifndef ZOFTEMAR_HEAP_H
 #define ZOFTEMAR_HEAP_H
 
@@ -10,7 +10,7 @@
 extern "C" {
 #endif
 
-/* `ok`: false if out of memory. `at`: the block's address, or any address if `ok` is false. It is never NULL, not even for a block of 0 bytes. */
+/* `ok`: false if out of memory. `at`: the block's address, or any address if `ok` is false. `at` is never NULL, not even for a block of 0 bytes. */
 typedef struct zoftemar_block {
     bool ok;
     void *at;

@@ -1,4 +1,4 @@
-//! Finds libzoftemar.a, as libzoftemar/install leaves it: in the folder that ZOFTEMAR_LIB_DIR names, or by pkg-config, in this crate's version.
+//! Finds the libzoftemar.a that libzoftemar/install installed: in the folder ZOFTEMAR_LIB_DIR, or by pkg-config, in this crate's version.
 use std::env;
 use std::process::Command;
 

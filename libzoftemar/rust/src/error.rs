@@ -29,15 +29,15 @@ pub enum Error {
     Late { next: u64 },
     /// The packet is already buffered, behind a gap.
     Repeat,
-    /// The packet isn't kept. `oldest` is the oldest sequence number that is kept, `next` that of the next take; both are as on the wire.
+    /// The packet isn't kept. `oldest` is the oldest kept sequence number, `next` the next take's; both are as on the wire.
     NotKept { oldest: u64, next: u64 },
-    /// The frame number is above `newest`, the newest frame's. `None`: no frame came since the subscriber joined.
+    /// The frame number is above `newest`, the newest frame's number. `None`: no frame came since the subscriber joined.
     Ahead { newest: Option<u64> },
     /// The frame number is below `lowest`, the lowest that may be asked for.
     TooOld { lowest: u64 },
     /// The subscriber's track is plain.
     Plain,
-    /// Out of memory. Only opening, publishing, joining and [`Recorder::feed`](crate::Recorder::feed) return it.
+    /// Out of memory. Only opening, publishing, joining and [`Recorder::feed`](crate::Recorder::feed) return this error.
     NoMemory,
     /// A packet or datagram of more than 2,048 bytes, or one to wrap of more than 2,046.
     TooLong,
@@ -59,7 +59,7 @@ pub enum Error {
     MissingReference { frame: u64, fdiff: u64 },
     /// An element of the frame that the recorded packet ends isn't an OBU (AV1, section 5.3.1).
     NotObu,
-    /// Any other code. It can only occur if the archive is of another version.
+    /// Any other code. Such a code can only occur if the archive is of another version.
     Other(u32),
 }
 
@@ -139,7 +139,7 @@ impl fmt::Display for Error {
 
 impl std::error::Error for Error {}
 
-/// The name of a code in `zoftemar.h`; "ZOFTEMAR_?" if it has none.
+/// The name of a code in `zoftemar.h`; "ZOFTEMAR_?" if the code has none.
 pub fn code_name(code: u32) -> &'static str {
     match code {
         0 => "ZOFTEMAR_DONE",

@@ -26,7 +26,7 @@ impl Handle {
     /// `ZOFTEMAR_ROOM_NONE`.
     pub const NONE: Handle = Handle { made: false, at: std::ptr::null_mut() };
 
-    /// A handle that `open` opened, or the error that it returned.
+    /// A handle that `open` opened, or the error that `open` returned.
     pub fn opened(open: impl FnOnce(&mut Handle) -> u32) -> Result<Handle, Error> {
         let mut handle = Handle::NONE;
         match open(&mut handle) {
@@ -48,7 +48,7 @@ pub const FILE_PIECE: u32 = 8;
 pub const EMPTY: u32 = 43;
 
 impl Reply {
-    /// The reply if it has this code, else its error.
+    /// The reply if it has this code, else the reply's error.
     pub fn expect(self, code: u32) -> Result<Reply, Error> {
         if self.code == code {
             Ok(self)
@@ -62,7 +62,7 @@ impl Reply {
     }
 }
 
-/// The bytes of the buffer that were written, if the reply is `PACKET`; else its error.
+/// The bytes of the buffer that were written, if the reply is `PACKET`; else the reply's error.
 pub fn written(reply: Reply, out: &[u8]) -> Result<&[u8], Error> {
     reply.expect(PACKET).map(|reply| &out[..reply.first as usize])
 }

@@ -36,7 +36,7 @@ pub const PACKET_ROOM: usize = 2048;
 /// The capacity of a buffer for missing sequence numbers.
 pub const NAMES_ROOM: usize = 1024;
 
-/// The archive's version, which is this crate's: 65,536 times the major number, plus 256 times the minor number, plus the patch number.
+/// The archive's version, which is this crate's version: 65,536 times the major number, plus 256 times the minor number, plus the patch number.
 pub fn version() -> u32 {
     unsafe { ffi::zoftemar_version() }
 }

@@ -2,9 +2,9 @@
 use crate::ffi::*;
 use crate::{Error, Verdict, NAMES_ROOM, PACKET_ROOM};
 
-/// A room. Dropping it closes it. Track numbers begin at 1 and only grow, and so do subscriber numbers.
+/// A room. Dropping the room closes it. Track numbers begin at 1 and only grow, and so do subscriber numbers.
 ///
-/// A room may go to another thread; one thread at a time uses it:
+/// A room may go to another thread, but only one thread at a time may use it:
 /// ```
 /// fn sent<T: Send>() {}
 /// sent::<zoftemar::Room>();
@@ -51,7 +51,7 @@ impl Room {
         unsafe { zoftemar_publish_layered(&mut self.handle, 0, track, id, ssrc, hold) }.done()
     }
 
-    /// Ends a track. Its subscribers stay, and may take their queued packets.
+    /// Ends a track. The track's subscribers stay, and may take their queued packets.
     pub fn unpublish(&mut self, track: u32) -> Result<(), Error> {
         unsafe { zoftemar_unpublish(&mut self.handle, 0, track) }.done()
     }
@@ -61,7 +61,7 @@ impl Room {
         unsafe { zoftemar_packet(&mut self.handle, 0, track, moment, bytes.as_ptr(), bytes.len()) }.done()
     }
 
-    /// Advances a track's clock to `moment`: gaps for which it has waited its hold are given up. Call it about every 20 ms.
+    /// Advances a track's clock to `moment`: gaps at which the track has waited its hold are given up. Call this about every 20 ms.
     pub fn tick(&mut self, track: u32, moment: u64) -> Result<(), Error> {
         unsafe { zoftemar_tick(&mut self.handle, 0, track, moment) }.done()
     }
@@ -77,8 +77,8 @@ impl Room {
         Ok(unsafe { zoftemar_key_wanted(&mut self.handle, 0, track) }.expect(KEY)?.has)
     }
 
-    /// Begins a subscriber of a track. Packets sent to it have this SSRC, and sequence numbers from `first` on. Its wish is the highest spatial and
-    /// temporal layers that it wants.
+    /// Begins a subscriber of a track. Packets sent to it have this SSRC, and sequence numbers from `first` on. The wish is the highest spatial
+    /// and temporal layer that the subscriber wants.
     pub fn join(&mut self, subscriber: u32, track: u32, ssrc: u32, first: u16, (spatial, temporal): (u8, u8)) -> Result<(), Error> {
         unsafe { zoftemar_join(&mut self.handle, 0, subscriber, track, ssrc, first, spatial, temporal) }.done()
     }

@@ -21,11 +21,11 @@ pub trait Session: sealed::Owner {
     }
 }
 
-/// The session of a track's publisher, which requests missing packets and key frames from it. Dropping it leaves the room as it is.
+/// The session of a track's publisher: it requests missing packets and key frames from the publisher. Dropping a session doesn't change the room.
 #[derive(Debug)]
 pub struct Publisher(Owned);
 
-/// The session of a subscriber, which sends it packets and retransmissions. Dropping it leaves the room as it is.
+/// The session of a subscriber: it sends the subscriber packets and retransmissions. Dropping a session doesn't change the room.
 #[derive(Debug)]
 pub struct Subscriber(Owned);
 
@@ -42,7 +42,7 @@ impl Subscriber {
         Handle::opened(|handle| unsafe { zoftemar_open_subscriber(handle, subscriber, ssrc) }).map(|handle| Subscriber(Owned(handle)))
     }
 
-    /// As [`open`](Subscriber::open), with an RTX stream for retransmissions (RFC 4588). [`Error::BadStream`] too.
+    /// As [`open`](Subscriber::open), with an RTX stream for retransmissions (RFC 4588). May also return [`Error::BadStream`].
     pub fn open_rtx(subscriber: u32, ssrc: u32, rtx_ssrc: u32, rtx_payload_type: u8) -> Result<Subscriber, Error> {
         Handle::opened(|handle| unsafe { zoftemar_open_rtx_subscriber(handle, subscriber, ssrc, rtx_ssrc, rtx_payload_type) })
             .map(|handle| Subscriber(Owned(handle)))
@@ -52,11 +52,11 @@ impl Subscriber {
 impl Session for Publisher {}
 impl Session for Subscriber {}
 
-/// A session's handle. Dropping it closes the session.
+/// A session's handle. Dropping the handle closes the session.
 #[derive(Debug)]
 struct Owned(Handle);
 
-// zoftemar.h: one call at a time on a session, from any thread.
+// zoftemar.h allows one call at a time on a session, from any thread.
 unsafe impl Send for Owned {}
 
 impl Drop for Owned {

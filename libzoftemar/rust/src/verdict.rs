@@ -4,13 +4,13 @@ use crate::{Error, Reply};
 /// Why a frame was or wasn't forwarded to a subscriber. Frame numbers are unwrapped: they go on after 65,535.
 #[derive(Debug, Clone, Copy, PartialEq, Eq)]
 pub enum Verdict {
-    /// It was forwarded.
+    /// The frame was forwarded.
     Passed,
-    /// It isn't in this decode target. `None`: no target is open, and the wish allows none.
+    /// The frame isn't in this decode target. `None`: no target is open, and the wish allows none.
     NotOfTarget { target: Option<u64> },
-    /// A reference, `distance` frame numbers back, is before `epoch`, the frame with which the epoch began.
+    /// The frame refers to a frame `distance` numbers back, which is before `epoch`, the frame with which the epoch began.
     Behind { distance: u64, epoch: u64 },
-    /// It refers to `frame`, which wasn't forwarded.
+    /// The frame refers to `frame`, which wasn't forwarded.
     Reference { frame: u64 },
     /// The queue was too full: it had `queued` packets, and the frame has `packets`.
     Full { queued: u64, packets: u64 },
@@ -18,8 +18,8 @@ pub enum Verdict {
     Link { frame: u64, previous: u64 },
     /// No target has been open since the frame `since`.
     Unopened { since: u64 },
-    /// No such frame came whole since the subscriber joined. `next` is the next that did, `before` the one before. `None`: there is none, or it is
-    /// 4,096 or more below the newest frame.
+    /// No whole frame with this number came since the subscriber joined. `next` is the next higher number that came, `before` the next lower.
+    /// `None`: no lower number came, or it is 4,096 or more below the newest frame's.
     Hole { next: u64, before: Option<u64> },
 }
 

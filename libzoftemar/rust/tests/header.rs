@@ -1,4 +1,4 @@
-//! The crate says of codes and versions what zoftemar.h says.
+//! Compares the crate's codes and versions with those of zoftemar.h.
 use zoftemar::code_name;
 
 const HEADER: &str = include_str!("../../zoftemar.h");

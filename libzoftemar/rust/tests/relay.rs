@@ -63,8 +63,8 @@ fn a_plain_track_forwards_each_packet_as_it_is() {
     assert_eq!(room.target_of(1), Ok(None));
 }
 
-/// The template of a packet with a Dependency Descriptor, which is the first extension element, in the one-byte or the two-byte form. Without one it is
-/// the browser's padding.
+/// The template of a packet with a Dependency Descriptor, which is the first extension element, in the one-byte or the two-byte form. A packet without
+/// one is the browser's padding.
 fn template(packet: &[u8]) -> Option<u8> {
     let at = if packet[12] == 0xbe { 17 } else { 18 };
     (packet[0] & 0x10 != 0).then(|| packet[at] & 63)
@@ -121,7 +121,7 @@ fn relayed(packets: &[(u64, Vec<u8>)]) -> Vec<Vec<u8>> {
     sent
 }
 
-/// Packet 36 is lost on the way to the room, and packet 10 to the subscriber: both are asked for, and sent again.
+/// Packet 36 is lost on the way to the room, and packet 10 to the subscriber: both are requested and sent again.
 #[test]
 fn sessions_ask_and_answer() {
     let (mut out, mut back) = ([0; PACKET_ROOM], [0; PACKET_ROOM]);
