@@ -1,7 +1,8 @@
 // The codes of replies and their numbers for C.
 
-/// The kind of a reply, as a number that C reads: 0 to 3 for accepted calls, 4 to 7 for answers to a question, 8 for a piece of a file, 16 to 23 for verdicts
-/// on a frame, 32 to 48 for refusals of the room, 64 to 74 for errors found before, 80 to 86 for faults of recorded packets. Each code says what `has`, `first` and `second` mean. Own rule.
+/// The kind of a reply, as a number that C reads: 0 to 3 for accepted calls, 4 to 7 for answers to a question, 8 for a piece of a file, 16 to 23 for
+/// verdicts on a frame, 32 to 48 for refusals of the room, 64 to 74 for errors found before the room or the recorder is called, 80 to 86 for faults of
+/// recorded packets. Each code says what `has`, `first` and `second` mean. Own rule.
 #[derive(Clone, Copy, Debug, PartialEq, Eq)]
 pub enum Code {
     /// The call was done.

@@ -1,5 +1,6 @@
 //! The room for callers in C. C keeps a handle for each room, for each session of a publisher or a subscriber, and for each recorder. Sessions make
-//! calls on a room; a recorder makes a file of packets. Whatever numbers C passes, each call is served or returns a code. The header is `libzoftemar/zoftemar.h`.
+//! calls on a room; a recorder makes a file of packets. Whatever numbers C passes, each call is served or returns a code. The header is
+//! `libzoftemar/zoftemar.h`.
 #![tactic(auto)]
 
 mod answers;
