@@ -6,6 +6,7 @@ It shares no code and no text with the program, and keeps everything that ever h
 usage: tests/models/simulcast_model.py replies <SCRIPT            the replies, and `line N` on standard error where line N is outside the grammar
        tests/models/simulcast_model.py script SEED                a random script: tracks with losses, three bundles, all lines, broken ones
        tests/models/simulcast_model.py compare COUNT COMMAND ..   COUNT random scripts through a command that reads a script and writes replies
+With the word `renumbered` before these words the frame numbers of all bundles continue over a change of leg.
 
 example: tests/models/simulcast_model.py replies < examples/simulcast.script
 """
@@ -50,6 +51,11 @@ def parts(b):
 
 
 def elements(profile, block):
+    return [(name, value) for name, value, _ in placed_elements(profile, block)]
+
+
+def placed_elements(profile, block):
+    """The id and value of each element, and where in the block the value begins."""
     found, i = [], 0
     if profile == 0xBEDE:
         while i < len(block):
@@ -59,7 +65,7 @@ def elements(profile, block):
             name, count = block[i] >> 4, (block[i] & 15) + 1
             if name in (0, 15) or i + 1 + count > len(block):
                 break
-            found.append((name, block[i + 1:i + 1 + count]))
+            found.append((name, block[i + 1:i + 1 + count], i + 1))
             i += 1 + count
     elif profile is not None and 0x1000 <= profile <= 0x100F:
         while i < len(block):
@@ -68,7 +74,7 @@ def elements(profile, block):
                 continue
             if i + 2 > len(block) or i + 2 + block[i + 1] > len(block):
                 break
-            found.append((block[i], block[i + 2:i + 2 + block[i + 1]]))
+            found.append((block[i], block[i + 2:i + 2 + block[i + 1]], i + 2))
             i += 2 + block[i + 1]
     return found
 
@@ -76,6 +82,15 @@ def elements(profile, block):
 def element(b, name):
     _, profile, block, _, _ = parts(b)
     return next((value for found, value in elements(profile, block) if found == name), None)
+
+
+def number_place(b, name):
+    """Where the descriptor's frame number begins, or none."""
+    at, profile, block, _, _ = parts(b)
+    for found, value, begin in placed_elements(profile, block):
+        if found == name:
+            return at + 4 + begin + 1 if len(value) >= 3 else None
+    return None
 
 
 def payload_flags(b):
@@ -467,10 +482,13 @@ def again(out, taken, first, seq):
 
 
 class Bundle:
+    renumbers = False  # whether the frame numbers continue over a change of leg
+
     def __init__(self, name, ssrc, first, legs):
         self.name, self.ssrc, self.first, self.legs = name, ssrc, first, legs
         self.chosen, self.active, self.out, self.drawn = 1, None, [], 0
         self.offset, self.last, self.ended = 0, None, None
+        self.number_offset, self.number = 0, None
 
     def queued(self):
         return len(self.out) - self.drawn
@@ -484,10 +502,16 @@ class Bundle:
             if leg != self.chosen or d is None or not is_key_start(d) or not (self.active is None or self.ended):
                 return False
             self.offset = 0 if self.active is None else self.last + 3000 - stamp
+            if self.renumbers and self.active is not None:
+                self.number_offset = self.number + 1 - d['number']
             self.active = leg
         self.ended = bool(value is not None and len(value) >= 3 and value[0] >> 6 & 1)
         self.last = (stamp + self.offset) % 2**32
         new = addressed(b, (self.first + len(self.out)) % 65536, self.ssrc, b[1] >> 7)
+        place = number_place(b, self.name)
+        if self.renumbers and place is not None:
+            self.number = (int.from_bytes(b[place:place + 2], 'big') + self.number_offset) % 65536
+            new = new[:place] + self.number.to_bytes(2, 'big') + new[place + 2:]
         self.out.append(new[:4] + self.last.to_bytes(4, 'big') + new[8:])
         return True
 
@@ -892,6 +916,8 @@ def compare(count, command):
 
 
 def main(words):
+    if words[:1] == ['renumbered']:
+        Bundle.renumbers, words = True, words[1:]
     if words[:1] == ['replies'] and len(words) == 1:
         answers, broken = replies(sys.stdin.read())
         print('\n'.join(answers))

@@ -4,6 +4,7 @@ use Rattle.std.proofs.lemmas.List.{append-nil, append_assoc, map-append}
 use Rattle.out_ring.specs.Ring.{Pushed, Sent}
 use Rattle.out_ring.specs.History.{numbered}
 use Rattle.out_ring.proofs.Numbers.{numbered-append}
+use Rattle.leg_switch.specs.FrameNumbers.{after_forwarded, numbering, outgoing_renumbered, passed_renumbered, renumbered}
 use Rattle.leg_switch.specs.Marks.{Marks}
 use Rattle.leg_switch.specs.Switching.{LegEvent, goes_out, outgoing, passed, stamped, standing, timestamp_at}
 use Rattle.leg_switch.specs.Switching.LegEvent.{Chose, Took}
@@ -22,12 +23,30 @@ passed_grows marks (Took leg packet ∷ later) events =
     one_more (goes_out marks (standing marks (later ++ events)) leg packet) (passed marks events) (passed marks (later ++ events))
     (stamped (timestamp_at (standing marks (later ++ events)) leg packet) packet) (passed_grows marks later events)
 
+pub renumbered_grows : (marks : Marks) (id : ℕ) (later events : List LegEvent) → Grows (passed_renumbered marks id (later ++ events)) (passed_renumbered marks id events)
+renumbered_grows marks id [] events = ([], sym (append-nil (passed_renumbered marks id events)))
+renumbered_grows marks id (Chose leg ∷ later) events = renumbered_grows marks id later events
+renumbered_grows marks id (Took leg packet ∷ later) events =
+    one_more (goes_out marks (standing marks (later ++ events)) leg packet) (passed_renumbered marks id events) (passed_renumbered marks id (later ++ events))
+    (stamped (timestamp_at (standing marks (later ++ events)) leg packet)
+    (renumbered id (after_forwarded id (standing marks (later ++ events)).active (numbering marks id (later ++ events)) leg packet).last packet))
+    (renumbered_grows marks id later events)
+
+-- the packets with their numbers
+sent_grows : (first ssrc : ℕ) (before now : List Pushed) → Grows now before
+    → (more : List (List ℕ)) × (map (λ (p : Sent). p.bytes) (numbered first ssrc now) ≡ map (λ (p : Sent). p.bytes) (numbered first ssrc before) ++ more)
+sent_grows first ssrc before now g = (
+  map (λ (p : Sent). p.bytes) (numbered (first + length before) ssrc g.0),
+  ap (λ (l : List Pushed). map (λ (p : Sent). p.bytes) (numbered first ssrc l)) g.1
+      ∙ ap (map (λ (p : Sent). p.bytes)) (numbered-append first ssrc before g.0)
+      ∙ map-append (λ (p : Sent). p.bytes) (numbered first ssrc before) (numbered (first + length before) ssrc g.0),
+)
+
 pub outgoing_grows : (marks : Marks) (first ssrc : ℕ) (later events : List LegEvent)
     → (more : List (List ℕ)) × (outgoing marks first ssrc (later ++ events) ≡ outgoing marks first ssrc events ++ more)
-outgoing_grows marks first ssrc later events =
-    let g = passed_grows marks later events in (
-      map (λ (p : Sent). p.bytes) (numbered (first + length (passed marks events)) ssrc g.0),
-      ap (λ (l : List Pushed). map (λ (p : Sent). p.bytes) (numbered first ssrc l)) g.1
-          ∙ ap (map (λ (p : Sent). p.bytes)) (numbered-append first ssrc (passed marks events) g.0)
-          ∙ map-append (λ (p : Sent). p.bytes) (numbered first ssrc (passed marks events)) (numbered (first + length (passed marks events)) ssrc g.0),
-    )
+outgoing_grows marks first ssrc later events = sent_grows first ssrc (passed marks events) (passed marks (later ++ events)) (passed_grows marks later events)
+
+pub outgoing_renumbered_grows : (marks : Marks) (id first ssrc : ℕ) (later events : List LegEvent)
+    → (more : List (List ℕ)) × (outgoing_renumbered marks id first ssrc (later ++ events) ≡ outgoing_renumbered marks id first ssrc events ++ more)
+outgoing_renumbered_grows marks id first ssrc later events =
+    sent_grows first ssrc (passed_renumbered marks id events) (passed_renumbered marks id (later ++ events)) (renumbered_grows marks id later events)

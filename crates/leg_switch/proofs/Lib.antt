@@ -1,7 +1,14 @@
 pub mod Alike
 pub mod Reading
 pub mod Pleasing
+pub mod Places
+pub mod Walking
+pub mod Renumbering
+pub mod Overwriting
+pub mod MovedDescriptors
+pub mod Sendings
 pub mod Bytes
 pub mod Looking
+pub mod GoingOn
 pub mod Growing
 pub mod Ending

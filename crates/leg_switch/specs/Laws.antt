@@ -1,10 +1,13 @@
 -- What follows from the definitions of `Switching`. Own statements.
-use Rattle.std.specs.Prelude.{◌≡◌, ◌+◌, ◌%◌, ◌<◌, ◌^◌, ◌++◌, ℕ, List, [], ◌∷◌, map, true, None, Some}
+use Rattle.std.specs.Prelude.{◌≡◌, ◌+◌, ◌%◌, ◌<◌, ◌^◌, ◌++◌, ℕ, List, [], ◌∷◌, map, true, false, None, Some}
 use Rattle.forwarding_model.specs.Receiver.{complaint}
+use Rattle.rtp_packet.specs.Faults.{first_fault}
 use Rattle.packet_format.specs.Formats.{format_of}
 use Rattle.packet_format.specs.Packets.{read_packet}
 use Rattle.leg_switch.specs.Marks.{Marks, marks_of}
-use Rattle.leg_switch.specs.Switching.{LegEvent, goes_out, offset_for, outgoing, standing, taken_from}
+use Rattle.leg_switch.specs.FrameNumbers.{frame_number_of, outgoing_renumbered, renumbered}
+use Rattle.leg_switch.specs.Switching.{LegEvent, goes_out, is_active, offset_for, outgoing, standing, taken_from}
+use Rattle.leg_switch.specs.Switching.LegEvent.{Chose, Took}
 
 -- ---- a strict receiver
 
@@ -17,6 +20,12 @@ abbrev pub BundlesPlease : Type 0
 BundlesPlease = (id first ssrc : ℕ) (before : ℕ → List (List ℕ)) (events : List LegEvent) → ssrc < 2 ^ 32
     → ((leg : ℕ) → IsPleased id (before leg ++ taken_from leg events))
     → (sends queued : List (List ℕ)) → sends ++ queued ≡ outgoing (marks_of id) first ssrc events → IsPleased id sends
+
+-- The same for a bundle whose frame numbers continue.
+abbrev pub RenumberedBundlesPlease : Type 0
+RenumberedBundlesPlease = (id first ssrc : ℕ) (before : ℕ → List (List ℕ)) (events : List LegEvent) → ssrc < 2 ^ 32
+    → ((leg : ℕ) → IsPleased id (before leg ++ taken_from leg events))
+    → (sends queued : List (List ℕ)) → sends ++ queued ≡ outgoing_renumbered (marks_of id) id first ssrc events → IsPleased id sends
 
 -- ---- changes of leg
 
@@ -32,9 +41,50 @@ KeyStartsGoOut = (marks : Marks) (events : List LegEvent) (active chosen : ℕ) 
 abbrev pub ChangesStep : Type 0
 ChangesStep = (active last own : ℕ) → own < 2 ^ 32 → (own + offset_for (Some active) last own) % 2 ^ 32 ≡ (last + 3000) % 2 ^ 32
 
+-- ---- frame numbers that continue
+
+-- the packets that were taken are RTP packets
+abbrev pub AreRtp : List LegEvent → Type 0
+AreRtp [] = Unit {0}
+AreRtp (Chose leg ∷ past) = AreRtp past
+AreRtp (Took leg packet ∷ past) = (first_fault packet ≡ None) × AreRtp past
+
+-- one more packet is forwarded, and its frame number is that of the packet before it plus 1, modulo 65,536
+pub record GoesOn (id : ℕ) (before now : List (List ℕ)) : Type 0 where
+  pub front : List (List ℕ)
+  pub last : List ℕ
+  pub key : List ℕ
+  pub number : ℕ
+  pub before_is : before ≡ front ++ last ∷ []
+  pub now_is : now ≡ before ++ key ∷ []
+  pub last_number : frame_number_of id last ≡ Some number
+  pub key_number : frame_number_of id key ≡ Some ((number + 1) % 65536)
+
+-- When a leg becomes active after another, the frame numbers go on: they rise by 1, which is less than half a turn of 65,536.
+abbrev pub NumbersGoOn : Type 0
+NumbersGoOn = (id first ssrc : ℕ) (past : List LegEvent) (leg active : ℕ) (packet : List ℕ) → AreRtp (Took leg packet ∷ past)
+    → (standing (marks_of id) past).active ≡ Some active → is_active leg (Some active) ≡ false → goes_out (marks_of id) (standing (marks_of id) past) leg packet ≡ true
+    → GoesOn id (outgoing_renumbered (marks_of id) id first ssrc past) (outgoing_renumbered (marks_of id) id first ssrc (Took leg packet ∷ past))
+
+-- the packets are the same one by one, but for the two bytes of their frame numbers
+abbrev pub DifferInNumbers : ℕ → List (List ℕ) → List (List ℕ) → Type 0
+DifferInNumbers id [] [] = Unit {0}
+DifferInNumbers id [] (other ∷ others) = ⊥
+DifferInNumbers id (packet ∷ packets) [] = ⊥
+DifferInNumbers id (packet ∷ packets) (other ∷ others) = ((number : ℕ) × (other ≡ renumbered id number packet)) × DifferInNumbers id packets others
+
+-- A bundle whose frame numbers continue forwards what it would forward otherwise, but for the frame numbers.
+abbrev pub OnlyNumbersDiffer : Type 0
+OnlyNumbersDiffer = (id first ssrc : ℕ) (events : List LegEvent) → AreRtp events
+    → DifferInNumbers id (outgoing (marks_of id) first ssrc events) (outgoing_renumbered (marks_of id) id first ssrc events)
+
 -- ---- growth
 
 -- The forwarded packets only grow: they are a prefix of those that are forwarded later, whatever happens.
 abbrev pub OutgoingGrows : Type 0
 OutgoingGrows = (marks : Marks) (first ssrc : ℕ) (later events : List LegEvent)
     → (more : List (List ℕ)) × (outgoing marks first ssrc (later ++ events) ≡ outgoing marks first ssrc events ++ more)
+
+abbrev pub RenumberedGrows : Type 0
+RenumberedGrows = (marks : Marks) (id first ssrc : ℕ) (later events : List LegEvent)
+    → (more : List (List ℕ)) × (outgoing_renumbered marks id first ssrc (later ++ events) ≡ outgoing_renumbered marks id first ssrc events ++ more)

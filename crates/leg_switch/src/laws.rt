@@ -1,5 +1,5 @@
 // What follows from the definitions of what is forwarded.
-ghost use Rattle.leg_switch.specs.Laws.{BundlesPlease, ChangesStep, KeyStartsGoOut, OutgoingGrows};
+ghost use Rattle.leg_switch.specs.Laws.{BundlesPlease, ChangesStep, KeyStartsGoOut, NumbersGoOn, OnlyNumbersDiffer, OutgoingGrows, RenumberedBundlesPlease, RenumberedGrows};
 
 /// Suppose that a strict receiver has no complaint about the packets taken from each leg, before the bundle was made and since. Then it has none
 /// about the forwarded packets, nor about any prefix of them.
@@ -20,4 +20,25 @@ pub fn changes_step_the_timestamp()
 /// The packets forwarded so far are a prefix of the packets forwarded later.
 pub fn outgoing_only_grows()
     ensures { OutgoingGrows }
+{}
+
+/// The same as `bundles_please_receivers`, for a bundle whose frame numbers continue over a change of leg.
+pub fn renumbered_bundles_please_receivers()
+    ensures { RenumberedBundlesPlease }
+{}
+
+/// If frame numbers continue, then at a change of leg they rise by 1, modulo 65,536: the first packet of the new leg has the frame number of the packet
+/// forwarded before it, plus 1.
+pub fn frame_numbers_go_on()
+    ensures { NumbersGoOn }
+{}
+
+/// If frame numbers continue, each forwarded packet is the one that would be forwarded otherwise, but for the two bytes of its frame number.
+pub fn only_frame_numbers_differ()
+    ensures { OnlyNumbersDiffer }
+{}
+
+/// The same as `outgoing_only_grows`, for a bundle whose frame numbers continue.
+pub fn renumbered_outgoing_only_grows()
+    ensures { RenumberedGrows }
 {}

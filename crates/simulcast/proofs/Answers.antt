@@ -9,11 +9,10 @@ use Rattle.simulcast.specs.declared.bundles.Bundles.{Bundles}
 use Rattle.simulcast.specs.declared.fault.BundleFault.{BundleFault}
 use Rattle.simulcast.specs.declared.fault.BundleFault.TheVariants as fault
 use Rattle.simulcast.specs.declared.pumped.Pumped.{Pumped}
-use Rattle.simulcast.specs.Made.{Made, leg_at}
+use Rattle.simulcast.specs.Made.{Made, leg_at, outgoing_of}
 use Rattle.simulcast.specs.Pumping.{called}
 use Rattle.simulcast.specs.Bundle.{IsCounted, again_of, pumped_whole}
 use Rattle.simulcast.specs.Bundles.{BundledAs, CallsAs, ChoosesAt, ChoosesLeg, DrawnTo, DrawsAt, PumpedTo, PumpsAt, RedrawnTo, RedrawsAt, Simulcast, StandsFor, bundle_refusal, forbids, place_of}
-use Rattle.simulcast.specs.Drawn.{outgoing_of}
 use Rattle.simulcast.specs.Answers.{Answered, bundle_made, bundle_pumped, called_unless, choice_of, counts_of, draw_of, leg_chosen, made_at, made_unless, packet_drawn, packet_redrawn, pump_of, redraw_of, room_called, with_found}
 use Rattle.simulcast.proofs.Together.{made_there}
 

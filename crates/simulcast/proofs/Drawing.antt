@@ -10,10 +10,8 @@ use Rattle.sfu_base.specs.declared.call.Refusal.TheVariants.{Empty, NotKept}
 use Rattle.out_ring.specs.Ring.{Resends, ResendsIt, Ring, Sent, Takes, TakesFrom, oldest_in}
 use Rattle.out_ring.specs.History.{GaveLately, GaveNoneLately, Gives, History, IsAfter, and_take, numbered}
 use Rattle.out_ring.proofs.Numbers.{length-numbered, number-numbered}
-use Rattle.leg_switch.specs.Marks.{marks_of}
-use Rattle.leg_switch.specs.Switching.{passed}
 use Rattle.simulcast.specs.declared.bundle.Bundle.{Bundle}
-use Rattle.simulcast.specs.Made.{Made, ring_history}
+use Rattle.simulcast.specs.Made.{Made, passed_of, ring_history}
 use Rattle.simulcast.specs.Bundle.{DrawsTo, IsBundle, RedrawsTo, again_of}
 
 empty_by : (queue : List (List ℕ)) (old new : Ring) (why : Refusal) (before bytes : List ℕ) → TakesFrom queue old new (Err why) before bytes → why ≡ Empty
@@ -21,37 +19,41 @@ empty_by [] old new why before bytes h = let same : Err why ≡ Err Empty = h.0 
 empty_by (p ∷ rest) old new why before bytes h = absurd (let other : Err why ≡ Ok old.next = h.0 in cc)
 
 pub drawn : (b c : Bundle) (m : Made) (result : Result ℕ Refusal) (before bytes : List ℕ) → IsBundle b m
-    → c.number ≡ b.number → c.id ≡ b.id → c.legs.items ≡ b.legs.items → c.switch ≡ b.switch
+    → c.number ≡ b.number → c.id ≡ b.id → c.legs.items ≡ b.legs.items → c.switch ≡ b.switch → c.renumbers ≡ b.renumbers → c.numbers ≡ b.numbers
     → Takes b.ring c.ring result before bytes → ((h : History) → IsAfter b.ring h → OnOk result (IsAfter c.ring (and_take h)))
     → ((h : History) → IsAfter b.ring h → IfOk result (λ n. Gives h h.takes (record { number = n; bytes = bytes })))
     → ((h : History) → IsAfter b.ring h → (result ≡ Err Empty) ↔ (h.takes ≡ length h.pushes)) → OnErr result (c.ring ≡ b.ring)
     → DrawsTo c m bytes result
-drawn b c m (Ok n) before bytes is number id legs switch takes after gives empty unchanged =
+drawn b c m (Ok n) before bytes is number id legs switch renumbers numbers takes after gives empty unchanged =
     let at = gives (ring_history m) is.ring_is in (
       record {
         number_is = number ∙ is.number_is;
         id_is = id ∙ is.id_is;
         legs_are = legs ∙ is.legs_are;
         switch_is = switch ∙ is.switch_is;
+        renumbers_is = renumbers ∙ is.renumbers_is;
+        numbers_are = λ e. numbers ∙ is.numbers_are e;
         ring_is = after (ring_history m) is.ring_is;
         ssrc_fits = is.ssrc_fits;
       },
-      slice_get-map (λ (p : Sent). p.bytes) (numbered m.first m.ssrc (passed (marks_of m.id) m.events)) m.draws ∙ ap (option_map (λ (p : Sent). p.bytes)) at,
-      number-numbered m.first m.ssrc (passed (marks_of m.id) m.events) m.draws (record { number = n; bytes = bytes }) at,
+      slice_get-map (λ (p : Sent). p.bytes) (numbered m.first m.ssrc (passed_of m)) m.draws ∙ ap (option_map (λ (p : Sent). p.bytes)) at,
+      number-numbered m.first m.ssrc (passed_of m) m.draws (record { number = n; bytes = bytes }) at,
     )
-drawn b c m (Err why) before bytes is number id legs switch takes after gives empty unchanged =
+drawn b c m (Err why) before bytes is number id legs switch renumbers numbers takes after gives empty unchanged =
     let none : why ≡ Empty = empty_by b.ring.queued b.ring c.ring why before bytes takes in (
       record {
         number_is = number ∙ is.number_is;
         id_is = id ∙ is.id_is;
         legs_are = legs ∙ is.legs_are;
         switch_is = switch ∙ is.switch_is;
+        renumbers_is = renumbers ∙ is.renumbers_is;
+        numbers_are = λ e. numbers ∙ is.numbers_are e;
         ring_is = subst (λ (r : Ring). IsAfter r (ring_history m)) (sym unchanged) is.ring_is;
         ssrc_fits = is.ssrc_fits;
       },
       none,
       (empty (ring_history m) is.ring_is).0 (ap Err none)
-          ∙ sym (length-map (numbered m.first m.ssrc (passed (marks_of m.id) m.events)) (λ (p : Sent). p.bytes) ∙ length-numbered m.first m.ssrc (passed (marks_of m.id) m.events)),
+          ∙ sym (length-map (numbered m.first m.ssrc (passed_of m)) (λ (p : Sent). p.bytes) ∙ length-numbered m.first m.ssrc (passed_of m)),
     )
 
 -- ---- again

@@ -1,11 +1,10 @@
 -- What each call preserves, by the history and the bundles alone.
-use Rattle.std.proofs.Common.{is_some, ◌≡◌, ◌≤◌, ◌<◌, ℕ, Bool, true, false, cond, List, [], ◌∷◌, length, max, eqb, refl, sym, ap, subst, ◌∙◌, arith, Option, Some, None, slice_get, slice_set}
+use Rattle.std.proofs.Common.{is_some, ◌≡◌, ◌≤◌, ◌<◌, ℕ, Bool, true, false, cond, List, [], ◌∷◌, eqb, refl, sym, ap, subst, ◌∙◌, arith, Option, Some, None, slice_get, slice_set}
 use Rattle.std.specs.Prelude.{◌^◌}
-use Rattle.std.proofs.lemmas.Bool.{eqb-true}
 use Rattle.sfu_base.specs.Answer.{Answer}
 use Rattle.sfu_base.specs.declared.call.Call.{Call}
 use Rattle.sfu_base.specs.declared.call.Call.TheVariants as call
-use Rattle.room_core.specs.History.{Entry, accepted, after, is_accepted}
+use Rattle.room_core.specs.History.{accepted, after, is_accepted}
 use Rattle.room_core.specs.Live.{Joined, highest_subscriber, highest_track, joined, live_subscribers, published}
 use Rattle.room_core.specs.Replies.{answer, join_refusal}
 use Rattle.room_core.specs.WellFormed.{AreWellFormed, IsValue}
@@ -17,11 +16,10 @@ use Rattle.leg_switch.specs.Marks.{marks_of}
 use Rattle.leg_switch.specs.Switching.{standing}
 use Rattle.simulcast.specs.declared.fault.BundleFault.{BundleFault}
 use Rattle.simulcast.specs.Waiting.{waiting}
-use Rattle.simulcast.specs.Made.{AreApart, AreLegs, HasNoStrays, Made, just_made, leg_at}
+use Rattle.simulcast.specs.Made.{AreApart, AreLegs, HasNoStrays, Made, leg_at, made_with, outgoing_of}
 use Rattle.simulcast.specs.Pumping.{Pumping, and_took, called, drained, drained_from, drained_leg, is_full, order, pumped}
 use Rattle.simulcast.specs.Bundle.{again_of, and_chosen, and_drawn, is_active_in, pumped_whole}
-use Rattle.simulcast.specs.Bundles.{Simulcast, and_asked, and_now, bundle_refusal, forbids, nothing_made, place_of, with_made}
-use Rattle.simulcast.specs.Drawn.{outgoing_of}
+use Rattle.simulcast.specs.Bundles.{Simulcast, and_asked, and_now, bundle_refusal, forbids, place_of}
 use Rattle.simulcast.specs.Answers.{Answered, bundle_made, bundle_pumped, called_unless, choice_of, draw_of, leg_chosen, made_at, made_unless, packet_drawn, packet_redrawn, pump_of, redraw_of, room_called, with_found, with_number}
 use Rattle.simulcast.specs.Kept.{CallsKeep, IsKept, IsPleasing}
 use Rattle.simulcast.proofs.AllPleased.{made_pleases}
@@ -106,14 +104,14 @@ room_keeps h c value kept = go (forbids c h.made) refl
 
 -- ---- a bundle
 
-bundle_keeps : (h : Simulcast) (number id ssrc first : ℕ) (legs : List ℕ) → ssrc < 2 ^ 32 → IsKept h → IsKept (bundle_made (just_made number id ssrc first legs) h).after
-bundle_keeps h number id ssrc first legs small kept = go (bundle_refusal h number id legs) refl
+bundle_keeps : (renumbers : Bool) (h : Simulcast) (number id ssrc first : ℕ) (legs : List ℕ) → ssrc < 2 ^ 32 → IsKept h → IsKept (bundle_made (made_with renumbers number id ssrc first legs) h).after
+bundle_keeps renumbers h number id ssrc first legs small kept = go (bundle_refusal h number id legs) refl
   where
-    go : (o : Option BundleFault) → bundle_refusal h number id legs ≡ o → IsKept (made_unless (just_made number id ssrc first legs) h o).after
+    go : (o : Option BundleFault) → bundle_refusal h number id legs ≡ o → IsKept (made_unless (made_with renumbers number id ssrc first legs) h o).after
     go (Some why) is = kept
     go None is =
-        let now = one_held number id ssrc first legs h (held h kept) (sym is) in
-        record { formed = kept.formed; legs = now.legs; apart = now.apart; strays = now.strays; fits = ssrcs_held number id ssrc first legs h (held h kept) (sym is) small kept.fits }
+        let now = one_held renumbers number id ssrc first legs h (held h kept) (sym is) in
+        record { formed = kept.formed; legs = now.legs; apart = now.apart; strays = now.strays; fits = ssrcs_held renumbers number id ssrc first legs h (held h kept) (sym is) small kept.fits }
 
 -- ---- a call on an existing bundle
 
@@ -253,7 +251,8 @@ pub calls_keep : CallsKeep
 calls_keep = record {
   begins = record { formed = tt; legs = λ i m e. absurd cc; apart = λ i j k l n m p e. absurd cc; strays = λ i m e. absurd cc; fits = λ i m e. absurd cc };
   calls = room_keeps;
-  bundles = bundle_keeps;
+  bundles = bundle_keeps false;
+  renumbered_bundles = bundle_keeps true;
   choices = choice_keeps;
   pumps = pump_keeps;
   draws = draw_keeps;

@@ -5,16 +5,13 @@ use Rattle.sfu_base.specs.declared.call.Call.{Call}
 use Rattle.sfu_base.specs.declared.call.Refusal.TheVariants.{Empty, NotKept}
 use Rattle.room_core.specs.History.{reply_of}
 use Rattle.out_ring.specs.Ring.{oldest_in}
-use Rattle.leg_switch.specs.Marks.{marks_of}
-use Rattle.leg_switch.specs.Switching.{passed}
 use Rattle.simulcast.specs.declared.fault.BundleFault.{BundleFault}
 use Rattle.simulcast.specs.declared.fault.BundleFault.TheVariants as fault
 use Rattle.simulcast.specs.declared.pumped.Pumped.{Pumped}
-use Rattle.simulcast.specs.Made.{Made, leg_at}
+use Rattle.simulcast.specs.Made.{Made, leg_at, outgoing_of, passed_of}
 use Rattle.simulcast.specs.Pumping.{Pumping, called}
 use Rattle.simulcast.specs.Bundle.{again_of, and_chosen, and_drawn, is_active_in, kept_of, next_of, pumped_whole}
 use Rattle.simulcast.specs.Bundles.{Simulcast, and_asked, and_now, bundle_refusal, forbids, place_of, with_made}
-use Rattle.simulcast.specs.Drawn.{outgoing_of}
 
 -- the result of a call, and the state after it
 pub record Answered (A : Type 0) : Type 0 where
@@ -75,8 +72,8 @@ leg_chosen number leg h = with_number number h (λ i m. choice_of leg h i m (leg
 -- how many more packets are forwarded now than before, and how many of the packets taken since are dropped
 abbrev pub counts_of : (old new : Made) → Pumped
 counts_of old new = record {
-  forwarded = length (passed (marks_of new.id) new.events) - length (passed (marks_of old.id) old.events);
-  dropped = length new.events - length old.events - (length (passed (marks_of new.id) new.events) - length (passed (marks_of old.id) old.events));
+  forwarded = length (passed_of new) - length (passed_of old);
+  dropped = length new.events - length old.events - (length (passed_of new) - length (passed_of old));
 }
 
 abbrev pub pump_of : Simulcast → ℕ → Made → Pumping → Answered Pumped

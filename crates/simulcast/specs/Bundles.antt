@@ -21,15 +21,13 @@ use Rattle.room_core.specs.Headline.{Headline}
 use Rattle.room_core.specs.Serves.{MemoryHasCause, ServesInto, Stands, recorder_may_refuse}
 use Rattle.out_ring.specs.Ring.{oldest_in}
 use Rattle.out_ring.specs.History.{GaveLately, GaveNoneLately}
-use Rattle.leg_switch.specs.Marks.{marks_of}
-use Rattle.leg_switch.specs.Switching.{outgoing}
 use Rattle.simulcast.specs.declared.bundle.Bundle.{Bundle}
 use Rattle.simulcast.specs.declared.bundles.Bundles.{Bundles}
 use Rattle.simulcast.specs.declared.fault.BundleFault.{BundleFault}
 use Rattle.simulcast.specs.declared.fault.BundleFault.TheVariants.{NoBundle, NoLeg, NoMemory}
 use Rattle.simulcast.specs.declared.fault.BundleFault.TheVariants as fault
 use Rattle.simulcast.specs.declared.pumped.Pumped.{Pumped}
-use Rattle.simulcast.specs.Made.{AreLegs, HasNoStrays, Made, has_leg, leg_at, ring_history}
+use Rattle.simulcast.specs.Made.{AreLegs, HasNoStrays, Made, has_leg, leg_at, outgoing_of, ring_history}
 use Rattle.simulcast.specs.Pumping.{IsDrained, Pumping, called, pumped}
 use Rattle.simulcast.specs.Bundle.{IsBundle, IsCounted, IsTaken, again_of, and_chosen, and_drawn, is_active_in, kept_of, next_of, pumped_whole}
 
@@ -152,9 +150,9 @@ PumpsOne noted old new number result = (h : Simulcast) → StandsFor noted old h
 
 abbrev pub DrawnTo : {R : Type 0} → (R → Option (List Noted)) → Bundles R → Simulcast → ℕ → Made → List ℕ → Result ℕ BundleFault → Type 0
 DrawnTo noted b h i m bytes (Ok n) =
-    StandsFor noted b (with_made h i (and_drawn m)) × (slice_get (outgoing (marks_of m.id) m.first m.ssrc m.events) m.draws ≡ Some bytes)
+    StandsFor noted b (with_made h i (and_drawn m)) × (slice_get (outgoing_of m) m.draws ≡ Some bytes)
     × (n ≡ (m.first + m.draws) % 65536)
-DrawnTo noted b h i m bytes (Err why) = StandsFor noted b h × (why ≡ fault.Room Empty) × (m.draws ≡ length (outgoing (marks_of m.id) m.first m.ssrc m.events))
+DrawnTo noted b h i m bytes (Err why) = StandsFor noted b h × (why ≡ fault.Room Empty) × (m.draws ≡ length (outgoing_of m))
 
 abbrev pub DrawsAt : {R : Type 0} → (R → Option (List Noted)) → Bundles R → Simulcast → Option ℕ → List ℕ → Result ℕ BundleFault → Type 0
 DrawsAt noted b h None bytes result = (result ≡ Err NoBundle) × StandsFor noted b h
@@ -201,7 +199,7 @@ Chooses noted old new number leg result = (h : Simulcast) → StandsFor noted ol
 
 -- A strict receiver has no complaint about any prefix of what a bundle sends.
 abbrev pub Pleases : Made → Type 0
-Pleases m = (sends queued : List (List ℕ)) → sends ++ queued ≡ outgoing (marks_of m.id) m.first m.ssrc m.events → complaint (format_of m.id) (map read_packet sends) ≡ None
+Pleases m = (sends queued : List (List ℕ)) → sends ++ queued ≡ outgoing_of m → complaint (format_of m.id) (map read_packet sends) ≡ None
 
 -- this holds for each bundle, in any state that the bundles represent
 abbrev pub PleasesReceivers : {R : Type 0} → (R → Option (List Noted)) → Bundles R → Type 0

@@ -1,15 +1,10 @@
 -- What was drawn from a bundle. Own statements.
 use Rattle.std.specs.Prelude.{◌≡◌, ◌≤◌, ℕ, List, [], ◌∷◌, ◌++◌, Some, length, slice_get, take}
-use Rattle.leg_switch.specs.Marks.{marks_of}
-use Rattle.leg_switch.specs.Switching.{LegEvent, outgoing}
-use Rattle.simulcast.specs.Made.{Made}
+use Rattle.leg_switch.specs.Switching.{LegEvent}
+use Rattle.simulcast.specs.Made.{Made, outgoing_of}
 use Rattle.simulcast.specs.Bundle.{and_drawn}
 
--- all outgoing packets of a bundle, drawn or queued, the oldest first
-abbrev pub outgoing_of : Made → List (List ℕ)
-outgoing_of m = outgoing (marks_of m.id) m.first m.ssrc m.events
-
--- the packets that were drawn: the first of these, one for each draw
+-- the packets that were drawn: the first of the outgoing ones, one for each draw
 abbrev pub drawn_of : Made → List (List ℕ)
 drawn_of m = take m.draws (outgoing_of m)
 

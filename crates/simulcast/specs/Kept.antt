@@ -5,7 +5,7 @@ use Rattle.sfu_base.specs.declared.call.Call.{Call}
 use Rattle.room_core.specs.Headline.{Headline}
 use Rattle.room_core.specs.History.{accepted}
 use Rattle.room_core.specs.WellFormed.{AreWellFormed, IsValue}
-use Rattle.simulcast.specs.Made.{AreLegs, HasNoStrays, Made, just_made}
+use Rattle.simulcast.specs.Made.{AreLegs, HasNoStrays, Made, just_made, just_renumbered}
 use Rattle.simulcast.specs.Bundles.{NoneIsTwo, Pleases, Simulcast, nothing_made}
 use Rattle.simulcast.specs.Answers.{bundle_made, bundle_pumped, leg_chosen, packet_drawn, packet_redrawn, room_called}
 
@@ -29,6 +29,8 @@ pub record CallsKeep : Type 0 where
   pub begins : IsKept (nothing_made [])
   pub calls : (h : Simulcast) (call : Call) → IsValue call → IsKept h → IsKept (room_called call h).after
   pub bundles : (h : Simulcast) (number id ssrc first : ℕ) (legs : List ℕ) → ssrc < 2 ^ 32 → IsKept h → IsKept (bundle_made (just_made number id ssrc first legs) h).after
+  pub renumbered_bundles : (h : Simulcast) (number id ssrc first : ℕ) (legs : List ℕ) → ssrc < 2 ^ 32 → IsKept h
+      → IsKept (bundle_made (just_renumbered number id ssrc first legs) h).after
   pub choices : (h : Simulcast) (number leg : ℕ) → IsKept h → IsKept (leg_chosen number leg h).after
   pub pumps : (h : Simulcast) (number : ℕ) → IsKept h → IsKept (bundle_pumped number h).after
   pub draws : (h : Simulcast) (number : ℕ) → IsKept h → IsKept (packet_drawn number h).after

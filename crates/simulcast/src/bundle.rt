@@ -5,7 +5,7 @@ use crate::fault::BundleFault;
 use crate::order::unless;
 use crate::taken::marker;
 use dd_descriptor::NewestDescriptor;
-use leg_switch::Switch;
+use leg_switch::{FrameNumbers, Switch};
 use out_ring::OutRing;
 use rtp_packet::restamp;
 use sfu_base::{NoMemory, PacketBuf, Refusal};
@@ -15,13 +15,15 @@ use std::alloc::Global;
 const MOST_QUEUED: u16 = 512;
 
 /// A bundle: its number, the header extension id of its legs' dependency descriptors, its legs (numbers of subscribers), the switch with
-/// the chosen and the active leg, and the outgoing packets.
+/// the chosen and the active leg, whether its frame numbers continue over a change of leg, the frame numbers if so, and the outgoing packets.
 #[derive(Drop)]
 pub struct Bundle {
     pub number: u32,
     pub id: u8,
     pub legs: Vec<u32>,
     pub switch: Switch,
+    pub renumbers: bool,
+    pub numbers: FrameNumbers,
     pub ring: OutRing,
     ghost few_legs: { length legs.items ≤ 3 },
 }
@@ -29,11 +31,11 @@ pub struct Bundle {
 impl Bundle {
     ghost use Rattle.std.specs.Prelude.{◌≡◌, ◌<◌, ◌≤◌, ◌+◌, IfErr, IfOk, OnErr, None, length, nat_le};
     ghost use Rattle.rtp_packet.specs.Faults.{first_fault};
-    ghost use Rattle.simulcast.specs.Made.{Made, has_leg, just_made, leg_at};
+    ghost use Rattle.simulcast.specs.Made.{Made, has_leg, leg_at, made_with};
     ghost use Rattle.simulcast.specs.Pumping.{and_took, order};
-    ghost use Rattle.simulcast.specs.Bundle.{ChoosesIn, DrawsIn, IsBundle, RedrawsIn};
+    ghost use Rattle.simulcast.specs.Bundle.{ChoosesIn, DrawsIn, IsBundle, RedrawsIn, numbers_next, renumbered_if};
 
-    /// A new bundle: leg 1 is chosen, no leg is active, and no packet is queued.
+    /// A new bundle: leg 1 is chosen, no leg is active, and no packet is queued. `renumbers`: its frame numbers continue over a change of leg.
     pub fn new(
         alloc: Global,
         number: u32,
@@ -41,9 +43,10 @@ impl Bundle {
         ssrc: u32,
         first: u16,
         legs: &[u32],
+        renumbers: bool,
     ) -> Result<Bundle, NoMemory>
         requires { length legs.now ≤ 3 }
-        ensures { IfOk result (λ b. IsBundle b (just_made number id ssrc first legs.now)) }
+        ensures { IfOk result (λ b. IsBundle b (made_with renumbers number id ssrc first legs.now)) }
     {
         let Ok(legs) = Vec::from_slice(alloc, legs) else {
             return Err(NoMemory);
@@ -56,6 +59,8 @@ impl Bundle {
             id,
             legs,
             switch: Switch::new(),
+            renumbers,
+            numbers: FrameNumbers::new(),
             ring,
         })
     }
@@ -141,7 +146,20 @@ impl Bundle {
         self.ring.queued() >= MOST_QUEUED
     }
 
-    /// Decides on a packet taken from a leg: queues it with its new timestamp, or drops it.
+    // Gives a forwarded packet its frame number, if the bundle's frame numbers continue. `active` is the leg that was active before.
+    fn renumber(&mut self, active: Option<u8>, leg: u8, packet: &mut PacketBuf)
+        requires { first_fault packet.old ≡ None }
+        ensures numbers { self.new ≡ record self.old { numbers = numbers_next self.old.renumbers self.old.id active self.old.numbers leg packet.old } }
+        ensures packet { packet.new ≡ renumbered_if self.old.renumbers self.old.id self.new.numbers.last packet.old }
+        ensures reads { first_fault packet.new ≡ None }
+        ensures len { length packet.new ≡ length packet.old }
+    {
+        if self.renumbers {
+            self.numbers.renumber(self.id, active, leg, packet);
+        }
+    }
+
+    /// Decides on a packet taken from a leg: queues it with its new timestamp and frame number, or drops it.
     pub fn take_in(&mut self, leg: u8, packet: &mut PacketBuf, newest: &mut NewestDescriptor)
         requires room { length self.old.ring.queued < 512 }
         requires reads { first_fault packet.old ≡ None }
@@ -150,7 +168,9 @@ impl Bundle {
         ensures grew { length self.old.ring.queued ≤ length self.new.ring.queued }
         ensures by { length self.new.ring.queued ≤ length self.old.ring.queued + 1 }
     {
+        let active = self.switch.active();
         if let Some(timestamp) = self.switch.pass(self.id, leg, packet.bytes(), newest) {
+            self.renumber(active, leg, packet);
             let marker = marker(packet.bytes());
             restamp(packet, timestamp);
             self.ring.push(packet.bytes(), marker);

@@ -59,7 +59,7 @@ impl<R: Recorder> Bundles<R> {
     ghost use Rattle.std.specs.Prelude.{◌≡◌, ◌≤◌, ◌==◌, [], List, OnErr, fold, length, max, position};
     ghost use Rattle.std.specs.List.{find, list_all};
     ghost use Rattle.std.specs.Option.{option_map};
-    ghost use Rattle.simulcast.specs.Made.{has_leg, just_made};
+    ghost use Rattle.simulcast.specs.Made.{has_leg, just_made, just_renumbered, made_with};
     ghost use Rattle.room_core.specs.History.{Entry, accepted};
     ghost use Rattle.room_core.specs.Serves.{Stands, recorder_may_refuse};
     ghost use Rattle.simulcast.specs.Bundles.{Bundled, BundlesHeadline, Calls, CallsWhole, CallStarvesBy, Chooses, Draws, PleasesReceivers, PumpsOne, Redraws, Simulcast, StandsFor, StarvesBy};
@@ -185,10 +185,46 @@ impl<R: Recorder> Bundles<R> {
         ensures bundled { Bundled R.noted self.old self.new (just_made number id ssrc first legs.now) result }
         ensures recorder { may_starve R.may_refuse self.new ≡ may_starve R.may_refuse self.old }
     {
+        self.add(number, id, ssrc, first, legs, false)
+    }
+
+    /// Creates a bundle as `bundle` does, with the same refusals, whose frame numbers continue over a change of leg: the key frame with which a leg
+    /// becomes active gets the frame number of the last forwarded frame plus 1, modulo 65,536, and the leg's later frames keep their distances to it. In
+    /// each packet only the two bytes of the dependency descriptor's frame_number change (AV1 RTP payload format, Appendix A).
+    pub fn bundle_renumbered(
+        &mut self,
+        number: u32,
+        id: u8,
+        ssrc: u32,
+        first: u16,
+        legs: &[u32],
+    ) -> Result<(), BundleFault>
+        requires two { 2 ≤ length legs.now }
+        requires three { length legs.now ≤ 3 }
+        ensures bundled { Bundled R.noted self.old self.new (just_renumbered number id ssrc first legs.now) result }
+        ensures recorder { may_starve R.may_refuse self.new ≡ may_starve R.may_refuse self.old }
+    {
+        self.add(number, id, ssrc, first, legs, true)
+    }
+
+    // Adds a bundle of at most three legs.
+    fn add(
+        &mut self,
+        number: u32,
+        id: u8,
+        ssrc: u32,
+        first: u16,
+        legs: &[u32],
+        renumbers: bool,
+    ) -> Result<(), BundleFault>
+        requires { length legs.now ≤ 3 }
+        ensures bundled { Bundled R.noted self.old self.new (made_with renumbers number id ssrc first legs.now) result }
+        ensures recorder { may_starve R.may_refuse self.new ≡ may_starve R.may_refuse self.old }
+    {
         if let Some(fault) = self.refusal(number, id, legs) {
             return Err(fault);
         }
-        let Ok(bundle) = Bundle::new(self.alloc, number, id, ssrc, first, legs) else {
+        let Ok(bundle) = Bundle::new(self.alloc, number, id, ssrc, first, legs, renumbers) else {
             return Err(BundleFault::NoMemory);
         };
         match self.bundles.push(bundle) {

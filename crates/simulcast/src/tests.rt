@@ -23,6 +23,7 @@ enum Step {
     KeyWanted(u32, bool),
     // Number, header extension id, legs.
     Bundle(u32, u8, &'static [u32], Result<(), BundleFault>),
+    Renumbered(u32, u8, &'static [u32], Result<(), BundleFault>),
     Choose(u32, u8, Result<(), BundleFault>),
     Pump(u32, Result<Pumped, BundleFault>),
     Draw(u32, Result<u16, BundleFault>, &'static [u8]),
@@ -142,6 +143,14 @@ fn bundle_step(rt: &impl Abort, bundles: &mut Bundles<KeepNone>, step: Step) {
                 assert_eq!(rt; bundles.bundle(number, id, 0x5555_5555, 10, legs), wanted);
             }
         }
+        Step::Renumbered(number, id, legs, wanted) => {
+            if legs.len() >= 2 && legs.len() <= 3 {
+                assert_eq!(rt;
+                    bundles.bundle_renumbered(number, id, 0x5555_5555, 10, legs),
+                    wanted
+                );
+            }
+        }
         Step::Choose(number, leg, wanted) => {
             assert_eq!(rt; bundles.choose(number, leg, &mut scratch), wanted);
         }
@@ -219,6 +228,47 @@ fn one_stream_goes_out_of_two_tracks(rt: HostRuntime) {
         Step::Redraw(9, 10, Err(BundleFault::NoBundle), &[]),
         Step::Take(4, Ok(Reply::Refused(Refusal::Empty))),
         Step::Leave(4, Ok(Reply::Done)),
+    ];
+    let mut bundles = Bundles::new(rt.alloc(), Room::new(rt.alloc(), KeepNone::new()));
+    for step in steps {
+        room_step(&rt, &mut bundles, step);
+        bundle_step(&rt, &mut bundles, step);
+    }
+}
+
+// Leg 1's frame 2, then key frame 1 of leg 2 as frame 3 with a timestamp that is 3,000 higher, and leg 2's frame 2 as frame 4.
+const KEPT_11: &[u8] =
+    b"\x90\xe0\x00\x0b\x00\x00\x00\x00\x55\x55\x55\x55\xbe\xde\x00\x01\x42\xc1\x00\x02\x10\x30\x00";
+
+const MOVED_12: &[u8] =
+    b"\x90\xe0\x00\x0c\x00\x00\x0b\xb8\x55\x55\x55\x55\xbe\xde\x00\x03\x48\xc0\x00\x03\xc0\x00\x3a\x41\x01\x40\x00\x00\x18\x30\x00";
+
+const MOVED_13: &[u8] =
+    b"\x90\xe0\x00\x0d\x00\x00\x0b\xb8\x55\x55\x55\x55\xbe\xde\x00\x01\x42\xc1\x00\x04\x10\x30\x00";
+
+#[test]
+fn frame_numbers_continue(rt: HostRuntime) {
+    let steps = [
+        Step::Publish(LAYERED, 1, 0x1111_1111),
+        Step::Publish(LAYERED, 2, 0x4444_4444),
+        Step::Join(1, 1),
+        Step::Join(2, 2),
+        Step::Renumbered(0, 4, &[1, 2], Err(BundleFault::NumberUsed { highest: 0 })),
+        Step::Renumbered(1, 5, &[1, 2], Err(BundleFault::WrongKind)),
+        Step::Renumbered(1, 4, &[1, 2], Ok(())),
+        Step::Bundle(2, 4, &[1, 2], Err(BundleFault::Bound { bundle: 1 })),
+        Step::Came(1, 1000, KEY_1),
+        Step::Came(1, 1001, FRAME_2),
+        Step::Pump(1, pumped(2, 0)),
+        Step::Choose(1, 2, Ok(())),
+        Step::Came(2, 2000, KEY_1),
+        Step::Came(2, 2001, FRAME_2),
+        Step::Pump(1, pumped(2, 0)),
+        Step::Draw(1, Ok(10), OUT_10),
+        Step::Draw(1, Ok(11), KEPT_11),
+        Step::Draw(1, Ok(12), MOVED_12),
+        Step::Draw(1, Ok(13), MOVED_13),
+        Step::Redraw(1, 12, Ok(()), MOVED_12),
     ];
     let mut bundles = Bundles::new(rt.alloc(), Room::new(rt.alloc(), KeepNone::new()));
     for step in steps {
