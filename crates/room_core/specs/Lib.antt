@@ -20,7 +20,9 @@ pub mod Indexed
 pub mod Serves
 pub mod Silent
 pub mod Sendable
+pub mod Counts
 pub mod Follows
+pub mod CountsOf
 pub mod FrameCache
 pub mod Stepping
 pub mod Passing

@@ -2,6 +2,7 @@
 // descriptors by Appendix A of RTP Payload Format For AV1.
 ghost use Rattle.std.specs.Prelude.{◌≤◌, length};
 
+mod counts;
 mod current_target;
 mod masks;
 mod sharing;
