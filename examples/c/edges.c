@@ -1,5 +1,5 @@
 /* edges.c: tests the codes that the library returns at its limits, each allocation failing in turn, and calls from another thread. It exits with 0 if
- * all is as the header says. With the argument `sizes` it prints how many bytes a room, a track, a subscriber, a session and a recorder
+ * all is as the header says. With the argument `sizes` it prints how many bytes a room, a track, a subscriber, a bundle, a session and a recorder
  * allocate. */
 #include <pthread.h>
 #include <stdio.h>
@@ -106,7 +106,7 @@ static void sessions(void) {
     zoftemar_close_session(&publisher);
     zoftemar_close_session(&subscriber);
     zoftemar_close(&room);
-    IS(blocks == 0 && strcmp(zoftemar_code_name(ZOFTEMAR_BUSY), "ZOFTEMAR_BUSY") == 0 && strcmp(zoftemar_code_name(9), "ZOFTEMAR_?") == 0);
+    IS(blocks == 0 && strcmp(zoftemar_code_name(ZOFTEMAR_BUSY), "ZOFTEMAR_BUSY") == 0 && strcmp(zoftemar_code_name(10), "ZOFTEMAR_?") == 0);
 }
 
 /* Without a room: a packet is wrapped, and unwrapped again. */
@@ -202,6 +202,116 @@ static void recorder_memory(void) {
     }
 }
 
+static const uint32_t pair[2] = { 1, 2 }, lone[4] = { 1, 1, 9, 9 }, mixed[2] = { 3, 4 };
+
+/* Opens a room with two layered tracks, a plain one, and subscribers 1 and 3 of the first, 2 of the second, 4 of the plain one. */
+static void tracks(zoftemar_room *room) {
+    IS(zoftemar_open(room) == ZOFTEMAR_DONE);
+    IS(zoftemar_publish_layered(room, 0, 1, 4, 0x22222222, 100).code == ZOFTEMAR_DONE);
+    IS(zoftemar_publish_layered(room, 0, 2, 4, 0x22222222, 100).code == ZOFTEMAR_DONE);
+    IS(zoftemar_publish_plain(room, 0, 3, 5, 100).code == ZOFTEMAR_DONE);
+    const uint32_t track[4] = { 1, 2, 1, 3 };
+    for (uint32_t n = 0; n < 4; n++) IS(zoftemar_join(room, 0, n + 1, track[n], 5, 6, 0, 0).code == ZOFTEMAR_DONE);
+}
+
+/* The packet that is drawn next: its number, and its 16-bit frame number. */
+static void drawn(zoftemar_room *room, uint32_t bundle, size_t count, int number, int frame) {
+    zoftemar_reply r = zoftemar_draw(room, bundle, out, sizeof out);
+    IS(r.code == ZOFTEMAR_PACKET && r.has && r.first == count && r.second == 0 && out[3] == number && out[8] == 0x55 && out[19] == frame);
+}
+
+static bool is(zoftemar_reply r, uint32_t code, bool has, uint64_t first, uint64_t second) {
+    return r.code == code && r.has == has && r.first == first && r.second == second;
+}
+
+static void bundles(void) {
+    zoftemar_room room = ZOFTEMAR_ROOM_NONE;
+    zoftemar_session session = ZOFTEMAR_SESSION_NONE;
+    uint8_t second[sizeof next];
+    IS(zoftemar_bundle(&room, 1, 4, 0x55555555, 10, pair, 2).code == ZOFTEMAR_NO_ROOM && zoftemar_pump(&room, 1).code == ZOFTEMAR_NO_ROOM);
+    IS(zoftemar_bundle_renumbered(&room, 1, 4, 0x55555555, 10, pair, 2).code == ZOFTEMAR_NO_ROOM && zoftemar_choose(&room, 1, 1).code == ZOFTEMAR_NO_ROOM);
+    IS(zoftemar_draw(&room, 1, out, sizeof out).code == ZOFTEMAR_NO_ROOM && zoftemar_redraw(&room, 1, 1, out, sizeof out).code == ZOFTEMAR_NO_ROOM);
+    IS(zoftemar_bundle(&room, 1, 4, 0x55555555, 10, NULL, 0).code == ZOFTEMAR_BAD_LEGS && zoftemar_draw(&room, 1, out, 2047).code == ZOFTEMAR_NO_SPACE);
+    tracks(&room);
+    IS(is(zoftemar_bundle(&room, 0, 4, 0x55555555, 10, pair, 2), ZOFTEMAR_NUMBER_USED, true, 0, 0));
+    IS(is(zoftemar_bundle(&room, 1, 4, 0x55555555, 10, lone, 1), ZOFTEMAR_BAD_LEGS, false, 0, 0));
+    IS(zoftemar_bundle_renumbered(&room, 1, 4, 0x55555555, 10, lone, 4).code == ZOFTEMAR_BAD_LEGS);
+    IS(is(zoftemar_bundle(&room, 1, 4, 0x55555555, 10, lone, 3), ZOFTEMAR_NO_SUBSCRIBER, false, 0, 0));
+    IS(is(zoftemar_bundle(&room, 1, 4, 0x55555555, 10, lone, 2), ZOFTEMAR_BOUND, true, 1, 0));
+    IS(is(zoftemar_bundle(&room, 1, 5, 0x55555555, 10, pair, 2), ZOFTEMAR_WRONG_KIND, false, 0, 0));
+    IS(zoftemar_bundle_renumbered(&room, 1, 4, 0x55555555, 10, mixed, 2).code == ZOFTEMAR_WRONG_KIND);
+    IS(zoftemar_pump(&room, 1).code == ZOFTEMAR_NO_BUNDLE && zoftemar_choose(&room, 1, 1).code == ZOFTEMAR_NO_BUNDLE);
+    IS(zoftemar_draw(&room, 1, out, sizeof out).code == ZOFTEMAR_NO_BUNDLE && zoftemar_redraw(&room, 1, 10, out, sizeof out).code == ZOFTEMAR_NO_BUNDLE);
+    IS(is(zoftemar_bundle_renumbered(&room, 1, 4, 0x55555555, 10, pair, 2), ZOFTEMAR_DONE, false, 0, 0));
+    IS(is(zoftemar_bundle(&room, 1, 4, 0x55555555, 10, pair, 2), ZOFTEMAR_NUMBER_USED, true, 1, 0));
+    IS(is(zoftemar_take(&room, 0, 1, out, sizeof out), ZOFTEMAR_BOUND, true, 1, 0) && zoftemar_take(&room, 0, 3, out, sizeof out).code == ZOFTEMAR_EMPTY);
+    IS(is(zoftemar_leave(&room, 0, 2), ZOFTEMAR_BOUND, true, 1, 0) && is(zoftemar_choose(&room, 1, 3), ZOFTEMAR_NO_LEG, true, 2, 0));
+    IS(zoftemar_open_subscriber(&session, 1, 5) == ZOFTEMAR_DONE && zoftemar_session_waited(&session, 0).code == ZOFTEMAR_DONE);
+    IS(is(zoftemar_session_work(&session, &room, 0, out, sizeof out), ZOFTEMAR_BOUND, true, 1, 0) && work(&session, &room) == ZOFTEMAR_BOUND);
+    IS(zoftemar_session_waited(&session, 0).code == ZOFTEMAR_BUSY);
+    zoftemar_close_session(&session);
+
+    /* Leg 1's frames 1 and 2, then leg 2's key frame 7, which gets number 3, and its frame 8, which gets 4. */
+    memcpy(second, next, sizeof next);
+    IS(zoftemar_packet(&room, 0, 1, 0, key, sizeof key).code == ZOFTEMAR_DONE && zoftemar_packet(&room, 0, 2, 0, key, sizeof key).code == ZOFTEMAR_DONE);
+    IS(zoftemar_packet(&room, 0, 1, 0, second, sizeof second).code == ZOFTEMAR_DONE);
+    IS(is(zoftemar_pump(&room, 1), ZOFTEMAR_PUMPED, true, 2, 1) && is(zoftemar_pump(&room, 1), ZOFTEMAR_PUMPED, true, 0, 0));
+    IS(!zoftemar_key_wanted(&room, 0, 2).has && is(zoftemar_choose(&room, 1, 2), ZOFTEMAR_DONE, false, 0, 0) && zoftemar_key_wanted(&room, 0, 2).has);
+    drawn(&room, 1, sizeof key, 10, 1);
+    IS(zoftemar_draw(&room, 1, out, 2047).code == ZOFTEMAR_NO_SPACE && zoftemar_redraw(&room, 1, 10, out, 2047).code == ZOFTEMAR_NO_SPACE);
+    drawn(&room, 1, sizeof next, 11, 2);
+    IS(is(zoftemar_draw(&room, 1, out, sizeof out), ZOFTEMAR_EMPTY, false, 0, 0));
+    uint8_t again[sizeof key];
+    memcpy(again, key, sizeof key);
+    again[2] = again[3] = 0; /* the sequence number after 65,535 */
+    again[19] = 7;
+    IS(zoftemar_packet(&room, 0, 2, 0, again, sizeof again).code == ZOFTEMAR_DONE);
+    second[3] = 1;
+    second[19] = 8;
+    IS(zoftemar_packet(&room, 0, 2, 0, second, sizeof second).code == ZOFTEMAR_DONE);
+    IS(is(zoftemar_pump(&room, 1), ZOFTEMAR_PUMPED, true, 2, 0));
+    drawn(&room, 1, sizeof key, 12, 3);
+    drawn(&room, 1, sizeof next, 13, 4);
+    IS(is(zoftemar_redraw(&room, 1, 12, out, sizeof out), ZOFTEMAR_PACKET, true, sizeof key, 0) && out[3] == 12 && out[19] == 3);
+    IS(is(zoftemar_redraw(&room, 1, 14, out, sizeof out), ZOFTEMAR_NOT_KEPT, true, 10, 14));
+    zoftemar_close(&room);
+    IS(blocks == 0);
+
+    tracks(&room);
+    for (uint32_t n = 0; n < 65; n++) {
+        uint32_t legs[2] = { 5 + 2 * n, 6 + 2 * n };
+        for (int i = 0; i < 2; i++) IS(zoftemar_join(&room, 0, legs[i], 1, 5, 6, 0, 0).code == ZOFTEMAR_DONE);
+        zoftemar_reply r = zoftemar_bundle(&room, n + 1, 4, 5, 6, legs, 2);
+        IS(n < 64 ? r.code == ZOFTEMAR_DONE : is(r, ZOFTEMAR_TOO_MANY, true, 64, 0));
+    }
+    zoftemar_close(&room);
+    IS(blocks == 0);
+}
+
+/* Each allocation of a bundle fails in turn. A bundle that was refused is made afterwards, and its other calls need no memory. */
+static void bundle_memory(void) {
+    for (long n = 0;; n++) {
+        zoftemar_room room = ZOFTEMAR_ROOM_NONE;
+        tracks(&room);
+        IS(zoftemar_packet(&room, 0, 1, 0, key, sizeof key).code == ZOFTEMAR_DONE);
+        left = n;
+        uint32_t made = zoftemar_bundle(&room, 1, 4, 0x55555555, 10, pair, 2).code;
+        left = -1;
+        if (made != ZOFTEMAR_DONE) {
+            IS(made == ZOFTEMAR_NO_MEMORY && zoftemar_pump(&room, 1).code == ZOFTEMAR_NO_BUNDLE);
+            IS(zoftemar_bundle(&room, 1, 4, 0x55555555, 10, pair, 2).code == ZOFTEMAR_DONE);
+        }
+        left = 0;
+        IS(is(zoftemar_pump(&room, 1), ZOFTEMAR_PUMPED, true, 1, 0) && zoftemar_choose(&room, 1, 2).code == ZOFTEMAR_DONE);
+        drawn(&room, 1, sizeof key, 10, 1);
+        IS(zoftemar_redraw(&room, 1, 10, out, sizeof out).first == sizeof key);
+        left = -1;
+        zoftemar_close(&room);
+        IS(blocks == 0);
+        if (made == ZOFTEMAR_DONE) return;
+    }
+}
+
 /* Each allocation fails in turn. A call that was refused succeeds afterwards, and all blocks are freed. */
 static void memory(void) {
     zoftemar_reply publish, join;
@@ -260,6 +370,11 @@ static void sizes(void) {
     size_of("a plain track");
     zoftemar_join(&room, 0, 1, 1, 2, 3, 0, 0);
     size_of("a subscriber");
+    zoftemar_publish_layered(&room, 0, 3, 4, 1, 1);
+    zoftemar_join(&room, 0, 2, 3, 2, 3, 0, 0);
+    bytes_taken = 0;
+    IS(zoftemar_bundle(&room, 1, 4, 1, 1, pair, 2).code == ZOFTEMAR_DONE);
+    size_of("a bundle");
     zoftemar_session session = ZOFTEMAR_SESSION_NONE;
     IS(zoftemar_open_publisher(&session, 1, 1) == ZOFTEMAR_DONE);
     size_of("a session");
@@ -277,6 +392,8 @@ int main(int argc, char **argv) {
     wrapping();
     recording();
     recorder_memory();
+    bundles();
+    bundle_memory();
     memory();
     threads();
     if (argc > 1 && strcmp(argv[1], "sizes") == 0) sizes();

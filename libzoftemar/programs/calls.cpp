@@ -43,6 +43,14 @@ int main() {
     IS(rtx.received(20, nack, sizeof nack).code == ZOFTEMAR_DONE);
     IS(rtx.work(room, out, sizeof out).first == sizeof rtp + 2 && out[1] == 97);
 
+    const std::uint32_t legs[] = {2, 3};
+    IS(room.publish_layered(3, 4, 1, 300).code == ZOFTEMAR_DONE && room.publish_layered(4, 4, 1, 300).code == ZOFTEMAR_DONE);
+    IS(room.join(2, 3, 1, 7, 0, 0).code == ZOFTEMAR_DONE && room.join(3, 4, 1, 7, 0, 0).code == ZOFTEMAR_DONE);
+    IS(room.bundle(1, 5, 1, 7, legs, 2).code == ZOFTEMAR_WRONG_KIND && room.bundle_renumbered(1, 4, 1, 7, legs, 2).code == ZOFTEMAR_DONE);
+    IS(room.pump(1).code == ZOFTEMAR_PUMPED && room.choose(1, 2).code == ZOFTEMAR_DONE && room.key_wanted(4).has);
+    IS(room.draw(1, out, sizeof out).code == ZOFTEMAR_EMPTY && room.redraw(1, 7, out, sizeof out).code == ZOFTEMAR_NOT_KEPT);
+    IS(room.leave(2).code == ZOFTEMAR_BOUND);
+
     zoftemar::Recorder recorder;
     IS(recorder.feed(rtp, sizeof rtp).code == ZOFTEMAR_NO_RECORDER && recorder.open(4) == ZOFTEMAR_DONE && recorder.open(4) == ZOFTEMAR_HAS_RECORDER);
     IS(recorder.feed(rtp, sizeof rtp).code == ZOFTEMAR_UNREAD);

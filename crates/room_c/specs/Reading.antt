@@ -11,6 +11,8 @@ use Rattle.sfu_base.specs.declared.frame.Verdict.{Verdict}
 use Rattle.sfu_base.specs.declared.frame.Verdict.TheVariants as verdict
 use Rattle.sfu_base.specs.declared.frame.Wish.{Wish}
 use Rattle.room_core.specs.declared.current_target.DecodeTarget.{DecodeTarget}
+use Rattle.simulcast.specs.declared.fault.BundleFault.{BundleFault}
+use Rattle.simulcast.specs.declared.fault.BundleFault.TheVariants as bundle
 use Rattle.room_c.specs.declared.plain_reply.PlainReply.{PlainReply}
 use Rattle.room_c.specs.declared.plain_target.PlainTarget.{PlainTarget}
 
@@ -64,6 +66,10 @@ reply_in r =
     if r.code == 3 then reply.Key r.has else
     if nat_lt r.code 32 then reply.Cause (verdict_in r) else
     reply.Refused (refusal_in r)
+
+-- the answer of a room with bundles: it has the number of the bundle that forbids the call, or it is the room's reply
+abbrev pub answer_in : PlainReply → Result Reply BundleFault
+answer_in r = if r.code == 52 then Err (bundle.Bound r.first) else Ok (reply_in r)
 
 -- ---- questions
 

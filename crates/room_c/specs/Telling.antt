@@ -11,6 +11,9 @@ use Rattle.sfu_base.specs.declared.frame.Verdict.{Verdict}
 use Rattle.sfu_base.specs.declared.frame.Verdict.TheVariants as verdict
 use Rattle.sfu_base.specs.declared.frame.Wish.{Wish}
 use Rattle.room_core.specs.declared.current_target.DecodeTarget.{DecodeTarget}
+use Rattle.simulcast.specs.declared.fault.BundleFault.{BundleFault}
+use Rattle.simulcast.specs.declared.fault.BundleFault.TheVariants as bundle
+use Rattle.simulcast.specs.declared.pumped.Pumped.{Pumped}
 use Rattle.room_c.specs.declared.code.Code.{Code}
 use Rattle.room_c.specs.declared.code.Code.TheVariants as coded
 use Rattle.room_c.specs.declared.plain_reply.PlainReply.{PlainReply}
@@ -89,6 +92,38 @@ plain_of scratch reply.Names = one_of coded.Names (length scratch.names)
 plain_of scratch (reply.Key wanted) = flag_of coded.Key wanted
 plain_of scratch (reply.Cause v) = plain_verdict v
 plain_of scratch (reply.Refused why) = plain_refusal why
+
+-- ---- bundles
+
+-- why a room with bundles refused
+abbrev pub plain_fault : BundleFault → PlainReply
+plain_fault bundle.NoBundle = bare_of coded.NoBundle
+plain_fault (bundle.NumberUsed highest) = one_of coded.NumberUsed highest
+plain_fault (bundle.TooMany live) = one_of coded.TooMany live
+plain_fault (bundle.NoLeg legs) = one_of coded.NoLeg legs
+plain_fault bundle.WrongKind = bare_of coded.WrongKind
+plain_fault (bundle.Bound number) = one_of coded.Bound number
+plain_fault (bundle.Room why) = plain_refusal why
+plain_fault bundle.NoMemory = bare_of coded.NoMemory
+
+-- The numbers of a room's answer to a call, with the content of the scratch.
+abbrev pub answer_reply : Scratch → Result Reply BundleFault → PlainReply
+answer_reply scratch (Ok given) = plain_of scratch given
+answer_reply scratch (Err why) = plain_fault why
+
+-- of a new bundle, or of a choice
+abbrev pub done_reply : Result (Unit {0}) BundleFault → PlainReply
+done_reply (Ok _) = bare_of coded.Done
+done_reply (Err why) = plain_fault why
+
+abbrev pub pumped_reply : Result Pumped BundleFault → PlainReply
+pumped_reply (Ok pumped) = two_of coded.Pumped pumped.forwarded pumped.dropped
+pumped_reply (Err why) = plain_fault why
+
+-- of a packet that is drawn or redrawn, which has this length
+abbrev pub drawn_reply : {A : Type 0} → ℕ → Result A BundleFault → PlainReply
+drawn_reply size (Ok _) = one_of coded.Packet size
+drawn_reply size (Err why) = plain_fault why
 
 -- ---- buffers
 

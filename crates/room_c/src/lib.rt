@@ -1,10 +1,11 @@
-//! The room for callers in C. C keeps a handle for each room, for each session of a publisher or a subscriber, and for each recorder. Sessions make
-//! calls on a room; a recorder makes a file of packets. Whatever numbers C passes, each call is served or returns a code. The header is
-//! `libzoftemar/zoftemar.h`.
+//! The room for callers in C. C keeps a handle for each room, for each session of a publisher or a subscriber, and for each recorder. A room may have
+//! bundles. Sessions make calls on a room; a recorder makes a file of packets. Whatever numbers C passes, each call is served or returns a code. The
+//! header is `libzoftemar/zoftemar.h`.
 #![tactic(auto)]
 
 mod answers;
 mod attended;
+mod bundle_calls;
 mod code;
 mod file_rest;
 mod handle;
@@ -27,3 +28,4 @@ mod subscriber_calls;
 mod tape;
 mod track_calls;
 mod version;
+mod working;

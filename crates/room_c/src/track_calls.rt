@@ -12,7 +12,7 @@ use crate::code::Code;
 use crate::handle::Handle;
 use crate::home::Home;
 use crate::plain_reply::PlainReply;
-use sfu_base::{Call, Kind};
+use sfu_base::{Call, Kind, PacketBuf};
 use std::alloc::Global;
 
 /// Publishes a plain track, as `Room::publish` does. The track waits `hold` milliseconds at a gap in sequence numbers. Refusals: `NumberUsed`,
@@ -98,20 +98,17 @@ pub extern "C" fn zoftemar_packet(
     if bytes.len() > PACKET_ROOM {
         return PlainReply::bare(Code::TooLong);
     }
-    match room.take(alloc) {
-        None => PlainReply::bare(Code::NoRoom),
-        Some(mut home) => {
-            let Home {
-                room: inner,
-                scratch,
-                inbox,
-            } = &mut *home;
-            inbox.fill(bytes);
-            let told = PlainReply::of(&inner.packet(seat, track, moment, inbox), scratch);
-            room.put(home);
-            told
-        }
-    }
+    let mut packet = PacketBuf::new();
+    packet.fill(bytes);
+    room.serve(
+        alloc,
+        seat,
+        &Call::Packet {
+            track,
+            moment,
+            bytes: packet,
+        },
+    )
 }
 
 /// Advances a track's time to `moment`, in milliseconds, as `Room::tick` does. Refusal: `NoTrack`.
@@ -125,15 +122,7 @@ pub extern "C" fn zoftemar_tick(
 ) -> PlainReply
     ensures does { Does room.old.held.home room.new.held.home seat (call.Tick track moment) result }
 {
-    match room.take(alloc) {
-        None => PlainReply::bare(Code::NoRoom),
-        Some(mut home) => {
-            let reply = home.room.tick(seat, track, moment);
-            let told = PlainReply::of(&reply, &home.scratch);
-            room.put(home);
-            told
-        }
-    }
+    room.serve(alloc, seat, &Call::Tick { track, moment })
 }
 
 /// Writes the sequence numbers that a track waits for to the start of `out`, as `Room::missing` does. Returns `Names`. Refusal: `NoTrack`. `NoSpace`:
@@ -157,13 +146,9 @@ pub extern "C" fn zoftemar_missing(
     match room.take(alloc) {
         None => PlainReply::bare(Code::NoRoom),
         Some(mut home) => {
-            let Home {
-                room: inner,
-                scratch,
-                inbox: _,
-            } = &mut *home;
-            let reply = inner.missing(seat, track, scratch);
-            let told = give_numbers(&reply, scratch, out);
+            let Home { bundles, scratch } = &mut *home;
+            let answer = bundles.call(seat, &Call::Missing { track }, scratch);
+            let told = give_numbers(&answer, scratch, out);
             room.put(home);
             told
         }

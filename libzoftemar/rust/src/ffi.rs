@@ -45,6 +45,7 @@ pub const TARGET: u32 = 5;
 pub const DUE: u32 = 6;
 pub const NEWEST: u32 = 7;
 pub const FILE_PIECE: u32 = 8;
+pub const PUMPED: u32 = 9;
 pub const EMPTY: u32 = 43;
 
 impl Reply {
@@ -84,6 +85,12 @@ extern "C" {
     pub fn zoftemar_resend(room: &mut Handle, seat: u32, subscriber: u32, number: u16, out: *mut u8, count: usize) -> Reply;
     pub fn zoftemar_plead(room: &mut Handle, seat: u32, subscriber: u32) -> Reply;
     pub fn zoftemar_why(room: &mut Handle, seat: u32, subscriber: u32, number: u64) -> Reply;
+    pub fn zoftemar_bundle(room: &mut Handle, bundle: u32, id: u8, ssrc: u32, first: u16, legs: *const u32, count: usize) -> Reply;
+    pub fn zoftemar_bundle_renumbered(room: &mut Handle, bundle: u32, id: u8, ssrc: u32, first: u16, legs: *const u32, count: usize) -> Reply;
+    pub fn zoftemar_choose(room: &mut Handle, bundle: u32, leg: u8) -> Reply;
+    pub fn zoftemar_pump(room: &mut Handle, bundle: u32) -> Reply;
+    pub fn zoftemar_draw(room: &mut Handle, bundle: u32, out: *mut u8, count: usize) -> Reply;
+    pub fn zoftemar_redraw(room: &mut Handle, bundle: u32, number: u16, out: *mut u8, count: usize) -> Reply;
     pub fn zoftemar_target_of(room: &Handle, subscriber: u32, out: &mut Target) -> Reply;
     pub fn zoftemar_reaches_wish(room: &Handle, subscriber: u32) -> Reply;
     pub fn zoftemar_due(room: &Handle, track: u32) -> Reply;

@@ -117,6 +117,42 @@ impl Room {
         Verdict::of(unsafe { zoftemar_why(&mut self.handle, 0, subscriber, number) })
     }
 
+    /// Makes a bundle of two or three legs, which are subscribers of layered tracks with descriptors in the header extension element `id`. Its packets
+    /// have this SSRC, and sequence numbers from `first` on. The first leg is chosen.
+    pub fn bundle(&mut self, number: u32, id: u8, ssrc: u32, first: u16, legs: &[u32]) -> Result<(), Error> {
+        unsafe { zoftemar_bundle(&mut self.handle, number, id, ssrc, first, legs.as_ptr(), legs.len()) }.done()
+    }
+
+    /// Makes a bundle whose frame numbers continue at a change of leg, which WebRTC receivers need.
+    pub fn bundle_renumbered(&mut self, number: u32, id: u8, ssrc: u32, first: u16, legs: &[u32]) -> Result<(), Error> {
+        unsafe { zoftemar_bundle_renumbered(&mut self.handle, number, id, ssrc, first, legs.as_ptr(), legs.len()) }.done()
+    }
+
+    /// Chooses the leg that a bundle forwards from that leg's next key frame on; the first leg is 1. Requests that key frame if the leg isn't active.
+    pub fn choose(&mut self, bundle: u32, leg: u8) -> Result<(), Error> {
+        unsafe { zoftemar_choose(&mut self.handle, bundle, leg) }.done()
+    }
+
+    /// Takes the packets that are queued for a bundle's legs. Returns how many of them the bundle forwards, and how many it drops.
+    pub fn pump(&mut self, bundle: u32) -> Result<(u64, u64), Error> {
+        let reply = unsafe { zoftemar_pump(&mut self.handle, bundle) }.expect(PUMPED)?;
+        Ok((reply.first, reply.second))
+    }
+
+    /// Moves a bundle's oldest queued packet to `out`, and returns it. `None`: no packet is queued.
+    pub fn draw<'a>(&mut self, bundle: u32, out: &'a mut [u8; PACKET_ROOM]) -> Result<Option<&'a [u8]>, Error> {
+        let reply = unsafe { zoftemar_draw(&mut self.handle, bundle, out.as_mut_ptr(), out.len()) };
+        match reply.code {
+            EMPTY => Ok(None),
+            _ => written(reply, out).map(Some),
+        }
+    }
+
+    /// Copies a packet that was drawn from a bundle before, with this sequence number, to `out`, and returns it.
+    pub fn redraw<'a>(&mut self, bundle: u32, number: u16, out: &'a mut [u8; PACKET_ROOM]) -> Result<&'a [u8], Error> {
+        written(unsafe { zoftemar_redraw(&mut self.handle, bundle, number, out.as_mut_ptr(), out.len()) }, out)
+    }
+
     /// The decode target that a subscriber is sent, if it has one.
     pub fn target_of(&self, subscriber: u32) -> Result<Option<Target>, Error> {
         let mut target = Target::default();
