@@ -1,5 +1,5 @@
 -- The numbers of a reply, or of the answer to a question. A number that a code doesn't use is 0. Own rules; `Code` says what the numbers mean.
-use Rattle.std.specs.Prelude.{ℕ, ◌==◌, Bool, true, false, if◌then◌else◌, Option, Some, None, Result, Ok, Err, length}
+use Rattle.std.specs.Prelude.{ℕ, ◌==◌, Bool, true, false, if◌then◌else◌, Option, Some, None, Result, Ok, Err, length, [], ◌∷◌}
 use Rattle.sfu_base.specs.declared.call.Reply.{Reply}
 use Rattle.sfu_base.specs.declared.call.Reply.TheVariants as reply
 use Rattle.sfu_base.specs.declared.call.Refusal.{Refusal}
@@ -137,8 +137,8 @@ numbers_written r = if r.code == 2 then r.first else 0
 -- ---- questions
 
 abbrev pub plain_layers : ℕ → Option Wish → PlainTarget
-plain_layers index None = record { index = index; known = false; spatial = 0; temporal = 0 }
-plain_layers index (Some layers) = record { index = index; known = true; spatial = layers.spatial; temporal = layers.temporal }
+plain_layers index None = record { index = index; known = false; spatial = 0; temporal = 0; spare = 0 ∷ 0 ∷ 0 ∷ 0 ∷ [] }
+plain_layers index (Some layers) = record { index = index; known = true; spatial = layers.spatial; temporal = layers.temporal; spare = 0 ∷ 0 ∷ 0 ∷ 0 ∷ [] }
 
 -- a decode target as numbers
 abbrev pub plain_target : DecodeTarget → PlainTarget

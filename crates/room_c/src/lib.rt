@@ -18,6 +18,7 @@ mod parts;
 mod plain_reply;
 mod plain_target;
 mod questions;
+mod ready_question;
 mod recorder_calls;
 mod recorder_handle;
 mod rtx_calls;

@@ -20,7 +20,7 @@ pub struct Handle {
     at: *mut c_void,
 }
 
-const _: () = assert!(std::mem::size_of::<Handle>() == 16 && std::mem::size_of::<Reply>() == 24 && std::mem::size_of::<Target>() == 4);
+const _: () = assert!(std::mem::size_of::<Handle>() == 16 && std::mem::size_of::<Reply>() == 24 && std::mem::size_of::<Target>() == 8);
 
 impl Handle {
     /// `ZOFTEMAR_ROOM_NONE`.
@@ -46,6 +46,7 @@ pub const DUE: u32 = 6;
 pub const NEWEST: u32 = 7;
 pub const FILE_PIECE: u32 = 8;
 pub const PUMPED: u32 = 9;
+pub const READY: u32 = 11;
 pub const EMPTY: u32 = 43;
 
 impl Reply {
@@ -95,6 +96,7 @@ extern "C" {
     pub fn zoftemar_reaches_wish(room: &Handle, subscriber: u32) -> Reply;
     pub fn zoftemar_due(room: &Handle, track: u32) -> Reply;
     pub fn zoftemar_newest_frame(room: &Handle, track: u32) -> Reply;
+    pub fn zoftemar_ready(room: &Handle, track: u32, out: *mut u32, count: usize) -> Reply;
     pub fn zoftemar_open_publisher(session: &mut Handle, track: u32, ssrc: u32) -> u32;
     pub fn zoftemar_open_subscriber(session: &mut Handle, subscriber: u32, ssrc: u32) -> u32;
     pub fn zoftemar_open_rtx_subscriber(session: &mut Handle, subscriber: u32, ssrc: u32, rtx_ssrc: u32, rtx_payload_type: u8) -> u32;
