@@ -25,6 +25,8 @@ pub enum Code {
     FilePiece = 8,
     /// Of the packets that were taken from the legs, `first` are forwarded, and `second` are dropped.
     Pumped = 9,
+    /// The counts of a subscriber or a track were written.
+    Counts = 10,
     /// The frame was forwarded.
     Passed = 16,
     /// The frame isn't present in the subscriber's target, whose index is `first`. If `has` is false, no target is open and the wish allows none.
