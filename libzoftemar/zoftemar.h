@@ -101,6 +101,7 @@ enum zoftemar_code {
     ZOFTEMAR_NEWEST = 7,            /* has: whether a whole frame of the track came; first: the newest frame's number, if so */
     ZOFTEMAR_FILE_PIECE = 8,        /* first: the number of bytes of the file that were written to `out`; second: how many are left */
     ZOFTEMAR_PUMPED = 9,            /* of the packets that were taken from the legs, first: how many are forwarded; second: how many are dropped */
+    ZOFTEMAR_COUNTS = 10,           /* the counts were written to `out` */
     ZOFTEMAR_READY = 11,            /* first: how many subscribers' numbers were written to `out` */
 
     /* Why a frame was or wasn't forwarded to a subscriber. Frame numbers are unwrapped: they go on after 65,535. */
@@ -165,14 +166,15 @@ enum zoftemar_code {
 /* X(name) for each code. */
 #define ZOFTEMAR_EACH_CODE(X) \
     X(ZOFTEMAR_DONE) X(ZOFTEMAR_PACKET) X(ZOFTEMAR_NAMES) X(ZOFTEMAR_KEY) X(ZOFTEMAR_REACHED) X(ZOFTEMAR_TARGET) X(ZOFTEMAR_DUE) X(ZOFTEMAR_NEWEST) \
-    X(ZOFTEMAR_FILE_PIECE) X(ZOFTEMAR_PUMPED) X(ZOFTEMAR_READY) X(ZOFTEMAR_PASSED) X(ZOFTEMAR_NOT_OF_TARGET) X(ZOFTEMAR_BEHIND) X(ZOFTEMAR_REFERENCE) X(ZOFTEMAR_FULL) \
-    X(ZOFTEMAR_LINK) X(ZOFTEMAR_UNOPENED) X(ZOFTEMAR_HOLE) X(ZOFTEMAR_NO_TRACK) X(ZOFTEMAR_NO_SUBSCRIBER) X(ZOFTEMAR_NUMBER_USED) X(ZOFTEMAR_TOO_MANY) \
-    X(ZOFTEMAR_BAD_EXTENSION_ID) X(ZOFTEMAR_TOO_BIG) X(ZOFTEMAR_UNREADABLE) X(ZOFTEMAR_WRONG_SSRC) X(ZOFTEMAR_SPENT) X(ZOFTEMAR_LATE) \
-    X(ZOFTEMAR_REPEAT) X(ZOFTEMAR_EMPTY) X(ZOFTEMAR_NOT_KEPT) X(ZOFTEMAR_AHEAD) X(ZOFTEMAR_TOO_OLD) X(ZOFTEMAR_PLAIN) X(ZOFTEMAR_NO_MEMORY) \
-    X(ZOFTEMAR_NO_BUNDLE) X(ZOFTEMAR_NO_LEG) X(ZOFTEMAR_WRONG_KIND) X(ZOFTEMAR_BOUND) X(ZOFTEMAR_NO_ROOM) X(ZOFTEMAR_HAS_ROOM) X(ZOFTEMAR_NO_SPACE) \
-    X(ZOFTEMAR_TOO_LONG) X(ZOFTEMAR_NO_SESSION) X(ZOFTEMAR_HAS_SESSION) X(ZOFTEMAR_BUSY) X(ZOFTEMAR_BAD_STREAM) X(ZOFTEMAR_NO_RECORDER) \
-    X(ZOFTEMAR_HAS_RECORDER) X(ZOFTEMAR_FINISHED) X(ZOFTEMAR_BAD_LEGS) X(ZOFTEMAR_UNREAD) X(ZOFTEMAR_OTHER_SOURCE) X(ZOFTEMAR_OUT_OF_SEQUENCE) \
-    X(ZOFTEMAR_NO_STRUCTURE) X(ZOFTEMAR_NOT_WHOLE) X(ZOFTEMAR_MISSING_REFERENCE) X(ZOFTEMAR_NOT_OBU)
+    X(ZOFTEMAR_FILE_PIECE) X(ZOFTEMAR_PUMPED) X(ZOFTEMAR_COUNTS) X(ZOFTEMAR_READY) X(ZOFTEMAR_PASSED) X(ZOFTEMAR_NOT_OF_TARGET) X(ZOFTEMAR_BEHIND) \
+    X(ZOFTEMAR_REFERENCE) X(ZOFTEMAR_FULL) X(ZOFTEMAR_LINK) X(ZOFTEMAR_UNOPENED) X(ZOFTEMAR_HOLE) X(ZOFTEMAR_NO_TRACK) X(ZOFTEMAR_NO_SUBSCRIBER) \
+    X(ZOFTEMAR_NUMBER_USED) X(ZOFTEMAR_TOO_MANY) X(ZOFTEMAR_BAD_EXTENSION_ID) X(ZOFTEMAR_TOO_BIG) X(ZOFTEMAR_UNREADABLE) X(ZOFTEMAR_WRONG_SSRC) \
+    X(ZOFTEMAR_SPENT) X(ZOFTEMAR_LATE) X(ZOFTEMAR_REPEAT) X(ZOFTEMAR_EMPTY) X(ZOFTEMAR_NOT_KEPT) X(ZOFTEMAR_AHEAD) X(ZOFTEMAR_TOO_OLD) \
+    X(ZOFTEMAR_PLAIN) X(ZOFTEMAR_NO_MEMORY) X(ZOFTEMAR_NO_BUNDLE) X(ZOFTEMAR_NO_LEG) X(ZOFTEMAR_WRONG_KIND) X(ZOFTEMAR_BOUND) X(ZOFTEMAR_NO_ROOM) \
+    X(ZOFTEMAR_HAS_ROOM) X(ZOFTEMAR_NO_SPACE) X(ZOFTEMAR_TOO_LONG) X(ZOFTEMAR_NO_SESSION) X(ZOFTEMAR_HAS_SESSION) X(ZOFTEMAR_BUSY) \
+    X(ZOFTEMAR_BAD_STREAM) X(ZOFTEMAR_NO_RECORDER) X(ZOFTEMAR_HAS_RECORDER) X(ZOFTEMAR_FINISHED) X(ZOFTEMAR_BAD_LEGS) X(ZOFTEMAR_UNREAD) \
+    X(ZOFTEMAR_OTHER_SOURCE) X(ZOFTEMAR_OUT_OF_SEQUENCE) X(ZOFTEMAR_NO_STRUCTURE) X(ZOFTEMAR_NOT_WHOLE) X(ZOFTEMAR_MISSING_REFERENCE) \
+    X(ZOFTEMAR_NOT_OBU)
 
 /* The name of a code, such as "ZOFTEMAR_DONE"; "ZOFTEMAR_?" for any other number. */
 #if defined(__STDC_VERSION__) && __STDC_VERSION__ >= 199901L || defined(__cplusplus)
@@ -269,6 +271,39 @@ ZOFTEMAR_USE ZOFTEMAR_NONNULL(1) zoftemar_reply zoftemar_newest_frame(const zoft
  * If these are fewer than `count`, they are all. A room has at most 256 subscribers. After the end of a track, its subscribers count until they leave.
  * The room isn't changed. After each zoftemar_packet and zoftemar_tick, take for these alone. */
 ZOFTEMAR_USE ZOFTEMAR_NONNULL(1) zoftemar_reply zoftemar_ready(const zoftemar_room *room, uint32_t track, uint32_t *out, size_t count);
+/* What is counted of a subscriber since its join. Each whole frame of its layered track since then has one of the verdicts of zoftemar_why, which is
+ * counted; a plain track has no frames. A count stays at 2^64 - 1 once it is there. */
+typedef struct zoftemar_subscriber_counts {
+    uint64_t passed;        /* frames that were forwarded (ZOFTEMAR_PASSED) */
+    uint64_t not_of_target; /* frames withheld since they aren't in the decode target (ZOFTEMAR_NOT_OF_TARGET): by the wish, so no fault */
+    uint64_t behind;        /* frames withheld since they refer to a frame before the epoch (ZOFTEMAR_BEHIND) */
+    uint64_t reference;     /* frames withheld since they refer to a frame that wasn't forwarded (ZOFTEMAR_REFERENCE) */
+    uint64_t full;          /* frames withheld since the queue had no place for all their packets (ZOFTEMAR_FULL) */
+    uint64_t link;          /* frames withheld since the target's chain is broken (ZOFTEMAR_LINK) */
+    uint64_t unopened;      /* frames withheld since no target is open (ZOFTEMAR_UNOPENED) */
+    uint64_t queued;        /* packets that were queued, also those taken since */
+    uint64_t taken;         /* packets that were taken: by zoftemar_take, a session or a pump */
+    uint64_t resent;        /* retransmissions: by zoftemar_resend or a session, each time; a bundle's redraws aren't counted */
+    uint64_t left_out;      /* packets of a plain track that came while 512 were queued, and weren't queued */
+    uint64_t waiting;       /* packets that are queued now: at most 512 */
+    uint64_t spare[4];      /* 0: for later counts */
+} zoftemar_subscriber_counts;
+
+/* What is counted of a track since its publish. */
+typedef struct zoftemar_track_counts {
+    uint64_t arrived;    /* packets that came, and left the reorder buffer in order */
+    uint64_t given_up;   /* sequence numbers that were given up: no packet with such a number is accepted any more */
+    uint64_t frames;     /* whole frames: 0 on a plain track */
+    uint64_t key_frames; /* whole key frames */
+    uint64_t unframed;   /* packets of `arrived` that are in no whole frame: of a torn or unfinished frame, unreadable, or padding; 0 on a plain track */
+    uint64_t spare[3];   /* 0: for later counts */
+} zoftemar_track_counts;
+
+/* Two questions about what is counted, which don't change the room: ZOFTEMAR_COUNTS. On a refusal `out` is unchanged. After the end of its track a
+ * subscriber's frames stay as they are. */
+ZOFTEMAR_USE ZOFTEMAR_NONNULL(1, 3) zoftemar_reply zoftemar_counts_of_subscriber(const zoftemar_room *room, uint32_t subscriber,
+                                                                                 zoftemar_subscriber_counts *out);
+ZOFTEMAR_USE ZOFTEMAR_NONNULL(1, 3) zoftemar_reply zoftemar_counts_of_track(const zoftemar_room *room, uint32_t track, zoftemar_track_counts *out);
 
 /* ---- Sessions: NACKs, PLIs and retransmissions by the library
  *
@@ -434,6 +469,10 @@ ZOFTEMAR_HOLDS(recorder, sizeof(zoftemar_recorder) == 16 && offsetof(zoftemar_re
 ZOFTEMAR_HOLDS(reply, sizeof(zoftemar_reply) == 24 && offsetof(zoftemar_reply, has) == 4);
 ZOFTEMAR_HOLDS(numbers, offsetof(zoftemar_reply, first) == 8 && offsetof(zoftemar_reply, second) == 16);
 ZOFTEMAR_HOLDS(target, sizeof(zoftemar_target) == 8 && offsetof(zoftemar_target, known) == 1 && offsetof(zoftemar_target, temporal) == 3);
+ZOFTEMAR_HOLDS(target, sizeof(zoftemar_target) == 4 && offsetof(zoftemar_target, known) == 1 && offsetof(zoftemar_target, temporal) == 3);
+ZOFTEMAR_HOLDS(subscriber_counts, sizeof(zoftemar_subscriber_counts) == 128 && offsetof(zoftemar_subscriber_counts, spare) == 96);
+ZOFTEMAR_HOLDS(subscriber_places, offsetof(zoftemar_subscriber_counts, queued) == 56 && offsetof(zoftemar_subscriber_counts, waiting) == 88);
+ZOFTEMAR_HOLDS(track_counts, sizeof(zoftemar_track_counts) == 64 && offsetof(zoftemar_track_counts, spare) == 40);
 #undef ZOFTEMAR_HOLDS
 
 #endif

@@ -16,6 +16,8 @@ namespace zoftemar {
 
 using Reply = zoftemar_reply;
 using Target = zoftemar_target;
+using SubscriberCounts = zoftemar_subscriber_counts;
+using TrackCounts = zoftemar_track_counts;
 
 // Owns a handle.
 template <class Handle, void (*Close)(Handle *)>
@@ -100,6 +102,12 @@ public:
     [[nodiscard]] Reply why(std::uint32_t subscriber, std::uint64_t number) noexcept { return zoftemar_why(handle(), 0, subscriber, number); }
     [[nodiscard]] Reply target_of(std::uint32_t subscriber, Target &out) const noexcept { return zoftemar_target_of(handle(), subscriber, &out); }
     [[nodiscard]] Reply reaches_wish(std::uint32_t subscriber) const noexcept { return zoftemar_reaches_wish(handle(), subscriber); }
+    [[nodiscard]] Reply counts_of_subscriber(std::uint32_t subscriber, SubscriberCounts &out) const noexcept {
+        return zoftemar_counts_of_subscriber(handle(), subscriber, &out);
+    }
+    [[nodiscard]] Reply counts_of_track(std::uint32_t track, TrackCounts &out) const noexcept {
+        return zoftemar_counts_of_track(handle(), track, &out);
+    }
 };
 
 // The methods that Publisher and Subscriber share.

@@ -91,6 +91,43 @@ static void codes(void) {
     IS(blocks == 0 && zoftemar_tick(&room, 0, 1, 0).code == ZOFTEMAR_NO_ROOM);
 }
 
+/* A packet of track 1, whose SSRC is 11111111, with this sequence number. */
+static uint32_t bring(zoftemar_room *room, uint16_t number) {
+    const uint8_t rtp[13] = { 0x80, 96, (uint8_t)(number >> 8), (uint8_t)number, 0, 0, 0, 0, 0x11, 0x11, 0x11, 0x11, 5 };
+    return zoftemar_packet(room, 0, 1, 0, rtp, sizeof rtp).code;
+}
+
+/* Counts after a few calls. On a refusal `out` is unchanged, and what isn't counted is 0. */
+static void counts(void) {
+    zoftemar_room room = ZOFTEMAR_ROOM_NONE;
+    zoftemar_subscriber_counts had, is;
+    zoftemar_track_counts had_of_track, of_track;
+    memset(&had, 7, sizeof had);
+    memset(&had_of_track, 7, sizeof had_of_track);
+    is = had;
+    of_track = had_of_track;
+    IS(zoftemar_counts_of_subscriber(&room, 1, &is).code == ZOFTEMAR_NO_ROOM && zoftemar_counts_of_track(&room, 1, &of_track).code == ZOFTEMAR_NO_ROOM);
+    IS(zoftemar_open(&room) == ZOFTEMAR_DONE && zoftemar_counts_of_subscriber(&room, 1, &is).code == ZOFTEMAR_NO_SUBSCRIBER);
+    IS(zoftemar_counts_of_track(&room, 1, &of_track).code == ZOFTEMAR_NO_TRACK);
+    IS(memcmp(&is, &had, sizeof is) == 0 && memcmp(&of_track, &had_of_track, sizeof of_track) == 0);
+    IS(zoftemar_publish_plain(&room, 0, 1, 0x11111111, 100).code == ZOFTEMAR_DONE && zoftemar_join(&room, 0, 1, 1, 2, 7, 0, 0).code == ZOFTEMAR_DONE);
+    for (uint16_t number = 1; number <= 514; number++) IS(bring(&room, number) == ZOFTEMAR_DONE);
+    IS(bring(&room, 514) == ZOFTEMAR_LATE && bring(&room, 517) == ZOFTEMAR_DONE); /* waits behind a gap */
+    IS(zoftemar_take(&room, 0, 1, out, sizeof out).code == ZOFTEMAR_PACKET && zoftemar_take(&room, 0, 1, out, sizeof out).code == ZOFTEMAR_PACKET);
+    IS(zoftemar_tick(&room, 0, 1, 100).code == ZOFTEMAR_DONE); /* gives up 515 and 516 */
+    for (int i = 0; i < 3; i++) IS(zoftemar_resend(&room, 0, 1, 8, out, sizeof out).code == ZOFTEMAR_PACKET);
+    IS(zoftemar_resend(&room, 0, 1, 6, out, sizeof out).code == ZOFTEMAR_NOT_KEPT);
+    IS(zoftemar_counts_of_subscriber(&room, 1, &is).code == ZOFTEMAR_COUNTS && zoftemar_counts_of_track(&room, 1, &of_track).code == ZOFTEMAR_COUNTS);
+    had = (zoftemar_subscriber_counts){ .queued = 513, .taken = 2, .resent = 3, .left_out = 2, .waiting = 511 };
+    had_of_track = (zoftemar_track_counts){ .arrived = 515, .given_up = 2 };
+    IS(memcmp(&is, &had, sizeof is) == 0 && memcmp(&of_track, &had_of_track, sizeof of_track) == 0);
+    IS(zoftemar_unpublish(&room, 0, 1).code == ZOFTEMAR_DONE && zoftemar_counts_of_track(&room, 1, &of_track).code == ZOFTEMAR_NO_TRACK);
+    IS(zoftemar_counts_of_subscriber(&room, 1, &is).code == ZOFTEMAR_COUNTS && memcmp(&is, &had, sizeof is) == 0);
+    IS(zoftemar_leave(&room, 0, 1).code == ZOFTEMAR_DONE && zoftemar_counts_of_subscriber(&room, 1, &is).code == ZOFTEMAR_NO_SUBSCRIBER);
+    zoftemar_close(&room);
+    IS(blocks == 0 && strcmp(zoftemar_code_name(ZOFTEMAR_COUNTS), "ZOFTEMAR_COUNTS") == 0);
+}
+
 static uint32_t work(zoftemar_session *session, zoftemar_room *room) { return zoftemar_session_work(session, room, 0, out, sizeof out).code; }
 
 static void sessions(void) {
@@ -127,7 +164,7 @@ static void sessions(void) {
     zoftemar_close_session(&publisher);
     zoftemar_close_session(&subscriber);
     zoftemar_close(&room);
-    IS(blocks == 0 && strcmp(zoftemar_code_name(ZOFTEMAR_BUSY), "ZOFTEMAR_BUSY") == 0 && strcmp(zoftemar_code_name(10), "ZOFTEMAR_?") == 0);
+    IS(blocks == 0 && strcmp(zoftemar_code_name(ZOFTEMAR_BUSY), "ZOFTEMAR_BUSY") == 0 && strcmp(zoftemar_code_name(11), "ZOFTEMAR_?") == 0);
 }
 
 /* Without a room: a packet is wrapped, and unwrapped again. */
@@ -405,6 +442,7 @@ static void sizes(void) {
 
 int main(int argc, char **argv) {
     codes();
+    counts();
     sessions();
     wrapping();
     recording();

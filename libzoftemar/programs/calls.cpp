@@ -35,6 +35,10 @@ int main() {
     IS(room.resend(1, 7, out, sizeof out).first == sizeof rtp && room.plead(1).code == ZOFTEMAR_PLAIN);
     IS(room.why(1, 0).code == ZOFTEMAR_AHEAD);
     IS(!asked.target_of(1, target).has && asked.reaches_wish(1).code == ZOFTEMAR_REACHED);
+    zoftemar::SubscriberCounts counts{};
+    zoftemar::TrackCounts counts_of_track{};
+    IS(asked.counts_of_subscriber(1, counts).code == ZOFTEMAR_COUNTS && counts.queued == 1 && counts.taken == 1 && counts.resent == 1);
+    IS(asked.counts_of_track(2, counts_of_track).code == ZOFTEMAR_COUNTS && counts_of_track.arrived == 1 && counts_of_track.given_up == 0);
 
     IS(publisher.open(2, 0x11111111) == ZOFTEMAR_DONE && plain.open(1, 0x22222222) == ZOFTEMAR_DONE);
     IS(rtx.open_rtx(1, 0x22222222, 0x22222222, 97) == ZOFTEMAR_BAD_STREAM);

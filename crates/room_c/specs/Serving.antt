@@ -8,14 +8,20 @@ use Rattle.room_c.specs.declared.home.Home.{Home}
 use Rattle.room_c.specs.declared.plain_reply.PlainReply.{PlainReply}
 use Rattle.room_core.specs.Serves.{Stands}
 use Rattle.room_core.specs.History.{Entry}
+use Rattle.room_core.specs.CountsOf.{AreSubscriberCounts, AreTrackCounts}
 use Rattle.room_core.specs.CurrentTargets.{IsReachedBy, IsTargetOf}
 use Rattle.room_core.specs.TrackQuestions.{IsDueOf, IsNewestFrameOf}
+use Rattle.track_core.specs.declared.counts.TrackCounts.{TrackCounts}
+use Rattle.room_core.specs.declared.counts.SubscriberCounts.{SubscriberCounts}
 use Rattle.room_core.specs.declared.current_target.DecodeTarget.{DecodeTarget}
 use Rattle.room_c.specs.declared.code.Code.TheVariants.{Due, Newest, NoRoom}
+use Rattle.room_c.specs.declared.plain_counts.PlainSubscriberCounts.{PlainSubscriberCounts}
+use Rattle.room_c.specs.declared.plain_counts.PlainTrackCounts.{PlainTrackCounts}
 use Rattle.room_c.specs.declared.plain_target.PlainTarget.{PlainTarget}
 use Rattle.room_c.specs.Recording.{never, untold}
-use Rattle.room_c.specs.Reading.{answer_in, due_in, newest_in, reached_in, reply_in, target_in}
+use Rattle.room_c.specs.Reading.{answer_in, due_in, newest_in, reached_in, reply_in, subscriber_counts_in, target_in, track_counts_in}
 use Rattle.room_c.specs.Telling.{answer_reply, bare_of, number_reply, reached_reply, target_reply, target_written}
+use Rattle.room_c.specs.Telling.{subscriber_counts_reply, subscriber_counts_written, track_counts_reply, track_counts_written}
 
 -- For this call of this seat the room changes and replies as `Room::serve` does, with the reply's content in the scratch; exactly if the call is a take
 -- or leave of a leg it is refused instead, and nothing changes. The result has the numbers of this answer and no others.
@@ -74,3 +80,24 @@ pub record TellsNewest (home : Home) (track : ℕ) (told : PlainReply) (answer :
 abbrev pub AsksNewest : Option Home → ℕ → PlainReply → Type 0
 AsksNewest None track told = told ≡ bare_of NoRoom
 AsksNewest (Some home) track told = TellsNewest home track told (newest_in told)
+
+-- The counts are written unless the question is refused.
+pub record TellsSubscriberCounts (home : Home) (subscriber : ℕ) (told : PlainReply) (old new : PlainSubscriberCounts)
+    (answer : Result SubscriberCounts Refusal) : Type 0 where
+  pub asks : (history : List Entry) → Stands untold home.bundles.room history → AreSubscriberCounts history subscriber answer
+  pub exact : told ≡ subscriber_counts_reply answer
+  pub written : new ≡ subscriber_counts_written answer old
+
+abbrev pub AsksSubscriberCounts : Option Home → ℕ → PlainReply → (old new : PlainSubscriberCounts) → Type 0
+AsksSubscriberCounts None subscriber told old new = (told ≡ bare_of NoRoom) × (new ≡ old)
+AsksSubscriberCounts (Some home) subscriber told old new = TellsSubscriberCounts home subscriber told old new (subscriber_counts_in told new)
+
+pub record TellsTrackCounts (home : Home) (track : ℕ) (told : PlainReply) (old new : PlainTrackCounts)
+    (answer : Result TrackCounts Refusal) : Type 0 where
+  pub asks : (history : List Entry) → Stands untold home.bundles.room history → AreTrackCounts history track answer
+  pub exact : told ≡ track_counts_reply answer
+  pub written : new ≡ track_counts_written answer old
+
+abbrev pub AsksTrackCounts : Option Home → ℕ → PlainReply → (old new : PlainTrackCounts) → Type 0
+AsksTrackCounts None track told old new = (told ≡ bare_of NoRoom) × (new ≡ old)
+AsksTrackCounts (Some home) track told old new = TellsTrackCounts home track told old new (track_counts_in told new)

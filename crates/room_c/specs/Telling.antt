@@ -10,7 +10,11 @@ use Rattle.sfu_base.specs.declared.call.Scratch.{Scratch}
 use Rattle.sfu_base.specs.declared.frame.Verdict.{Verdict}
 use Rattle.sfu_base.specs.declared.frame.Verdict.TheVariants as verdict
 use Rattle.sfu_base.specs.declared.frame.Wish.{Wish}
+use Rattle.track_core.specs.declared.counts.TrackCounts.{TrackCounts}
+use Rattle.room_core.specs.declared.counts.SubscriberCounts.{SubscriberCounts}
 use Rattle.room_core.specs.declared.current_target.DecodeTarget.{DecodeTarget}
+use Rattle.room_c.specs.declared.plain_counts.PlainSubscriberCounts.{PlainSubscriberCounts}
+use Rattle.room_c.specs.declared.plain_counts.PlainTrackCounts.{PlainTrackCounts}
 use Rattle.simulcast.specs.declared.fault.BundleFault.{BundleFault}
 use Rattle.simulcast.specs.declared.fault.BundleFault.TheVariants as bundle
 use Rattle.simulcast.specs.declared.pumped.Pumped.{Pumped}
@@ -164,3 +168,48 @@ unfoldable pub number_reply : Code → Result (Option ℕ) Refusal → PlainRepl
 number_reply c (Ok None) = bare_of c
 number_reply c (Ok (Some number)) = one_of c number
 number_reply c (Err why) = plain_refusal why
+
+-- the counts of a subscriber, or of a track, as numbers
+abbrev pub plain_subscriber_counts : SubscriberCounts → PlainSubscriberCounts
+plain_subscriber_counts c = record {
+  passed = c.passed;
+  not_of_target = c.not_of_target;
+  behind = c.behind;
+  reference = c.reference;
+  full = c.full;
+  link = c.link;
+  unopened = c.unopened;
+  queued = c.queued;
+  taken = c.taken;
+  resent = c.resent;
+  left_out = c.left_out;
+  waiting = c.waiting;
+  spare = 0 ∷ 0 ∷ 0 ∷ 0 ∷ [];
+}
+
+abbrev pub plain_track_counts : TrackCounts → PlainTrackCounts
+plain_track_counts c = record {
+  arrived = c.arrived;
+  given_up = c.given_up;
+  frames = c.frames;
+  key_frames = c.key_frames;
+  unframed = c.unframed;
+  spare = 0 ∷ 0 ∷ 0 ∷ [];
+}
+
+unfoldable pub subscriber_counts_reply : Result SubscriberCounts Refusal → PlainReply
+subscriber_counts_reply (Ok counts) = bare_of coded.Counts
+subscriber_counts_reply (Err why) = plain_refusal why
+
+unfoldable pub track_counts_reply : Result TrackCounts Refusal → PlainReply
+track_counts_reply (Ok counts) = bare_of coded.Counts
+track_counts_reply (Err why) = plain_refusal why
+
+-- the counts are written; on a refusal `out` is unchanged
+unfoldable pub subscriber_counts_written : Result SubscriberCounts Refusal → PlainSubscriberCounts → PlainSubscriberCounts
+subscriber_counts_written (Ok counts) out = plain_subscriber_counts counts
+subscriber_counts_written (Err why) out = out
+
+unfoldable pub track_counts_written : Result TrackCounts Refusal → PlainTrackCounts → PlainTrackCounts
+track_counts_written (Ok counts) out = plain_track_counts counts
+track_counts_written (Err why) out = out

@@ -25,6 +25,8 @@ pub enum Code {
     FilePiece = 8,
     /// Of the packets that were taken from the legs, `first` are forwarded, and `second` are dropped.
     Pumped = 9,
+    /// The counts of a subscriber or a track were written.
+    Counts = 10,
     /// The numbers of `first` subscribers were written.
     Ready = 11,
     /// The frame was forwarded.

@@ -24,7 +24,7 @@ mod verdict;
 
 pub use error::{code_name, Error};
 pub use recorder::Recorder;
-pub use room::{Room, Target};
+pub use room::{Room, SubscriberCounts, Target, TrackCounts};
 pub use session::{Publisher, Session, Subscriber};
 pub use verdict::Verdict;
 

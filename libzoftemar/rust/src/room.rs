@@ -33,6 +33,57 @@ pub struct Target {
     pub spare: [u8; 4],
 }
 
+/// What is counted of a subscriber since its join. Each whole frame of its layered track since then has a [`Verdict`], which is counted; a plain track has
+/// no frames. A count stays at 2^64 - 1 once it is there.
+#[repr(C)]
+#[derive(Debug, Clone, Copy, PartialEq, Eq, Default)]
+#[non_exhaustive]
+pub struct SubscriberCounts {
+    /// Frames that were forwarded.
+    pub passed: u64,
+    /// Frames that were withheld since they aren't in the decode target.
+    pub not_of_target: u64,
+    /// Frames that were withheld since they refer to a frame before the epoch.
+    pub behind: u64,
+    /// Frames that were withheld since they refer to a frame that wasn't forwarded.
+    pub reference: u64,
+    /// Frames that were withheld since the queue had no place for all their packets.
+    pub full: u64,
+    /// Frames that were withheld since the target's chain is broken.
+    pub link: u64,
+    /// Frames that were withheld since no target is open.
+    pub unopened: u64,
+    /// Packets that were queued, also those taken since.
+    pub queued: u64,
+    /// Packets that were taken: by [`Room::take`], a session or a pump.
+    pub taken: u64,
+    /// Retransmissions: by [`Room::resend`] or a session, each time. A bundle's redraws aren't counted.
+    pub resent: u64,
+    /// Packets of a plain track that came while 512 were queued, and weren't queued.
+    pub left_out: u64,
+    /// Packets that are queued now: at most 512.
+    pub waiting: u64,
+    spare: [u64; 4],
+}
+
+/// What is counted of a track since its publish.
+#[repr(C)]
+#[derive(Debug, Clone, Copy, PartialEq, Eq, Default)]
+#[non_exhaustive]
+pub struct TrackCounts {
+    /// Packets that came, and left the reorder buffer in order.
+    pub arrived: u64,
+    /// Sequence numbers that were given up.
+    pub given_up: u64,
+    /// Whole frames: 0 on a plain track.
+    pub frames: u64,
+    /// Whole key frames.
+    pub key_frames: u64,
+    /// Packets of `arrived` that are in no whole frame: of a torn or unfinished frame, unreadable, or padding. 0 on a plain track.
+    pub unframed: u64,
+    spare: [u64; 3],
+}
+
 impl Room {
     /// Opens a room, without tracks and subscribers. [`Error::NoMemory`].
     pub fn open() -> Result<Room, Error> {
@@ -184,6 +235,20 @@ impl Room {
     pub fn ready<'a>(&self, track: u32, out: &'a mut [u32]) -> Result<&'a [u32], Error> {
         let reply = unsafe { zoftemar_ready(&self.handle, track, out.as_mut_ptr(), out.len()) }.expect(READY)?;
         Ok(&out[..reply.first as usize])
+    }
+
+    /// What is counted of a subscriber since its join.
+    pub fn counts_of_subscriber(&self, subscriber: u32) -> Result<SubscriberCounts, Error> {
+        let mut counts = SubscriberCounts::default();
+        unsafe { zoftemar_counts_of_subscriber(&self.handle, subscriber, &mut counts) }.expect(COUNTS)?;
+        Ok(counts)
+    }
+
+    /// What is counted of a track since its publish.
+    pub fn counts_of_track(&self, track: u32) -> Result<TrackCounts, Error> {
+        let mut counts = TrackCounts::default();
+        unsafe { zoftemar_counts_of_track(&self.handle, track, &mut counts) }.expect(COUNTS)?;
+        Ok(counts)
     }
 }
 

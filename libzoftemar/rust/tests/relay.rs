@@ -62,6 +62,10 @@ fn a_plain_track_forwards_each_packet_as_it_is() {
     assert_eq!(room.ready(1, &mut [0; 4]), Ok(&[][..]));
     assert_eq!(room.key_wanted(1), Ok(false));
     assert_eq!(room.target_of(1), Ok(None));
+    let (counts, of_track) = (room.counts_of_subscriber(1).unwrap(), room.counts_of_track(1).unwrap());
+    assert_eq!((counts.queued, counts.taken, counts.resent, counts.left_out, counts.waiting, counts.passed), (100, 100, 100, 0, 0, 0));
+    assert_eq!((of_track.arrived, of_track.given_up, of_track.frames, of_track.unframed), (100, 0, 0, 0));
+    assert_eq!((room.counts_of_subscriber(2), room.counts_of_track(2)), (Err(Error::NoSubscriber), Err(Error::NoTrack)));
 }
 
 /// The template of a packet with a Dependency Descriptor, which is the first extension element, in the one-byte or the two-byte form. A packet without
@@ -93,6 +97,9 @@ fn a_layered_track_reaches_each_wish() {
         }
     }
     assert_eq!((sent, due), ([110, 7], [110, 7]));
+    let (high, low, of_track) = (room.counts_of_subscriber(1).unwrap(), room.counts_of_subscriber(2).unwrap(), room.counts_of_track(1).unwrap());
+    assert_eq!((high.taken, low.taken, of_track.arrived - of_track.unframed, high.waiting), (110, 7, 110, 0));
+    assert_eq!((high.passed, low.passed + low.not_of_target), (of_track.frames, of_track.frames));
     assert_eq!((room.reaches_wish(1), room.reaches_wish(2)), (Ok(true), Ok(true)));
     let (high, low) = (room.target_of(1).unwrap().unwrap(), room.target_of(2).unwrap().unwrap());
     assert_eq!((high.known, high.spatial, high.temporal), (true, 2, 2));
@@ -248,7 +255,7 @@ fn refusals_have_their_numbers_and_names() {
     assert!(matches!(room.resend(1, 0, &mut out), Err(Error::NotKept { .. })));
     assert!(matches!(Subscriber::open_rtx(1, SENT, SENT, 97), Err(Error::BadStream)));
     assert_eq!(Error::Late { next: 8 }.to_string(), "ZOFTEMAR_LATE");
-    assert_eq!(Error::Other(10).to_string(), "ZOFTEMAR_?");
+    assert_eq!(Error::Other(11).to_string(), "ZOFTEMAR_?");
 }
 
 #[test]
