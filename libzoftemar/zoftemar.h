@@ -271,6 +271,7 @@ ZOFTEMAR_USE ZOFTEMAR_NONNULL(1) zoftemar_reply zoftemar_newest_frame(const zoft
  * If these are fewer than `count`, they are all. A room has at most 256 subscribers. After the end of a track, its subscribers count until they leave.
  * The room isn't changed. After each zoftemar_packet and zoftemar_tick, take for these alone. */
 ZOFTEMAR_USE ZOFTEMAR_NONNULL(1) zoftemar_reply zoftemar_ready(const zoftemar_room *room, uint32_t track, uint32_t *out, size_t count);
+
 /* What is counted of a subscriber since its join. Each whole frame of its layered track since then has one of the verdicts of zoftemar_why, which is
  * counted; a plain track has no frames. A count stays at 2^64 - 1 once it is there. */
 typedef struct zoftemar_subscriber_counts {
@@ -469,7 +470,6 @@ ZOFTEMAR_HOLDS(recorder, sizeof(zoftemar_recorder) == 16 && offsetof(zoftemar_re
 ZOFTEMAR_HOLDS(reply, sizeof(zoftemar_reply) == 24 && offsetof(zoftemar_reply, has) == 4);
 ZOFTEMAR_HOLDS(numbers, offsetof(zoftemar_reply, first) == 8 && offsetof(zoftemar_reply, second) == 16);
 ZOFTEMAR_HOLDS(target, sizeof(zoftemar_target) == 8 && offsetof(zoftemar_target, known) == 1 && offsetof(zoftemar_target, temporal) == 3);
-ZOFTEMAR_HOLDS(target, sizeof(zoftemar_target) == 4 && offsetof(zoftemar_target, known) == 1 && offsetof(zoftemar_target, temporal) == 3);
 ZOFTEMAR_HOLDS(subscriber_counts, sizeof(zoftemar_subscriber_counts) == 128 && offsetof(zoftemar_subscriber_counts, spare) == 96);
 ZOFTEMAR_HOLDS(subscriber_places, offsetof(zoftemar_subscriber_counts, queued) == 56 && offsetof(zoftemar_subscriber_counts, waiting) == 88);
 ZOFTEMAR_HOLDS(track_counts, sizeof(zoftemar_track_counts) == 64 && offsetof(zoftemar_track_counts, spare) == 40);

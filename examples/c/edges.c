@@ -164,7 +164,7 @@ static void sessions(void) {
     zoftemar_close_session(&publisher);
     zoftemar_close_session(&subscriber);
     zoftemar_close(&room);
-    IS(blocks == 0 && strcmp(zoftemar_code_name(ZOFTEMAR_BUSY), "ZOFTEMAR_BUSY") == 0 && strcmp(zoftemar_code_name(11), "ZOFTEMAR_?") == 0);
+    IS(blocks == 0 && strcmp(zoftemar_code_name(ZOFTEMAR_BUSY), "ZOFTEMAR_BUSY") == 0 && strcmp(zoftemar_code_name(12), "ZOFTEMAR_?") == 0);
 }
 
 /* Without a room: a packet is wrapped, and unwrapped again. */
