@@ -120,9 +120,12 @@ class Browser:
 # ---- the gateway
 
 def build(library):
-    if library and not os.path.exists(f'{HERE}/../../crates/room_c/out/libroom_c.a'):
+    env, archive = GO, f'{HERE}/../../crates/room_c/out/libroom_c.a'
+    if library and not os.path.exists(archive):
         sys.exit('missing: (cd crates/room_c && rt lib)')
-    subprocess.run(['go', 'build', *(['-tags', 'library'] if library else []), '-o', 'out/gateway', '.'], cwd=HERE, env=GO, check=True)
+    if library:                                          # go build doesn't look whether an archive has changed, but whether a flag has
+        env = dict(GO, CGO_CFLAGS=f'-DARCHIVE={os.stat(archive).st_mtime_ns}')
+    subprocess.run(['go', 'build', *(['-tags', 'library'] if library else []), '-o', 'out/gateway', '.'], cwd=HERE, env=env, check=True)
 
 
 class gate:

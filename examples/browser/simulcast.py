@@ -4,13 +4,14 @@ browser may count no freeze.
 
 shared  Chromium numbers the frames of all sizes in one row, so numbers rise at each change
 own     Chromium numbers each size by itself, from a random number on: some changes are to higher numbers, and some to lower ones
-off     the same, without frame numbers that go on over a change: here a gap above 500 ms has to be seen
+lost    the same, while 3 % of the RTP packets are lost before the room and 3 % behind it
+off     as own, without frame numbers that go on over a change: here a gap above 500 ms has to be seen
 """
 import os
 import subprocess
 import time
 
-from browsers import GAP, HERE, PROXY, SOON, Browser, complain, gate, longest_gap, machine
+from browsers import GAP, HERE, PROXY, SOON, Browser, complain, gate, longest_gap, lose, machine
 
 OWN = '--force-fieldtrials=WebRTC-GenericDescriptorAuth/Disabled/'   # so Chromium numbers each size by itself
 STEPS = 2, 1, 2, 0, 1, 0                                             # sizes, from 0 on: up and down in turn
@@ -75,7 +76,13 @@ def own(run):
     made = run.all()
     smooth(run, made)
     if not any(rise > FAR for rise, _, _ in made) or not any(rise < -FAR for rise, _, _ in made):
-        complain('own: there was no change to higher numbers, or none to lower ones')
+        complain(f'{run.row}: there was no change to higher numbers, or none to lower ones')
+
+
+def lost(run):
+    lose(0.03, 0.03)
+    own(run)
+    lose(0)
 
 
 def smooth(run, made):
@@ -99,7 +106,7 @@ def off(run):
         complain(f'off: no freeze, though frame numbers fell: {gap} ms')
 
 
-ROWS = {row.__name__: row for row in (shared, own, off)}
+ROWS = {row.__name__: row for row in (shared, own, lost, off)}
 
 
 def rows(asked, pictures):

@@ -7,7 +7,7 @@ usage: examples/browser/test.py [--sfu PROGRAM] [--seconds N] [--pictures DIR] [
 MODE is L1T1, L1T3, L2T2, L3T3 or L3T3_KEY; all of them by default. Each has a run from page to page, for comparison, and one through the room of
 `serve`, with a table's row for each measurement of N seconds (8). Both ways go through a relay that loses 3 % of the RTP packets where the row says so.
 With --meet it runs conferences, on the library; ROW is four, lost, choice, path, back or good; MODE limits lost and good. All of them, by default, write their
-table to meet.tsv, and some to out/meet.tsv. With --simulcast it changes sizes, on the library; ROW is shared, own or off; the tables
+table to meet.tsv, and some to out/meet.tsv. With --simulcast it changes sizes, on the library; ROW is shared, own, lost or off; the tables
 are simulcast.tsv and out/simulcast.tsv.
 
 example: examples/browser/test.py --seconds 8 L1T1
