@@ -3,6 +3,7 @@ import base64
 import http.server
 import json
 import os
+import platform
 import queue
 import random
 import re
@@ -87,9 +88,9 @@ class Page:
 
 
 class Browser:
-    def __init__(self):
+    def __init__(self, *flags):
         self.dir = tempfile.mkdtemp(prefix='chromium')
-        self.process = subprocess.Popen(['chromium', *FLAGS, f'--remote-debugging-port={TOOLS}', f'--user-data-dir={self.dir}', 'about:blank'],
+        self.process = subprocess.Popen(['chromium', *FLAGS, *flags, f'--remote-debugging-port={TOOLS}', f'--user-data-dir={self.dir}', 'about:blank'],
                                         stdout=subprocess.DEVNULL, stderr=subprocess.DEVNULL)
         for _ in range(100):
             try:
@@ -119,9 +120,12 @@ class Browser:
 # ---- the gateway
 
 def build(library):
-    if library and not os.path.exists(f'{HERE}/../../crates/room_c/out/libroom_c.a'):
+    env, archive = GO, f'{HERE}/../../crates/room_c/out/libroom_c.a'
+    if library and not os.path.exists(archive):
         sys.exit('missing: (cd crates/room_c && rt lib)')
-    subprocess.run(['go', 'build', *(['-tags', 'library'] if library else []), '-o', 'out/gateway', '.'], cwd=HERE, env=GO, check=True)
+    if library:                                          # go build doesn't look whether an archive has changed, but whether a flag has
+        env = dict(GO, CGO_CFLAGS=f'-DARCHIVE={os.stat(archive).st_mtime_ns}')
+    subprocess.run(['go', 'build', *(['-tags', 'library'] if library else []), '-o', 'out/gateway', '.'], cwd=HERE, env=env, check=True)
 
 
 class gate:
@@ -258,7 +262,8 @@ class Proxy(http.server.BaseHTTPRequestHandler):
     def do_POST(self):
         offer = self.rfile.read(int(self.headers['Content-Length'])).decode()
         element = re.search(r'a=extmap:(\d+)\S* \S*dependency-descriptor', offer)
-        relay = Relay(int(element.group(1)), *((1,) if self.path.startswith('/publish') else (0,) if self.path.startswith('/play') else (0, 1)))
+        ways = {'/publish': (1,), '/play': (0,), '/sizes': (0,)}.get(self.path.split('?')[0], (0, 1))
+        relay = Relay(int(element.group(1)), *ways)
 
         def back(body):
             reply = json.loads(body)
@@ -286,6 +291,14 @@ def serve_relays():
 
 
 # ---- what is measured
+
+def machine():
+    """The browser, the machine and the day."""
+    version = subprocess.run(['chromium', '--version'], capture_output=True, text=True).stdout.split()
+    names = [text.split(':')[1].strip() for text in open('/proc/cpuinfo') if text.startswith('model name')]
+    processors = f'{len(names)} processors, {names[0]}' if names else platform.machine()
+    return f'Chromium {version[1] if len(version) > 1 else "?"}, headless, on 127.0.0.1; {processors}; {time.strftime("%Y-%m-%d")}'
+
 
 def part(values, share):
     return sorted(values)[min(len(values) - 1, int(len(values) * share))] if values else '–'

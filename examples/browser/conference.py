@@ -9,12 +9,11 @@ back    somebody leaves and comes back, twice: all see all after 3 s, no more me
 good    each mode, 8 s, 2 % of the RTP packets lost before the room, resends too: no gap above 700 ms
 """
 import os
-import platform
 import subprocess
 import sys
 import time
 
-from browsers import GAP, HERE, MODES, PROXY, Browser, Choice, Relay, complain, gate, lose
+from browsers import GAP, HERE, MODES, PROXY, Browser, Choice, Relay, complain, gate, lose, machine
 
 FELL, AGAIN, HELD, GOOD, HOME = 3000, 10000, 1000, 700, 3000   # milliseconds: until S0 and S2, of pictures meanwhile, lost for good, until one is back
 HEAD = 'row', 'mode', 'people', 'lost', 'decoded', 'drawn', 'longest gap', 'budget', 'more', 'load'
@@ -183,13 +182,7 @@ def good(browser, _):
 ROWS = {row.__name__: row for row in (four, lost, choice, path, back, good)}
 
 
-def processor():
-    names = [text.split(':')[1].strip() for text in open('/proc/cpuinfo') if text.startswith('model name')]
-    return f'{len(names)} processors, {names[0]}' if names else platform.machine()
-
-
 def rows(asked, pictures):
-    version = subprocess.run(['chromium', '--version'], capture_output=True, text=True).stdout.split()
     print(f'| {" | ".join(HEAD)} |\n|' + '---|' * len(HEAD), flush=True)
     modes[:] = [mode for mode in MODES if mode in asked] or MODES
     for name in [name for name in asked if name not in MODES] or ROWS:
@@ -203,7 +196,6 @@ def rows(asked, pictures):
                 browser.end()
                 gateway.end()
     with open(f'{HERE}/out/meet.tsv' if asked else f'{HERE}/meet.tsv', 'w') as out:
-        print(f'# test.py --meet {" ".join(asked)}: Chromium {version[1] if len(version) > 1 else "?"}, headless, on 127.0.0.1; {processor()}; '
-              f'{time.strftime("%Y-%m-%d")}. Milliseconds unless named.', file=out)
+        print(f'# test.py --meet {" ".join(asked)}: {machine()}. Milliseconds unless named.', file=out)
         for cells in (HEAD, *table):
             print(*cells, sep='\t', file=out)

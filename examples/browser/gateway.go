@@ -2,8 +2,9 @@
 //
 // gateway.go has the flags, and who answers an offer; page.go a browser's connection: codecs, header extensions, the answer to its offer; tracks.go a track
 // on its way from a browser or to one: markers, repeated NACKs. Built without a tag it serves those who publish and play, by `serve`: serve.go. Built with
-// -tags library it serves conferences: library.go has every call of the library, and nothing else; meet.go who comes and goes, offers, sender reports;
-// layers.go which layers each person is sent; path.go what their path bears. pages has the three pages, what they share, and their style.
+// -tags library it serves conferences and simulcast: library.go has every call of the library, and nothing else; meet.go who comes and goes, offers, sender
+// reports; layers.go which layers each person is sent; path.go what their path bears; simulcast.go who publishes in several sizes, and who plays that. pages
+// has the four pages, what they share, and their style.
 package main
 
 import (

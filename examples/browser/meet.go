@@ -51,7 +51,7 @@ func start() map[string]answerer {
 			locked(func() { pass(turn) })
 		}
 	}()
-	return map[string]answerer{"/meet": meet}
+	return map[string]answerer{"/meet": meet, "/publish": publish, "/sizes": play}
 }
 
 // 20 milliseconds have passed: gaps that were waited for are given up. A PLI is said each time while no key frame came whole: a browser makes one each 300 ms
@@ -65,6 +65,9 @@ func pass(turn int) {
 				t.whose.say("key")
 			}
 		}
+	}
+	for s := range scenes {
+		s.pass()
 	}
 	for p := range people {
 		if turn%5 == 0 {
@@ -80,7 +83,7 @@ func pass(turn int) {
 
 func meet(sdp string, words url.Values) (int, string, error) {
 	path, estimator := newPath()
-	p := &person{newPage(estimator), path, fmt.Sprintf("%d-%x", time.Now().UnixNano(), words.Get("name")), map[*source]*seat{}}
+	p := &person{newPage(false, estimator), path, fmt.Sprintf("%d-%x", time.Now().UnixNano(), words.Get("name")), map[*source]*seat{}}
 	p.pc.OnTrack(p.bring)
 	p.channel.OnMessage(func(m webrtc.DataChannelMessage) { p.hear(string(m.Data)) })
 	p.channel.OnOpen(func() { locked(func() { people[p] = true }) })

@@ -5,6 +5,7 @@ import (
 
 	"github.com/pion/interceptor"
 	"github.com/pion/interceptor/pkg/report"
+	"github.com/pion/sdp"
 	"github.com/pion/webrtc"
 )
 
@@ -18,15 +19,22 @@ type page struct {
 }
 
 // A connection for AV1 with descriptors, NACKs and PLIs, and for Opus, without a stream for retransmissions: pion can't read a publisher's. The room makes
-// no reports: a publisher gets here those by which it finds its bitrate; what a player gets besides packets of the room, `plays` sends.
-func newPage(plays ...interceptor.Factory) *page {
+// no reports: a publisher gets here those by which it finds its bitrate; what a player gets besides packets of the room, `plays` sends. With `rids` a page
+// may send several encodings of a picture, which are told apart by an id in a header extension.
+func newPage(rids bool, plays ...interceptor.Factory) *page {
 	media, registry := &webrtc.MediaEngine{}, &interceptor.Registry{}
 	asks := []webrtc.RTCPFeedback{{Type: "nack"}, {Type: "nack", Parameter: "pli"}}
 	av1 := webrtc.RTPCodecCapability{MimeType: webrtc.MimeTypeAV1, ClockRate: 90000, RTCPFeedback: asks}
 	opus := webrtc.RTPCodecCapability{MimeType: webrtc.MimeTypeOpus, ClockRate: 48000, Channels: 2, SDPFmtpLine: "minptime=10;useinbandfec=1"}
 	check(media.RegisterCodec(webrtc.RTPCodecParameters{RTPCodecCapability: av1, PayloadType: 45}, webrtc.RTPCodecTypeVideo))
 	check(media.RegisterCodec(webrtc.RTPCodecParameters{RTPCodecCapability: opus, PayloadType: 111}, webrtc.RTPCodecTypeAudio))
-	check(media.RegisterHeaderExtension(webrtc.RTPHeaderExtensionCapability{URI: descriptorURI}, webrtc.RTPCodecTypeVideo))
+	uris := []string{descriptorURI}
+	if rids {
+		uris = append(uris, sdp.SDESMidURI, sdp.SDESRTPStreamIDURI)
+	}
+	for _, uri := range uris {
+		check(media.RegisterHeaderExtension(webrtc.RTPHeaderExtensionCapability{URI: uri}, webrtc.RTPCodecTypeVideo))
+	}
 	check(webrtc.ConfigureTWCCSender(media, registry))
 	for _, factory := range append(plays, must(report.NewReceiverInterceptor())) {
 		registry.Add(factory)

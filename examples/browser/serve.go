@@ -57,13 +57,16 @@ func (t *track) tell(word string, descriptor []byte, pages map[*page]bool) {
 }
 
 // Brings the room what a browser publishes.
-func publish(offer string, _ url.Values) (int, string, error) {
+func publish(offer string, words url.Values) (int, string, error) {
+	if words.Has("simulcast") {
+		return 0, "", errors.New("serve has no bundles: build the gateway with -tags library")
+	}
 	t := &track{latest: -1}
 	locked(func() { published++; t.number = published })
 	if t.number > publishers {
 		return 0, "", fmt.Errorf("all %d ports for publishers were used: start room and gateway again", publishers)
 	}
-	p := newPage()
+	p := newPage(false)
 	p.pc.OnTrack(func(media *webrtc.TrackRemote, receiver *webrtc.RTPReceiver) {
 		room := portOf(t.number)
 		locked(func() { t.media, t.pages, tracks[t.number] = media, map[*page]bool{p: true}, t })
@@ -99,7 +102,7 @@ func play(offer string, words url.Values) (int, string, error) {
 	if t == nil || joined >= players {
 		return 0, "", fmt.Errorf("nobody publishes that now, or all %d ports for players were used: start room and gateway again", players)
 	}
-	p := newPage(must(report.NewSenderInterceptor())).play(t.media, "room") // by its reports a browser finds its clock
+	p := newPage(false, must(report.NewSenderInterceptor())).play(t.media, "room") // by its reports a browser finds its clock
 	p.stay = func(uint32) {
 		lock.Lock()
 		joined++

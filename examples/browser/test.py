@@ -3,10 +3,12 @@
 
 usage: examples/browser/test.py [--sfu PROGRAM] [--seconds N] [--pictures DIR] [MODE...]
        examples/browser/test.py --meet [--pictures DIR] [ROW...] [MODE...]
+       examples/browser/test.py --simulcast [--pictures DIR] [ROW...]
 MODE is L1T1, L1T3, L2T2, L3T3 or L3T3_KEY; all of them by default. Each has a run from page to page, for comparison, and one through the room of
 `serve`, with a table's row for each measurement of N seconds (8). Both ways go through a relay that loses 3 % of the RTP packets where the row says so.
 With --meet it runs conferences, on the library; ROW is four, lost, choice, path, back or good; MODE limits lost and good. All of them, by default, write their
-table to meet.tsv, and some to out/meet.tsv.
+table to meet.tsv, and some to out/meet.tsv. With --simulcast it changes sizes, on the library; ROW is shared, own, lost or off; the tables
+are simulcast.tsv and out/simulcast.tsv.
 
 example: examples/browser/test.py --seconds 8 L1T1
 """
@@ -21,6 +23,7 @@ import time
 
 sys.path.insert(0, os.path.dirname(os.path.abspath(__file__)))   # tests/system/recordings.py reads this file, too
 import conference
+import simulcast
 from browsers import (GAP, HERE, MODES, PROXY, SOON, TORN, WEB, Browser, Relay, build, complain, complaints, gate, longest_gap, lose, part, serve_relays,
                       what_is_missing)
 
@@ -227,6 +230,7 @@ def check(sfu, dump):
 def main():
     words = argparse.ArgumentParser(description=__doc__, formatter_class=argparse.RawDescriptionHelpFormatter)
     words.add_argument('--meet', action='store_true')
+    words.add_argument('--simulcast', action='store_true')
     words.add_argument('--sfu', default=f'{HERE}/../../sfu')
     words.add_argument('--seconds', type=int, default=8)
     words.add_argument('--pictures')
@@ -234,10 +238,10 @@ def main():
     asked = words.parse_args()
     if what_is_missing():
         sys.exit(f'missing: apt-get install {" ".join(what_is_missing())}')
-    build(asked.meet)
+    build(asked.meet or asked.simulcast)
     serve_relays()
-    if asked.meet:
-        conference.rows(asked.what, asked.pictures)
+    if asked.meet or asked.simulcast:
+        (conference if asked.meet else simulcast).rows(asked.what, asked.pictures)
     else:
         pages(asked)
     print('no complaints' if not complaints else f'{len(complaints)} complaints')

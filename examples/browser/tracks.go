@@ -3,6 +3,7 @@ package main
 import (
 	"time"
 
+	"github.com/pion/interceptor"
 	"github.com/pion/rtcp"
 	"github.com/pion/rtp"
 	"github.com/pion/webrtc"
@@ -91,8 +92,12 @@ func (p *player) listen(tell func([]byte)) {
 // where they are wanted.
 func bring(media *webrtc.TrackRemote, receiver *webrtc.RTPReceiver, ssrc uint32, packet func(bytes, descriptor []byte), report func(*rtcp.SenderReport)) {
 	id := negotiatedID(receiver.GetParameters().HeaderExtensions)
+	read := receiver.ReadRTCP
+	if rid := media.RID(); rid != "" {
+		read = func() ([]rtcp.Packet, interceptor.Attributes, error) { return receiver.ReadSimulcastRTCP(rid) }
+	}
 	go func() {
-		for packets, _, err := receiver.ReadRTCP(); err == nil; packets, _, err = receiver.ReadRTCP() {
+		for packets, _, err := read(); err == nil; packets, _, err = read() {
 			for _, p := range packets {
 				if r, is := p.(*rtcp.SenderReport); is && report != nil && r.SSRC == uint32(media.SSRC()) {
 					locked(func() { report(r) })

@@ -1,4 +1,4 @@
-"""What relay_test.py and relay2_test.py share: ports of 127.0.0.1, a relay while it runs, and the bytes of NACKs and PLIs (RFC 4585)."""
+"""What relay_test.py, relay2_test.py and simulcast_test.py share: ports of 127.0.0.1, a relay while it runs, and the bytes of NACKs and PLIs (RFC 4585)."""
 import contextlib
 import socket
 import struct

@@ -1,4 +1,4 @@
-/* udp.h: the common part of relay.c and relay2.c: the clock, one UDP port, and sending what the sessions return. */
+/* udp.h: the common part of relay.c, relay2.c and simulcast.c: the clock, one UDP port, and sending what the sessions return. */
 #pragma once
 #include <arpa/inet.h>
 #include <poll.h>
@@ -51,12 +51,12 @@ static int work(zoftemar_session *session, const struct sockaddr_in *to) {
 }
 
 /* Sends all packets that are queued for a subscriber, up to 32 in each turn of its session. */
-static void flush(zoftemar_session *session, const struct sockaddr_in *to, uint64_t moment) {
+static inline void flush(zoftemar_session *session, const struct sockaddr_in *to, uint64_t moment) {
     do zoftemar_session_waited(session, moment); while (work(session, to) == TURN);
 }
 
 /* Requests a key frame if a subscriber has a decode target but its wish isn't reached. */
-static void plead(uint32_t subscriber) {
+static inline void plead(uint32_t subscriber) {
     zoftemar_target target;
     if (zoftemar_target_of(&room, subscriber, &target).has && !zoftemar_reaches_wish(&room, subscriber).has) zoftemar_plead(&room, 0, subscriber);
 }

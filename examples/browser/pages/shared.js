@@ -78,7 +78,7 @@ const span = 30000, shades = ['#14406e', '#4a86c5', '#a6c8ea'];
 // marks stand in front, tall or short.
 class Chart {
   constructor(canvas, names) {
-    Object.assign(this, {canvas, names, lines: [[], []], frames: [], bands: [], marks: [], wish: [], spatial: 1, temporal: 1});
+    Object.assign(this, {canvas, names, lines: [[], []], frames: [], bands: [], marks: [], wish: [], spatial: 1, temporal: 1, lanes: ['S0', 'S1', 'S2', 'S3']});
     setInterval(() => this.draw(), 200);
   }
   frame(spatial, temporal, missing) {
@@ -120,7 +120,7 @@ class Chart {
     const laneOf = spatial => top + (this.spatial - 1 - spatial) * lane;
     text(this.names[2], left - 38, top + 8, 'right');
     for (let s = 0; s < this.spatial; s++) {
-      text(`S${s}`, left - 10, laneOf(s) + Math.min(lane / 2, 16), 'right', '#1f2933');
+      text(this.lanes[s], left - 10, laneOf(s) + Math.min(lane / 2, 16), 'right', '#1f2933');
       c.fillStyle = '#e1e5ea';
       c.fillRect(left, laneOf(s) + lane - 1, right - left, 1);
     }
