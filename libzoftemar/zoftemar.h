@@ -102,6 +102,7 @@ enum zoftemar_code {
     ZOFTEMAR_FILE_PIECE = 8,        /* first: the number of bytes of the file that were written to `out`; second: how many are left */
     ZOFTEMAR_PUMPED = 9,            /* of the packets that were taken from the legs, first: how many are forwarded; second: how many are dropped */
     ZOFTEMAR_COUNTS = 10,           /* the counts were written to `out` */
+    ZOFTEMAR_READY = 11,            /* first: how many subscribers' numbers were written to `out` */
 
     /* Why a frame was or wasn't forwarded to a subscriber. Frame numbers are unwrapped: they go on after 65,535. */
     ZOFTEMAR_PASSED = 16,
@@ -165,7 +166,7 @@ enum zoftemar_code {
 /* X(name) for each code. */
 #define ZOFTEMAR_EACH_CODE(X) \
     X(ZOFTEMAR_DONE) X(ZOFTEMAR_PACKET) X(ZOFTEMAR_NAMES) X(ZOFTEMAR_KEY) X(ZOFTEMAR_REACHED) X(ZOFTEMAR_TARGET) X(ZOFTEMAR_DUE) X(ZOFTEMAR_NEWEST) \
-    X(ZOFTEMAR_FILE_PIECE) X(ZOFTEMAR_PUMPED) X(ZOFTEMAR_COUNTS) X(ZOFTEMAR_PASSED) X(ZOFTEMAR_NOT_OF_TARGET) X(ZOFTEMAR_BEHIND) \
+    X(ZOFTEMAR_FILE_PIECE) X(ZOFTEMAR_PUMPED) X(ZOFTEMAR_COUNTS) X(ZOFTEMAR_READY) X(ZOFTEMAR_PASSED) X(ZOFTEMAR_NOT_OF_TARGET) X(ZOFTEMAR_BEHIND) \
     X(ZOFTEMAR_REFERENCE) X(ZOFTEMAR_FULL) X(ZOFTEMAR_LINK) X(ZOFTEMAR_UNOPENED) X(ZOFTEMAR_HOLE) X(ZOFTEMAR_NO_TRACK) X(ZOFTEMAR_NO_SUBSCRIBER) \
     X(ZOFTEMAR_NUMBER_USED) X(ZOFTEMAR_TOO_MANY) X(ZOFTEMAR_BAD_EXTENSION_ID) X(ZOFTEMAR_TOO_BIG) X(ZOFTEMAR_UNREADABLE) X(ZOFTEMAR_WRONG_SSRC) \
     X(ZOFTEMAR_SPENT) X(ZOFTEMAR_LATE) X(ZOFTEMAR_REPEAT) X(ZOFTEMAR_EMPTY) X(ZOFTEMAR_NOT_KEPT) X(ZOFTEMAR_AHEAD) X(ZOFTEMAR_TOO_OLD) \
@@ -250,6 +251,7 @@ typedef struct zoftemar_target {
     bool known;
     uint8_t spatial;
     uint8_t temporal;
+    uint8_t spare[4];   /* for later use: 0 */
 } zoftemar_target;
 
 /* Two questions about a subscriber, which don't change the room. zoftemar_target_of: the decode target that the subscriber is sent, if any
@@ -264,6 +266,11 @@ ZOFTEMAR_USE ZOFTEMAR_NONNULL(1) zoftemar_reply zoftemar_reaches_wish(const zoft
  * whole frame, for zoftemar_why (ZOFTEMAR_NEWEST). A plain track has no frames. */
 ZOFTEMAR_USE ZOFTEMAR_NONNULL(1) zoftemar_reply zoftemar_due(const zoftemar_room *room, uint32_t track);
 ZOFTEMAR_USE ZOFTEMAR_NONNULL(1) zoftemar_reply zoftemar_newest_frame(const zoftemar_room *room, uint32_t track);
+
+/* Writes to `out` the numbers of the track's subscribers that have packets queued, each once, in no particular order, as many as fit: ZOFTEMAR_READY.
+ * If these are fewer than `count`, they are all. A room has at most 256 subscribers. After the end of a track, its subscribers count until they leave.
+ * The room isn't changed. After each zoftemar_packet and zoftemar_tick, take for these alone. */
+ZOFTEMAR_USE ZOFTEMAR_NONNULL(1) zoftemar_reply zoftemar_ready(const zoftemar_room *room, uint32_t track, uint32_t *out, size_t count);
 
 /* What is counted of a subscriber since its join. Each whole frame of its layered track since then has one of the verdicts of zoftemar_why, which is
  * counted; a plain track has no frames. A count stays at 2^64 - 1 once it is there. */
@@ -462,7 +469,7 @@ ZOFTEMAR_HOLDS(session, sizeof(zoftemar_session) == 16 && offsetof(zoftemar_sess
 ZOFTEMAR_HOLDS(recorder, sizeof(zoftemar_recorder) == 16 && offsetof(zoftemar_recorder, held) == 8);
 ZOFTEMAR_HOLDS(reply, sizeof(zoftemar_reply) == 24 && offsetof(zoftemar_reply, has) == 4);
 ZOFTEMAR_HOLDS(numbers, offsetof(zoftemar_reply, first) == 8 && offsetof(zoftemar_reply, second) == 16);
-ZOFTEMAR_HOLDS(target, sizeof(zoftemar_target) == 4 && offsetof(zoftemar_target, known) == 1 && offsetof(zoftemar_target, temporal) == 3);
+ZOFTEMAR_HOLDS(target, sizeof(zoftemar_target) == 8 && offsetof(zoftemar_target, known) == 1 && offsetof(zoftemar_target, temporal) == 3);
 ZOFTEMAR_HOLDS(subscriber_counts, sizeof(zoftemar_subscriber_counts) == 128 && offsetof(zoftemar_subscriber_counts, spare) == 96);
 ZOFTEMAR_HOLDS(subscriber_places, offsetof(zoftemar_subscriber_counts, queued) == 56 && offsetof(zoftemar_subscriber_counts, waiting) == 88);
 ZOFTEMAR_HOLDS(track_counts, sizeof(zoftemar_track_counts) == 64 && offsetof(zoftemar_track_counts, spare) == 40);

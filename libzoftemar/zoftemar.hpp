@@ -63,6 +63,9 @@ public:
     }
     [[nodiscard]] Reply key_wanted(std::uint32_t track) noexcept { return zoftemar_key_wanted(handle(), 0, track); }
     [[nodiscard]] Reply due(std::uint32_t track) const noexcept { return zoftemar_due(handle(), track); }
+    [[nodiscard]] Reply ready(std::uint32_t track, std::uint32_t *out, std::size_t count) const noexcept {
+        return zoftemar_ready(handle(), track, out, count);
+    }
     [[nodiscard]] Reply newest_frame(std::uint32_t track) const noexcept { return zoftemar_newest_frame(handle(), track); }
 
     [[nodiscard]] Reply join(std::uint32_t subscriber, std::uint32_t track, std::uint32_t ssrc, std::uint16_t first, std::uint8_t spatial,

@@ -41,14 +41,34 @@ void rattle_dealloc(void *at) {
 static uint8_t out[ZOFTEMAR_PACKET_ROOM], big[4000];
 static uint16_t names[ZOFTEMAR_NAMES_ROOM];
 
+static bool is(zoftemar_reply r, uint32_t code, bool has, uint64_t first, uint64_t second) {
+    return r.code == code && r.has == has && r.first == first && r.second == second;
+}
+
+/* Track 1 is plain and has subscriber 1. */
+static void who_is_ready(zoftemar_room *room) {
+    const uint8_t rtp[13] = { 0x80, 96, 0, 1, 0, 0, 0, 0, 0x11, 0x11, 0x11, 0x11, 5 };
+    uint32_t ready[2] = { 7, 7 };
+    IS(zoftemar_join(room, 0, 2, 1, 5, 3, 0, 0).code == ZOFTEMAR_DONE);
+    IS(is(zoftemar_ready(room, 1, ready, 2), ZOFTEMAR_READY, true, 0, 0) && ready[0] == 7);
+    IS(zoftemar_packet(room, 0, 1, 0, rtp, sizeof rtp).code == ZOFTEMAR_DONE);
+    IS(is(zoftemar_ready(room, 1, ready, 1), ZOFTEMAR_READY, true, 1, 0) && (ready[0] == 1 || ready[0] == 2) && ready[1] == 7);
+    IS(is(zoftemar_ready(room, 1, ready, 2), ZOFTEMAR_READY, true, 2, 0) && ready[0] + ready[1] == 3);
+    IS(zoftemar_take(room, 0, 1, out, sizeof out).code == ZOFTEMAR_PACKET);
+    IS(is(zoftemar_ready(room, 1, ready, 2), ZOFTEMAR_READY, true, 1, 0) && ready[0] == 2);
+    IS(zoftemar_ready(room, 2, ready, 2).first == 0 && is(zoftemar_ready(room, 1, NULL, 0), ZOFTEMAR_READY, true, 0, 0));
+}
+
 static void codes(void) {
     zoftemar_room room = ZOFTEMAR_ROOM_NONE;
-    zoftemar_target target = { 7, true, 7, 7 };
-    IS(sizeof(zoftemar_room) == 16 && sizeof(zoftemar_reply) == 24 && sizeof(zoftemar_target) == 4);
+    zoftemar_target target = { 7, true, 7, 7, { 7, 7, 7, 7 } };
+    uint32_t ready[2] = { 7, 7 };
+    IS(sizeof(zoftemar_room) == 16 && sizeof(zoftemar_reply) == 24 && sizeof(zoftemar_target) == 8);
     IS(zoftemar_tick(&room, 0, 1, 0).code == ZOFTEMAR_NO_ROOM);
     IS(zoftemar_take(&room, 0, 1, out, sizeof out).code == ZOFTEMAR_NO_ROOM);
     IS(zoftemar_reaches_wish(&room, 1).code == ZOFTEMAR_NO_ROOM);
     IS(zoftemar_due(&room, 1).code == ZOFTEMAR_NO_ROOM && zoftemar_newest_frame(&room, 1).code == ZOFTEMAR_NO_ROOM);
+    IS(is(zoftemar_ready(&room, 1, ready, 2), ZOFTEMAR_NO_ROOM, false, 0, 0) && ready[0] == 7);
     zoftemar_close(&room);
     zoftemar_close(&room);
     IS(zoftemar_open(&room) == ZOFTEMAR_DONE && zoftemar_open(&room) == ZOFTEMAR_HAS_ROOM);
@@ -66,6 +86,7 @@ static void codes(void) {
     IS(zoftemar_due(&room, 1).code == ZOFTEMAR_DUE && !zoftemar_due(&room, 1).has && zoftemar_due(&room, 2).code == ZOFTEMAR_NO_TRACK);
     IS(zoftemar_newest_frame(&room, 1).code == ZOFTEMAR_NEWEST && !zoftemar_newest_frame(&room, 1).has);
     IS(zoftemar_newest_frame(&room, 2).code == ZOFTEMAR_NO_TRACK);
+    who_is_ready(&room);
     zoftemar_close(&room);
     IS(blocks == 0 && zoftemar_tick(&room, 0, 1, 0).code == ZOFTEMAR_NO_ROOM);
 }
@@ -143,7 +164,7 @@ static void sessions(void) {
     zoftemar_close_session(&publisher);
     zoftemar_close_session(&subscriber);
     zoftemar_close(&room);
-    IS(blocks == 0 && strcmp(zoftemar_code_name(ZOFTEMAR_BUSY), "ZOFTEMAR_BUSY") == 0 && strcmp(zoftemar_code_name(11), "ZOFTEMAR_?") == 0);
+    IS(blocks == 0 && strcmp(zoftemar_code_name(ZOFTEMAR_BUSY), "ZOFTEMAR_BUSY") == 0 && strcmp(zoftemar_code_name(12), "ZOFTEMAR_?") == 0);
 }
 
 /* Without a room: a packet is wrapped, and unwrapped again. */
@@ -255,10 +276,6 @@ static void tracks(zoftemar_room *room) {
 static void drawn(zoftemar_room *room, uint32_t bundle, size_t count, int number, int frame) {
     zoftemar_reply r = zoftemar_draw(room, bundle, out, sizeof out);
     IS(r.code == ZOFTEMAR_PACKET && r.has && r.first == count && r.second == 0 && out[3] == number && out[8] == 0x55 && out[19] == frame);
-}
-
-static bool is(zoftemar_reply r, uint32_t code, bool has, uint64_t first, uint64_t second) {
-    return r.code == code && r.has == has && r.first == first && r.second == second;
 }
 
 static void bundles(void) {

@@ -28,6 +28,8 @@ int main() {
     IS(room.packet(2, 0, rtp, sizeof rtp).code == ZOFTEMAR_DONE);
     IS(room.missing(2, names, ZOFTEMAR_NAMES_ROOM).first == 2 && names[0] == 2 && names[1] == 3);
     const zoftemar::Room &asked = room;
+    std::uint32_t ready[4];
+    IS(asked.ready(2, ready, 4).code == ZOFTEMAR_READY && asked.ready(2, ready, 4).first == 1 && ready[0] == 1);
     IS(asked.due(2).has && asked.due(2).first == 300 && asked.newest_frame(2).code == ZOFTEMAR_NEWEST);
     IS(room.take(1, out, sizeof out).first == sizeof rtp && out[3] == 7 && room.take(1, out, sizeof out).code == ZOFTEMAR_EMPTY);
     IS(room.resend(1, 7, out, sizeof out).first == sizeof rtp && room.plead(1).code == ZOFTEMAR_PLAIN);

@@ -15,6 +15,7 @@ code_number code.Newest = 7
 code_number code.FilePiece = 8
 code_number code.Pumped = 9
 code_number code.Counts = 10
+code_number code.Ready = 11
 code_number code.Passed = 16
 code_number code.NotOfTarget = 17
 code_number code.Behind = 18

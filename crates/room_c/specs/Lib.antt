@@ -8,4 +8,5 @@ pub mod Serving
 pub mod Bundling
 pub mod Attending
 pub mod Taping
+pub mod ReadySubscribers
 pub mod Wrapping

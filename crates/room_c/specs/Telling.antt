@@ -141,8 +141,8 @@ numbers_written r = if r.code == 2 then r.first else 0
 -- ---- questions
 
 abbrev pub plain_layers : ℕ → Option Wish → PlainTarget
-plain_layers index None = record { index = index; known = false; spatial = 0; temporal = 0 }
-plain_layers index (Some layers) = record { index = index; known = true; spatial = layers.spatial; temporal = layers.temporal }
+plain_layers index None = record { index = index; known = false; spatial = 0; temporal = 0; spare = 0 ∷ 0 ∷ 0 ∷ 0 ∷ [] }
+plain_layers index (Some layers) = record { index = index; known = true; spatial = layers.spatial; temporal = layers.temporal; spare = 0 ∷ 0 ∷ 0 ∷ 0 ∷ [] }
 
 -- a decode target as numbers
 abbrev pub plain_target : DecodeTarget → PlainTarget

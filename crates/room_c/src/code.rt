@@ -27,6 +27,8 @@ pub enum Code {
     Pumped = 9,
     /// The counts of a subscriber or a track were written.
     Counts = 10,
+    /// The numbers of `first` subscribers were written.
+    Ready = 11,
     /// The frame was forwarded.
     Passed = 16,
     /// The frame isn't present in the subscriber's target, whose index is `first`. If `has` is false, no target is open and the wish allows none.

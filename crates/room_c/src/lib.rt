@@ -20,6 +20,7 @@ mod plain_counts;
 mod plain_reply;
 mod plain_target;
 mod questions;
+mod ready_question;
 mod recorder_calls;
 mod recorder_handle;
 mod rtx_calls;

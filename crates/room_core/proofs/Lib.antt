@@ -29,4 +29,5 @@ pub mod Served
 pub mod Waiting
 pub mod NewestFrame
 pub mod CountedTracks
+pub mod Listing
 pub mod Reported

@@ -7,6 +7,7 @@ pub mod Targets
 pub mod Sent
 pub mod Openings
 pub mod Views
+pub mod Ready
 pub mod Replies
 pub mod Noted
 pub mod History

@@ -13,6 +13,7 @@ mod live;
 mod memory;
 mod note;
 mod passing;
+mod ready;
 mod recorder;
 mod refusals;
 mod room;

@@ -5,6 +5,7 @@ ghost use Rattle.std.specs.Prelude.{◌≤◌, length};
 mod counts;
 mod current_target;
 mod masks;
+mod ready;
 mod sharing;
 
 use crate::{KeepAll, KeepNone, Room};

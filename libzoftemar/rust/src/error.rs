@@ -173,6 +173,7 @@ pub fn code_name(code: u32) -> &'static str {
         8 => "ZOFTEMAR_FILE_PIECE",
         9 => "ZOFTEMAR_PUMPED",
         10 => "ZOFTEMAR_COUNTS",
+        11 => "ZOFTEMAR_READY",
         16 => "ZOFTEMAR_PASSED",
         17 => "ZOFTEMAR_NOT_OF_TARGET",
         18 => "ZOFTEMAR_BEHIND",

@@ -20,7 +20,7 @@ pub struct Handle {
     at: *mut c_void,
 }
 
-const _: () = assert!(std::mem::size_of::<Handle>() == 16 && std::mem::size_of::<Reply>() == 24 && std::mem::size_of::<Target>() == 4);
+const _: () = assert!(std::mem::size_of::<Handle>() == 16 && std::mem::size_of::<Reply>() == 24 && std::mem::size_of::<Target>() == 8);
 
 const _: () = assert!(std::mem::size_of::<SubscriberCounts>() == 128 && std::mem::size_of::<TrackCounts>() == 64);
 
@@ -49,6 +49,7 @@ pub const NEWEST: u32 = 7;
 pub const FILE_PIECE: u32 = 8;
 pub const PUMPED: u32 = 9;
 pub const COUNTS: u32 = 10;
+pub const READY: u32 = 11;
 pub const EMPTY: u32 = 43;
 
 impl Reply {
@@ -100,6 +101,7 @@ extern "C" {
     pub fn zoftemar_newest_frame(room: &Handle, track: u32) -> Reply;
     pub fn zoftemar_counts_of_subscriber(room: &Handle, subscriber: u32, out: &mut SubscriberCounts) -> Reply;
     pub fn zoftemar_counts_of_track(room: &Handle, track: u32, out: &mut TrackCounts) -> Reply;
+    pub fn zoftemar_ready(room: &Handle, track: u32, out: *mut u32, count: usize) -> Reply;
     pub fn zoftemar_open_publisher(session: &mut Handle, track: u32, ssrc: u32) -> u32;
     pub fn zoftemar_open_subscriber(session: &mut Handle, subscriber: u32, ssrc: u32) -> u32;
     pub fn zoftemar_open_rtx_subscriber(session: &mut Handle, subscriber: u32, ssrc: u32, rtx_ssrc: u32, rtx_payload_type: u8) -> u32;

@@ -29,6 +29,8 @@ pub struct Target {
     pub known: bool,
     pub spatial: u8,
     pub temporal: u8,
+    /// For later use: 0.
+    pub spare: [u8; 4],
 }
 
 /// What is counted of a subscriber since its join. Each whole frame of its layered track since then has a [`Verdict`], which is counted; a plain track has
@@ -226,6 +228,13 @@ impl Room {
     pub fn newest_frame(&self, track: u32) -> Result<Option<u64>, Error> {
         let reply = unsafe { zoftemar_newest_frame(&self.handle, track) }.expect(NEWEST)?;
         Ok(reply.has.then_some(reply.first))
+    }
+
+    /// Writes to `out` the numbers of the track's subscribers that have packets queued, as many as fit, and returns the written part. If it is shorter than
+    /// `out`, these are all. After the end of a track, its subscribers count until they leave.
+    pub fn ready<'a>(&self, track: u32, out: &'a mut [u32]) -> Result<&'a [u32], Error> {
+        let reply = unsafe { zoftemar_ready(&self.handle, track, out.as_mut_ptr(), out.len()) }.expect(READY)?;
+        Ok(&out[..reply.first as usize])
     }
 
     /// What is counted of a subscriber since its join.

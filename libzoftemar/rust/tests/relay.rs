@@ -59,6 +59,7 @@ fn a_plain_track_forwards_each_packet_as_it_is() {
     }
     assert_eq!(room.missing(1, &mut names), Ok(&[][..]));
     assert_eq!((room.due(1), room.newest_frame(1)), (Ok(None), Ok(None)));
+    assert_eq!(room.ready(1, &mut [0; 4]), Ok(&[][..]));
     assert_eq!(room.key_wanted(1), Ok(false));
     assert_eq!(room.target_of(1), Ok(None));
     let (counts, of_track) = (room.counts_of_subscriber(1).unwrap(), room.counts_of_track(1).unwrap());
