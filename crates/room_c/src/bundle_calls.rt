@@ -88,7 +88,12 @@ pub extern "C" fn zoftemar_choose(
     match room.take(alloc) {
         None => PlainReply::bare(Code::NoRoom),
         Some(mut home) => {
-            let Home { bundles, scratch } = &mut *home;
+            let Home {
+                bundles,
+                scratch,
+                inbox: _,
+                ticks: _,
+            } = &mut *home;
             let answer = bundles.choose(bundle, leg, scratch);
             room.put(home);
             PlainReply::of_done(answer)
@@ -105,7 +110,12 @@ pub extern "C" fn zoftemar_pump(alloc: Global, room: &mut Handle, bundle: u32) -
     match room.take(alloc) {
         None => PlainReply::bare(Code::NoRoom),
         Some(mut home) => {
-            let Home { bundles, scratch } = &mut *home;
+            let Home {
+                bundles,
+                scratch,
+                inbox: _,
+                ticks: _,
+            } = &mut *home;
             let answer = bundles.pump(bundle, scratch);
             room.put(home);
             PlainReply::of_pumped(answer)
@@ -133,7 +143,12 @@ pub extern "C" fn zoftemar_draw(
     match room.take(alloc) {
         None => PlainReply::bare(Code::NoRoom),
         Some(mut home) => {
-            let Home { bundles, scratch } = &mut *home;
+            let Home {
+                bundles,
+                scratch,
+                inbox: _,
+                ticks: _,
+            } = &mut *home;
             let told = match bundles.draw(bundle, &mut scratch.packet) {
                 Ok(_) => give_packet(&scratch.packet, out),
                 Err(why) => PlainReply::of_fault(why),
@@ -165,7 +180,12 @@ pub extern "C" fn zoftemar_redraw(
     match room.take(alloc) {
         None => PlainReply::bare(Code::NoRoom),
         Some(mut home) => {
-            let Home { bundles, scratch } = &mut *home;
+            let Home {
+                bundles,
+                scratch,
+                inbox: _,
+                ticks: _,
+            } = &mut *home;
             let told = match bundles.redraw(bundle, seq, &mut scratch.packet) {
                 Ok(()) => give_packet(&scratch.packet, out),
                 Err(why) => PlainReply::of_fault(why),

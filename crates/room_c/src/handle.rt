@@ -84,7 +84,12 @@ impl Handle {
         match self.take(alloc) {
             None => PlainReply::bare(Code::NoRoom),
             Some(mut home) => {
-                let Home { bundles, scratch } = &mut *home;
+                let Home {
+                    bundles,
+                    scratch,
+                    inbox: _,
+                    ticks: _,
+                } = &mut *home;
                 let answer = bundles.call(seat, call, scratch);
                 let told = PlainReply::of_answer(&answer, scratch);
                 self.put(home);

@@ -95,7 +95,12 @@ pub extern "C" fn zoftemar_take(
     match room.take(alloc) {
         None => PlainReply::bare(Code::NoRoom),
         Some(mut home) => {
-            let Home { bundles, scratch } = &mut *home;
+            let Home {
+                bundles,
+                scratch,
+                inbox: _,
+                ticks: _,
+            } = &mut *home;
             let answer = bundles.take(seat, subscriber, scratch);
             let told = give_answer(&answer, scratch, out);
             room.put(home);
@@ -126,7 +131,12 @@ pub extern "C" fn zoftemar_resend(
     match room.take(alloc) {
         None => PlainReply::bare(Code::NoRoom),
         Some(mut home) => {
-            let Home { bundles, scratch } = &mut *home;
+            let Home {
+                bundles,
+                scratch,
+                inbox: _,
+                ticks: _,
+            } = &mut *home;
             let answer = bundles.call(seat, &Call::Resend { subscriber, seq }, scratch);
             let told = give_answer(&answer, scratch, out);
             room.put(home);

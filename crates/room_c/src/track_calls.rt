@@ -12,7 +12,8 @@ use crate::code::Code;
 use crate::handle::Handle;
 use crate::home::Home;
 use crate::plain_reply::PlainReply;
-use sfu_base::{Call, Kind, PacketBuf};
+use crate::stored_call::{set_packet, set_tick};
+use sfu_base::{Call, Kind};
 use std::alloc::Global;
 
 /// Publishes a plain track, as `Room::publish` does. The track waits `hold` milliseconds at a gap in sequence numbers. Refusals: `NumberUsed`,
@@ -98,17 +99,22 @@ pub extern "C" fn zoftemar_packet(
     if bytes.len() > PACKET_ROOM {
         return PlainReply::bare(Code::TooLong);
     }
-    let mut packet = PacketBuf::new();
-    packet.fill(bytes);
-    room.serve(
-        alloc,
-        seat,
-        &Call::Packet {
-            track,
-            moment,
-            bytes: packet,
-        },
-    )
+    match room.take(alloc) {
+        None => PlainReply::bare(Code::NoRoom),
+        Some(mut home) => {
+            let Home {
+                bundles,
+                scratch,
+                inbox,
+                ticks: _,
+            } = &mut *home;
+            set_packet(inbox, track, moment, bytes);
+            let answer = bundles.call(seat, inbox, scratch);
+            let told = PlainReply::of_answer(&answer, scratch);
+            room.put(home);
+            told
+        }
+    }
 }
 
 /// Advances a track's time to `moment`, in milliseconds, as `Room::tick` does. Refusal: `NoTrack`.
@@ -122,7 +128,22 @@ pub extern "C" fn zoftemar_tick(
 ) -> PlainReply
     ensures does { Does room.old.held.home room.new.held.home seat (call.Tick track moment) result }
 {
-    room.serve(alloc, seat, &Call::Tick { track, moment })
+    match room.take(alloc) {
+        None => PlainReply::bare(Code::NoRoom),
+        Some(mut home) => {
+            let Home {
+                bundles,
+                scratch,
+                inbox: _,
+                ticks,
+            } = &mut *home;
+            set_tick(ticks, track, moment);
+            let answer = bundles.call(seat, ticks, scratch);
+            let told = PlainReply::of_answer(&answer, scratch);
+            room.put(home);
+            told
+        }
+    }
 }
 
 /// Writes the sequence numbers that a track waits for to the start of `out`, as `Room::missing` does. Returns `Names`. Refusal: `NoTrack`. `NoSpace`:
@@ -146,7 +167,12 @@ pub extern "C" fn zoftemar_missing(
     match room.take(alloc) {
         None => PlainReply::bare(Code::NoRoom),
         Some(mut home) => {
-            let Home { bundles, scratch } = &mut *home;
+            let Home {
+                bundles,
+                scratch,
+                inbox: _,
+                ticks: _,
+            } = &mut *home;
             let answer = bundles.call(seat, &Call::Missing { track }, scratch);
             let told = give_numbers(&answer, scratch, out);
             room.put(home);
