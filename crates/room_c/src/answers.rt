@@ -48,42 +48,42 @@ fn give_bytes(answer: &Reply, scratch: &Scratch, out: &mut [u8]) -> PlainReply
 
 /// Writes a packet that a room with bundles returned, if any, to the start of `out`, which has at least 2,048 bytes. Returns the answer as numbers.
 pub fn give_answer(
-    answer: &Result<Reply, BundleFault>,
+    answer: Result<Reply, BundleFault>,
     scratch: &Scratch,
     out: &mut [u8],
 ) -> PlainReply
     requires space { 2048 ≤ length out.old }
-    requires only { IfErr answer.now IsBound }
-    ensures told { answer_in result ≡ answer.now }
-    ensures exact { result ≡ answer_reply scratch.now answer.now }
-    ensures gives { answer.now ≡ Ok reply.Packet → take result.first out.new ≡ scratch.now.packet }
+    requires only { IfErr answer IsBound }
+    ensures told { answer_in result ≡ answer }
+    ensures exact { result ≡ answer_reply scratch.now answer }
+    ensures gives { answer ≡ Ok reply.Packet → take result.first out.new ≡ scratch.now.packet }
     ensures rest { drop (bytes_written result) out.new ≡ drop (bytes_written result) out.old }
     ensures length { length out.new ≡ length out.old }
 {
     match answer {
-        Ok(reply) => give_bytes(reply, scratch, out),
-        Err(why) => PlainReply::of_fault(*why),
+        Ok(reply) => give_bytes(&reply, scratch, out),
+        Err(why) => PlainReply::of_fault(why),
     }
 }
 
 /// Writes the sequence numbers that a room with bundles returned, if any, to the start of `out`, which has at least 1,024 items. Returns the answer as
 /// numbers.
 pub fn give_numbers(
-    answer: &Result<Reply, BundleFault>,
+    answer: Result<Reply, BundleFault>,
     scratch: &Scratch,
     out: &mut [u16],
 ) -> PlainReply
     requires space { 1024 ≤ length out.old }
-    requires only { IfErr answer.now IsBound }
-    ensures told { answer_in result ≡ answer.now }
-    ensures exact { result ≡ answer_reply scratch.now answer.now }
-    ensures gives { answer.now ≡ Ok reply.Names → take result.first out.new ≡ scratch.now.names }
+    requires only { IfErr answer IsBound }
+    ensures told { answer_in result ≡ answer }
+    ensures exact { result ≡ answer_reply scratch.now answer }
+    ensures gives { answer ≡ Ok reply.Names → take result.first out.new ≡ scratch.now.names }
     ensures rest { drop (numbers_written result) out.new ≡ drop (numbers_written result) out.old }
     ensures length { length out.new ≡ length out.old }
 {
     match answer {
-        Ok(reply) => give_named(reply, scratch, out),
-        Err(why) => PlainReply::of_fault(*why),
+        Ok(reply) => give_named(&reply, scratch, out),
+        Err(why) => PlainReply::of_fault(why),
     }
 }
 

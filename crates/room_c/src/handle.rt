@@ -91,7 +91,7 @@ impl Handle {
                     ticks: _,
                 } = &mut *home;
                 let answer = bundles.call(seat, call, scratch);
-                let told = PlainReply::of_answer(&answer, scratch);
+                let told = PlainReply::of_answer(answer, scratch);
                 self.put(home);
                 told
             }

@@ -87,14 +87,14 @@ impl PlainReply {
     }
 
     /// The room's answer to a call as numbers.
-    pub fn of_answer(answer: &Result<Reply, BundleFault>, scratch: &Scratch) -> PlainReply
-        requires { IfErr answer.now IsBound }
-        ensures told { answer_in result ≡ answer.now }
-        ensures exact { result ≡ answer_reply scratch.now answer.now }
+    pub fn of_answer(answer: Result<Reply, BundleFault>, scratch: &Scratch) -> PlainReply
+        requires { IfErr answer IsBound }
+        ensures told { answer_in result ≡ answer }
+        ensures exact { result ≡ answer_reply scratch.now answer }
     {
         match answer {
-            Ok(reply) => PlainReply::of(reply, scratch),
-            Err(why) => PlainReply::of_fault(*why),
+            Ok(reply) => PlainReply::of(&reply, scratch),
+            Err(why) => PlainReply::of_fault(why),
         }
     }
 

@@ -102,7 +102,7 @@ pub extern "C" fn zoftemar_take(
                 ticks: _,
             } = &mut *home;
             let answer = bundles.take(seat, subscriber, scratch);
-            let told = give_answer(&answer, scratch, out);
+            let told = give_answer(answer, scratch, out);
             room.put(home);
             told
         }
@@ -138,7 +138,7 @@ pub extern "C" fn zoftemar_resend(
                 ticks: _,
             } = &mut *home;
             let answer = bundles.call(seat, &Call::Resend { subscriber, seq }, scratch);
-            let told = give_answer(&answer, scratch, out);
+            let told = give_answer(answer, scratch, out);
             room.put(home);
             told
         }

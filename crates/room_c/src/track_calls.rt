@@ -110,7 +110,7 @@ pub extern "C" fn zoftemar_packet(
             } = &mut *home;
             set_packet(inbox, track, moment, bytes);
             let answer = bundles.call(seat, inbox, scratch);
-            let told = PlainReply::of_answer(&answer, scratch);
+            let told = PlainReply::of_answer(answer, scratch);
             room.put(home);
             told
         }
@@ -139,7 +139,7 @@ pub extern "C" fn zoftemar_tick(
             } = &mut *home;
             set_tick(ticks, track, moment);
             let answer = bundles.call(seat, ticks, scratch);
-            let told = PlainReply::of_answer(&answer, scratch);
+            let told = PlainReply::of_answer(answer, scratch);
             room.put(home);
             told
         }
@@ -174,7 +174,7 @@ pub extern "C" fn zoftemar_missing(
                 ticks: _,
             } = &mut *home;
             let answer = bundles.call(seat, &Call::Missing { track }, scratch);
-            let told = give_numbers(&answer, scratch, out);
+            let told = give_numbers(answer, scratch, out);
             room.put(home);
             told
         }
