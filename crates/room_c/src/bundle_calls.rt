@@ -92,7 +92,6 @@ pub extern "C" fn zoftemar_choose(
                 bundles,
                 scratch,
                 inbox: _,
-                ticks: _,
             } = &mut *home;
             let answer = bundles.choose(bundle, leg, scratch);
             room.put(home);
@@ -114,7 +113,6 @@ pub extern "C" fn zoftemar_pump(alloc: Global, room: &mut Handle, bundle: u32) -
                 bundles,
                 scratch,
                 inbox: _,
-                ticks: _,
             } = &mut *home;
             let answer = bundles.pump(bundle, scratch);
             room.put(home);
@@ -147,7 +145,6 @@ pub extern "C" fn zoftemar_draw(
                 bundles,
                 scratch,
                 inbox: _,
-                ticks: _,
             } = &mut *home;
             let told = match bundles.draw(bundle, &mut scratch.packet) {
                 Ok(_) => give_packet(&scratch.packet, out),
@@ -184,7 +181,6 @@ pub extern "C" fn zoftemar_redraw(
                 bundles,
                 scratch,
                 inbox: _,
-                ticks: _,
             } = &mut *home;
             let told = match bundles.redraw(bundle, seq, &mut scratch.packet) {
                 Ok(()) => give_packet(&scratch.packet, out),

@@ -88,7 +88,6 @@ impl Handle {
                     bundles,
                     scratch,
                     inbox: _,
-                    ticks: _,
                 } = &mut *home;
                 let answer = bundles.call(seat, call, scratch);
                 let told = PlainReply::of_answer(answer, scratch);

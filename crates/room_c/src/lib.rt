@@ -27,7 +27,6 @@ mod rtx_calls;
 mod session_calls;
 mod session_handle;
 mod session_opening;
-mod stored_call;
 mod subscriber_calls;
 mod tape;
 mod track_calls;

@@ -1,5 +1,5 @@
 // A reply in the form that C reads.
-ghost use Rattle.std.specs.Prelude.{◌≡◌, ◌<◌, ◌≤◌, Err, IfErr, false, true};
+ghost use Rattle.std.specs.Prelude.{◌≡◌, ◌<◌, ◌≤◌, Err, IfErr, Ok, false, true};
 ghost use Rattle.sfu_base.specs.declared.call.Reply.TheVariants as reply;
 ghost use Rattle.simulcast.specs.Bundles.{IsBound};
 ghost use Rattle.room_c.specs.Reading.{answer_in, fault_in, refusal_in, reply_in};
@@ -84,6 +84,14 @@ impl PlainReply {
             Reply::Cause(verdict) => of_verdict(*verdict),
             Reply::Refused(why) => PlainReply::of_refusal(*why),
         }
+    }
+
+    /// The numbers of a reply to a call that no bundle forbids.
+    pub fn of_reply(reply: &Reply, scratch: &Scratch) -> PlainReply
+        ensures told { answer_in result ≡ Ok reply.now }
+        ensures exact { result ≡ answer_reply scratch.now (Ok reply.now) }
+    {
+        PlainReply::of(reply, scratch)
     }
 
     /// The room's answer to a call as numbers.

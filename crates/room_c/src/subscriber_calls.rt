@@ -99,7 +99,6 @@ pub extern "C" fn zoftemar_take(
                 bundles,
                 scratch,
                 inbox: _,
-                ticks: _,
             } = &mut *home;
             let answer = bundles.take(seat, subscriber, scratch);
             let told = give_answer(answer, scratch, out);
@@ -135,7 +134,6 @@ pub extern "C" fn zoftemar_resend(
                 bundles,
                 scratch,
                 inbox: _,
-                ticks: _,
             } = &mut *home;
             let answer = bundles.call(seat, &Call::Resend { subscriber, seq }, scratch);
             let told = give_answer(answer, scratch, out);

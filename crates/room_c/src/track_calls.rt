@@ -12,7 +12,6 @@ use crate::code::Code;
 use crate::handle::Handle;
 use crate::home::Home;
 use crate::plain_reply::PlainReply;
-use crate::stored_call::{set_packet, set_tick};
 use sfu_base::{Call, Kind};
 use std::alloc::Global;
 
@@ -85,6 +84,7 @@ pub extern "C" fn zoftemar_unpublish(
 /// Adds a packet that arrives at `moment`, in milliseconds, to a track, as `Room::packet` does. Refusals: `NoTrack`, `TooBig`, `Unreadable`,
 /// `WrongSsrc`, `Spent`, `Late`, `Repeat`. `TooLong`: the packet has more than 2,048 bytes; nothing changes.
 #[unsafe(no_mangle)]
+#[tactic(auto, using(crate::proofs::Silently::whole_of))]
 pub extern "C" fn zoftemar_packet(
     alloc: Global,
     room: &mut Handle,
@@ -106,11 +106,10 @@ pub extern "C" fn zoftemar_packet(
                 bundles,
                 scratch,
                 inbox,
-                ticks: _,
             } = &mut *home;
-            set_packet(inbox, track, moment, bytes);
-            let answer = bundles.call(seat, inbox, scratch);
-            let told = PlainReply::of_answer(answer, scratch);
+            inbox.fill(bytes);
+            let reply = bundles.packet(seat, track, moment, inbox);
+            let told = PlainReply::of_reply(&reply, scratch);
             room.put(home);
             told
         }
@@ -119,6 +118,7 @@ pub extern "C" fn zoftemar_packet(
 
 /// Advances a track's time to `moment`, in milliseconds, as `Room::tick` does. Refusal: `NoTrack`.
 #[unsafe(no_mangle)]
+#[tactic(auto, using(crate::proofs::Silently::whole_of))]
 pub extern "C" fn zoftemar_tick(
     alloc: Global,
     room: &mut Handle,
@@ -135,11 +135,9 @@ pub extern "C" fn zoftemar_tick(
                 bundles,
                 scratch,
                 inbox: _,
-                ticks,
             } = &mut *home;
-            set_tick(ticks, track, moment);
-            let answer = bundles.call(seat, ticks, scratch);
-            let told = PlainReply::of_answer(answer, scratch);
+            let reply = bundles.tick(seat, track, moment);
+            let told = PlainReply::of_reply(&reply, scratch);
             room.put(home);
             told
         }
@@ -171,7 +169,6 @@ pub extern "C" fn zoftemar_missing(
                 bundles,
                 scratch,
                 inbox: _,
-                ticks: _,
             } = &mut *home;
             let answer = bundles.call(seat, &Call::Missing { track }, scratch);
             let told = give_numbers(answer, scratch, out);

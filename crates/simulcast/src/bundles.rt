@@ -56,13 +56,13 @@ fn is_layered(kind: Result<Kind, Refusal>, id: u8) -> bool
 }
 
 impl<R: Recorder> Bundles<R> {
-    ghost use Rattle.std.specs.Prelude.{◌≡◌, ◌≤◌, ◌==◌, [], List, IfErr, OnErr, fold, length, max, position};
+    ghost use Rattle.std.specs.Prelude.{◌≡◌, ◌≤◌, ◌==◌, ℕ, [], List, IfErr, Ok, OnErr, fold, length, max, position};
     ghost use Rattle.std.specs.List.{find, list_all};
     ghost use Rattle.std.specs.Option.{option_map};
     ghost use Rattle.sfu_base.specs.declared.call.Call.TheVariants as call;
     ghost use Rattle.simulcast.specs.Made.{has_leg, just_made, just_renumbered, made_with};
     ghost use Rattle.room_core.specs.History.{Entry, accepted};
-    ghost use Rattle.room_core.specs.Serves.{Stands, recorder_may_refuse};
+    ghost use Rattle.room_core.specs.Serves.{DoesAsServe, Stands, recorder_may_refuse};
     ghost use Rattle.simulcast.specs.Bundles.{Bundled, BundlesHeadline, Calls, CallsWhole, CallStarvesBy, Chooses, Draws, IsBound, PleasesReceivers, PumpsOne, Redraws, Simulcast, StandsFor, StarvesBy};
     ghost use Rattle.simulcast.specs.Bundles.{bound_leg, bundle_refusal, forbids_by, has_kind, is_live, may_starve, nothing_made};
 
@@ -290,6 +290,25 @@ impl<R: Recorder> Bundles<R> {
             Some(bundle) => Err(BundleFault::Bound { bundle }),
             None => Ok(self.room.take(seat, subscriber, scratch)),
         }
+    }
+
+    /// Adds a packet that arrives at `moment` to a track, as `Room::packet` does: `call` with `Call::Packet` does the same, since no bundle forbids it.
+    pub fn packet(&mut self, seat: u32, track: u32, moment: u64, packet: &PacketBuf) -> Reply
+        ensures calls { (bytes numbers : List ℕ)
+            → Calls R.noted self.old self.new seat (call.Packet track moment packet.now) bytes numbers (Ok result) }
+        ensures does { DoesAsServe R.noted R.may_refuse self.old.room self.new.room seat (call.Packet track moment packet.now) result }
+        ensures recorder { may_starve R.may_refuse self.new ≡ may_starve R.may_refuse self.old }
+    {
+        self.room.packet(seat, track, moment, packet)
+    }
+
+    /// Advances a track's time to `moment`, as `Room::tick` does: `call` with `Call::Tick` does the same, since no bundle forbids it.
+    pub fn tick(&mut self, seat: u32, track: u32, moment: u64) -> Reply
+        ensures calls { (bytes numbers : List ℕ) → Calls R.noted self.old self.new seat (call.Tick track moment) bytes numbers (Ok result) }
+        ensures does { DoesAsServe R.noted R.may_refuse self.old.room self.new.room seat (call.Tick track moment) result }
+        ensures recorder { may_starve R.may_refuse self.new ≡ may_starve R.may_refuse self.old }
+    {
+        self.room.tick(seat, track, moment)
     }
 
     /// Takes the packets queued for the bundle's legs: from the active leg, then from the chosen leg if it is another, then from the others in order.
