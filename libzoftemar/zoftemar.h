@@ -11,17 +11,17 @@
  *         send_to_subscriber(out, r.first);
  *     zoftemar_close(&room);
  *
- * A room has tracks and subscribers. A track has one publisher's packets, and each subscriber is of one track. For callers that keep to "What the
+ * A room has tracks, subscribers and bundles. A track has one publisher's packets, and each subscriber is of one track. For callers that keep to "What the
  * caller owes", it is proved what each call does in the room (crates/room_core/README.md), and that these functions make those calls
  * (crates/room_c/README.md). Nothing checks a caller in C.
  *
  * Units. Moments and holds are in milliseconds. Packets and ticks use the same clock, which may start anywhere. SSRCs, sequence numbers, and the
  * numbers of tracks and subscribers are in host byte order; packets are the bytes on the wire. The caller numbers the tracks of a room: each new
- * track's number is above 0 and above the numbers of all earlier tracks. Subscribers are numbered in the same way, independently of the tracks.
- * A seat is any number that names the caller; it changes no reply, and 0 will do.
+ * track's number is above 0 and above the numbers of all earlier tracks. Subscribers are numbered in the same way, and so are bundles, each
+ * independently of the others. A seat is any number that names the caller; it changes no reply, and 0 will do.
  *
  * Codes. Nothing aborts or throws. A call returns a zoftemar_reply, but an open returns only a code, and a close returns nothing. A refused call
- * changes nothing. Only opening, publishing, joining and zoftemar_recorder_feed can return ZOFTEMAR_NO_MEMORY.
+ * changes nothing. Only opening, publishing, joining, bundling and zoftemar_recorder_feed can return ZOFTEMAR_NO_MEMORY.
  *
  * Ownership. The caller owns the zoftemar_room, whose bytes are all 0 at first (ZOFTEMAR_ROOM_NONE). zoftemar_open allocates a room behind it, and
  * zoftemar_close frees that room. Opening again returns ZOFTEMAR_HAS_ROOM, closing again does nothing. After a call the library keeps no pointer to a
@@ -100,6 +100,9 @@ enum zoftemar_code {
     ZOFTEMAR_DUE = 6,               /* has: whether a tick of the track will be due; first: the moment, if so */
     ZOFTEMAR_NEWEST = 7,            /* has: whether a whole frame of the track came; first: the newest frame's number, if so */
     ZOFTEMAR_FILE_PIECE = 8,        /* first: the number of bytes of the file that were written to `out`; second: how many are left */
+    ZOFTEMAR_PUMPED = 9,            /* of the packets that were taken from the legs, first: how many are forwarded; second: how many are dropped */
+    ZOFTEMAR_COUNTS = 10,           /* the counts were written to `out` */
+    ZOFTEMAR_READY = 11,            /* first: how many subscribers' numbers were written to `out` */
 
     /* Why a frame was or wasn't forwarded to a subscriber. Frame numbers are unwrapped: they go on after 65,535. */
     ZOFTEMAR_PASSED = 16,
@@ -115,8 +118,8 @@ enum zoftemar_code {
     /* Why a call was refused. */
     ZOFTEMAR_NO_TRACK = 32,         /* no live track has this number, or the subscriber's track has ended */
     ZOFTEMAR_NO_SUBSCRIBER = 33,    /* no live subscriber has this number */
-    ZOFTEMAR_NUMBER_USED = 34,      /* the number isn't above `first`, the highest that was ever live (0 if none was) */
-    ZOFTEMAR_TOO_MANY = 35,         /* first: how many are live, which is the maximum: 64 tracks or 256 subscribers */
+    ZOFTEMAR_NUMBER_USED = 34,      /* the number isn't above `first`, the highest that was ever live, or that a bundle has (0 if none) */
+    ZOFTEMAR_TOO_MANY = 35,         /* first: how many are live, which is the maximum: 64 tracks, 256 subscribers or 64 bundles */
     ZOFTEMAR_BAD_EXTENSION_ID = 36, /* the id is 0 or 15; a recorder's is 0 */
     ZOFTEMAR_TOO_BIG = 37,          /* first: the packet's length in bytes, more than 1,500 */
     ZOFTEMAR_UNREADABLE = 38,       /* not RTP. first, the fault: 0 fewer than 12 bytes, 1 the version, 2 the CSRCs, 3 the header extension,
@@ -125,12 +128,16 @@ enum zoftemar_code {
     ZOFTEMAR_SPENT = 40,            /* the packet's unwrapped sequence number is 2^46 or more */
     ZOFTEMAR_LATE = 41,             /* first: the unwrapped sequence number that the track waits for, above the packet's */
     ZOFTEMAR_REPEAT = 42,           /* the packet is already buffered, behind a gap; once it has left the buffer: ZOFTEMAR_LATE */
-    ZOFTEMAR_EMPTY = 43,            /* no packet is queued for the subscriber */
-    ZOFTEMAR_NOT_KEPT = 44,         /* first: the oldest kept sequence number; second: the next take's sequence number; both as on the wire */
+    ZOFTEMAR_EMPTY = 43,            /* no packet is queued for the subscriber, or by the bundle */
+    ZOFTEMAR_NOT_KEPT = 44,         /* first: the oldest kept sequence number; second: that of the next take or draw; both as on the wire */
     ZOFTEMAR_AHEAD = 45,            /* has: whether a frame came since the join (never on a plain track); first: the newest frame's number, if so */
     ZOFTEMAR_TOO_OLD = 46,          /* first: the lowest frame number that may be asked for */
     ZOFTEMAR_PLAIN = 47,            /* the subscriber's track is plain */
     ZOFTEMAR_NO_MEMORY = 48,        /* out of memory */
+    ZOFTEMAR_NO_BUNDLE = 49,        /* no bundle has this number */
+    ZOFTEMAR_NO_LEG = 50,           /* the bundle has no such leg. first: how many legs it has; they are 1 to `first` */
+    ZOFTEMAR_WRONG_KIND = 51,       /* the track of a leg isn't layered, or has another id of the header extension element */
+    ZOFTEMAR_BOUND = 52,            /* the subscriber is a leg of bundle `first`, or is listed twice among its legs */
 
     /* Errors found before the room is called: nothing changes. */
     ZOFTEMAR_NO_ROOM = 64,          /* the handle has no room */
@@ -144,6 +151,7 @@ enum zoftemar_code {
     ZOFTEMAR_NO_RECORDER = 72,      /* the handle has no recorder */
     ZOFTEMAR_HAS_RECORDER = 73,     /* zoftemar_recorder_open: the handle already has a recorder */
     ZOFTEMAR_FINISHED = 74,         /* the recorder is finished, and takes no packets */
+    ZOFTEMAR_BAD_LEGS = 75,         /* a bundle has two or three legs */
 
     /* Faults of a recorder's packets. The first one is returned by each later zoftemar_recorder_feed. */
     ZOFTEMAR_UNREAD = 80,           /* not RTP, no or a bad payload, no or a bad descriptor, or a structure that isn't in force, without a key frame */
@@ -157,15 +165,16 @@ enum zoftemar_code {
 
 /* X(name) for each code. */
 #define ZOFTEMAR_EACH_CODE(X) \
-    X(ZOFTEMAR_DONE) X(ZOFTEMAR_PACKET) X(ZOFTEMAR_NAMES) X(ZOFTEMAR_KEY) X(ZOFTEMAR_REACHED) X(ZOFTEMAR_TARGET) X(ZOFTEMAR_DUE) \
-    X(ZOFTEMAR_NEWEST) X(ZOFTEMAR_FILE_PIECE) X(ZOFTEMAR_PASSED) X(ZOFTEMAR_NOT_OF_TARGET) X(ZOFTEMAR_BEHIND) X(ZOFTEMAR_REFERENCE) \
-    X(ZOFTEMAR_FULL) X(ZOFTEMAR_LINK) X(ZOFTEMAR_UNOPENED) X(ZOFTEMAR_HOLE) X(ZOFTEMAR_NO_TRACK) X(ZOFTEMAR_NO_SUBSCRIBER) X(ZOFTEMAR_NUMBER_USED) \
-    X(ZOFTEMAR_TOO_MANY) X(ZOFTEMAR_BAD_EXTENSION_ID) X(ZOFTEMAR_TOO_BIG) X(ZOFTEMAR_UNREADABLE) X(ZOFTEMAR_WRONG_SSRC) X(ZOFTEMAR_SPENT) \
-    X(ZOFTEMAR_LATE) X(ZOFTEMAR_REPEAT) X(ZOFTEMAR_EMPTY) X(ZOFTEMAR_NOT_KEPT) X(ZOFTEMAR_AHEAD) X(ZOFTEMAR_TOO_OLD) X(ZOFTEMAR_PLAIN) \
-    X(ZOFTEMAR_NO_MEMORY) X(ZOFTEMAR_NO_ROOM) X(ZOFTEMAR_HAS_ROOM) X(ZOFTEMAR_NO_SPACE) X(ZOFTEMAR_TOO_LONG) X(ZOFTEMAR_NO_SESSION) \
-    X(ZOFTEMAR_HAS_SESSION) X(ZOFTEMAR_BUSY) X(ZOFTEMAR_BAD_STREAM) X(ZOFTEMAR_NO_RECORDER) X(ZOFTEMAR_HAS_RECORDER) X(ZOFTEMAR_FINISHED) \
-    X(ZOFTEMAR_UNREAD) X(ZOFTEMAR_OTHER_SOURCE) X(ZOFTEMAR_OUT_OF_SEQUENCE) X(ZOFTEMAR_NO_STRUCTURE) X(ZOFTEMAR_NOT_WHOLE) \
-    X(ZOFTEMAR_MISSING_REFERENCE) X(ZOFTEMAR_NOT_OBU)
+    X(ZOFTEMAR_DONE) X(ZOFTEMAR_PACKET) X(ZOFTEMAR_NAMES) X(ZOFTEMAR_KEY) X(ZOFTEMAR_REACHED) X(ZOFTEMAR_TARGET) X(ZOFTEMAR_DUE) X(ZOFTEMAR_NEWEST) \
+    X(ZOFTEMAR_FILE_PIECE) X(ZOFTEMAR_PUMPED) X(ZOFTEMAR_COUNTS) X(ZOFTEMAR_READY) X(ZOFTEMAR_PASSED) X(ZOFTEMAR_NOT_OF_TARGET) X(ZOFTEMAR_BEHIND) \
+    X(ZOFTEMAR_REFERENCE) X(ZOFTEMAR_FULL) X(ZOFTEMAR_LINK) X(ZOFTEMAR_UNOPENED) X(ZOFTEMAR_HOLE) X(ZOFTEMAR_NO_TRACK) X(ZOFTEMAR_NO_SUBSCRIBER) \
+    X(ZOFTEMAR_NUMBER_USED) X(ZOFTEMAR_TOO_MANY) X(ZOFTEMAR_BAD_EXTENSION_ID) X(ZOFTEMAR_TOO_BIG) X(ZOFTEMAR_UNREADABLE) X(ZOFTEMAR_WRONG_SSRC) \
+    X(ZOFTEMAR_SPENT) X(ZOFTEMAR_LATE) X(ZOFTEMAR_REPEAT) X(ZOFTEMAR_EMPTY) X(ZOFTEMAR_NOT_KEPT) X(ZOFTEMAR_AHEAD) X(ZOFTEMAR_TOO_OLD) \
+    X(ZOFTEMAR_PLAIN) X(ZOFTEMAR_NO_MEMORY) X(ZOFTEMAR_NO_BUNDLE) X(ZOFTEMAR_NO_LEG) X(ZOFTEMAR_WRONG_KIND) X(ZOFTEMAR_BOUND) X(ZOFTEMAR_NO_ROOM) \
+    X(ZOFTEMAR_HAS_ROOM) X(ZOFTEMAR_NO_SPACE) X(ZOFTEMAR_TOO_LONG) X(ZOFTEMAR_NO_SESSION) X(ZOFTEMAR_HAS_SESSION) X(ZOFTEMAR_BUSY) \
+    X(ZOFTEMAR_BAD_STREAM) X(ZOFTEMAR_NO_RECORDER) X(ZOFTEMAR_HAS_RECORDER) X(ZOFTEMAR_FINISHED) X(ZOFTEMAR_BAD_LEGS) X(ZOFTEMAR_UNREAD) \
+    X(ZOFTEMAR_OTHER_SOURCE) X(ZOFTEMAR_OUT_OF_SEQUENCE) X(ZOFTEMAR_NO_STRUCTURE) X(ZOFTEMAR_NOT_WHOLE) X(ZOFTEMAR_MISSING_REFERENCE) \
+    X(ZOFTEMAR_NOT_OBU)
 
 /* The name of a code, such as "ZOFTEMAR_DONE"; "ZOFTEMAR_?" for any other number. */
 #if defined(__STDC_VERSION__) && __STDC_VERSION__ >= 199901L || defined(__cplusplus)
@@ -186,7 +195,7 @@ static inline const char *zoftemar_code_name(uint32_t code) {
 /* Opens a room behind the handle: ZOFTEMAR_DONE, ZOFTEMAR_HAS_ROOM or ZOFTEMAR_NO_MEMORY. */
 ZOFTEMAR_USE ZOFTEMAR_NONNULL(1) uint32_t zoftemar_open(zoftemar_room *room);
 
-/* Frees the room, with all its tracks and subscribers. Does nothing if the handle has no room. */
+/* Frees the room, with all its tracks, subscribers and bundles. Does nothing if the handle has no room. */
 ZOFTEMAR_NONNULL(1) void zoftemar_close(zoftemar_room *room);
 
 /* Begins a track whose packets have this SSRC. At a gap in their sequence numbers the track waits for `hold` milliseconds. A layered track's packets
@@ -242,6 +251,7 @@ typedef struct zoftemar_target {
     bool known;
     uint8_t spatial;
     uint8_t temporal;
+    uint8_t spare[4];   /* for later use: 0 */
 } zoftemar_target;
 
 /* Two questions about a subscriber, which don't change the room. zoftemar_target_of: the decode target that the subscriber is sent, if any
@@ -256,6 +266,45 @@ ZOFTEMAR_USE ZOFTEMAR_NONNULL(1) zoftemar_reply zoftemar_reaches_wish(const zoft
  * whole frame, for zoftemar_why (ZOFTEMAR_NEWEST). A plain track has no frames. */
 ZOFTEMAR_USE ZOFTEMAR_NONNULL(1) zoftemar_reply zoftemar_due(const zoftemar_room *room, uint32_t track);
 ZOFTEMAR_USE ZOFTEMAR_NONNULL(1) zoftemar_reply zoftemar_newest_frame(const zoftemar_room *room, uint32_t track);
+
+/* Writes to `out` the numbers of the track's subscribers that have packets queued, each once, in no particular order, as many as fit: ZOFTEMAR_READY.
+ * If these are fewer than `count`, they are all. A room has at most 256 subscribers. After the end of a track, its subscribers count until they leave.
+ * The room isn't changed. After each zoftemar_packet and zoftemar_tick, take for these alone. */
+ZOFTEMAR_USE ZOFTEMAR_NONNULL(1) zoftemar_reply zoftemar_ready(const zoftemar_room *room, uint32_t track, uint32_t *out, size_t count);
+
+/* What is counted of a subscriber since its join. Each whole frame of its layered track since then has one of the verdicts of zoftemar_why, which is
+ * counted; a plain track has no frames. A count stays at 2^64 - 1 once it is there. */
+typedef struct zoftemar_subscriber_counts {
+    uint64_t passed;        /* frames that were forwarded (ZOFTEMAR_PASSED) */
+    uint64_t not_of_target; /* frames withheld since they aren't in the decode target (ZOFTEMAR_NOT_OF_TARGET): by the wish, so no fault */
+    uint64_t behind;        /* frames withheld since they refer to a frame before the epoch (ZOFTEMAR_BEHIND) */
+    uint64_t reference;     /* frames withheld since they refer to a frame that wasn't forwarded (ZOFTEMAR_REFERENCE) */
+    uint64_t full;          /* frames withheld since the queue had no place for all their packets (ZOFTEMAR_FULL) */
+    uint64_t link;          /* frames withheld since the target's chain is broken (ZOFTEMAR_LINK) */
+    uint64_t unopened;      /* frames withheld since no target is open (ZOFTEMAR_UNOPENED) */
+    uint64_t queued;        /* packets that were queued, also those taken since */
+    uint64_t taken;         /* packets that were taken: by zoftemar_take, a session or a pump */
+    uint64_t resent;        /* retransmissions: by zoftemar_resend or a session, each time; a bundle's redraws aren't counted */
+    uint64_t left_out;      /* packets of a plain track that came while 512 were queued, and weren't queued */
+    uint64_t waiting;       /* packets that are queued now: at most 512 */
+    uint64_t spare[4];      /* 0: for later counts */
+} zoftemar_subscriber_counts;
+
+/* What is counted of a track since its publish. */
+typedef struct zoftemar_track_counts {
+    uint64_t arrived;    /* packets that came, and left the reorder buffer in order */
+    uint64_t given_up;   /* sequence numbers that were given up: no packet with such a number is accepted any more */
+    uint64_t frames;     /* whole frames: 0 on a plain track */
+    uint64_t key_frames; /* whole key frames */
+    uint64_t unframed;   /* packets of `arrived` that are in no whole frame: of a torn or unfinished frame, unreadable, or padding; 0 on a plain track */
+    uint64_t spare[3];   /* 0: for later counts */
+} zoftemar_track_counts;
+
+/* Two questions about what is counted, which don't change the room: ZOFTEMAR_COUNTS. On a refusal `out` is unchanged. After the end of its track a
+ * subscriber's frames stay as they are. */
+ZOFTEMAR_USE ZOFTEMAR_NONNULL(1, 3) zoftemar_reply zoftemar_counts_of_subscriber(const zoftemar_room *room, uint32_t subscriber,
+                                                                                 zoftemar_subscriber_counts *out);
+ZOFTEMAR_USE ZOFTEMAR_NONNULL(1, 3) zoftemar_reply zoftemar_counts_of_track(const zoftemar_room *room, uint32_t track, zoftemar_track_counts *out);
 
 /* ---- Sessions: NACKs, PLIs and retransmissions by the library
  *
@@ -307,9 +356,48 @@ ZOFTEMAR_NONNULL(1) zoftemar_reply zoftemar_session_waited(zoftemar_session *ses
 
 /* Makes the session's calls on the room, up to the next datagram to send to its peer. ZOFTEMAR_PACKET: that datagram is in `out`. ZOFTEMAR_DONE: no
  * call is left until the next datagram or moment. `count` is at least ZOFTEMAR_PACKET_ROOM. ZOFTEMAR_NO_SESSION, ZOFTEMAR_NO_ROOM,
- * ZOFTEMAR_NO_SPACE: nothing changes. The room's replies aren't reported: a packet that the room refuses is ignored. */
+ * ZOFTEMAR_NO_SPACE: nothing changes. ZOFTEMAR_BOUND: the session's next call is a take from a leg of bundle `first`, and stays to be made; the calls
+ * before it were made. The room's replies aren't reported: a packet that the room refuses is ignored. */
 ZOFTEMAR_USE ZOFTEMAR_NONNULL(1, 2) zoftemar_reply zoftemar_session_work(zoftemar_session *session, zoftemar_room *room, uint32_t seat,
                                                                          uint8_t *out, size_t count);
+
+/* ---- Bundles: one stream out of two or three tracks
+ *
+ * A publisher that sends simulcast sends each of its sizes as a track of its own. A bundle merges the packets of two or three subscribers, its legs, one
+ * of each track, into one stream: one SSRC and consecutive sequence numbers. One leg at a time is active, and its packets are forwarded; the stream
+ * changes to the chosen leg at that leg's next key frame. Leg 1 is the first one listed. A leg is taken from by its bundle alone: zoftemar_take and
+ * zoftemar_leave of it, and work of its session, return ZOFTEMAR_BOUND. Bundles and their legs last until the room is closed.
+ *
+ *     const uint32_t legs[2] = { 1, 2 };                                           // subscribers of a publisher's two layered tracks, id 4
+ *     zoftemar_bundle_renumbered(&room, 1, 4, 0x55555555, 10, legs, 2);            // bundle 1, its SSRC, first sequence number
+ *     zoftemar_pump(&room, 1);                                                     // after packets and ticks of these tracks
+ *     while ((r = zoftemar_draw(&room, 1, out, sizeof out)).code == ZOFTEMAR_PACKET)
+ *         send_to_receiver(out, r.first);
+ *     zoftemar_choose(&room, 1, 2);                                                // leg 2 from its next key frame on */
+
+/* Makes a bundle of `count` legs, two or three (else ZOFTEMAR_BAD_LEGS), which are subscribers of layered tracks with descriptors under `id`. Its packets
+ * have this SSRC, and sequence numbers from `first` on. Leg 1 is chosen. The first of these that applies: ZOFTEMAR_NUMBER_USED, ZOFTEMAR_TOO_MANY,
+ * ZOFTEMAR_NO_SUBSCRIBER, ZOFTEMAR_BOUND (a leg has a bundle, or is listed twice), ZOFTEMAR_WRONG_KIND, ZOFTEMAR_NO_MEMORY: nothing changes.
+ * zoftemar_bundle forwards each frame with the frame number that its leg gave it. zoftemar_bundle_renumbered lets frame numbers continue at a change of
+ * leg, which WebRTC receivers need: a key frame that makes its leg active gets the last forwarded frame's number plus 1, modulo 65,536. */
+ZOFTEMAR_NONNULL(1) zoftemar_reply zoftemar_bundle(zoftemar_room *room, uint32_t bundle, uint8_t id, uint32_t ssrc, uint16_t first,
+                                                   const uint32_t *legs, size_t count);
+ZOFTEMAR_NONNULL(1) zoftemar_reply zoftemar_bundle_renumbered(zoftemar_room *room, uint32_t bundle, uint8_t id, uint32_t ssrc, uint16_t first,
+                                                              const uint32_t *legs, size_t count);
+
+/* Chooses a leg, 1 to 3: ZOFTEMAR_DONE, ZOFTEMAR_NO_BUNDLE or ZOFTEMAR_NO_LEG. If the leg isn't active, this also requests a key frame of its track, as
+ * zoftemar_plead does. */
+ZOFTEMAR_NONNULL(1) zoftemar_reply zoftemar_choose(zoftemar_room *room, uint32_t bundle, uint8_t leg);
+
+/* Takes the packets that are queued for the legs, and queues those that the bundle forwards, at most 512: ZOFTEMAR_PUMPED, or ZOFTEMAR_NO_BUNDLE. With 512
+ * queued, packets stay with their legs. */
+ZOFTEMAR_NONNULL(1) zoftemar_reply zoftemar_pump(zoftemar_room *room, uint32_t bundle);
+
+/* zoftemar_draw moves a bundle's oldest queued packet to `out`: ZOFTEMAR_PACKET, or ZOFTEMAR_EMPTY. zoftemar_redraw copies to `out` the packet that was drawn
+ * with this sequence number, for a NACK of the receiver: ZOFTEMAR_PACKET, or ZOFTEMAR_NOT_KEPT if it isn't among the last 1,024 drawn. `count` is at
+ * least ZOFTEMAR_PACKET_ROOM. Either may return ZOFTEMAR_NO_BUNDLE. */
+ZOFTEMAR_USE ZOFTEMAR_NONNULL(1) zoftemar_reply zoftemar_draw(zoftemar_room *room, uint32_t bundle, uint8_t *out, size_t count);
+ZOFTEMAR_USE ZOFTEMAR_NONNULL(1) zoftemar_reply zoftemar_redraw(zoftemar_room *room, uint32_t bundle, uint16_t number, uint8_t *out, size_t count);
 
 /* ---- Recording: the packets of a subscriber as a file
  *
@@ -381,7 +469,10 @@ ZOFTEMAR_HOLDS(session, sizeof(zoftemar_session) == 16 && offsetof(zoftemar_sess
 ZOFTEMAR_HOLDS(recorder, sizeof(zoftemar_recorder) == 16 && offsetof(zoftemar_recorder, held) == 8);
 ZOFTEMAR_HOLDS(reply, sizeof(zoftemar_reply) == 24 && offsetof(zoftemar_reply, has) == 4);
 ZOFTEMAR_HOLDS(numbers, offsetof(zoftemar_reply, first) == 8 && offsetof(zoftemar_reply, second) == 16);
-ZOFTEMAR_HOLDS(target, sizeof(zoftemar_target) == 4 && offsetof(zoftemar_target, known) == 1 && offsetof(zoftemar_target, temporal) == 3);
+ZOFTEMAR_HOLDS(target, sizeof(zoftemar_target) == 8 && offsetof(zoftemar_target, known) == 1 && offsetof(zoftemar_target, temporal) == 3);
+ZOFTEMAR_HOLDS(subscriber_counts, sizeof(zoftemar_subscriber_counts) == 128 && offsetof(zoftemar_subscriber_counts, spare) == 96);
+ZOFTEMAR_HOLDS(subscriber_places, offsetof(zoftemar_subscriber_counts, queued) == 56 && offsetof(zoftemar_subscriber_counts, waiting) == 88);
+ZOFTEMAR_HOLDS(track_counts, sizeof(zoftemar_track_counts) == 64 && offsetof(zoftemar_track_counts, spare) == 40);
 #undef ZOFTEMAR_HOLDS
 
 #endif

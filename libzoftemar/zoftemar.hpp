@@ -16,6 +16,8 @@ namespace zoftemar {
 
 using Reply = zoftemar_reply;
 using Target = zoftemar_target;
+using SubscriberCounts = zoftemar_subscriber_counts;
+using TrackCounts = zoftemar_track_counts;
 
 // Owns a handle.
 template <class Handle, void (*Close)(Handle *)>
@@ -61,6 +63,9 @@ public:
     }
     [[nodiscard]] Reply key_wanted(std::uint32_t track) noexcept { return zoftemar_key_wanted(handle(), 0, track); }
     [[nodiscard]] Reply due(std::uint32_t track) const noexcept { return zoftemar_due(handle(), track); }
+    [[nodiscard]] Reply ready(std::uint32_t track, std::uint32_t *out, std::size_t count) const noexcept {
+        return zoftemar_ready(handle(), track, out, count);
+    }
     [[nodiscard]] Reply newest_frame(std::uint32_t track) const noexcept { return zoftemar_newest_frame(handle(), track); }
 
     [[nodiscard]] Reply join(std::uint32_t subscriber, std::uint32_t track, std::uint32_t ssrc, std::uint16_t first, std::uint8_t spatial,
@@ -79,9 +84,30 @@ public:
     }
     Reply plead(std::uint32_t subscriber) noexcept { return zoftemar_plead(handle(), 0, subscriber); }
 
+    [[nodiscard]] Reply bundle(std::uint32_t number, std::uint8_t id, std::uint32_t ssrc, std::uint16_t first, const std::uint32_t *legs,
+                               std::size_t count) noexcept {
+        return zoftemar_bundle(handle(), number, id, ssrc, first, legs, count);
+    }
+    [[nodiscard]] Reply bundle_renumbered(std::uint32_t number, std::uint8_t id, std::uint32_t ssrc, std::uint16_t first, const std::uint32_t *legs,
+                                          std::size_t count) noexcept {
+        return zoftemar_bundle_renumbered(handle(), number, id, ssrc, first, legs, count);
+    }
+    Reply choose(std::uint32_t bundle, std::uint8_t leg) noexcept { return zoftemar_choose(handle(), bundle, leg); }
+    Reply pump(std::uint32_t bundle) noexcept { return zoftemar_pump(handle(), bundle); }
+    [[nodiscard]] Reply draw(std::uint32_t bundle, std::uint8_t *out, std::size_t count) noexcept { return zoftemar_draw(handle(), bundle, out, count); }
+    [[nodiscard]] Reply redraw(std::uint32_t bundle, std::uint16_t number, std::uint8_t *out, std::size_t count) noexcept {
+        return zoftemar_redraw(handle(), bundle, number, out, count);
+    }
+
     [[nodiscard]] Reply why(std::uint32_t subscriber, std::uint64_t number) noexcept { return zoftemar_why(handle(), 0, subscriber, number); }
     [[nodiscard]] Reply target_of(std::uint32_t subscriber, Target &out) const noexcept { return zoftemar_target_of(handle(), subscriber, &out); }
     [[nodiscard]] Reply reaches_wish(std::uint32_t subscriber) const noexcept { return zoftemar_reaches_wish(handle(), subscriber); }
+    [[nodiscard]] Reply counts_of_subscriber(std::uint32_t subscriber, SubscriberCounts &out) const noexcept {
+        return zoftemar_counts_of_subscriber(handle(), subscriber, &out);
+    }
+    [[nodiscard]] Reply counts_of_track(std::uint32_t track, TrackCounts &out) const noexcept {
+        return zoftemar_counts_of_track(handle(), track, &out);
+    }
 };
 
 // The methods that Publisher and Subscriber share.

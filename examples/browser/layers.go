@@ -92,13 +92,17 @@ func (s *seat) follow(falls bool) {
 	}
 }
 
-// Tells the page what it is sent of each picture: layers, the highest that there are, kbit/s of it and of the path, and whether the wish is reached.
+// Tells the page what it is sent of each picture: layers, the highest that there are, kbit/s of it and of the path, and whether the wish is reached; then what
+// the room counts: frames forwarded, withheld by the wish, and withheld else, packets waiting and sent again, and the track's whole frames and lost packets.
 func (p *person) tell() {
 	for t, s := range p.gets {
 		if sent, layers := s.sent(), t.highest(); !t.plain {
 			top := layers[len(layers)-1]
 			reached := s.reaches() && (s.now == top || s.now/8 >= s.wish && s.now%8 == top%8)
 			p.say("tile %s %d %d %d %d %d %.0f %t", t.whose.id, sent.spatial, sent.temporal, top/8, top%8, s.bytes*16/1000, p.path.bears/1000, reached)
+			is, of := s.counted()
+			withheld := is.behind + is.reference + is.full + is.link + is.unopened
+			p.say("counts %s %d %d %d %d %d %d %d", t.whose.id, is.passed, is.not_of_target, withheld, is.waiting, is.resent, of.frames, of.given_up)
 			s.bytes = 0
 		}
 	}

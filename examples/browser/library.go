@@ -123,6 +123,13 @@ func (s *seat) sent() (target C.zoftemar_target) {
 	return
 }
 
+// What the room counts of the subscriber and of its track.
+func (s *seat) counted() (is C.zoftemar_subscriber_counts, of C.zoftemar_track_counts) {
+	C.zoftemar_counts_of_subscriber(room, s.number, &is)
+	C.zoftemar_counts_of_track(room, s.of.number, &of)
+	return
+}
+
 // ---- simulcast: bundles
 
 func shut(room handle) { C.zoftemar_close(room) }

@@ -1,5 +1,5 @@
 /* edges.c: tests the codes that the library returns at its limits, each allocation failing in turn, and calls from another thread. It exits with 0 if
- * all is as the header says. With the argument `sizes` it prints how many bytes a room, a track, a subscriber, a session and a recorder
+ * all is as the header says. With the argument `sizes` it prints how many bytes a room, a track, a subscriber, a bundle, a session and a recorder
  * allocate. */
 #include <pthread.h>
 #include <stdio.h>
@@ -41,14 +41,34 @@ void rattle_dealloc(void *at) {
 static uint8_t out[ZOFTEMAR_PACKET_ROOM], big[4000];
 static uint16_t names[ZOFTEMAR_NAMES_ROOM];
 
+static bool is(zoftemar_reply r, uint32_t code, bool has, uint64_t first, uint64_t second) {
+    return r.code == code && r.has == has && r.first == first && r.second == second;
+}
+
+/* Track 1 is plain and has subscriber 1. */
+static void who_is_ready(zoftemar_room *room) {
+    const uint8_t rtp[13] = { 0x80, 96, 0, 1, 0, 0, 0, 0, 0x11, 0x11, 0x11, 0x11, 5 };
+    uint32_t ready[2] = { 7, 7 };
+    IS(zoftemar_join(room, 0, 2, 1, 5, 3, 0, 0).code == ZOFTEMAR_DONE);
+    IS(is(zoftemar_ready(room, 1, ready, 2), ZOFTEMAR_READY, true, 0, 0) && ready[0] == 7);
+    IS(zoftemar_packet(room, 0, 1, 0, rtp, sizeof rtp).code == ZOFTEMAR_DONE);
+    IS(is(zoftemar_ready(room, 1, ready, 1), ZOFTEMAR_READY, true, 1, 0) && (ready[0] == 1 || ready[0] == 2) && ready[1] == 7);
+    IS(is(zoftemar_ready(room, 1, ready, 2), ZOFTEMAR_READY, true, 2, 0) && ready[0] + ready[1] == 3);
+    IS(zoftemar_take(room, 0, 1, out, sizeof out).code == ZOFTEMAR_PACKET);
+    IS(is(zoftemar_ready(room, 1, ready, 2), ZOFTEMAR_READY, true, 1, 0) && ready[0] == 2);
+    IS(zoftemar_ready(room, 2, ready, 2).first == 0 && is(zoftemar_ready(room, 1, NULL, 0), ZOFTEMAR_READY, true, 0, 0));
+}
+
 static void codes(void) {
     zoftemar_room room = ZOFTEMAR_ROOM_NONE;
-    zoftemar_target target = { 7, true, 7, 7 };
-    IS(sizeof(zoftemar_room) == 16 && sizeof(zoftemar_reply) == 24 && sizeof(zoftemar_target) == 4);
+    zoftemar_target target = { 7, true, 7, 7, { 7, 7, 7, 7 } };
+    uint32_t ready[2] = { 7, 7 };
+    IS(sizeof(zoftemar_room) == 16 && sizeof(zoftemar_reply) == 24 && sizeof(zoftemar_target) == 8);
     IS(zoftemar_tick(&room, 0, 1, 0).code == ZOFTEMAR_NO_ROOM);
     IS(zoftemar_take(&room, 0, 1, out, sizeof out).code == ZOFTEMAR_NO_ROOM);
     IS(zoftemar_reaches_wish(&room, 1).code == ZOFTEMAR_NO_ROOM);
     IS(zoftemar_due(&room, 1).code == ZOFTEMAR_NO_ROOM && zoftemar_newest_frame(&room, 1).code == ZOFTEMAR_NO_ROOM);
+    IS(is(zoftemar_ready(&room, 1, ready, 2), ZOFTEMAR_NO_ROOM, false, 0, 0) && ready[0] == 7);
     zoftemar_close(&room);
     zoftemar_close(&room);
     IS(zoftemar_open(&room) == ZOFTEMAR_DONE && zoftemar_open(&room) == ZOFTEMAR_HAS_ROOM);
@@ -66,8 +86,46 @@ static void codes(void) {
     IS(zoftemar_due(&room, 1).code == ZOFTEMAR_DUE && !zoftemar_due(&room, 1).has && zoftemar_due(&room, 2).code == ZOFTEMAR_NO_TRACK);
     IS(zoftemar_newest_frame(&room, 1).code == ZOFTEMAR_NEWEST && !zoftemar_newest_frame(&room, 1).has);
     IS(zoftemar_newest_frame(&room, 2).code == ZOFTEMAR_NO_TRACK);
+    who_is_ready(&room);
     zoftemar_close(&room);
     IS(blocks == 0 && zoftemar_tick(&room, 0, 1, 0).code == ZOFTEMAR_NO_ROOM);
+}
+
+/* A packet of track 1, whose SSRC is 11111111, with this sequence number. */
+static uint32_t bring(zoftemar_room *room, uint16_t number) {
+    const uint8_t rtp[13] = { 0x80, 96, (uint8_t)(number >> 8), (uint8_t)number, 0, 0, 0, 0, 0x11, 0x11, 0x11, 0x11, 5 };
+    return zoftemar_packet(room, 0, 1, 0, rtp, sizeof rtp).code;
+}
+
+/* Counts after a few calls. On a refusal `out` is unchanged, and what isn't counted is 0. */
+static void counts(void) {
+    zoftemar_room room = ZOFTEMAR_ROOM_NONE;
+    zoftemar_subscriber_counts had, is;
+    zoftemar_track_counts had_of_track, of_track;
+    memset(&had, 7, sizeof had);
+    memset(&had_of_track, 7, sizeof had_of_track);
+    is = had;
+    of_track = had_of_track;
+    IS(zoftemar_counts_of_subscriber(&room, 1, &is).code == ZOFTEMAR_NO_ROOM && zoftemar_counts_of_track(&room, 1, &of_track).code == ZOFTEMAR_NO_ROOM);
+    IS(zoftemar_open(&room) == ZOFTEMAR_DONE && zoftemar_counts_of_subscriber(&room, 1, &is).code == ZOFTEMAR_NO_SUBSCRIBER);
+    IS(zoftemar_counts_of_track(&room, 1, &of_track).code == ZOFTEMAR_NO_TRACK);
+    IS(memcmp(&is, &had, sizeof is) == 0 && memcmp(&of_track, &had_of_track, sizeof of_track) == 0);
+    IS(zoftemar_publish_plain(&room, 0, 1, 0x11111111, 100).code == ZOFTEMAR_DONE && zoftemar_join(&room, 0, 1, 1, 2, 7, 0, 0).code == ZOFTEMAR_DONE);
+    for (uint16_t number = 1; number <= 514; number++) IS(bring(&room, number) == ZOFTEMAR_DONE);
+    IS(bring(&room, 514) == ZOFTEMAR_LATE && bring(&room, 517) == ZOFTEMAR_DONE); /* waits behind a gap */
+    IS(zoftemar_take(&room, 0, 1, out, sizeof out).code == ZOFTEMAR_PACKET && zoftemar_take(&room, 0, 1, out, sizeof out).code == ZOFTEMAR_PACKET);
+    IS(zoftemar_tick(&room, 0, 1, 100).code == ZOFTEMAR_DONE); /* gives up 515 and 516 */
+    for (int i = 0; i < 3; i++) IS(zoftemar_resend(&room, 0, 1, 8, out, sizeof out).code == ZOFTEMAR_PACKET);
+    IS(zoftemar_resend(&room, 0, 1, 6, out, sizeof out).code == ZOFTEMAR_NOT_KEPT);
+    IS(zoftemar_counts_of_subscriber(&room, 1, &is).code == ZOFTEMAR_COUNTS && zoftemar_counts_of_track(&room, 1, &of_track).code == ZOFTEMAR_COUNTS);
+    had = (zoftemar_subscriber_counts){ .queued = 513, .taken = 2, .resent = 3, .left_out = 2, .waiting = 511 };
+    had_of_track = (zoftemar_track_counts){ .arrived = 515, .given_up = 2 };
+    IS(memcmp(&is, &had, sizeof is) == 0 && memcmp(&of_track, &had_of_track, sizeof of_track) == 0);
+    IS(zoftemar_unpublish(&room, 0, 1).code == ZOFTEMAR_DONE && zoftemar_counts_of_track(&room, 1, &of_track).code == ZOFTEMAR_NO_TRACK);
+    IS(zoftemar_counts_of_subscriber(&room, 1, &is).code == ZOFTEMAR_COUNTS && memcmp(&is, &had, sizeof is) == 0);
+    IS(zoftemar_leave(&room, 0, 1).code == ZOFTEMAR_DONE && zoftemar_counts_of_subscriber(&room, 1, &is).code == ZOFTEMAR_NO_SUBSCRIBER);
+    zoftemar_close(&room);
+    IS(blocks == 0 && strcmp(zoftemar_code_name(ZOFTEMAR_COUNTS), "ZOFTEMAR_COUNTS") == 0);
 }
 
 static uint32_t work(zoftemar_session *session, zoftemar_room *room) { return zoftemar_session_work(session, room, 0, out, sizeof out).code; }
@@ -106,7 +164,7 @@ static void sessions(void) {
     zoftemar_close_session(&publisher);
     zoftemar_close_session(&subscriber);
     zoftemar_close(&room);
-    IS(blocks == 0 && strcmp(zoftemar_code_name(ZOFTEMAR_BUSY), "ZOFTEMAR_BUSY") == 0 && strcmp(zoftemar_code_name(9), "ZOFTEMAR_?") == 0);
+    IS(blocks == 0 && strcmp(zoftemar_code_name(ZOFTEMAR_BUSY), "ZOFTEMAR_BUSY") == 0 && strcmp(zoftemar_code_name(12), "ZOFTEMAR_?") == 0);
 }
 
 /* Without a room: a packet is wrapped, and unwrapped again. */
@@ -202,6 +260,112 @@ static void recorder_memory(void) {
     }
 }
 
+static const uint32_t pair[2] = { 1, 2 }, lone[4] = { 1, 1, 9, 9 }, mixed[2] = { 3, 4 };
+
+/* Opens a room with two layered tracks, a plain one, and subscribers 1 and 3 of the first, 2 of the second, 4 of the plain one. */
+static void tracks(zoftemar_room *room) {
+    IS(zoftemar_open(room) == ZOFTEMAR_DONE);
+    IS(zoftemar_publish_layered(room, 0, 1, 4, 0x22222222, 100).code == ZOFTEMAR_DONE);
+    IS(zoftemar_publish_layered(room, 0, 2, 4, 0x22222222, 100).code == ZOFTEMAR_DONE);
+    IS(zoftemar_publish_plain(room, 0, 3, 5, 100).code == ZOFTEMAR_DONE);
+    const uint32_t track[4] = { 1, 2, 1, 3 };
+    for (uint32_t n = 0; n < 4; n++) IS(zoftemar_join(room, 0, n + 1, track[n], 5, 6, 0, 0).code == ZOFTEMAR_DONE);
+}
+
+/* The packet that is drawn next: its number, and its 16-bit frame number. */
+static void drawn(zoftemar_room *room, uint32_t bundle, size_t count, int number, int frame) {
+    zoftemar_reply r = zoftemar_draw(room, bundle, out, sizeof out);
+    IS(r.code == ZOFTEMAR_PACKET && r.has && r.first == count && r.second == 0 && out[3] == number && out[8] == 0x55 && out[19] == frame);
+}
+
+static void bundles(void) {
+    zoftemar_room room = ZOFTEMAR_ROOM_NONE;
+    zoftemar_session session = ZOFTEMAR_SESSION_NONE;
+    uint8_t second[sizeof next];
+    IS(zoftemar_bundle(&room, 1, 4, 0x55555555, 10, pair, 2).code == ZOFTEMAR_NO_ROOM && zoftemar_pump(&room, 1).code == ZOFTEMAR_NO_ROOM);
+    IS(zoftemar_bundle_renumbered(&room, 1, 4, 0x55555555, 10, pair, 2).code == ZOFTEMAR_NO_ROOM && zoftemar_choose(&room, 1, 1).code == ZOFTEMAR_NO_ROOM);
+    IS(zoftemar_draw(&room, 1, out, sizeof out).code == ZOFTEMAR_NO_ROOM && zoftemar_redraw(&room, 1, 1, out, sizeof out).code == ZOFTEMAR_NO_ROOM);
+    IS(zoftemar_bundle(&room, 1, 4, 0x55555555, 10, NULL, 0).code == ZOFTEMAR_BAD_LEGS && zoftemar_draw(&room, 1, out, 2047).code == ZOFTEMAR_NO_SPACE);
+    tracks(&room);
+    IS(is(zoftemar_bundle(&room, 0, 4, 0x55555555, 10, pair, 2), ZOFTEMAR_NUMBER_USED, true, 0, 0));
+    IS(is(zoftemar_bundle(&room, 1, 4, 0x55555555, 10, lone, 1), ZOFTEMAR_BAD_LEGS, false, 0, 0));
+    IS(zoftemar_bundle_renumbered(&room, 1, 4, 0x55555555, 10, lone, 4).code == ZOFTEMAR_BAD_LEGS);
+    IS(is(zoftemar_bundle(&room, 1, 4, 0x55555555, 10, lone, 3), ZOFTEMAR_NO_SUBSCRIBER, false, 0, 0));
+    IS(is(zoftemar_bundle(&room, 1, 4, 0x55555555, 10, lone, 2), ZOFTEMAR_BOUND, true, 1, 0));
+    IS(is(zoftemar_bundle(&room, 1, 5, 0x55555555, 10, pair, 2), ZOFTEMAR_WRONG_KIND, false, 0, 0));
+    IS(zoftemar_bundle_renumbered(&room, 1, 4, 0x55555555, 10, mixed, 2).code == ZOFTEMAR_WRONG_KIND);
+    IS(zoftemar_pump(&room, 1).code == ZOFTEMAR_NO_BUNDLE && zoftemar_choose(&room, 1, 1).code == ZOFTEMAR_NO_BUNDLE);
+    IS(zoftemar_draw(&room, 1, out, sizeof out).code == ZOFTEMAR_NO_BUNDLE && zoftemar_redraw(&room, 1, 10, out, sizeof out).code == ZOFTEMAR_NO_BUNDLE);
+    IS(is(zoftemar_bundle_renumbered(&room, 1, 4, 0x55555555, 10, pair, 2), ZOFTEMAR_DONE, false, 0, 0));
+    IS(is(zoftemar_bundle(&room, 1, 4, 0x55555555, 10, pair, 2), ZOFTEMAR_NUMBER_USED, true, 1, 0));
+    IS(is(zoftemar_take(&room, 0, 1, out, sizeof out), ZOFTEMAR_BOUND, true, 1, 0) && zoftemar_take(&room, 0, 3, out, sizeof out).code == ZOFTEMAR_EMPTY);
+    IS(is(zoftemar_leave(&room, 0, 2), ZOFTEMAR_BOUND, true, 1, 0) && is(zoftemar_choose(&room, 1, 3), ZOFTEMAR_NO_LEG, true, 2, 0));
+    IS(zoftemar_open_subscriber(&session, 1, 5) == ZOFTEMAR_DONE && zoftemar_session_waited(&session, 0).code == ZOFTEMAR_DONE);
+    IS(is(zoftemar_session_work(&session, &room, 0, out, sizeof out), ZOFTEMAR_BOUND, true, 1, 0) && work(&session, &room) == ZOFTEMAR_BOUND);
+    IS(zoftemar_session_waited(&session, 0).code == ZOFTEMAR_BUSY);
+    zoftemar_close_session(&session);
+
+    /* Leg 1's frames 1 and 2, then leg 2's key frame 7, which gets number 3, and its frame 8, which gets 4. */
+    memcpy(second, next, sizeof next);
+    IS(zoftemar_packet(&room, 0, 1, 0, key, sizeof key).code == ZOFTEMAR_DONE && zoftemar_packet(&room, 0, 2, 0, key, sizeof key).code == ZOFTEMAR_DONE);
+    IS(zoftemar_packet(&room, 0, 1, 0, second, sizeof second).code == ZOFTEMAR_DONE);
+    IS(is(zoftemar_pump(&room, 1), ZOFTEMAR_PUMPED, true, 2, 1) && is(zoftemar_pump(&room, 1), ZOFTEMAR_PUMPED, true, 0, 0));
+    IS(!zoftemar_key_wanted(&room, 0, 2).has && is(zoftemar_choose(&room, 1, 2), ZOFTEMAR_DONE, false, 0, 0) && zoftemar_key_wanted(&room, 0, 2).has);
+    drawn(&room, 1, sizeof key, 10, 1);
+    IS(zoftemar_draw(&room, 1, out, 2047).code == ZOFTEMAR_NO_SPACE && zoftemar_redraw(&room, 1, 10, out, 2047).code == ZOFTEMAR_NO_SPACE);
+    drawn(&room, 1, sizeof next, 11, 2);
+    IS(is(zoftemar_draw(&room, 1, out, sizeof out), ZOFTEMAR_EMPTY, false, 0, 0));
+    uint8_t again[sizeof key];
+    memcpy(again, key, sizeof key);
+    again[2] = again[3] = 0; /* the sequence number after 65,535 */
+    again[19] = 7;
+    IS(zoftemar_packet(&room, 0, 2, 0, again, sizeof again).code == ZOFTEMAR_DONE);
+    second[3] = 1;
+    second[19] = 8;
+    IS(zoftemar_packet(&room, 0, 2, 0, second, sizeof second).code == ZOFTEMAR_DONE);
+    IS(is(zoftemar_pump(&room, 1), ZOFTEMAR_PUMPED, true, 2, 0));
+    drawn(&room, 1, sizeof key, 12, 3);
+    drawn(&room, 1, sizeof next, 13, 4);
+    IS(is(zoftemar_redraw(&room, 1, 12, out, sizeof out), ZOFTEMAR_PACKET, true, sizeof key, 0) && out[3] == 12 && out[19] == 3);
+    IS(is(zoftemar_redraw(&room, 1, 14, out, sizeof out), ZOFTEMAR_NOT_KEPT, true, 10, 14));
+    zoftemar_close(&room);
+    IS(blocks == 0);
+
+    tracks(&room);
+    for (uint32_t n = 0; n < 65; n++) {
+        uint32_t legs[2] = { 5 + 2 * n, 6 + 2 * n };
+        for (int i = 0; i < 2; i++) IS(zoftemar_join(&room, 0, legs[i], 1, 5, 6, 0, 0).code == ZOFTEMAR_DONE);
+        zoftemar_reply r = zoftemar_bundle(&room, n + 1, 4, 5, 6, legs, 2);
+        IS(n < 64 ? r.code == ZOFTEMAR_DONE : is(r, ZOFTEMAR_TOO_MANY, true, 64, 0));
+    }
+    zoftemar_close(&room);
+    IS(blocks == 0);
+}
+
+/* Each allocation of a bundle fails in turn. A bundle that was refused is made afterwards, and its other calls need no memory. */
+static void bundle_memory(void) {
+    for (long n = 0;; n++) {
+        zoftemar_room room = ZOFTEMAR_ROOM_NONE;
+        tracks(&room);
+        IS(zoftemar_packet(&room, 0, 1, 0, key, sizeof key).code == ZOFTEMAR_DONE);
+        left = n;
+        uint32_t made = zoftemar_bundle(&room, 1, 4, 0x55555555, 10, pair, 2).code;
+        left = -1;
+        if (made != ZOFTEMAR_DONE) {
+            IS(made == ZOFTEMAR_NO_MEMORY && zoftemar_pump(&room, 1).code == ZOFTEMAR_NO_BUNDLE);
+            IS(zoftemar_bundle(&room, 1, 4, 0x55555555, 10, pair, 2).code == ZOFTEMAR_DONE);
+        }
+        left = 0;
+        IS(is(zoftemar_pump(&room, 1), ZOFTEMAR_PUMPED, true, 1, 0) && zoftemar_choose(&room, 1, 2).code == ZOFTEMAR_DONE);
+        drawn(&room, 1, sizeof key, 10, 1);
+        IS(zoftemar_redraw(&room, 1, 10, out, sizeof out).first == sizeof key);
+        left = -1;
+        zoftemar_close(&room);
+        IS(blocks == 0);
+        if (made == ZOFTEMAR_DONE) return;
+    }
+}
+
 /* Each allocation fails in turn. A call that was refused succeeds afterwards, and all blocks are freed. */
 static void memory(void) {
     zoftemar_reply publish, join;
@@ -260,6 +424,11 @@ static void sizes(void) {
     size_of("a plain track");
     zoftemar_join(&room, 0, 1, 1, 2, 3, 0, 0);
     size_of("a subscriber");
+    zoftemar_publish_layered(&room, 0, 3, 4, 1, 1);
+    zoftemar_join(&room, 0, 2, 3, 2, 3, 0, 0);
+    bytes_taken = 0;
+    IS(zoftemar_bundle(&room, 1, 4, 1, 1, pair, 2).code == ZOFTEMAR_DONE);
+    size_of("a bundle");
     zoftemar_session session = ZOFTEMAR_SESSION_NONE;
     IS(zoftemar_open_publisher(&session, 1, 1) == ZOFTEMAR_DONE);
     size_of("a session");
@@ -273,10 +442,13 @@ static void sizes(void) {
 
 int main(int argc, char **argv) {
     codes();
+    counts();
     sessions();
     wrapping();
     recording();
     recorder_memory();
+    bundles();
+    bundle_memory();
     memory();
     threads();
     if (argc > 1 && strcmp(argv[1], "sizes") == 0) sizes();

@@ -28,11 +28,17 @@ int main() {
     IS(room.packet(2, 0, rtp, sizeof rtp).code == ZOFTEMAR_DONE);
     IS(room.missing(2, names, ZOFTEMAR_NAMES_ROOM).first == 2 && names[0] == 2 && names[1] == 3);
     const zoftemar::Room &asked = room;
+    std::uint32_t ready[4];
+    IS(asked.ready(2, ready, 4).code == ZOFTEMAR_READY && asked.ready(2, ready, 4).first == 1 && ready[0] == 1);
     IS(asked.due(2).has && asked.due(2).first == 300 && asked.newest_frame(2).code == ZOFTEMAR_NEWEST);
     IS(room.take(1, out, sizeof out).first == sizeof rtp && out[3] == 7 && room.take(1, out, sizeof out).code == ZOFTEMAR_EMPTY);
     IS(room.resend(1, 7, out, sizeof out).first == sizeof rtp && room.plead(1).code == ZOFTEMAR_PLAIN);
     IS(room.why(1, 0).code == ZOFTEMAR_AHEAD);
     IS(!asked.target_of(1, target).has && asked.reaches_wish(1).code == ZOFTEMAR_REACHED);
+    zoftemar::SubscriberCounts counts{};
+    zoftemar::TrackCounts counts_of_track{};
+    IS(asked.counts_of_subscriber(1, counts).code == ZOFTEMAR_COUNTS && counts.queued == 1 && counts.taken == 1 && counts.resent == 1);
+    IS(asked.counts_of_track(2, counts_of_track).code == ZOFTEMAR_COUNTS && counts_of_track.arrived == 1 && counts_of_track.given_up == 0);
 
     IS(publisher.open(2, 0x11111111) == ZOFTEMAR_DONE && plain.open(1, 0x22222222) == ZOFTEMAR_DONE);
     IS(rtx.open_rtx(1, 0x22222222, 0x22222222, 97) == ZOFTEMAR_BAD_STREAM);
@@ -42,6 +48,14 @@ int main() {
     IS(publisher.work(room, out, sizeof out).code == ZOFTEMAR_PACKET && out[1] == 205 && out[13] == 2);
     IS(rtx.received(20, nack, sizeof nack).code == ZOFTEMAR_DONE);
     IS(rtx.work(room, out, sizeof out).first == sizeof rtp + 2 && out[1] == 97);
+
+    const std::uint32_t legs[] = {2, 3};
+    IS(room.publish_layered(3, 4, 1, 300).code == ZOFTEMAR_DONE && room.publish_layered(4, 4, 1, 300).code == ZOFTEMAR_DONE);
+    IS(room.join(2, 3, 1, 7, 0, 0).code == ZOFTEMAR_DONE && room.join(3, 4, 1, 7, 0, 0).code == ZOFTEMAR_DONE);
+    IS(room.bundle(1, 5, 1, 7, legs, 2).code == ZOFTEMAR_WRONG_KIND && room.bundle_renumbered(1, 4, 1, 7, legs, 2).code == ZOFTEMAR_DONE);
+    IS(room.pump(1).code == ZOFTEMAR_PUMPED && room.choose(1, 2).code == ZOFTEMAR_DONE && room.key_wanted(4).has);
+    IS(room.draw(1, out, sizeof out).code == ZOFTEMAR_EMPTY && room.redraw(1, 7, out, sizeof out).code == ZOFTEMAR_NOT_KEPT);
+    IS(room.leave(2).code == ZOFTEMAR_BOUND);
 
     zoftemar::Recorder recorder;
     IS(recorder.feed(rtp, sizeof rtp).code == ZOFTEMAR_NO_RECORDER && recorder.open(4) == ZOFTEMAR_DONE && recorder.open(4) == ZOFTEMAR_HAS_RECORDER);

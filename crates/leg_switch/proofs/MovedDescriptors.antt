@@ -2,6 +2,7 @@
 use Rattle.std.proofs.Common.{◌≡◌, ◌<◌, ◌≤◌, ◌+◌, ◌*◌, ◌/◌, ◌%◌, ◌^◌, ℕ, Bool, true, false, cond, List, [], ◌∷◌, ◌++◌, length, take, drop, Result, Ok, Err, refl, sym, ap, ap₂, subst, ◌∙◌, arith, append_assoc, length-append}
 use Rattle.std.proofs.lemmas.List.{drop_at, take_at}
 use Rattle.std.specs.declared.option.Option.{Option}
+use Rattle.std.specs.Prelude.{option_map}
 use Rattle.std.specs.declared.option.Option.TheVariants.{None, Some}
 use Rattle.byteorder.specs.Endian.{big_bytes, big_number}
 use Rattle.sfu_base.specs.Bytes.{AreBytes}
@@ -260,6 +261,26 @@ number_small p high low bytes more at =
     subst (λ (n : ℕ). n < 65536) (sym is) small
 
 module _ (id : ℕ) (small : (force : Option TemplateStructure) (rest : List ℕ) (d : Descriptor TemplateStructure) (payload : Payload) → shown (format_of id) force rest ≡ Shows d payload → d.number < 65536) where
+  -- a packet that shows a descriptor has the descriptor's frame number
+  pub number_shown : (bytes : List ℕ) (p : Packet) (force : Option TemplateStructure) (d : Descriptor TemplateStructure) (payload : Payload) → read_packet bytes ≡ Some p
+      → shown (format_of id) force p.rest ≡ Shows d payload → (o : Option ℕ) → number_place id bytes ≡ o → option_map (λ place. number_at place bytes) o ≡ Some d.number
+  number_shown bytes p force d payload reads e None none =
+      let was = was_read (format_of id) force d payload ((format_of id).payload p.rest) ((format_of id).descriptor force p.rest) e in
+      let r = is_read id force p.rest d was.reads in
+      let few = no_place id bytes r.bytes none (sym (rest_element id bytes p (read_as bytes p reads)) ∙ r.found) in
+      absurd (long r.bytes r.content r.reads few (head_at (bits_of_bytes r.bytes)) refl)
+    where
+      long : (v : List ℕ) (c : Content) → descriptor_at v force ≡ Ok c → length v < 3 → (h : Result (Head × List Bool) DdFault) → head_at (bits_of_bytes v) ≡ h → ⊥
+      long v c here few (Err fault) e = front_fault v force c fault e here
+      long v c here few (Ok x) e = omega (arith, few, front_long v x e)
+  number_shown bytes p force d payload reads e (Some place) at =
+      let is = read_as bytes p reads in
+      let was = was_read (format_of id) force d payload ((format_of id).payload p.rest) ((format_of id).descriptor force p.rest) e in
+      let r = renumbering id 0 place bytes is.reads at in
+      let element : element_of id p.rest ≡ Some (r.first ∷ r.high ∷ r.low ∷ r.rest) = rest_element id bytes p is ∙ r.element in
+      ap (λ (k : ℕ). Some k)
+      (number_of_bits place r.high r.low bytes r.more d.number r.at (read_number id force p.rest r.rest r.first r.high r.low d element was.reads) (small force p.rest d payload e))
+
   -- a packet without a frame number shows none
   pub stays_same : (o : ℕ) (bytes : List ℕ) (p : Packet) → read_packet bytes ≡ Some p → number_place id bytes ≡ None → (force : Option TemplateStructure)
       → shown (format_of id) force p.rest ≡ moved_showing o (shown (format_of id) force p.rest)
@@ -269,14 +290,8 @@ module _ (id : ℕ) (small : (force : Option TemplateStructure) (rest : List ℕ
       by LacksStructure e = refl
       by Unread e = refl
       by (Shows d payload) e =
-          let was = was_read (format_of id) force d payload ((format_of id).payload p.rest) ((format_of id).descriptor force p.rest) e in
-          let r = is_read id force p.rest d was.reads in
-          let few = no_place id bytes r.bytes none (sym (rest_element id bytes p (read_as bytes p reads)) ∙ r.found) in
-          absurd (long r.bytes r.content r.reads few (head_at (bits_of_bytes r.bytes)) refl)
-        where
-          long : (v : List ℕ) (c : Content) → descriptor_at v force ≡ Ok c → length v < 3 → (h : Result (Head × List Bool) DdFault) → head_at (bits_of_bytes v) ≡ h → ⊥
-          long v c here few (Err fault) e = front_fault v force c fault e here
-          long v c here few (Ok x) e = omega (arith, few, front_long v x e)
+          let shown_none : None ≡ Some d.number = number_shown bytes p force d payload reads e None none in
+          absurd (let is : None ≡ Some d.number = shown_none in cc)
 
   -- a packet with another frame number shows the same but for the number
   pub moves_there : (o place : ℕ) (bytes : List ℕ) (p : Packet) → read_packet bytes ≡ Some p → number_place id bytes ≡ Some place

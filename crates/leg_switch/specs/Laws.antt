@@ -1,6 +1,10 @@
 -- What follows from the definitions of `Switching`. Own statements.
-use Rattle.std.specs.Prelude.{◌≡◌, ◌+◌, ◌%◌, ◌<◌, ◌^◌, ◌++◌, ℕ, List, [], ◌∷◌, map, true, false, None, Some}
+use Rattle.std.specs.Prelude.{◌≡◌, ◌+◌, ◌%◌, ◌<◌, ◌^◌, ◌++◌, ℕ, List, [], ◌∷◌, map, true, false, Option, None, Some}
+use Rattle.dd_structure.specs.TemplateStructure.{TemplateStructure}
 use Rattle.forwarding_model.specs.Receiver.{complaint}
+use Rattle.forwarding_model.specs.forwarding.Timeline.{Packet}
+use Rattle.forwarding_model.specs.frames.Reading.{Descriptor, Payload, shown}
+use Rattle.forwarding_model.specs.frames.Reading.Showing.{Shows}
 use Rattle.rtp_packet.specs.Faults.{first_fault}
 use Rattle.packet_format.specs.Formats.{format_of}
 use Rattle.packet_format.specs.Packets.{read_packet}
@@ -43,6 +47,12 @@ ChangesStep = (active last own : ℕ) → own < 2 ^ 32 → (own + offset_for (So
 
 -- ---- frame numbers that continue
 
+-- The frame number of a packet is the one that a track or a receiver reads: the frame_number of the descriptor that the packet shows with the structure
+-- in force.
+abbrev pub FrameNumbersAreRead : Type 0
+FrameNumbersAreRead = (id : ℕ) (packet : List ℕ) (read : Packet) (force : Option TemplateStructure) (d : Descriptor TemplateStructure) (payload : Payload)
+    → read_packet packet ≡ Some read → shown (format_of id) force read.rest ≡ Shows d payload → frame_number_of id packet ≡ Some d.number
+
 -- the packets that were taken are RTP packets
 abbrev pub AreRtp : List LegEvent → Type 0
 AreRtp [] = Unit {0}
@@ -63,7 +73,8 @@ pub record GoesOn (id : ℕ) (before now : List (List ℕ)) : Type 0 where
 -- When a leg becomes active after another, the frame numbers go on: they rise by 1, which is less than half a turn of 65,536.
 abbrev pub NumbersGoOn : Type 0
 NumbersGoOn = (id first ssrc : ℕ) (past : List LegEvent) (leg active : ℕ) (packet : List ℕ) → AreRtp (Took leg packet ∷ past)
-    → (standing (marks_of id) past).active ≡ Some active → is_active leg (Some active) ≡ false → goes_out (marks_of id) (standing (marks_of id) past) leg packet ≡ true
+    → (standing (marks_of id) past).active ≡ Some active → is_active leg (Some active) ≡ false
+    → goes_out (marks_of id) (standing (marks_of id) past) leg packet ≡ true
     → GoesOn id (outgoing_renumbered (marks_of id) id first ssrc past) (outgoing_renumbered (marks_of id) id first ssrc (Took leg packet ∷ past))
 
 -- the packets are the same one by one, but for the two bytes of their frame numbers

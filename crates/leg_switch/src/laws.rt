@@ -1,5 +1,5 @@
 // What follows from the definitions of what is forwarded.
-ghost use Rattle.leg_switch.specs.Laws.{BundlesPlease, ChangesStep, KeyStartsGoOut, NumbersGoOn, OnlyNumbersDiffer, OutgoingGrows, RenumberedBundlesPlease, RenumberedGrows};
+ghost use Rattle.leg_switch.specs.Laws.{BundlesPlease, ChangesStep, FrameNumbersAreRead, KeyStartsGoOut, NumbersGoOn, OnlyNumbersDiffer, OutgoingGrows, RenumberedBundlesPlease, RenumberedGrows};
 
 /// Suppose that a strict receiver has no complaint about the packets taken from each leg, before the bundle was made and since. Then it has none
 /// about the forwarded packets, nor about any prefix of them.
@@ -31,6 +31,12 @@ pub fn renumbered_bundles_please_receivers()
 /// forwarded before it, plus 1.
 pub fn frame_numbers_go_on()
     ensures { NumbersGoOn }
+{}
+
+/// The two bytes that are overwritten are the frame number that a track or a receiver reads: a packet that shows a descriptor has the descriptor's
+/// frame number.
+pub fn frame_numbers_are_read()
+    ensures { FrameNumbersAreRead }
 {}
 
 /// If frame numbers continue, each forwarded packet is the one that would be forwarded otherwise, but for the two bytes of its frame number.

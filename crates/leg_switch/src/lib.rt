@@ -10,9 +10,9 @@ mod switch;
 
 pub use frame_numbers::FrameNumbers;
 pub use laws::{
-    bundles_please_receivers, changes_step_the_timestamp, frame_numbers_go_on,
-    key_starts_go_out_between_frames, only_frame_numbers_differ, outgoing_only_grows,
-    renumbered_bundles_please_receivers, renumbered_outgoing_only_grows,
+    bundles_please_receivers, changes_step_the_timestamp, frame_numbers_are_read,
+    frame_numbers_go_on, key_starts_go_out_between_frames, only_frame_numbers_differ,
+    outgoing_only_grows, renumbered_bundles_please_receivers, renumbered_outgoing_only_grows,
 };
 pub use switch::Switch;
 

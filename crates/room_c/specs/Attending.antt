@@ -1,19 +1,26 @@
 -- What the functions on a session do.
-use Rattle.std.specs.Prelude.{◌≡◌, ◌⊎◌, ℕ, suc, List, length, take, Option, Some, None}
+use Rattle.std.specs.Prelude.{◌≡◌, ◌⊎◌, ◌++◌, ⊤, ℕ, suc, false, List, length, take, Option, Some, None, Result, Ok, Err}
 use Rattle.sfu_base.specs.declared.call.Call.{Call}
 use Rattle.session_steps.specs.Sessions.{Doing}
-use Rattle.session_steps.specs.Stepping.{Asks, Waits, heard}
+use Rattle.session_steps.specs.Stepping.{Asks, GoesOn, Waits, heard}
 use Rattle.session_steps.specs.declared.session.Output.{Output}
 use Rattle.session_steps.specs.declared.session.Output.TheVariants.{Nothing, Packet}
 use Rattle.room_sessions.specs.Either.{either_left}
-use Rattle.room_sessions.specs.Working.{Works}
+use Rattle.room_sessions.specs.Working.{AreMade, HaveCause}
+use Rattle.room_core.specs.History.{Entry}
+use Rattle.room_core.specs.Serves.{Stands, StandsHeadline}
+use Rattle.room_core.specs.declared.recorder.KeepNone.{KeepNone}
+use Rattle.simulcast.specs.declared.bundles.Bundles.{Bundles}
+use Rattle.simulcast.specs.declared.fault.BundleFault.{BundleFault}
+use Rattle.simulcast.specs.declared.fault.BundleFault.TheVariants as fault
+use Rattle.simulcast.specs.Bundles.{Simulcast, StandsFor, forbids}
 use Rattle.room_c.specs.declared.attended.Attended.{Attended}
 use Rattle.room_c.specs.declared.code.Code.TheVariants as code
 use Rattle.room_c.specs.declared.home.Home.{Home}
 use Rattle.room_c.specs.declared.plain_reply.PlainReply.{PlainReply}
 use Rattle.room_c.specs.Codes.{code_number}
-use Rattle.room_c.specs.Recording.{never, untold}
-use Rattle.room_c.specs.Telling.{bare_of, one_of}
+use Rattle.room_c.specs.Recording.{untold}
+use Rattle.room_c.specs.Telling.{bare_of, one_of, plain_fault}
 
 -- what the session behind a handle has left to do, with this many turns left
 abbrev pub left_of : Attended → ℕ → Doing
@@ -46,17 +53,49 @@ Hears (Some old) (Some new) got moment told = HearsAs old new got moment told
 
 -- ---- work
 
--- the reply for an output: a packet's length, or `Done`
-abbrev pub output_reply : Output → List ℕ → PlainReply
-output_reply Nothing packet = bare_of code.Done
-output_reply Packet packet = one_of code.Packet (length packet)
+-- the datagram to send after work: none if a bundle stopped it
+abbrev pub output_of : Result Output BundleFault → Output
+output_of (Ok output) = output
+output_of (Err why) = Nothing
 
--- The session's calls were made on the room, up to the next datagram to send, which is then at the start of the buffer.
+-- If nothing is to be sent, no call is left; or the bundle forbids the next call, which is still to be made.
+abbrev pub Ends : Bundles KeepNone → (ℕ → Doing) → Result Output BundleFault → Type 0
+Ends bundles left (Ok Packet) = ⊤
+Ends bundles left (Ok Nothing) = (turns : ℕ) → Waits (left turns) turns
+Ends bundles left (Err (fault.Bound bundle)) =
+    (call : Call) × ((turns : ℕ) → Asks (left turns) call) × ((h : Simulcast) → StandsFor untold bundles h → forbids call h.made ≡ Some bundle)
+Ends bundles left (Err other) = ⊥
+
+-- The calls of a session were made on a room with bundles, up to the next datagram to send or to a call that a bundle forbids. `before` and `after` give
+-- what is left of the session, by how many turns are left.
+pub record WorksFor (old new : Bundles KeepNone) (seat : ℕ) (before after : ℕ → Doing) (bytes : List ℕ) (outcome : Result Output BundleFault) : Type 0 where
+  -- the entries of the calls that were made, in order
+  pub made : List Entry
+  -- whatever state the room and its bundles represented, they then represent it with these entries added to the history
+  pub keeps : (h : Simulcast) → StandsFor untold old h → StandsFor untold new (record { history = h.history ++ made; made = h.made })
+  pub stands : (history : List Entry) → Stands untold old.room history → Stands untold new.room (history ++ made)
+  -- these are the session's next calls, and the session goes on by that history's answers: at once or, if the output is a packet, once these bytes
+  -- were sent as its next datagram
+  pub goes_on : (history : List Entry) → Stands untold old.room history → (turns : ℕ)
+      → (rest : Doing) × AreMade seat history (before turns) made rest × GoesOn rest (after turns) bytes (output_of outcome)
+  pub ends : Ends new after outcome
+  -- no call runs out of memory but one that allocates
+  pub memory : HaveCause false made
+  -- the guarantees (`Headline`) hold for the room's history, unless no call was made
+  pub headline : (new ≡ old) ⊎ StandsHeadline untold new.room
+
+-- the reply for an outcome: a packet's length, or `Done`, or the bundle
+abbrev pub output_reply : Result Output BundleFault → List ℕ → PlainReply
+output_reply (Ok Nothing) packet = bare_of code.Done
+output_reply (Ok Packet) packet = one_of code.Packet (length packet)
+output_reply (Err why) packet = plain_fault why
+
+-- The session's calls were made on the room, and the datagram to send, if any, is at the start of the buffer.
 pub record WorksAs (old new : Home) (before after : Attended) (seat : ℕ) (told : PlainReply) (out : List ℕ) : Type 0 where
-  pub output : Output
-  pub works : Works untold never old.room new.room seat (left_of before) (left_of after) after.scratch.packet output
-  pub tells : told ≡ output_reply output after.scratch.packet
-  pub gives : output ≡ Packet → take told.first out ≡ after.scratch.packet
+  pub outcome : Result Output BundleFault
+  pub works : WorksFor old.bundles new.bundles seat (left_of before) (left_of after) after.scratch.packet outcome
+  pub tells : told ≡ output_reply outcome after.scratch.packet
+  pub gives : outcome ≡ Ok Packet → take told.first out ≡ after.scratch.packet
 
 -- The same through the handles of a room and of a session: if one of them has none, both are unchanged.
 abbrev pub WorksOn : Option Home → Option Home → Attended → Attended → ℕ → PlainReply → List ℕ → Type 0

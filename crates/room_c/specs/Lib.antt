@@ -5,6 +5,8 @@ pub mod Recording
 pub mod Reading
 pub mod Telling
 pub mod Serving
+pub mod Bundling
 pub mod Attending
 pub mod Taping
+pub mod ReadySubscribers
 pub mod Wrapping

@@ -10,7 +10,13 @@ use Rattle.sfu_base.specs.declared.call.RtpFault.TheVariants as fault
 use Rattle.sfu_base.specs.declared.frame.Verdict.{Verdict}
 use Rattle.sfu_base.specs.declared.frame.Verdict.TheVariants as verdict
 use Rattle.sfu_base.specs.declared.frame.Wish.{Wish}
+use Rattle.track_core.specs.declared.counts.TrackCounts.{TrackCounts}
+use Rattle.room_core.specs.declared.counts.SubscriberCounts.{SubscriberCounts}
 use Rattle.room_core.specs.declared.current_target.DecodeTarget.{DecodeTarget}
+use Rattle.room_c.specs.declared.plain_counts.PlainSubscriberCounts.{PlainSubscriberCounts}
+use Rattle.room_c.specs.declared.plain_counts.PlainTrackCounts.{PlainTrackCounts}
+use Rattle.simulcast.specs.declared.fault.BundleFault.{BundleFault}
+use Rattle.simulcast.specs.declared.fault.BundleFault.TheVariants as bundle
 use Rattle.room_c.specs.declared.plain_reply.PlainReply.{PlainReply}
 use Rattle.room_c.specs.declared.plain_target.PlainTarget.{PlainTarget}
 
@@ -65,6 +71,10 @@ reply_in r =
     if nat_lt r.code 32 then reply.Cause (verdict_in r) else
     reply.Refused (refusal_in r)
 
+-- the answer of a room with bundles: it has the number of the bundle that forbids the call, or it is the room's reply
+abbrev pub answer_in : PlainReply → Result Reply BundleFault
+answer_in r = if r.code == 52 then Err (bundle.Bound r.first) else Ok (reply_in r)
+
 -- ---- questions
 
 abbrev pub layers_in : PlainTarget → Option Wish
@@ -91,3 +101,30 @@ due_in r = number_in 6 r
 -- the number of a track's newest frame
 abbrev pub newest_in : PlainReply → Result (Option ℕ) Refusal
 newest_in r = number_in 7 r
+
+-- what is counted of a subscriber, and of a track; or the refusal
+abbrev pub subscriber_counts_of : PlainSubscriberCounts → SubscriberCounts
+subscriber_counts_of c = record {
+  passed = c.passed;
+  not_of_target = c.not_of_target;
+  behind = c.behind;
+  reference = c.reference;
+  full = c.full;
+  link = c.link;
+  unopened = c.unopened;
+  queued = c.queued;
+  taken = c.taken;
+  resent = c.resent;
+  left_out = c.left_out;
+  waiting = c.waiting;
+}
+
+abbrev pub track_counts_of : PlainTrackCounts → TrackCounts
+track_counts_of c =
+    record { arrived = c.arrived; given_up = c.given_up; frames = c.frames; key_frames = c.key_frames; unframed = c.unframed }
+
+abbrev pub subscriber_counts_in : PlainReply → PlainSubscriberCounts → Result SubscriberCounts Refusal
+subscriber_counts_in r c = if r.code == 10 then Ok (subscriber_counts_of c) else Err (refusal_in r)
+
+abbrev pub track_counts_in : PlainReply → PlainTrackCounts → Result TrackCounts Refusal
+track_counts_in r c = if r.code == 10 then Ok (track_counts_of c) else Err (refusal_in r)

@@ -1,7 +1,9 @@
--- The recorder of the room behind a handle. Own rule.
+-- The recorder of the room behind a handle, and what the room represents. Own rule.
 use Rattle.std.specs.Prelude.{Bool, false, List, Option, None}
 use Rattle.room_core.specs.Noted.{Noted}
 use Rattle.room_core.specs.declared.recorder.KeepNone.{KeepNone}
+use Rattle.simulcast.specs.declared.bundles.Bundles.{Bundles}
+use Rattle.simulcast.specs.Bundles.{Simulcast, StandsFor}
 
 -- the recorder records nothing, and never refuses
 abbrev pub untold : KeepNone → Option (List Noted)
@@ -9,3 +11,7 @@ untold recorder = None
 
 abbrev pub never : KeepNone → Bool
 never recorder = false
+
+-- the room and its bundles represent some state
+abbrev pub HasState : Bundles KeepNone → Type 0
+HasState bundles = ∥ ((h : Simulcast) × StandsFor untold bundles h) ∥₁

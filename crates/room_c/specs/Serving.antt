@@ -3,34 +3,38 @@ use Rattle.std.specs.Prelude.{◌≡◌, ℕ, Bool, List, take, ⊤, Option, Som
 use Rattle.sfu_base.specs.declared.call.Call.{Call}
 use Rattle.sfu_base.specs.declared.call.Refusal.{Refusal}
 use Rattle.sfu_base.specs.declared.call.Reply.TheVariants as reply
-use Rattle.room_core.specs.Serves.{MemoryHasCause, MemoryIsLast, Serves, StandsHeadline}
+use Rattle.simulcast.specs.Bundles.{Calls, CallsWhole}
 use Rattle.room_c.specs.declared.home.Home.{Home}
 use Rattle.room_c.specs.declared.plain_reply.PlainReply.{PlainReply}
 use Rattle.room_core.specs.Serves.{Stands}
 use Rattle.room_core.specs.History.{Entry}
+use Rattle.room_core.specs.CountsOf.{AreSubscriberCounts, AreTrackCounts}
 use Rattle.room_core.specs.CurrentTargets.{IsReachedBy, IsTargetOf}
 use Rattle.room_core.specs.TrackQuestions.{IsDueOf, IsNewestFrameOf}
+use Rattle.track_core.specs.declared.counts.TrackCounts.{TrackCounts}
+use Rattle.room_core.specs.declared.counts.SubscriberCounts.{SubscriberCounts}
 use Rattle.room_core.specs.declared.current_target.DecodeTarget.{DecodeTarget}
 use Rattle.room_c.specs.declared.code.Code.TheVariants.{Due, Newest, NoRoom}
+use Rattle.room_c.specs.declared.plain_counts.PlainSubscriberCounts.{PlainSubscriberCounts}
+use Rattle.room_c.specs.declared.plain_counts.PlainTrackCounts.{PlainTrackCounts}
 use Rattle.room_c.specs.declared.plain_target.PlainTarget.{PlainTarget}
 use Rattle.room_c.specs.Recording.{never, untold}
-use Rattle.room_c.specs.Reading.{due_in, newest_in, reached_in, reply_in, target_in}
-use Rattle.room_c.specs.Telling.{bare_of, number_reply, plain_of, reached_reply, target_reply, target_written}
+use Rattle.room_c.specs.Reading.{answer_in, due_in, newest_in, reached_in, reply_in, subscriber_counts_in, target_in, track_counts_in}
+use Rattle.room_c.specs.Telling.{answer_reply, bare_of, number_reply, reached_reply, target_reply, target_written}
+use Rattle.room_c.specs.Telling.{subscriber_counts_reply, subscriber_counts_written, track_counts_reply, track_counts_written}
 
--- For this call of this seat the room changes and replies as `Room::serve` does, with the reply's content in the scratch. The result has the numbers
--- of this reply and no others.
-pub record DoesAsRoom (old new : Home) (seat : ℕ) (call : Call) (told : PlainReply) : Type 0 where
-  pub serves : Serves untold old.room new.room seat call (reply_in told) new.scratch.packet new.scratch.names
-  pub headline : StandsHeadline untold new.room
-  pub memory : MemoryHasCause never old.room call (reply_in told)
-  pub last : MemoryIsLast untold never old.room call (reply_in told)
-  pub exact : told ≡ plain_of new.scratch (reply_in told)
+-- For this call of this seat the room changes and replies as `Room::serve` does, with the reply's content in the scratch; exactly if the call is a take
+-- or leave of a leg it is refused instead, and nothing changes. The result has the numbers of this answer and no others.
+pub record DoesAsBundles (old new : Home) (seat : ℕ) (call : Call) (told : PlainReply) : Type 0 where
+  pub calls : Calls untold old.bundles new.bundles seat call new.scratch.packet new.scratch.names (answer_in told)
+  pub whole : CallsWhole untold never old.bundles new.bundles seat call old.scratch new.scratch (answer_in told)
+  pub exact : told ≡ answer_reply new.scratch (answer_in told)
 
 -- The effect of a call through a handle: without a room, the reply says so and nothing changes.
 abbrev pub Does : Option Home → Option Home → ℕ → Call → PlainReply → Type 0
 Does None new seat call told = (new ≡ None) × (told ≡ bare_of NoRoom)
 Does (Some old) None seat call told = ⊥
-Does (Some old) (Some new) seat call told = DoesAsRoom old new seat call told
+Does (Some old) (Some new) seat call told = DoesAsBundles old new seat call told
 
 -- if the reply is a packet, its bytes are at the start of the buffer
 abbrev pub GivesBytes : Option Home → PlainReply → List ℕ → Type 0
@@ -45,7 +49,7 @@ GivesNumbers (Some home) told out = reply_in told ≡ reply.Names → take told.
 -- The result of a question: for every history that the room represents, it has the numbers of that history's answer and no others. The decode target
 -- is written if there is one.
 pub record TellsTarget (home : Home) (subscriber : ℕ) (told : PlainReply) (old new : PlainTarget) (answer : Result (Option DecodeTarget) Refusal) : Type 0 where
-  pub asks : (history : List Entry) → Stands untold home.room history → IsTargetOf history subscriber answer
+  pub asks : (history : List Entry) → Stands untold home.bundles.room history → IsTargetOf history subscriber answer
   pub exact : told ≡ target_reply answer
   pub written : new ≡ target_written answer old
 
@@ -54,7 +58,7 @@ AsksTarget None subscriber told old new = (told ≡ bare_of NoRoom) × (new ≡ 
 AsksTarget (Some home) subscriber told old new = TellsTarget home subscriber told old new (target_in told new)
 
 pub record TellsReached (home : Home) (subscriber : ℕ) (told : PlainReply) (answer : Result Bool Refusal) : Type 0 where
-  pub asks : (history : List Entry) → Stands untold home.room history → IsReachedBy history subscriber answer
+  pub asks : (history : List Entry) → Stands untold home.bundles.room history → IsReachedBy history subscriber answer
   pub exact : told ≡ reached_reply answer
 
 abbrev pub AsksReached : Option Home → ℕ → PlainReply → Type 0
@@ -62,7 +66,7 @@ AsksReached None subscriber told = told ≡ bare_of NoRoom
 AsksReached (Some home) subscriber told = TellsReached home subscriber told (reached_in told)
 
 pub record TellsDue (home : Home) (track : ℕ) (told : PlainReply) (answer : Result (Option ℕ) Refusal) : Type 0 where
-  pub asks : (history : List Entry) → Stands untold home.room history → IsDueOf history track answer
+  pub asks : (history : List Entry) → Stands untold home.bundles.room history → IsDueOf history track answer
   pub exact : told ≡ number_reply Due answer
 
 abbrev pub AsksDue : Option Home → ℕ → PlainReply → Type 0
@@ -70,9 +74,30 @@ AsksDue None track told = told ≡ bare_of NoRoom
 AsksDue (Some home) track told = TellsDue home track told (due_in told)
 
 pub record TellsNewest (home : Home) (track : ℕ) (told : PlainReply) (answer : Result (Option ℕ) Refusal) : Type 0 where
-  pub asks : (history : List Entry) → Stands untold home.room history → IsNewestFrameOf history track answer
+  pub asks : (history : List Entry) → Stands untold home.bundles.room history → IsNewestFrameOf history track answer
   pub exact : told ≡ number_reply Newest answer
 
 abbrev pub AsksNewest : Option Home → ℕ → PlainReply → Type 0
 AsksNewest None track told = told ≡ bare_of NoRoom
 AsksNewest (Some home) track told = TellsNewest home track told (newest_in told)
+
+-- The counts are written unless the question is refused.
+pub record TellsSubscriberCounts (home : Home) (subscriber : ℕ) (told : PlainReply) (old new : PlainSubscriberCounts)
+    (answer : Result SubscriberCounts Refusal) : Type 0 where
+  pub asks : (history : List Entry) → Stands untold home.bundles.room history → AreSubscriberCounts history subscriber answer
+  pub exact : told ≡ subscriber_counts_reply answer
+  pub written : new ≡ subscriber_counts_written answer old
+
+abbrev pub AsksSubscriberCounts : Option Home → ℕ → PlainReply → (old new : PlainSubscriberCounts) → Type 0
+AsksSubscriberCounts None subscriber told old new = (told ≡ bare_of NoRoom) × (new ≡ old)
+AsksSubscriberCounts (Some home) subscriber told old new = TellsSubscriberCounts home subscriber told old new (subscriber_counts_in told new)
+
+pub record TellsTrackCounts (home : Home) (track : ℕ) (told : PlainReply) (old new : PlainTrackCounts)
+    (answer : Result TrackCounts Refusal) : Type 0 where
+  pub asks : (history : List Entry) → Stands untold home.bundles.room history → AreTrackCounts history track answer
+  pub exact : told ≡ track_counts_reply answer
+  pub written : new ≡ track_counts_written answer old
+
+abbrev pub AsksTrackCounts : Option Home → ℕ → PlainReply → (old new : PlainTrackCounts) → Type 0
+AsksTrackCounts None track told old new = (told ≡ bare_of NoRoom) × (new ≡ old)
+AsksTrackCounts (Some home) track told old new = TellsTrackCounts home track told old new (track_counts_in told new)

@@ -1,5 +1,5 @@
 -- The numbers of a reply, or of the answer to a question. A number that a code doesn't use is 0. Own rules; `Code` says what the numbers mean.
-use Rattle.std.specs.Prelude.{ℕ, ◌==◌, Bool, true, false, if◌then◌else◌, Option, Some, None, Result, Ok, Err, length}
+use Rattle.std.specs.Prelude.{ℕ, ◌==◌, Bool, true, false, if◌then◌else◌, Option, Some, None, Result, Ok, Err, length, [], ◌∷◌}
 use Rattle.sfu_base.specs.declared.call.Reply.{Reply}
 use Rattle.sfu_base.specs.declared.call.Reply.TheVariants as reply
 use Rattle.sfu_base.specs.declared.call.Refusal.{Refusal}
@@ -10,7 +10,14 @@ use Rattle.sfu_base.specs.declared.call.Scratch.{Scratch}
 use Rattle.sfu_base.specs.declared.frame.Verdict.{Verdict}
 use Rattle.sfu_base.specs.declared.frame.Verdict.TheVariants as verdict
 use Rattle.sfu_base.specs.declared.frame.Wish.{Wish}
+use Rattle.track_core.specs.declared.counts.TrackCounts.{TrackCounts}
+use Rattle.room_core.specs.declared.counts.SubscriberCounts.{SubscriberCounts}
 use Rattle.room_core.specs.declared.current_target.DecodeTarget.{DecodeTarget}
+use Rattle.room_c.specs.declared.plain_counts.PlainSubscriberCounts.{PlainSubscriberCounts}
+use Rattle.room_c.specs.declared.plain_counts.PlainTrackCounts.{PlainTrackCounts}
+use Rattle.simulcast.specs.declared.fault.BundleFault.{BundleFault}
+use Rattle.simulcast.specs.declared.fault.BundleFault.TheVariants as bundle
+use Rattle.simulcast.specs.declared.pumped.Pumped.{Pumped}
 use Rattle.room_c.specs.declared.code.Code.{Code}
 use Rattle.room_c.specs.declared.code.Code.TheVariants as coded
 use Rattle.room_c.specs.declared.plain_reply.PlainReply.{PlainReply}
@@ -90,6 +97,38 @@ plain_of scratch (reply.Key wanted) = flag_of coded.Key wanted
 plain_of scratch (reply.Cause v) = plain_verdict v
 plain_of scratch (reply.Refused why) = plain_refusal why
 
+-- ---- bundles
+
+-- why a room with bundles refused
+abbrev pub plain_fault : BundleFault → PlainReply
+plain_fault bundle.NoBundle = bare_of coded.NoBundle
+plain_fault (bundle.NumberUsed highest) = one_of coded.NumberUsed highest
+plain_fault (bundle.TooMany live) = one_of coded.TooMany live
+plain_fault (bundle.NoLeg legs) = one_of coded.NoLeg legs
+plain_fault bundle.WrongKind = bare_of coded.WrongKind
+plain_fault (bundle.Bound number) = one_of coded.Bound number
+plain_fault (bundle.Room why) = plain_refusal why
+plain_fault bundle.NoMemory = bare_of coded.NoMemory
+
+-- The numbers of a room's answer to a call, with the content of the scratch.
+abbrev pub answer_reply : Scratch → Result Reply BundleFault → PlainReply
+answer_reply scratch (Ok given) = plain_of scratch given
+answer_reply scratch (Err why) = plain_fault why
+
+-- of a new bundle, or of a choice
+abbrev pub done_reply : Result (Unit {0}) BundleFault → PlainReply
+done_reply (Ok _) = bare_of coded.Done
+done_reply (Err why) = plain_fault why
+
+abbrev pub pumped_reply : Result Pumped BundleFault → PlainReply
+pumped_reply (Ok pumped) = two_of coded.Pumped pumped.forwarded pumped.dropped
+pumped_reply (Err why) = plain_fault why
+
+-- of a packet that is drawn or redrawn, which has this length
+abbrev pub drawn_reply : {A : Type 0} → ℕ → Result A BundleFault → PlainReply
+drawn_reply size (Ok _) = one_of coded.Packet size
+drawn_reply size (Err why) = plain_fault why
+
 -- ---- buffers
 
 -- how many bytes, or sequence numbers, were written according to the reply
@@ -102,8 +141,8 @@ numbers_written r = if r.code == 2 then r.first else 0
 -- ---- questions
 
 abbrev pub plain_layers : ℕ → Option Wish → PlainTarget
-plain_layers index None = record { index = index; known = false; spatial = 0; temporal = 0 }
-plain_layers index (Some layers) = record { index = index; known = true; spatial = layers.spatial; temporal = layers.temporal }
+plain_layers index None = record { index = index; known = false; spatial = 0; temporal = 0; spare = 0 ∷ 0 ∷ 0 ∷ 0 ∷ [] }
+plain_layers index (Some layers) = record { index = index; known = true; spatial = layers.spatial; temporal = layers.temporal; spare = 0 ∷ 0 ∷ 0 ∷ 0 ∷ [] }
 
 -- a decode target as numbers
 abbrev pub plain_target : DecodeTarget → PlainTarget
@@ -129,3 +168,48 @@ unfoldable pub number_reply : Code → Result (Option ℕ) Refusal → PlainRepl
 number_reply c (Ok None) = bare_of c
 number_reply c (Ok (Some number)) = one_of c number
 number_reply c (Err why) = plain_refusal why
+
+-- the counts of a subscriber, or of a track, as numbers
+abbrev pub plain_subscriber_counts : SubscriberCounts → PlainSubscriberCounts
+plain_subscriber_counts c = record {
+  passed = c.passed;
+  not_of_target = c.not_of_target;
+  behind = c.behind;
+  reference = c.reference;
+  full = c.full;
+  link = c.link;
+  unopened = c.unopened;
+  queued = c.queued;
+  taken = c.taken;
+  resent = c.resent;
+  left_out = c.left_out;
+  waiting = c.waiting;
+  spare = 0 ∷ 0 ∷ 0 ∷ 0 ∷ [];
+}
+
+abbrev pub plain_track_counts : TrackCounts → PlainTrackCounts
+plain_track_counts c = record {
+  arrived = c.arrived;
+  given_up = c.given_up;
+  frames = c.frames;
+  key_frames = c.key_frames;
+  unframed = c.unframed;
+  spare = 0 ∷ 0 ∷ 0 ∷ [];
+}
+
+unfoldable pub subscriber_counts_reply : Result SubscriberCounts Refusal → PlainReply
+subscriber_counts_reply (Ok counts) = bare_of coded.Counts
+subscriber_counts_reply (Err why) = plain_refusal why
+
+unfoldable pub track_counts_reply : Result TrackCounts Refusal → PlainReply
+track_counts_reply (Ok counts) = bare_of coded.Counts
+track_counts_reply (Err why) = plain_refusal why
+
+-- the counts are written; on a refusal `out` is unchanged
+unfoldable pub subscriber_counts_written : Result SubscriberCounts Refusal → PlainSubscriberCounts → PlainSubscriberCounts
+subscriber_counts_written (Ok counts) out = plain_subscriber_counts counts
+subscriber_counts_written (Err why) out = out
+
+unfoldable pub track_counts_written : Result TrackCounts Refusal → PlainTrackCounts → PlainTrackCounts
+track_counts_written (Ok counts) out = plain_track_counts counts
+track_counts_written (Err why) out = out

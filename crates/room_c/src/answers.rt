@@ -1,13 +1,15 @@
 // Writing a reply's bytes or sequence numbers to C's buffer.
-ghost use Rattle.std.specs.Prelude.{◌≡◌, ◌≤◌, drop, length, take};
+ghost use Rattle.std.specs.Prelude.{◌≡◌, ◌<◌, ◌≤◌, IfErr, Ok, drop, length, take};
 ghost use Rattle.sfu_base.specs.declared.call.Reply.TheVariants as reply;
-ghost use Rattle.room_c.specs.Reading.{reply_in};
+ghost use Rattle.simulcast.specs.Bundles.{IsBound};
+ghost use Rattle.room_c.specs.Reading.{answer_in, reply_in};
 ghost use Rattle.room_c.specs.declared.code.Code.TheVariants as code;
-ghost use Rattle.room_c.specs.Telling.{bytes_written, numbers_written, one_of, plain_of};
+ghost use Rattle.room_c.specs.Telling.{answer_reply, bytes_written, numbers_written, one_of, plain_of};
 
 use crate::code::Code;
 use crate::plain_reply::PlainReply;
 use sfu_base::{PacketBuf, Reply, Scratch};
+use simulcast::BundleFault;
 
 /// The least length of a buffer for a packet, in bytes.
 pub const PACKET_ROOM: usize = 2048;
@@ -27,11 +29,12 @@ pub fn give_packet(packet: &PacketBuf, out: &mut [u8]) -> PlainReply
     PlainReply::with(Code::Packet, bytes.len() as u64)
 }
 
-/// Writes a reply's packet, if any, to the start of `out`, which has at least 2,048 bytes. Returns the reply as numbers.
+// As `give_answer`, for a reply.
 #[tactic(auto, unfolding(crate::specs::Telling::plain_of))]
-pub fn give_bytes(answer: &Reply, scratch: &Scratch, out: &mut [u8]) -> PlainReply
+fn give_bytes(answer: &Reply, scratch: &Scratch, out: &mut [u8]) -> PlainReply
     requires { 2048 ≤ length out.old }
     ensures told { reply_in result ≡ answer.now }
+    ensures code { result.code < 49 }
     ensures exact { result ≡ plain_of scratch.now answer.now }
     ensures gives { answer.now ≡ reply.Packet → take result.first out.new ≡ scratch.now.packet }
     ensures rest { drop (bytes_written result) out.new ≡ drop (bytes_written result) out.old }
@@ -43,11 +46,53 @@ pub fn give_bytes(answer: &Reply, scratch: &Scratch, out: &mut [u8]) -> PlainRep
     }
 }
 
-/// Writes a reply's sequence numbers, if any, to the start of `out`, which has at least 1,024 items. Returns the reply as numbers.
+/// Writes a packet that a room with bundles returned, if any, to the start of `out`, which has at least 2,048 bytes. Returns the answer as numbers.
+pub fn give_answer(
+    answer: Result<Reply, BundleFault>,
+    scratch: &Scratch,
+    out: &mut [u8],
+) -> PlainReply
+    requires space { 2048 ≤ length out.old }
+    requires only { IfErr answer IsBound }
+    ensures told { answer_in result ≡ answer }
+    ensures exact { result ≡ answer_reply scratch.now answer }
+    ensures gives { answer ≡ Ok reply.Packet → take result.first out.new ≡ scratch.now.packet }
+    ensures rest { drop (bytes_written result) out.new ≡ drop (bytes_written result) out.old }
+    ensures length { length out.new ≡ length out.old }
+{
+    match answer {
+        Ok(reply) => give_bytes(&reply, scratch, out),
+        Err(why) => PlainReply::of_fault(why),
+    }
+}
+
+/// Writes the sequence numbers that a room with bundles returned, if any, to the start of `out`, which has at least 1,024 items. Returns the answer as
+/// numbers.
+pub fn give_numbers(
+    answer: Result<Reply, BundleFault>,
+    scratch: &Scratch,
+    out: &mut [u16],
+) -> PlainReply
+    requires space { 1024 ≤ length out.old }
+    requires only { IfErr answer IsBound }
+    ensures told { answer_in result ≡ answer }
+    ensures exact { result ≡ answer_reply scratch.now answer }
+    ensures gives { answer ≡ Ok reply.Names → take result.first out.new ≡ scratch.now.names }
+    ensures rest { drop (numbers_written result) out.new ≡ drop (numbers_written result) out.old }
+    ensures length { length out.new ≡ length out.old }
+{
+    match answer {
+        Ok(reply) => give_named(&reply, scratch, out),
+        Err(why) => PlainReply::of_fault(why),
+    }
+}
+
+// As `give_numbers`, for a reply.
 #[tactic(auto, unfolding(crate::specs::Telling::plain_of))]
-pub fn give_numbers(answer: &Reply, scratch: &Scratch, out: &mut [u16]) -> PlainReply
+fn give_named(answer: &Reply, scratch: &Scratch, out: &mut [u16]) -> PlainReply
     requires { 1024 ≤ length out.old }
     ensures told { reply_in result ≡ answer.now }
+    ensures code { result.code < 49 }
     ensures exact { result ≡ plain_of scratch.now answer.now }
     ensures gives { answer.now ≡ reply.Names → take result.first out.new ≡ scratch.now.names }
     ensures rest { drop (numbers_written result) out.new ≡ drop (numbers_written result) out.old }

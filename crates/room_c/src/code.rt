@@ -1,8 +1,8 @@
 // The codes of replies and their numbers for C.
 
-/// The kind of a reply, as a number that C reads: 0 to 3 for accepted calls, 4 to 7 for answers to a question, 8 for a piece of a file, 16 to 23 for
-/// verdicts on a frame, 32 to 48 for refusals of the room, 64 to 74 for errors found before the room or the recorder is called, 80 to 86 for faults of
-/// recorded packets. Each code says what `has`, `first` and `second` mean. Own rule.
+/// The kind of a reply, as a number that C reads: 0 to 3 for accepted calls, 4 to 7 for answers to a question, 8 for a piece of a file, 9 for a pump, 16
+/// to 23 for verdicts on a frame, 32 to 52 for refusals of the room and its bundles, 64 to 75 for errors found before the room or the recorder is
+/// called, 80 to 86 for faults of recorded packets. Each code says what `has`, `first` and `second` mean. Own rule.
 #[derive(Clone, Copy, Debug, PartialEq, Eq)]
 pub enum Code {
     /// The call was done.
@@ -23,6 +23,12 @@ pub enum Code {
     Newest = 7,
     /// `first` bytes of a recorder's file were written, and `second` are left.
     FilePiece = 8,
+    /// Of the packets that were taken from the legs, `first` are forwarded, and `second` are dropped.
+    Pumped = 9,
+    /// The counts of a subscriber or a track were written.
+    Counts = 10,
+    /// The numbers of `first` subscribers were written.
+    Ready = 11,
     /// The frame was forwarded.
     Passed = 16,
     /// The frame isn't present in the subscriber's target, whose index is `first`. If `has` is false, no target is open and the wish allows none.
@@ -44,9 +50,9 @@ pub enum Code {
     NoTrack = 32,
     /// No live subscriber has this number.
     NoSubscriber = 33,
-    /// The number is at most `first`, the highest number that was ever live.
+    /// The number is at most `first`, the highest number that was ever live, or that a bundle has.
     NumberUsed = 34,
-    /// `first` tracks or subscribers are live already, which is the maximum.
+    /// `first` tracks or subscribers are live, or `first` bundles exist, which is the maximum.
     TooMany = 35,
     /// The id of the header extension element is 0 or, for a track, 15.
     BadExtensionId = 36,
@@ -63,7 +69,7 @@ pub enum Code {
     Late = 41,
     /// A packet with this sequence number is buffered already.
     Repeat = 42,
-    /// No packet is queued for the subscriber.
+    /// No packet is queued for the subscriber, or by the bundle.
     Empty = 43,
     /// No kept packet has the number. `first`: the oldest kept number. `second`: the number of the next take. If no packet is kept, both are equal.
     NotKept = 44,
@@ -75,6 +81,14 @@ pub enum Code {
     Plain = 47,
     /// Out of memory.
     NoMemory = 48,
+    /// No bundle has this number.
+    NoBundle = 49,
+    /// The bundle has no such leg. Its legs are 1 to `first`.
+    NoLeg = 50,
+    /// A leg's track isn't layered, or has another header extension id.
+    WrongKind = 51,
+    /// The subscriber is a leg of bundle `first`, or is listed twice among that bundle's legs.
+    Bound = 52,
     /// The handle has no room.
     NoRoom = 64,
     /// The handle already has a room.
@@ -97,6 +111,8 @@ pub enum Code {
     HasRecorder = 73,
     /// The recorder is finished.
     Finished = 74,
+    /// A bundle has two or three legs.
+    BadLegs = 75,
     /// The recorded packet isn't RTP with a payload and a readable dependency descriptor, or it carries a structure that isn't in force and begins no key
     /// frame.
     Unread = 80,

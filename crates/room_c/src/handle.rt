@@ -76,7 +76,8 @@ impl Handle {
         drop(replace(self, Handle::of(home)).into_home());
     }
 
-    /// Serves one call of a seat on the room. `NoRoom`: the handle has no room; nothing changes.
+    /// Serves one call of a seat on the room. `NoRoom`: the handle has no room. `Bound`: the call is a take or leave of a bundle's leg. Nothing changes
+    /// then.
     pub fn serve(&mut self, alloc: Global, seat: u32, call: &Call) -> PlainReply
         ensures does { Does self.old.held.home self.new.held.home seat call.now result }
     {
@@ -84,12 +85,13 @@ impl Handle {
             None => PlainReply::bare(Code::NoRoom),
             Some(mut home) => {
                 let Home {
-                    room,
+                    bundles,
                     scratch,
                     inbox: _,
+                    ticks: _,
                 } = &mut *home;
-                let reply = room.serve(seat, call, scratch);
-                let told = PlainReply::of(&reply, scratch);
+                let answer = bundles.call(seat, call, scratch);
+                let told = PlainReply::of_answer(answer, scratch);
                 self.put(home);
                 told
             }

@@ -1,6 +1,6 @@
 // Opening and closing a room.
 ghost use Rattle.std.specs.Prelude.{◌≡◌, ◌≢◌, [], IfSome, IsSome, None};
-ghost use Rattle.room_core.specs.Serves.{Stands};
+ghost use Rattle.simulcast.specs.Bundles.{StandsFor, nothing_made};
 ghost use Rattle.room_c.specs.declared.code.Code.TheVariants.{Done, HasRoom, NoMemory};
 ghost use Rattle.room_c.specs.Codes.{code_number};
 ghost use Rattle.room_c.specs.Recording.{untold};
@@ -14,7 +14,7 @@ use std::alloc::Global;
 /// still has no room.
 #[unsafe(no_mangle)]
 pub extern "C" fn zoftemar_open(alloc: Global, room: &mut Handle) -> u32
-    ensures opened { result ≡ code_number Done → IfSome room.new.held.home (λ home. Stands untold home.room []) × IsSome room.new.held.home }
+    ensures opened { result ≡ code_number Done → IfSome room.new.held.home (λ home. StandsFor untold home.bundles (nothing_made [])) × IsSome room.new.held.home }
     ensures kept { IsSome room.old.held.home → (result ≡ code_number HasRoom) × (room.new.held.home ≡ room.old.held.home) }
     ensures wants { result ≡ code_number NoMemory → room.new.held.home ≡ None }
     ensures only { result ≢ code_number Done → result ≢ code_number NoMemory → IsSome room.old.held.home }
@@ -34,7 +34,7 @@ pub extern "C" fn zoftemar_open(alloc: Global, room: &mut Handle) -> u32
     }
 }
 
-/// Closes a room, with all its tracks and subscribers. The handle then has no room, and a room may be opened behind it again.
+/// Closes a room, with all its tracks, subscribers and bundles. The handle then has no room, and a room may be opened behind it again.
 #[unsafe(no_mangle)]
 pub extern "C" fn zoftemar_close(alloc: Global, room: &mut Handle)
     ensures { room.new.held.home ≡ None }

@@ -1,11 +1,13 @@
 // A reply in the form that C reads.
-ghost use Rattle.std.specs.Prelude.{◌≡◌, ◌≤◌, false, true};
+ghost use Rattle.std.specs.Prelude.{◌≡◌, ◌<◌, ◌≤◌, Err, IfErr, false, true};
 ghost use Rattle.sfu_base.specs.declared.call.Reply.TheVariants as reply;
-ghost use Rattle.room_c.specs.Reading.{fault_in, refusal_in, reply_in};
-ghost use Rattle.room_c.specs.Telling.{bare_of, flag_of, number_of_fault, one_of, plain_of, plain_refusal, plain_verdict, two_of};
+ghost use Rattle.simulcast.specs.Bundles.{IsBound};
+ghost use Rattle.room_c.specs.Reading.{answer_in, fault_in, refusal_in, reply_in};
+ghost use Rattle.room_c.specs.Telling.{answer_reply, bare_of, done_reply, flag_of, number_of_fault, one_of, plain_fault, plain_of, plain_refusal, plain_verdict, pumped_reply, two_of};
 
 use crate::code::Code;
 use sfu_base::{Refusal, Reply, RtpFault, Scratch, Verdict};
+use simulcast::{BundleFault, Pumped};
 
 /// A reply as numbers: its code, a flag, and two numbers. [`Code`] gives their meaning for each code. A number without a meaning is 0. The flag is a
 /// yes or no, or says whether an optional number is present.
@@ -71,6 +73,7 @@ impl PlainReply {
     #[tactic(auto, unfolding(crate::specs::Telling::plain_of))]
     pub fn of(reply: &Reply, scratch: &Scratch) -> PlainReply
         ensures told { reply_in result ≡ reply.now }
+        ensures code { result.code < 49 }
         ensures exact { result ≡ plain_of scratch.now reply.now }
     {
         match reply {
@@ -83,11 +86,69 @@ impl PlainReply {
         }
     }
 
+    /// The room's answer to a call as numbers.
+    pub fn of_answer(answer: Result<Reply, BundleFault>, scratch: &Scratch) -> PlainReply
+        requires { IfErr answer IsBound }
+        ensures told { answer_in result ≡ answer }
+        ensures exact { result ≡ answer_reply scratch.now answer }
+    {
+        match answer {
+            Ok(reply) => PlainReply::of(&reply, scratch),
+            Err(why) => PlainReply::of_fault(why),
+        }
+    }
+
+    /// What a new bundle or a choice returned, as numbers.
+    pub fn of_done(answer: Result<(), BundleFault>) -> PlainReply
+        ensures { result ≡ done_reply answer }
+    {
+        match answer {
+            Ok(()) => PlainReply::bare(Code::Done),
+            Err(why) => PlainReply::of_fault(why),
+        }
+    }
+
+    /// What a pump returned, as numbers.
+    pub fn of_pumped(answer: Result<Pumped, BundleFault>) -> PlainReply
+        ensures { result ≡ pumped_reply answer }
+    {
+        match answer {
+            Ok(pumped) => PlainReply::with_two(
+                Code::Pumped,
+                u64::from(pumped.forwarded),
+                u64::from(pumped.dropped),
+            ),
+            Err(why) => PlainReply::of_fault(why),
+        }
+    }
+
+    /// Why a room with bundles refused, as numbers.
+    pub fn of_fault(why: BundleFault) -> PlainReply
+        ensures told { IsBound why → answer_in result ≡ Err why }
+        ensures code { 32 ≤ result.code }
+        ensures exact { result ≡ plain_fault why }
+    {
+        match why {
+            BundleFault::NoBundle => PlainReply::bare(Code::NoBundle),
+            BundleFault::NumberUsed { highest } => PlainReply::with(
+                Code::NumberUsed,
+                u64::from(highest),
+            ),
+            BundleFault::TooMany { live } => PlainReply::with(Code::TooMany, u64::from(live)),
+            BundleFault::NoLeg { legs } => PlainReply::with(Code::NoLeg, u64::from(legs)),
+            BundleFault::WrongKind => PlainReply::bare(Code::WrongKind),
+            BundleFault::Bound { bundle } => PlainReply::with(Code::Bound, u64::from(bundle)),
+            BundleFault::Room(why) => PlainReply::of_refusal(why),
+            BundleFault::NoMemory => PlainReply::bare(Code::NoMemory),
+        }
+    }
+
     /// A refusal as numbers.
     pub fn of_refusal(why: Refusal) -> PlainReply
         ensures told { reply_in result ≡ reply.Refused why }
         ensures refusal { refusal_in result ≡ why }
         ensures code { 32 ≤ result.code }
+        ensures below { result.code < 49 }
         ensures exact { result ≡ plain_refusal why }
     {
         match why {
@@ -129,6 +190,7 @@ impl PlainReply {
 // A verdict on a frame as numbers.
 fn of_verdict(verdict: Verdict) -> PlainReply
     ensures told { reply_in result ≡ reply.Cause verdict }
+    ensures code { result.code < 32 }
     ensures exact { result ≡ plain_verdict verdict }
 {
     match verdict {

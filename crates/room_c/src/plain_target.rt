@@ -18,6 +18,8 @@ pub struct PlainTarget {
     pub spatial: u8,
     /// The greatest temporal layer, 0 to 7. 0 if the layers aren't known.
     pub temporal: u8,
+    /// For later use: 0.
+    pub spare: [u8; 4],
 }
 
 impl PlainTarget {
@@ -33,12 +35,14 @@ impl PlainTarget {
                 known: true,
                 spatial,
                 temporal,
+                spare: [0; 4],
             },
             None => PlainTarget {
                 index: target.index,
                 known: false,
                 spatial: 0,
                 temporal: 0,
+                spare: [0; 4],
             },
         }
     }

@@ -27,7 +27,7 @@ pub extern "C" fn zoftemar_target_of(
     if !room.has_home() {
         return PlainReply::bare(Code::NoRoom);
     }
-    tell_target(room.held.home().room.target_of(subscriber), out)
+    tell_target(room.held.home().bundles.room().target_of(subscriber), out)
 }
 
 /// Returns `Reached`. `has` is the result of `Room::reaches_wish`: whether a subscriber is sent the best decode target that its wish allows. Refusal:
@@ -40,7 +40,7 @@ pub extern "C" fn zoftemar_reaches_wish(room: &mut Handle, subscriber: u32) -> P
     if !room.has_home() {
         return PlainReply::bare(Code::NoRoom);
     }
-    tell_reached(room.held.home().room.reaches_wish(subscriber))
+    tell_reached(room.held.home().bundles.room().reaches_wish(subscriber))
 }
 
 /// Returns `Due`. `first` is the result of `Room::due`: the moment at which a tick of a track gives up a gap. If there is none, `has` is false.
@@ -53,7 +53,7 @@ pub extern "C" fn zoftemar_due(room: &mut Handle, track: u32) -> PlainReply
     if !room.has_home() {
         return PlainReply::bare(Code::NoRoom);
     }
-    tell_number(Code::Due, room.held.home().room.due(track))
+    tell_number(Code::Due, room.held.home().bundles.room().due(track))
 }
 
 /// Returns `Newest`. `first` is the result of `Room::newest_frame`: the number of a track's newest whole frame. If there is none, `has` is false.
@@ -66,7 +66,10 @@ pub extern "C" fn zoftemar_newest_frame(room: &mut Handle, track: u32) -> PlainR
     if !room.has_home() {
         return PlainReply::bare(Code::NoRoom);
     }
-    tell_number(Code::Newest, room.held.home().room.newest_frame(track))
+    tell_number(
+        Code::Newest,
+        room.held.home().bundles.room().newest_frame(track),
+    )
 }
 
 #[tactic(auto, unfolding(crate::specs::Telling::target_reply, crate::specs::Telling::target_written))]

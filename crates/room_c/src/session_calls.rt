@@ -1,5 +1,5 @@
 // Running a session: the datagrams it receives, the calls it makes, and the datagrams it sends.
-ghost use Rattle.std.specs.Prelude.{◌≡◌, ◌<◌, ◌≤◌, None, Some, drop, length, take};
+ghost use Rattle.std.specs.Prelude.{◌≡◌, ◌<◌, ◌≤◌, None, Ok, Some, drop, length, take};
 ghost use Rattle.session_steps.specs.declared.session.Output.TheVariants as sends;
 ghost use Rattle.room_c.specs.declared.code.Code.TheVariants.{NoSpace, TooLong};
 ghost use Rattle.room_c.specs.Attending.{Hears, WorksBoth, WorksOn, output_reply};
@@ -12,9 +12,10 @@ use crate::handle::Handle;
 use crate::home::Home;
 use crate::plain_reply::PlainReply;
 use crate::session_handle::SessionHandle;
-use room_sessions::work;
+use crate::working::work;
 use session_steps::Output;
 use sfu_base::PacketBuf;
+use simulcast::BundleFault;
 use std::alloc::Global;
 
 /// Begins a turn of a session with a datagram received at `moment`, in milliseconds, as `Session::received` does. Returns `Done`. With any other code
@@ -63,8 +64,9 @@ pub extern "C" fn zoftemar_session_waited(
 }
 
 /// Makes a session's calls on a room, up to the next datagram to send. `Packet`: that datagram is at the start of `out`. `Done`: no call is left, and
-/// the session waits for the next datagram. With any other code nothing changes. `NoSpace`: `out` has fewer than 2,048 bytes. `NoSession`: the handle
-/// has no session. `NoRoom`: the handle has no room.
+/// the session waits for the next datagram. `Bound`: the session's next call is a take from a leg of bundle `first`, and stays to be made; the calls before
+/// it were made. With any other code nothing changes. `NoSpace`: `out` has fewer than 2,048 bytes. `NoSession`: the handle has no session. `NoRoom`: the
+/// handle has no room.
 #[unsafe(no_mangle)]
 pub extern "C" fn zoftemar_session_work(
     alloc: Global,
@@ -107,22 +109,27 @@ fn work_on(
         None => PlainReply::bare(Code::NoRoom),
         Some(mut home) => {
             let Attended { session, scratch } = attended;
-            let output = work(&mut home.room, seat, session, scratch);
+            let output = work(&mut home.bundles, seat, session, scratch);
             room.put(home);
             give_output(output, &scratch.packet, out)
         }
     }
 }
 
-// Writes an output's packet, if any, to the start of `out` (2,048 bytes or more). Returns the output as a reply.
-fn give_output(output: Output, packet: &PacketBuf, out: &mut [u8]) -> PlainReply
+// Writes an output's packet, if any, to the start of `out` (2,048 bytes or more). Returns the output, or why work stopped, as a reply.
+fn give_output(
+    output: Result<Output, BundleFault>,
+    packet: &PacketBuf,
+    out: &mut [u8],
+) -> PlainReply
     requires { 2048 ≤ length out.old }
     ensures tells { result ≡ output_reply output packet.now }
-    ensures gives { output ≡ sends.Packet → take result.first out.new ≡ packet.now }
+    ensures gives { output ≡ Ok sends.Packet → take result.first out.new ≡ packet.now }
     ensures rest { drop (bytes_written result) out.new ≡ drop (bytes_written result) out.old }
 {
     match output {
-        Output::Nothing => PlainReply::bare(Code::Done),
-        Output::Packet => give_packet(packet, out),
+        Ok(Output::Nothing) => PlainReply::bare(Code::Done),
+        Ok(Output::Packet) => give_packet(packet, out),
+        Err(why) => PlainReply::of_fault(why),
     }
 }

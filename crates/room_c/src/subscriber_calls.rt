@@ -6,7 +6,7 @@ ghost use Rattle.room_c.specs.declared.code.Code.TheVariants.{NoSpace};
 ghost use Rattle.room_c.specs.Serving.{Does, GivesBytes};
 ghost use Rattle.room_c.specs.Telling.{bare_of, bytes_written};
 
-use crate::answers::{PACKET_ROOM, give_bytes};
+use crate::answers::{PACKET_ROOM, give_answer};
 use crate::code::Code;
 use crate::handle::Handle;
 use crate::home::Home;
@@ -45,7 +45,7 @@ pub extern "C" fn zoftemar_join(
     )
 }
 
-/// Removes a subscriber, as `Room::leave` does. Refusal: `NoSubscriber`.
+/// Removes a subscriber, as `Room::leave` does. Refusals: `NoSubscriber`, `Bound`.
 #[unsafe(no_mangle)]
 pub extern "C" fn zoftemar_leave(
     alloc: Global,
@@ -75,7 +75,7 @@ pub extern "C" fn zoftemar_aim(
 }
 
 /// Takes the oldest packet queued for a subscriber, as `Room::take` does, and writes it to the start of `out`. Returns `Packet`. Refusals:
-/// `NoSubscriber`, `Empty`. `NoSpace`: `out` has fewer than 2,048 bytes; nothing changes.
+/// `NoSubscriber`, `Empty`, `Bound`. `NoSpace`: `out` has fewer than 2,048 bytes; nothing changes.
 #[unsafe(no_mangle)]
 pub extern "C" fn zoftemar_take(
     alloc: Global,
@@ -96,12 +96,13 @@ pub extern "C" fn zoftemar_take(
         None => PlainReply::bare(Code::NoRoom),
         Some(mut home) => {
             let Home {
-                room: inner,
+                bundles,
                 scratch,
                 inbox: _,
+                ticks: _,
             } = &mut *home;
-            let reply = inner.take(seat, subscriber, scratch);
-            let told = give_bytes(&reply, scratch, out);
+            let answer = bundles.take(seat, subscriber, scratch);
+            let told = give_answer(answer, scratch, out);
             room.put(home);
             told
         }
@@ -131,12 +132,13 @@ pub extern "C" fn zoftemar_resend(
         None => PlainReply::bare(Code::NoRoom),
         Some(mut home) => {
             let Home {
-                room: inner,
+                bundles,
                 scratch,
                 inbox: _,
+                ticks: _,
             } = &mut *home;
-            let reply = inner.resend(seat, subscriber, seq, scratch);
-            let told = give_bytes(&reply, scratch, out);
+            let answer = bundles.call(seat, &Call::Resend { subscriber, seq }, scratch);
+            let told = give_answer(answer, scratch, out);
             room.put(home);
             told
         }

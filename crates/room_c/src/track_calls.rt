@@ -12,6 +12,7 @@ use crate::code::Code;
 use crate::handle::Handle;
 use crate::home::Home;
 use crate::plain_reply::PlainReply;
+use crate::stored_call::{set_packet, set_tick};
 use sfu_base::{Call, Kind};
 use std::alloc::Global;
 
@@ -102,12 +103,14 @@ pub extern "C" fn zoftemar_packet(
         None => PlainReply::bare(Code::NoRoom),
         Some(mut home) => {
             let Home {
-                room: inner,
+                bundles,
                 scratch,
                 inbox,
+                ticks: _,
             } = &mut *home;
-            inbox.fill(bytes);
-            let told = PlainReply::of(&inner.packet(seat, track, moment, inbox), scratch);
+            set_packet(inbox, track, moment, bytes);
+            let answer = bundles.call(seat, inbox, scratch);
+            let told = PlainReply::of_answer(answer, scratch);
             room.put(home);
             told
         }
@@ -128,8 +131,15 @@ pub extern "C" fn zoftemar_tick(
     match room.take(alloc) {
         None => PlainReply::bare(Code::NoRoom),
         Some(mut home) => {
-            let reply = home.room.tick(seat, track, moment);
-            let told = PlainReply::of(&reply, &home.scratch);
+            let Home {
+                bundles,
+                scratch,
+                inbox: _,
+                ticks,
+            } = &mut *home;
+            set_tick(ticks, track, moment);
+            let answer = bundles.call(seat, ticks, scratch);
+            let told = PlainReply::of_answer(answer, scratch);
             room.put(home);
             told
         }
@@ -158,12 +168,13 @@ pub extern "C" fn zoftemar_missing(
         None => PlainReply::bare(Code::NoRoom),
         Some(mut home) => {
             let Home {
-                room: inner,
+                bundles,
                 scratch,
                 inbox: _,
+                ticks: _,
             } = &mut *home;
-            let reply = inner.missing(seat, track, scratch);
-            let told = give_numbers(&reply, scratch, out);
+            let answer = bundles.call(seat, &Call::Missing { track }, scratch);
+            let told = give_numbers(answer, scratch, out);
             room.put(home);
             told
         }

@@ -30,12 +30,15 @@ use Rattle.room_core.specs.TrackHistory.{and_where, entries_of, events_of}
 use Rattle.room_core.specs.Views.{plea, subscriber_by, timeline_as}
 use Rattle.room_core.specs.Replies.{answer, done_or, is_bad_id, join_refusal, publish_refusal}
 use Rattle.room_core.specs.History.{after as afterwards}
+use Rattle.room_core.specs.Counts.{saturated}
 use Rattle.room_core.specs.Follows.{Follows, Happened, IsFresh}
+use Rattle.room_core.specs.Given.{resends_of}
 use Rattle.room_core.specs.Passing.{Both}
 use Rattle.room_core.specs.Content.{Does, IsAfter, IsFeedReady, IsFreshOn, IsPipelineReady, IsSubscriberAfter, IsTrackAfter}
 use Rattle.room_core.specs.declared.live.Ready.{Ready}
 use Rattle.frame_cache.specs.declared.cache.FrameCache.{FrameCache}
 use Rattle.room_core.specs.declared.live.Ready.TheVariants.{Nothing, Pipeline as ReadyPipeline, Sent as ReadySent}
+use Rattle.room_core.proofs.Counting.{none_counted, zero_is}
 use Rattle.room_core.proofs.TableSteps.{table_after, table_mapped, table_same}
 use Rattle.room_core.proofs.Stepping.{begun_at, kind_begun}
 
@@ -131,6 +134,7 @@ subscriber_stays track ssrc hold kind past new n a j h =
       joined_is = ap (subscriber_of n) entries ∙ h.joined_is;
       follows = subst (λ (o : Option Published). Follows (kind_or_plain o) a.feed.value (subscriber_by j) (timeline_as (kind_or_plain o) n (cond (eqb track j.track) [] (entries_of j.track past)))) (sym origins)
           (subst (λ (es : List Entry). Follows (kind_of j.track past) a.feed.value (subscriber_by j) (timeline_as (kind_of j.track past) n es)) (sym entries) h.follows);
+      resent_is = h.resent_is;
     }
 
 pub accepted_track : (highest live track : ℕ) (kind : Kind) → publish_refusal highest live track kind ≡ None → (highest < track) × (live < 64)
@@ -236,6 +240,7 @@ fresh_follows feed kind ssrc first wish small h = record {
     kept = ap (λ (r : Ring). r.kept) h.ring;
   };
   causes = h.causes;
+  counts_are = h.counts_are ∙ none_counted wish;
   finds = tt;
 }
 
@@ -283,12 +288,12 @@ same_track past n a a' p s x = record {
 
 pub join_does : (old new : Content) (subscriber track ssrc first : ℕ) (wish : Wish) (live : LiveSubscriber) (was : Option LiveSubscriber) → first < 65536
     → join_refusal (is_some (get nat_eq old.tracks track)) old.highest_subscriber (index_map_len old.subscribers) subscriber ≡ None
-    → live.track ≡ track → IsFreshOn (get nat_eq old.tracks track) live.feed.value ssrc first wish
+    → live.track ≡ track → live.resent ≡ 0 → IsFreshOn (get nat_eq old.tracks track) live.feed.value ssrc first wish
     → Updates nat_eq old.subscribers new.subscribers subscriber (Some live) → was ≡ get nat_eq old.subscribers subscriber
     → index_map_len new.subscribers ≡ index_map_len old.subscribers + cond (is_some was) 0 1
     → AreSame (get nat_eq old.tracks) (get nat_eq new.tracks) → index_map_len new.tracks ≡ index_map_len old.tracks → new.highest_track ≡ old.highest_track → new.highest_subscriber ≡ subscriber
     → (bytes numbers : List ℕ) → Does old new (call.Join subscriber track ssrc first wish) reply.Done bytes numbers
-join_does old new subscriber track ssrc first wish live was small none tracks fresh updates wases len same count highest highest' bytes numbers =
+join_does old new subscriber track ssrc first wish live was small none tracks again fresh updates wases len same count highest highest' bytes numbers =
     let found : (past : List Call) → IsAfter old past → is_some (get nat_eq old.tracks track) ≡ is_some (published track past) = λ past h.
     some_found past track (get nat_eq old.tracks track) (published track past) (h.tracks track) in
     let done : (past : List Call) → IsAfter old past → answer past (call.Join subscriber track ssrc first wish) ≡ Done = λ past h.
@@ -319,6 +324,7 @@ join_does old new subscriber track ssrc first wish live was small none tracks fr
                 (sym (ap (timeline_as (kind_of track past) subscriber) entries ∙ begins subscriber to (kind_of track past) (entries_of track past)))
                 (fresh_follows live.feed.value (kind_of track past) ssrc first wish small
                 (fresh_kind past track live.feed.value ssrc first wish (get nat_eq old.tracks track) (published track past) (h.tracks track) fresh));
+            resent_is = again ∙ zero_is ∙ ap (λ (b : Bool). saturated (cond b 0 (resends_of subscriber past))) (sym (eq-eqb subscriber subscriber refl));
           }) in
           subst (λ (a : Answer). IsAfter new (afterwards a (call.Join subscriber track ssrc first wish) past)) (sym (done past h))
           (record {
@@ -340,6 +346,7 @@ join_does old new subscriber track ssrc first wish live was small none tracks fr
                   known = x.known;
                   joined_is = joins_where subscriber track i.track to n (entries_of i.track past) (eqb track i.track) e ∙ x.joined_is;
                   follows = subst (λ (l : List Happened). Follows (kind_of i.track past) a.feed.value (subscriber_by i) l) (sym (timeline_where subscriber to (kind_of i.track past) n (entries_of i.track past) (eqb track i.track) e)) x.follows;
+                  resent_is = x.resent_is ∙ ap (λ (b : Bool). saturated (cond b 0 (resends_of n past))) (sym e);
                 });
             track_count = count ∙ h.track_count;
             subscriber_count = let c = h.subscriber_count in omega (arith, len, one, c);

@@ -38,6 +38,9 @@ use Rattle.target_selector.specs.Masks.{mask_for}
 use Rattle.target_selector.specs.Reaching.{targets_of}
 use Rattle.room_core.specs.declared.feed.Feed.{Feed}
 use Rattle.room_core.specs.Follows.{Follows, FollowsFrame, FollowsPacket, Happened, IsRingOf, PushesFrame, frame_by, pushed_all, tells_by}
+use Rattle.room_core.specs.Counts.{and_left_out, with_frame}
+use Rattle.room_core.specs.declared.counts.FeedCounts.{FeedCounts}
+use Rattle.room_core.proofs.Counting.{frame_counted, left_out_counted, queued_counted}
 use Rattle.room_core.proofs.Rings.{pushed_is, ring_grows}
 use Rattle.room_core.proofs.Opened.{opens_here, target_here}
 use Rattle.room_core.proofs.SentMarked.{queued_by, sends_frame, sent_keeps_count}
@@ -70,11 +73,13 @@ packet_passes feed ring bytes long room now kind to events h =
           (sym (plain_goes_out (sent kind) to (packet_of bytes) events few))
           (ring_grows feed.ring to (takes_of events) out (packet_of bytes ∷ []) (takes_fit (sent kind) to events h.finds) h.ring));
       causes = h.causes;
+      counts_are = h.counts_are ∙ queued_counted to.wish (packet_of bytes) events few;
       finds = h.finds;
     }
 
-pub packet_is_left_out : (feed : Feed) (bytes : List ℕ) → 512 ≤ length feed.ring.queued → FollowsPacket feed feed bytes
-packet_is_left_out feed bytes full kind to events h =
+pub packet_is_left_out : (feed : Feed) (counts : FeedCounts) (bytes : List ℕ) → 512 ≤ length feed.ring.queued → counts ≡ and_left_out feed.counts
+    → FollowsPacket feed (record feed { counts = counts }) bytes
+packet_is_left_out feed counts bytes full counted kind to events h =
     let many : 512 ≤ (standing to.wish events).queued = let e = queued_same kind feed to events h in omega (arith, e, full) in
     record {
       kind_is = h.kind_is;
@@ -82,6 +87,7 @@ packet_is_left_out feed bytes full kind to events h =
       newest_is = h.newest_is;
       ring = subst (λ (l : List Packet). IsRingOf feed.ring to (takes_of events) l) (sym (full_takes_none (sent kind) to (packet_of bytes) events many)) h.ring;
       causes = h.causes;
+      counts_are = counted ∙ ap and_left_out h.counts_are ∙ left_out_counted to.wish (packet_of bytes) events many;
       finds = h.finds;
     }
 
@@ -97,6 +103,7 @@ lies_above meaning wish events track =
 pub record Judges (old new : Feed) (meaning : FrameMeaning) (packets : List (List ℕ)) (count queued : ℕ) (verdict : Verdict) : Type 0 where
   pub kind_is : new.kind ≡ old.kind
   pub newest_is : new.selector.newest ≡ Some (targets_of meaning)
+  pub counts_are : new.counts ≡ with_frame verdict old.counts
   pub count_is : count ≡ length packets
   pub queued_is : queued ≡ length old.ring.queued
   pub verdict_is : (s : Standing) → StandsFor old.selector s → IsAboveAll meaning s → s.queued ≡ queued → verdict ≡ verdict_at s meaning count
@@ -132,12 +139,20 @@ judges_at kind old new meaning structure packets count queued verdict to events 
 
 judges_follow : (kind : Kind) (old new : Feed) (meaning : FrameMeaning) (structure : TemplateStructure) (packets : List (List ℕ)) (verdict : Verdict)
     (to : Subscriber) (events : List Happened)
-    → new.kind ≡ old.kind → new.selector.newest ≡ Some (targets_of meaning) → JudgesAt new (standing to.wish events) (verdicts to.wish events) meaning (length (map packet_of packets)) verdict
+    → new.kind ≡ old.kind → new.selector.newest ≡ Some (targets_of meaning) → new.counts ≡ with_frame verdict old.counts → JudgesAt new (standing to.wish events) (verdicts to.wish events) meaning (length (map packet_of packets)) verdict
     → Follows kind old to events
     → IsRingOf new.ring to (takes_of events) (outgoing (sent kind) to (WholeFrame (frame_by meaning structure packets) ∷ events))
     → Follows kind new to (WholeFrame (frame_by meaning structure packets) ∷ events)
-judges_follow kind old new meaning structure packets verdict to events same newest at h ring =
-    record { kind_is = same ∙ h.kind_is; selector = at.stands; newest_is = newest; ring = ring; causes = at.written; finds = h.finds }
+judges_follow kind old new meaning structure packets verdict to events same newest counts at h ring =
+    record {
+      kind_is = same ∙ h.kind_is;
+      selector = at.stands;
+      newest_is = newest;
+      ring = ring;
+      causes = at.written;
+      counts_are = counts ∙ ap (with_frame verdict) h.counts_are ∙ frame_counted to.wish (frame_by meaning structure packets) events verdict at.verdict_is;
+      finds = h.finds;
+    }
 
 passes_where : (s : Standing) (f : FrameMeaning) (packets : ℕ) → verdict_at s f packets ≡ Passed → passes_at s f packets ≡ true
 passes_where s f packets h = passes_from_verdict (has_passed s f) (key_passed s f) s.wish f (target_at s f) s.queued packets h
@@ -169,7 +184,7 @@ frame_passes old new meaning track count queued verdict is_top told mask j passe
     let now : new.ring ≡ pushed_all sends old.ring =
     sends_frame kind old.ring new.ring meaning structure track is_top told mask target is force (q.top s h.selector above waits) tells
     (λ so. q.mask_is so (after_frame s meaning n) at.stands ∙ ap (λ (t : CurrentTarget). mask_for meaning (open_target t)) (target_here s meaning n passes)) q.pushes in
-    judges_follow kind old new meaning structure track.packets verdict to events j.kind_is j.newest_is at h
+    judges_follow kind old new meaning structure track.packets verdict to events j.kind_is j.newest_is j.counts_are at h
     (subst (λ (r : Ring). IsRingOf r to (takes_of events) (outgoing (sent kind) to (WholeFrame frame ∷ events))) (sym now)
     (subst (λ (l : List Packet). IsRingOf (pushed_all sends old.ring) to (takes_of events) l) (sym (passing_frames_go_out (sent kind) to frame events passes))
     (ring_grows old.ring to (takes_of events) (outgoing (sent kind) to events) sends (takes_fit (sent kind) to events h.finds) h.ring)))
@@ -187,6 +202,6 @@ frame_is_withheld old new meaning track count queued verdict j withheld now kind
     let at = judges_at kind old new meaning structure track.packets count queued verdict to events j one h in
     let fails : passes_at s meaning n ≡ false =
     not_passed (passes_at s meaning n) (verdict_at s meaning n) (passed_where s meaning n) (λ e. withheld (at.verdict_is ∙ e)) in
-    judges_follow kind old new meaning structure track.packets verdict to events j.kind_is j.newest_is at h
+    judges_follow kind old new meaning structure track.packets verdict to events j.kind_is j.newest_is j.counts_are at h
     (subst (λ (r : Ring). IsRingOf r to (takes_of events) (outgoing (sent kind) to (WholeFrame frame ∷ events))) (sym now)
     (subst (λ (l : List Packet). IsRingOf old.ring to (takes_of events) l) (sym ((nothing_else_goes_out (sent kind) to frame to.wish events).0 fails)) h.ring))

@@ -1,5 +1,5 @@
 -- What a subscriber takes, what it is sent again, and what is reported to it.
-use Rattle.std.proofs.Common.{◌≡◌, ℕ, ◌+◌, Bool, true, false, cond, List, [], ◌∷◌, map, drop, refl, sym, ap, subst, ◌∙◌, Option, Some, None, Result, Err, eqb, is_ok}
+use Rattle.std.proofs.Common.{◌≡◌, ℕ, ◌+◌, Bool, true, false, cond, List, [], ◌∷◌, map, drop, refl, sym, ap, ap₂, subst, ◌∙◌, Option, Some, None, Result, Err, eqb, is_ok}
 use Rattle.std.specs.List.{find}
 use Rattle.std.specs.Option.{option_map}
 use Rattle.sfu_base.specs.declared.call.Kind.{Kind}
@@ -20,19 +20,24 @@ use Rattle.out_ring.specs.Ring as ring
 use Rattle.cause_book.specs.Book.{AreFalling, IsAfter, judged}
 use Rattle.cause_book.proofs.Modelled.{keeps_causes}
 use Rattle.room_core.specs.Sent.{sent}
+use Rattle.room_core.specs.Counts.{and_taken}
+use Rattle.room_core.specs.declared.counts.FeedCounts.{FeedCounts}
 use Rattle.room_core.specs.declared.feed.Feed.{Feed}
 use Rattle.room_core.specs.Follows.{Follows, FollowsTake, Happened, IsRingOf, Resends, ResendsIt, TakesNext, Tells, sent_as}
+use Rattle.room_core.proofs.Counting.{take_counted}
 use Rattle.room_core.proofs.Feeding.{stands_queued}
 use Rattle.room_core.proofs.Rings.{ring_taken}
 
 -- ---- takes
 
 -- what a take finds, by what is queued
-take_by : (kind : Kind) (feed : Feed) (ring : Ring) (result : Result ℕ Refusal) (found : Bool) (before bytes : List ℕ) (to : Subscriber) (events : List Happened) (waits : List Packet)
+take_by : (kind : Kind) (feed : Feed) (ring : Ring) (counts : FeedCounts) (result : Result ℕ Refusal) (found : Bool) (before bytes : List ℕ) (to : Subscriber) (events : List Happened) (waits : List Packet)
     → Follows kind feed to events → drop (takes_of events) (outgoing (sent kind) to events) ≡ waits → TakesFrom (map bytes_of waits) feed.ring ring result before bytes
-    → found ≡ is_ok result → TakesNext (first_of waits) kind feed (record feed { ring = ring }) found before bytes to events
-take_by kind feed ring result found before bytes to events [] h at t is = (is ∙ ap is_ok t.0, ap (λ (r : Ring). record feed { ring = r }) t.1, t.2)
-take_by kind feed ring result found before bytes to events (p ∷ rest) h at t is = (
+    → found ≡ is_ok result → counts ≡ and_taken found feed.counts → TakesNext (first_of waits) kind feed (record feed { ring = ring; counts = counts }) found before bytes to events
+take_by kind feed ring counts result found before bytes to events [] h at t is counted =
+    let none : counts ≡ feed.counts = counted ∙ ap (λ (b : Bool). and_taken b feed.counts) (is ∙ ap is_ok t.0) in
+    (is ∙ ap is_ok t.0, ap₂ (λ (r : Ring) (k : FeedCounts). record feed { ring = r; counts = k }) t.1 none, t.2)
+take_by kind feed ring counts result found before bytes to events (p ∷ rest) h at t is counted = (
   is ∙ ap is_ok t.0,
   record {
     kind_is = h.kind_is;
@@ -41,16 +46,18 @@ take_by kind feed ring result found before bytes to events (p ∷ rest) h at t i
     ring = subst (λ (r : Ring). IsRingOf r to (takes_of events + 1) (outgoing (sent kind) to events)) (sym t.1)
         (ring_taken feed.ring to (takes_of events) (outgoing (sent kind) to events) rest p h.ring at (next_has_next_number (sent kind) to events p (ap first_of at)));
     causes = h.causes;
+    counts_are = counted ∙ ap (λ (b : Bool). and_taken b feed.counts) (is ∙ ap is_ok t.0) ∙ ap (and_taken true) h.counts_are ∙ take_counted to.wish events;
     finds = (drop_within (takes_of events) (outgoing (sent kind) to events) rest p at, h.finds);
   },
   t.2,
 )
 
-pub take_follows : (feed : Feed) (ring : Ring) (result : Result ℕ Refusal) (found : Bool) (before bytes : List ℕ)
-    → TakesFrom feed.ring.queued feed.ring ring result before bytes → found ≡ is_ok result → FollowsTake feed (record feed { ring = ring }) found before bytes
-take_follows feed ring result found before bytes t is kind to events h =
-    take_by kind feed ring result found before bytes to events (queue (sent kind) to events) h refl
-    (subst (λ (q : List (List ℕ)). TakesFrom q feed.ring ring result before bytes) h.ring.queued t) is
+pub take_follows : (feed : Feed) (ring : Ring) (counts : FeedCounts) (result : Result ℕ Refusal) (found : Bool) (before bytes : List ℕ)
+    → TakesFrom feed.ring.queued feed.ring ring result before bytes → found ≡ is_ok result → counts ≡ and_taken found feed.counts
+    → FollowsTake feed (record feed { ring = ring; counts = counts }) found before bytes
+take_follows feed ring counts result found before bytes t is counted kind to events h =
+    take_by kind feed ring counts result found before bytes to events (queue (sent kind) to events) h refl
+    (subst (λ (q : List (List ℕ)). TakesFrom q feed.ring ring result before bytes) h.ring.queued t) is counted
 
 -- ---- resends
 

@@ -42,6 +42,7 @@ module _ (R : Feed → Feed → Type 0) (number : ℕ) (places : List ℕ) (old 
       changed_gap (IsPassed R number) i p old new h le
       (λ q e above below at. record {
         track = refl;
+        resent = refl;
         passed = λ same. absurd (apart places number q old e has (none q above below) at same);
         other = λ other. refl;
       })

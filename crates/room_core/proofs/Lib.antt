@@ -3,6 +3,7 @@ pub mod SentMarked
 pub mod Opened
 pub mod Pushing
 pub mod Sharing
+pub mod Counting
 pub mod Feeding
 pub mod HandingOut
 pub mod Indexed
@@ -27,3 +28,6 @@ pub mod Readied
 pub mod Served
 pub mod Waiting
 pub mod NewestFrame
+pub mod CountedTracks
+pub mod Listing
+pub mod Reported

@@ -1,5 +1,5 @@
 -- How a change of a wish, and a take, change a room, whatever calls were accepted before: each is an event of one subscriber only.
-use Rattle.std.proofs.Common.{◌≡◌, ◌≤◌, ℕ, Bool, true, false, cond, List, [], ◌∷◌, ◌++◌, length, map, refl, sym, ap, subst, ◌∙◌, Option, Some, None, Ok, Err, Result, eqb, nat_eq, true≢false}
+use Rattle.std.proofs.Common.{◌≡◌, ◌≤◌, ◌+◌, ℕ, Bool, true, false, cond, List, [], ◌∷◌, ◌++◌, length, map, refl, sym, ap, subst, ◌∙◌, Option, Some, None, Ok, Err, Result, eqb, nat_eq, true≢false}
 use Rattle.std.specs.Prelude.{nat_lt}
 use Rattle.std.proofs.lemmas.Bool.{eq-eqb, lt-ltb}
 use Rattle.indexmap.specs.IndexMap.{get, index_map_len}
@@ -36,6 +36,9 @@ use Rattle.room_core.specs.Sent.{sent}
 use Rattle.room_core.specs.Views.{events_for, plea, subscriber_by, timeline_as, verdicts_of}
 use Rattle.room_core.specs.Replies.{answer, of_subscriber, resend_answer, sent_or, take_answer, told}
 use Rattle.room_core.specs.History.{after as afterwards}
+use Rattle.room_core.specs.Counts.{raised, saturated}
+use Rattle.room_core.specs.Given.{resends_of}
+use Rattle.room_core.proofs.Counting.{raised_is}
 use Rattle.room_core.specs.Follows.{Follows, FollowsAim, FollowsTake, Happened, Resends, ResendsIt, TakesNext, Tells}
 use Rattle.room_core.specs.Passing.{Both}
 use Rattle.room_core.specs.Content.{Does, IsAfter, IsSubscriberAfter, IsTrackAfter}
@@ -56,6 +59,7 @@ pub record IsOwn (subscriber : ℕ) (entry : Entry) (past next : List Call) : Ty
   pub subscribers_is : live_subscribers next ≡ live_subscribers past
   pub highest_track_is : highest_track next ≡ highest_track past
   pub highest_subscriber_is : highest_subscriber next ≡ highest_subscriber past
+  pub resends_is : (n : ℕ) → resends_of n next ≡ resends_of n past
 
 pub aim_own : (subscriber : ℕ) (wish : Wish) (past : List Call) → IsOwn subscriber (Aimed subscriber wish) past (call.Aim subscriber wish ∷ past)
 aim_own subscriber wish past = record {
@@ -69,6 +73,7 @@ aim_own subscriber wish past = record {
   subscribers_is = refl;
   highest_track_is = refl;
   highest_subscriber_is = refl;
+  resends_is = λ n. refl;
 }
 
 pub take_own : (subscriber : ℕ) (past : List Call) → IsOwn subscriber (Asked subscriber) past (call.Take subscriber ∷ past)
@@ -83,6 +88,7 @@ take_own subscriber past = record {
   subscribers_is = refl;
   highest_track_is = refl;
   highest_subscriber_is = refl;
+  resends_is = λ n. refl;
 }
 
 -- the entry is nothing to a track, and to any other subscriber
@@ -153,6 +159,7 @@ others_stay subscriber entry past next r own n a j e h =
       joined_is = ap (subscriber_of n) (r.entries_is j.track) ∙ joins_stay subscriber entry b n (entries_of j.track past) own ∙ h.joined_is;
       follows = subst (λ (o : Option Published). Follows (kind_or_plain o) a.feed.value (subscriber_by j) (timeline_as (kind_or_plain o) n (entries_of j.track next))) (sym (r.origin_is j.track))
           (subst (λ (l : List Happened). Follows (kind_of j.track past) a.feed.value (subscriber_by j) l) (sym same) h.follows);
+      resent_is = h.resent_is ∙ ap saturated (sym (r.resends_is n));
     }
 
 some_subscriber : (past : List Call) (n : ℕ) (known : LiveSubscriber) (o : Option Joined) → Both (IsSubscriberAfter past n) (Some known) o
@@ -167,11 +174,11 @@ found_subscriber content past n known found h =
 
 pub own_after : (old new : Content) (past next : List Call) (subscriber : ℕ) (entry : Entry) (known now : LiveSubscriber) → IsOwn subscriber entry past next → IsOwnEntry subscriber entry
     → IsAfter old past → Some known ≡ get nat_eq old.subscribers subscriber → IsWritten subscriber old.subscribers new.subscribers now
-    → now.track ≡ known.track
+    → now.track ≡ known.track → now.resent ≡ known.resent
     → ((j : Joined) → IsSubscriberAfter past subscriber known j
     → Follows (kind_of j.track past) now.feed.value (subscriber_by j) (timeline_as (kind_of j.track past) subscriber (entry ∷ entries_of j.track past)))
     → new.tracks ≡ old.tracks → new.highest_track ≡ old.highest_track → new.highest_subscriber ≡ old.highest_subscriber → IsAfter new next
-own_after old new past next subscriber entry known now r own h found writes track step tables highest highest' =
+own_after old new past next subscriber entry known now r own h found writes track again step tables highest highest' =
     let there = found_subscriber old past subscriber known found h in
     let j : Joined = there.0 in
     let on : is_on j.track (joined subscriber past) ≡ true = ap (is_on j.track) there.1 ∙ eq-eqb j.track j.track refl in
@@ -184,6 +191,7 @@ own_after old new past next subscriber entry known now r own h found writes trac
       joined_is = ap (subscriber_of subscriber) entries ∙ own.joins subscriber (entries_of j.track past) ∙ there.2.joined_is;
       follows = subst (λ (o : Option Published). Follows (kind_or_plain o) now.feed.value (subscriber_by j) (timeline_as (kind_or_plain o) subscriber (entries_of j.track next))) (sym (r.origin_is j.track))
           (subst (λ (es : List Entry). Follows (kind_of j.track past) now.feed.value (subscriber_by j) (timeline_as (kind_of j.track past) subscriber es)) (sym entries) (step j there.2));
+      resent_is = again ∙ there.2.resent_is ∙ ap saturated (sym (r.resends_is subscriber));
     }) in
     record {
       tracks = subst (λ t. (n : ℕ) → Both (IsTrackAfter next n) (get nat_eq t n) (published n next)) (sym tables)
@@ -197,27 +205,55 @@ own_after old new past next subscriber entry known now r own h found writes trac
       highest_subscriber_is = highest' ∙ h.highest_subscriber_is ∙ sym r.highest_subscriber_is;
     }
 
--- a call that is only a query leaves the content unchanged
-pub asked_after : (content : Content) (past : List Call) (sequence subscriber : ℕ) → IsAfter content past → IsAfter content (call.Resend subscriber sequence ∷ past)
-asked_after content past sequence subscriber h = record {
-  tracks = table_same (IsTrackAfter past) (IsTrackAfter (call.Resend subscriber sequence ∷ past)) (get nat_eq content.tracks) (λ n. published n past)
-      (λ n. published n (call.Resend subscriber sequence ∷ past)) h.tracks (λ n. refl) (λ n a p x. record {
-        kind_is = x.kind_is;
-        published_kind = x.published_kind;
-        pipeline_kind = x.pipeline_kind;
-        ssrc_is = x.ssrc_is;
-        hold_is = x.hold_is;
-        at = x.at;
-        pleaded_is = x.pleaded_is;
-      });
-  subscribers = table_same (IsSubscriberAfter past) (IsSubscriberAfter (call.Resend subscriber sequence ∷ past)) (get nat_eq content.subscribers) (λ n. joined n past)
-      (λ n. joined n (call.Resend subscriber sequence ∷ past)) h.subscribers (λ n. refl) (λ n a j x. record { track_is = x.track_is; known = x.known; joined_is = x.joined_is; follows = x.follows });
-  track_count = h.track_count;
-  subscriber_count = h.subscriber_count;
-  highest_track_is = h.highest_track_is;
-  highest_subscriber_is = h.highest_subscriber_is;
-}
+-- a resend that returns a packet is counted, and nothing else changes
+pub asked_after : (old new : Content) (past : List Call) (sequence subscriber : ℕ) (known now : LiveSubscriber) → IsAfter old past
+    → Some known ≡ get nat_eq old.subscribers subscriber → IsWritten subscriber old.subscribers new.subscribers now
+    → now.track ≡ known.track → now.resent ≡ raised known.resent → now.feed.value ≡ known.feed.value
+    → new.tracks ≡ old.tracks → new.highest_track ≡ old.highest_track → new.highest_subscriber ≡ old.highest_subscriber
+    → IsAfter new (call.Resend subscriber sequence ∷ past)
+asked_after old new past sequence subscriber known now h found writes track again feed tables highest highest' =
+    let next : List Call = call.Resend subscriber sequence ∷ past in
+    let there = found_subscriber old past subscriber known found h in
+    let x = there.2 in
+    let own : raised (saturated (resends_of subscriber past)) ≡ saturated (resends_of subscriber next) =
+    raised_is (resends_of subscriber past)
+    ∙ ap (λ (b : Bool). saturated (cond b (resends_of subscriber past + 1) (resends_of subscriber past))) (sym (eq-eqb subscriber subscriber refl)) in
+    let this : Both (IsSubscriberAfter next subscriber) (Some now) (joined subscriber next) =
+    subst (λ (o : Option Joined). Both (IsSubscriberAfter next subscriber) (Some now) o) (sym there.1)
+    (record {
+      track_is = track ∙ x.track_is;
+      known = x.known;
+      joined_is = x.joined_is;
+      follows = subst (λ (f : Feed). Follows (kind_of there.0.track past) f (subscriber_by there.0) (timeline_as (kind_of there.0.track past) subscriber (entries_of there.0.track past))) (sym feed) x.follows;
+      resent_is = again ∙ ap raised x.resent_is ∙ own;
+    }) in
+    record {
+      tracks = subst (λ t. (n : ℕ) → Both (IsTrackAfter next n) (get nat_eq t n) (published n next)) (sym tables)
+          (table_same (IsTrackAfter past) (IsTrackAfter next) (get nat_eq old.tracks) (λ n. published n past) (λ n. published n next) h.tracks (λ n. refl) (λ n a p y. record {
+            kind_is = y.kind_is;
+            published_kind = y.published_kind;
+            pipeline_kind = y.pipeline_kind;
+            ssrc_is = y.ssrc_is;
+            hold_is = y.hold_is;
+            at = y.at;
+            pleaded_is = y.pleaded_is;
+          }));
+      subscribers = table_after (IsSubscriberAfter past) (IsSubscriberAfter next) (get nat_eq old.subscribers) (get nat_eq new.subscribers) (λ n. joined n past) (λ n. joined n next)
+          subscriber (Some now) h.subscribers writes.found (λ n e. refl) this
+          (λ n a i e y. record {
+            track_is = y.track_is;
+            known = y.known;
+            joined_is = y.joined_is;
+            follows = y.follows;
+            resent_is = y.resent_is ∙ ap (λ (b : Bool). saturated (cond b (resends_of n past + 1) (resends_of n past))) (sym e);
+          });
+      track_count = ap index_map_len tables ∙ h.track_count;
+      subscriber_count = writes.count ∙ h.subscriber_count;
+      highest_track_is = highest ∙ h.highest_track_is;
+      highest_subscriber_is = highest' ∙ h.highest_subscriber_is;
+    }
 
+-- a call that is only a query leaves the content unchanged
 pub why_after : (content : Content) (past : List Call) (number subscriber : ℕ) → IsAfter content past → IsAfter content (call.Why subscriber number ∷ past)
 why_after content past number subscriber h = record {
   tracks = table_same (IsTrackAfter past) (IsTrackAfter (call.Why subscriber number ∷ past)) (get nat_eq content.tracks) (λ n. published n past)
@@ -231,7 +267,8 @@ why_after content past number subscriber h = record {
         pleaded_is = x.pleaded_is;
       });
   subscribers = table_same (IsSubscriberAfter past) (IsSubscriberAfter (call.Why subscriber number ∷ past)) (get nat_eq content.subscribers) (λ n. joined n past)
-      (λ n. joined n (call.Why subscriber number ∷ past)) h.subscribers (λ n. refl) (λ n a j x. record { track_is = x.track_is; known = x.known; joined_is = x.joined_is; follows = x.follows });
+      (λ n. joined n (call.Why subscriber number ∷ past)) h.subscribers (λ n. refl)
+      (λ n a j x. record { track_is = x.track_is; known = x.known; joined_is = x.joined_is; follows = x.follows; resent_is = x.resent_is });
   track_count = h.track_count;
   subscriber_count = h.subscriber_count;
   highest_track_is = h.highest_track_is;
@@ -283,17 +320,17 @@ asked_itself subscriber (Layered id) es =
     (eq-eqb subscriber subscriber refl)
 
 pub aim_does : (old new : Content) (subscriber : ℕ) (wish : Wish) (known now : LiveSubscriber) → Some known ≡ get nat_eq old.subscribers subscriber
-    → IsWritten subscriber old.subscribers new.subscribers now → now.track ≡ known.track → FollowsAim known.feed.value now.feed.value wish
+    → IsWritten subscriber old.subscribers new.subscribers now → now.track ≡ known.track → now.resent ≡ known.resent → FollowsAim known.feed.value now.feed.value wish
     → new.tracks ≡ old.tracks → new.highest_track ≡ old.highest_track → new.highest_subscriber ≡ old.highest_subscriber
     → (bytes numbers : List ℕ) → Does old new (call.Aim subscriber wish) reply.Done bytes numbers
-aim_does old new subscriber wish known now found writes track follows tables highest highest' bytes numbers =
+aim_does old new subscriber wish known now found writes track again follows tables highest highest' bytes numbers =
     let done : (past : List Call) → IsAfter old past → answer past (call.Aim subscriber wish) ≡ Done = λ past h.
     ap (λ (o : Option Joined). of_subscriber o (λ j. Done)) (found_subscriber old past subscriber known found h).1 in
     record {
       answered = λ past h. sym (done past h);
       done = λ past h.
           subst (λ (a : Answer). IsAfter new (afterwards a (call.Aim subscriber wish) past)) (sym (done past h))
-          (own_after old new past (call.Aim subscriber wish ∷ past) subscriber (Aimed subscriber wish) known now (aim_own subscriber wish past) (aimed_entry subscriber wish) h found writes track
+          (own_after old new past (call.Aim subscriber wish ∷ past) subscriber (Aimed subscriber wish) known now (aim_own subscriber wish past) (aimed_entry subscriber wish) h found writes track again
           (λ j x. subst (λ (l : List Happened). Follows (kind_of j.track past) now.feed.value (subscriber_by j) l) (sym (aimed_itself subscriber wish (kind_of j.track past) (entries_of j.track past)))
           (follows (kind_of j.track past) (subscriber_by j) (timeline_as (kind_of j.track past) subscriber (entries_of j.track past)) x.follows))
           tables highest highest');
@@ -311,11 +348,11 @@ takes_none None kind old new before bytes to events t = (refl, t.1)
 takes_none (Some packet) kind old new before bytes to events t = absurd (true≢false (sym t.0))
 
 pub take_does : (old new : Content) (subscriber : ℕ) (known now : LiveSubscriber) (before bytes : List ℕ) → Some known ≡ get nat_eq old.subscribers subscriber
-    → IsWritten subscriber old.subscribers new.subscribers now → now.track ≡ known.track
+    → IsWritten subscriber old.subscribers new.subscribers now → now.track ≡ known.track → now.resent ≡ known.resent
     → FollowsTake known.feed.value now.feed.value true before bytes
     → new.tracks ≡ old.tracks → new.highest_track ≡ old.highest_track → new.highest_subscriber ≡ old.highest_subscriber
     → (numbers : List ℕ) → Does old new (call.Take subscriber) reply.Packet bytes numbers
-take_does old new subscriber known now before bytes found writes track follows tables highest highest' numbers =
+take_does old new subscriber known now before bytes found writes track again follows tables highest highest' numbers =
     let sends : (past : List Call) → IsAfter old past → answer past (call.Take subscriber) ≡ Sent bytes = λ past h.
     let there = found_subscriber old past subscriber known found h in
     let kind : Kind = kind_of there.0.track past in
@@ -327,7 +364,7 @@ take_does old new subscriber known now before bytes found writes track follows t
       answered = λ past h. sym (sends past h);
       done = λ past h.
           subst (λ (a : Answer). IsAfter new (afterwards a (call.Take subscriber) past)) (sym (sends past h))
-          (own_after old new past (call.Take subscriber ∷ past) subscriber (Asked subscriber) known now (take_own subscriber past) (asked_entry subscriber) h found writes track
+          (own_after old new past (call.Take subscriber ∷ past) subscriber (Asked subscriber) known now (take_own subscriber past) (asked_entry subscriber) h found writes track again
           (λ j x.
           let kind : Kind = kind_of j.track past in
           let es : List Entry = entries_of j.track past in
@@ -343,9 +380,9 @@ take_does old new subscriber known now before bytes found writes track follows t
 
 -- a take that finds none, and whatever leaves a subscriber as it was
 pub same_after : (old new : Content) (past : List Call) (subscriber : ℕ) (known now : LiveSubscriber) → IsAfter old past → Some known ≡ get nat_eq old.subscribers subscriber
-    → IsWritten subscriber old.subscribers new.subscribers now → now.track ≡ known.track → now.feed.value ≡ known.feed.value
+    → IsWritten subscriber old.subscribers new.subscribers now → now.track ≡ known.track → now.resent ≡ known.resent → now.feed.value ≡ known.feed.value
     → new.tracks ≡ old.tracks → new.highest_track ≡ old.highest_track → new.highest_subscriber ≡ old.highest_subscriber → IsAfter new past
-same_after old new past subscriber known now h found writes track feed tables highest highest' =
+same_after old new past subscriber known now h found writes track again feed tables highest highest' =
     let there = found_subscriber old past subscriber known found h in
     let x = there.2 in
     let this : Both (IsSubscriberAfter past subscriber) (Some now) (joined subscriber past) =
@@ -355,6 +392,7 @@ same_after old new past subscriber known now h found writes track feed tables hi
       known = x.known;
       joined_is = x.joined_is;
       follows = subst (λ (f : Feed). Follows (kind_of there.0.track past) f (subscriber_by there.0) (timeline_as (kind_of there.0.track past) subscriber (entries_of there.0.track past))) (sym feed) x.follows;
+      resent_is = again ∙ x.resent_is;
     }) in
     record {
       tracks = subst (λ t. (n : ℕ) → Both (IsTrackAfter past n) (get nat_eq t n) (published n past)) (sym tables) h.tracks;
@@ -367,11 +405,11 @@ same_after old new past subscriber known now h found writes track feed tables hi
     }
 
 pub take_finds_none : (old new : Content) (subscriber : ℕ) (known now : LiveSubscriber) (before bytes : List ℕ) → Some known ≡ get nat_eq old.subscribers subscriber
-    → IsWritten subscriber old.subscribers new.subscribers now → now.track ≡ known.track
+    → IsWritten subscriber old.subscribers new.subscribers now → now.track ≡ known.track → now.resent ≡ known.resent
     → FollowsTake known.feed.value now.feed.value false before bytes
     → new.tracks ≡ old.tracks → new.highest_track ≡ old.highest_track → new.highest_subscriber ≡ old.highest_subscriber
     → (numbers : List ℕ) → Does old new (call.Take subscriber) (reply.Refused Empty) bytes numbers
-take_finds_none old new subscriber known now before bytes found writes track follows tables highest highest' numbers =
+take_finds_none old new subscriber known now before bytes found writes track again follows tables highest highest' numbers =
     let none : (past : List Call) → IsAfter old past → (answer past (call.Take subscriber) ≡ Refused Empty) × (now.feed.value ≡ known.feed.value) = λ past h.
     let there = found_subscriber old past subscriber known found h in
     let kind : Kind = kind_of there.0.track past in
@@ -385,10 +423,10 @@ take_finds_none old new subscriber known now before bytes found writes track fol
       answered = λ past h. sym (none past h).0;
       done = λ past h.
           subst (λ (a : Answer). IsAfter new (afterwards a (call.Take subscriber) past)) (sym (none past h).0)
-          (same_after old new past subscriber known now h found writes track (none past h).1 tables highest highest');
+          (same_after old new past subscriber known now h found writes track again (none past h).1 tables highest highest');
     }
 
--- ---- resends and causes change nothing
+-- ---- a resend is counted, and a cause changes nothing
 
 resent_ok : (o : Option Packet) (before bytes : List ℕ) (oldest next : ℕ) → ResendsIt o (Ok tt) before bytes oldest next → sent_or o (Refused (NotKept oldest next)) ≡ Sent bytes
 resent_ok None before bytes oldest next h = absurd (let none : Ok tt ≡ Err (NotKept oldest next) = h.0 in cc)
@@ -418,25 +456,35 @@ module _ (content : Content) (subscriber sequence : ℕ) (known : LiveSubscriber
         r kind to events there.2.follows,
       )
 
-  pub resend_does : Resends known.feed.value sequence (Ok tt) before bytes → (numbers : List ℕ) → Does content content (call.Resend subscriber sequence) reply.Packet bytes numbers
-  resend_does r numbers =
+  pub resend_does : (new : Content) (now : LiveSubscriber) → IsWritten subscriber content.subscribers new.subscribers now
+      → now.track ≡ known.track → now.resent ≡ raised known.resent → now.feed.value ≡ known.feed.value
+      → new.tracks ≡ content.tracks → new.highest_track ≡ content.highest_track → new.highest_subscriber ≡ content.highest_subscriber
+      → Resends known.feed.value sequence (Ok tt) before bytes → (numbers : List ℕ) → Does content new (call.Resend subscriber sequence) reply.Packet bytes numbers
+  resend_does new now writes track again feed tables highest highest' r numbers =
       let is : (past : List Call) → IsAfter content past → answer past (call.Resend subscriber sequence) ≡ Sent bytes = λ past h.
       let (kind, to, events, told, resends) = resend_by (Ok tt) r past h in
       told ∙ resent_ok (resent (sent kind) to events sequence) before bytes (oldest_number (sent kind) to events) (next_number (sent kind) to events) resends in
       record {
         answered = λ past h. sym (is past h);
-        done = λ past h. subst (λ (a : Answer). IsAfter content (afterwards a (call.Resend subscriber sequence) past)) (sym (is past h)) (asked_after content past sequence subscriber h);
+        done = λ past h.
+            subst (λ (a : Answer). IsAfter new (afterwards a (call.Resend subscriber sequence) past)) (sym (is past h))
+            (asked_after content new past sequence subscriber known now h found writes track again feed tables highest highest');
       }
 
-  pub resend_refuses : (why : Refusal) → Resends known.feed.value sequence (Err why) before bytes → (numbers : List ℕ)
-      → Does content content (call.Resend subscriber sequence) (reply.Refused why) bytes numbers
-  resend_refuses why r numbers =
+  pub resend_refuses : (new : Content) (now : LiveSubscriber) → IsWritten subscriber content.subscribers new.subscribers now
+      → now.track ≡ known.track → now.resent ≡ known.resent → now.feed.value ≡ known.feed.value
+      → new.tracks ≡ content.tracks → new.highest_track ≡ content.highest_track → new.highest_subscriber ≡ content.highest_subscriber
+      → (why : Refusal) → Resends known.feed.value sequence (Err why) before bytes → (numbers : List ℕ)
+      → Does content new (call.Resend subscriber sequence) (reply.Refused why) bytes numbers
+  resend_refuses new now writes track again feed tables highest highest' why r numbers =
       let is : (past : List Call) → IsAfter content past → answer past (call.Resend subscriber sequence) ≡ Refused why = λ past h.
       let (kind, to, events, told, resends) = resend_by (Err why) r past h in
       told ∙ (resent_err (resent (sent kind) to events sequence) why before bytes (oldest_number (sent kind) to events) (next_number (sent kind) to events) resends).0 in
       record {
         answered = λ past h. sym (is past h);
-        done = λ past h. subst (λ (a : Answer). IsAfter content (afterwards a (call.Resend subscriber sequence) past)) (sym (is past h)) h;
+        done = λ past h.
+            subst (λ (a : Answer). IsAfter new (afterwards a (call.Resend subscriber sequence) past)) (sym (is past h))
+            (same_after content new past subscriber known now h found writes track again feed tables highest highest');
       }
 
 module _ (content : Content) (subscriber number : ℕ) (known : LiveSubscriber) (found : Some known ≡ get nat_eq content.subscribers subscriber) where

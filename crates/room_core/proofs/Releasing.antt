@@ -30,7 +30,9 @@ use Rattle.room_core.specs.Sent.{sent}
 use Rattle.room_core.specs.Replies.{answer, done_or, of_track}
 use Rattle.room_core.specs.History.{after as afterwards}
 use Rattle.room_core.specs.Views.{makes_key, plea, subscriber_by, timeline_as}
+use Rattle.room_core.specs.Counts.{saturated}
 use Rattle.room_core.specs.Follows.{Follows, Happened}
+use Rattle.room_core.specs.Given.{resends_of}
 use Rattle.room_core.specs.Passing.{Both, FollowsOn, IsPassed, StayOneTrack, WorkedOff, WorksOffFrom, released_as}
 use Rattle.room_core.specs.Content.{Does, IsAfter, IsSubscriberAfter, IsTrackAfter}
 use Rattle.room_core.proofs.Places.{IsWritten}
@@ -50,6 +52,7 @@ pub record IsRelease (track : ℕ) (event : Event) (past next : List Call) : Typ
   pub subscribers_is : live_subscribers next ≡ live_subscribers past
   pub highest_track_is : highest_track next ≡ highest_track past
   pub highest_subscriber_is : highest_subscriber next ≡ highest_subscriber past
+  pub resends_is : (n : ℕ) → resends_of n next ≡ resends_of n past
 
 pub packet_release : (track moment : ℕ) (bytes : List ℕ) (past : List Call) → IsRelease track (Arrives (sequence_of bytes) moment bytes) past (call.Packet track moment bytes ∷ past)
 packet_release track moment bytes past = record {
@@ -63,6 +66,7 @@ packet_release track moment bytes past = record {
   subscribers_is = refl;
   highest_track_is = refl;
   highest_subscriber_is = refl;
+  resends_is = λ n. refl;
 }
 
 pub tick_release : (track moment : ℕ) (past : List Call) → IsRelease track (Ticks moment) past (call.Tick track moment ∷ past)
@@ -77,6 +81,7 @@ tick_release track moment past = record {
   subscribers_is = refl;
   highest_track_is = refl;
   highest_subscriber_is = refl;
+  resends_is = λ n. refl;
 }
 
 -- ---- the track
@@ -183,6 +188,7 @@ one_subscriber track event past next r n a a' j passed h = record {
   joined_is = also (eqb track j.track) refl;
   follows = subst (λ (o : Option Published). Follows (kind_or_plain o) a'.feed.value (subscriber_by j) (timeline_as (kind_or_plain o) n (entries_of j.track next))) (sym (r.origin_is j.track))
       (go (eqb track j.track) refl);
+  resent_is = passed.resent ∙ h.resent_is ∙ ap saturated (sym (r.resends_is n));
 }
   where
     entries_next : (b : Bool) → eqb track j.track ≡ b → entries_of j.track next ≡ and_where b (Released (released j.track past event)) (entries_of j.track past)

@@ -49,7 +49,7 @@ both_weaker R S (Some a) (Some b) w r = w a b r
 
 -- if nothing happens to a part, nothing happens to the table
 pub passed_none : (R : Feed → Feed → Type 0) (number : ℕ) (f : ℕ → Option LiveSubscriber) → ((feed : Feed) → R feed feed) → PassedTo R number f f
-passed_none R number f r n = both_same (IsPassed R number) (f n) (λ s. record { track = refl; passed = λ same. r s.feed.value; other = λ none. refl })
+passed_none R number f r n = both_same (IsPassed R number) (f n) (λ s. record { track = refl; resent = refl; passed = λ same. r s.feed.value; other = λ none. refl })
 
 pub passed_then : (R S T : Feed → Feed → Type 0) (number : ℕ) (f g h : ℕ → Option LiveSubscriber) → ((a b c : Feed) → R a b → S b c → T a c)
     → PassedTo R number f g → PassedTo S number g h → PassedTo T number f h
@@ -57,6 +57,7 @@ passed_then R S T number f g h t r s n =
     both_trans (IsPassed R number) (IsPassed S number) (IsPassed T number) (f n) (g n) (h n)
     (λ a b c p q. record {
       track = q.track ∙ p.track;
+      resent = q.resent ∙ p.resent;
       passed = λ same. t a.feed.value b.feed.value c.feed.value (p.passed same) (q.passed (p.track ∙ same));
       other = λ none. q.other (λ same. none (sym p.track ∙ same)) ∙ p.other none;
     })
@@ -65,7 +66,7 @@ passed_then R S T number f g h t r s n =
 pub passed_weaker : (R S : Feed → Feed → Type 0) (number : ℕ) (f g : ℕ → Option LiveSubscriber) → ((a b : Feed) → R a b → S a b) → PassedTo R number f g → PassedTo S number f g
 passed_weaker R S number f g w r n =
     both_weaker (IsPassed R number) (IsPassed S number) (f n) (g n)
-    (λ a b p. record { track = p.track; passed = λ same. w a.feed.value b.feed.value (p.passed same); other = p.other }) (r n)
+    (λ a b p. record { track = p.track; resent = p.resent; passed = λ same. w a.feed.value b.feed.value (p.passed same); other = p.other }) (r n)
 
 -- ---- what one item made is to a subscriber
 

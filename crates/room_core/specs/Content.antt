@@ -22,7 +22,9 @@ use Rattle.room_core.specs.TrackHistory.{entries_of, events_of}
 use Rattle.room_core.specs.Views.{plea, subscriber_by, timeline_as}
 use Rattle.room_core.specs.Replies.{answer, join_refusal, publish_refusal}
 use Rattle.room_core.specs.History.{after, is_accepted}
+use Rattle.room_core.specs.Counts.{saturated}
 use Rattle.room_core.specs.Follows.{Follows, IsFresh}
+use Rattle.room_core.specs.Given.{resends_of}
 use Rattle.room_core.specs.Passing.{Both}
 use Rattle.room_core.specs.Stepping.{IsAt, IsBegun, kind_by}
 
@@ -38,18 +40,19 @@ pub record IsTrackOf (track : LiveTrack) (p : Published) (kind : Kind) (hold : �
   pub at : IsAt events track.pipeline.value items
   pub pleaded_is : track.pleaded ≡ pleaded
 
--- a live subscriber with this number that joined like this, on a track of this kind with this history
-pub record IsSubscriberOf (subscriber : LiveSubscriber) (number : ℕ) (j : Joined) (kind : Kind) (entries : List Entry) (highest : ℕ) : Type 0 where
+-- a live subscriber with this number that joined like this, on a track of this kind with this history, to which so many packets were sent again
+pub record IsSubscriberOf (subscriber : LiveSubscriber) (number : ℕ) (j : Joined) (kind : Kind) (entries : List Entry) (highest resends : ℕ) : Type 0 where
   pub track_is : subscriber.track ≡ j.track
   pub known : j.track ≤ highest
   pub joined_is : subscriber_of number entries ≡ Some (subscriber_by j)
   pub follows : Follows kind subscriber.feed.value (subscriber_by j) (timeline_as kind number entries)
+  pub resent_is : subscriber.resent ≡ saturated resends
 
 abbrev pub IsTrackAfter : List Call → ℕ → LiveTrack → Published → Type 0
 IsTrackAfter past n track p = IsTrackOf track p (kind_of n past) (hold_of n past) (events_of n past) (items_of (entries_of n past)) (plea n past)
 
 abbrev pub IsSubscriberAfter : List Call → ℕ → LiveSubscriber → Joined → Type 0
-IsSubscriberAfter past n subscriber j = IsSubscriberOf subscriber n j (kind_of j.track past) (entries_of j.track past) (highest_track past)
+IsSubscriberAfter past n subscriber j = IsSubscriberOf subscriber n j (kind_of j.track past) (entries_of j.track past) (highest_track past) (resends_of n past)
 
 -- the content is in the state that these accepted calls leave
 pub record IsAfter (content : Content) (past : List Call) : Type 0 where

@@ -28,6 +28,7 @@ use Rattle.room_core.specs.CurrentTargets.{newest_frame, target_in}
 use Rattle.room_core.specs.declared.current_target.DecodeTarget.{DecodeTarget}
 use Rattle.target_selector.specs.Reaching.{reaches, targets_of}
 use Rattle.std.specs.Option.{option_map}
+use Rattle.room_core.specs.Counts.{feed_counts, no_counts}
 use Rattle.room_core.specs.declared.feed.Feed.{Feed}
 
 -- an event of a subscriber
@@ -51,6 +52,7 @@ pub record Follows (kind : Kind) (feed : Feed) (to : Subscriber) (events : List 
   pub newest_is : feed.selector.newest ≡ option_map targets_of (newest_frame events)
   pub ring : IsRingOf feed.ring to (takes_of events) (outgoing (sent kind) to events)
   pub causes : feed.causes ≡ recent (verdicts to.wish events)
+  pub counts_are : feed.counts ≡ feed_counts to.wish events
   pub finds : FindPackets (sent kind) to events
 
 -- the state before any event
@@ -60,6 +62,7 @@ pub record IsFresh (feed : Feed) (kind : Kind) (ssrc first : ℕ) (wish : Wish) 
   pub newest_is : feed.selector.newest ≡ None
   pub ring : feed.ring ≡ begun ssrc first
   pub causes : feed.causes ≡ []
+  pub counts_are : feed.counts ≡ no_counts
 
 -- ---- one event more
 

@@ -1,8 +1,8 @@
 -- The packets that a subscriber took, by the answers to its takes. Own rule. The code stores the last 1,024 packets only.
-use Rattle.std.specs.Prelude.{ℕ, ◌==◌, if◌then◌else◌, List, [], ◌∷◌, ◌++◌}
+use Rattle.std.specs.Prelude.{ℕ, ◌+◌, ◌==◌, if◌then◌else◌, List, [], ◌∷◌, ◌++◌}
 use Rattle.sfu_base.specs.Answer.{Answer, Sent}
 use Rattle.sfu_base.specs.declared.call.Call.{Call}
-use Rattle.sfu_base.specs.declared.call.Call.TheVariants.{Join, Take}
+use Rattle.sfu_base.specs.declared.call.Call.TheVariants.{Join, Resend, Take}
 use Rattle.room_core.specs.Replies.{answer}
 
 -- the packets, with that of one more answer if it sends one
@@ -16,3 +16,10 @@ given_to n [] = []
 given_to n (Join subscriber track ssrc first wish ∷ past) = if subscriber == n then [] else given_to n past
 given_to n (Take subscriber ∷ past) = if subscriber == n then and_sent (given_to n past) (answer past (Take subscriber)) else given_to n past
 given_to n (call ∷ past) = given_to n past
+
+-- how many packets the accepted resends of the subscriber with this number returned since it joined
+abbrev pub resends_of : ℕ → List Call → ℕ
+resends_of n [] = 0
+resends_of n (Join subscriber track ssrc first wish ∷ past) = if subscriber == n then 0 else resends_of n past
+resends_of n (Resend subscriber sequence ∷ past) = if subscriber == n then resends_of n past + 1 else resends_of n past
+resends_of n (call ∷ past) = resends_of n past

@@ -7,6 +7,7 @@ pub mod Targets
 pub mod Sent
 pub mod Openings
 pub mod Views
+pub mod Ready
 pub mod Replies
 pub mod Noted
 pub mod History
@@ -20,7 +21,9 @@ pub mod Indexed
 pub mod Serves
 pub mod Silent
 pub mod Sendable
+pub mod Counts
 pub mod Follows
+pub mod CountsOf
 pub mod FrameCache
 pub mod Stepping
 pub mod Passing

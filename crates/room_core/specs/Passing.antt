@@ -30,6 +30,7 @@ Both R (Some a) (Some b) = R a b
 -- one subscriber: if it is the track's, its feed changed like this; else nothing changed
 pub record IsPassed (R : Feed → Feed → Type 0) (number : ℕ) (old new : LiveSubscriber) : Type 0 where
   pub track : new.track ≡ old.track
+  pub resent : new.resent ≡ old.resent
   pub passed : old.track ≡ number → R old.feed.value new.feed.value
   pub other : (old.track ≡ number → ⊥) → new ≡ old
 

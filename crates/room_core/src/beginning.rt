@@ -171,10 +171,14 @@ impl Content {
         ensures sends_none { result ≢ reply.Packet }
     {
         match ready {
-            Ready::Sent(feed) => match self
-                .subscribers
-                .insert_full(subscriber, LiveSubscriber { track, feed })
-            {
+            Ready::Sent(feed) => match self.subscribers.insert_full(
+                subscriber,
+                LiveSubscriber {
+                    track,
+                    feed,
+                    resent: 0,
+                },
+            ) {
                 Ok((place, _)) => {
                     self.highest_subscriber = subscriber;
                     put_place(&mut self.tracks, track, place);

@@ -6,6 +6,7 @@ ghost use Rattle.room_core.specs.Sendable.{IsSendable};
 ghost use Rattle.frame_cache.specs.Sharing.{AreFirst};
 ghost use Rattle.room_core.specs.FrameCache.{IsOfFrame};
 
+use crate::counts::{FeedCounts, count_one};
 use crate::sending::{own_marker, push_from, push_remasked};
 use cause_book::CauseBook;
 use frame_cache::FrameCache;
@@ -15,14 +16,15 @@ use std::alloc::Global;
 use target_selector::{FrameOffer, MOST_QUEUED, Selector};
 use track_core::Track;
 
-/// What one subscriber is sent: the kind of its track, the selection of frames, the queued and kept packets, and the verdicts on frames. All memory
-/// of a feed is allocated when it is made.
+/// What one subscriber is sent: the kind of its track, the selection of frames, the queued and kept packets, the verdicts on frames, and what is
+/// counted. All memory of a feed is allocated when it is made.
 #[derive(Drop)]
 pub struct Feed {
     pub kind: Kind,
     pub selector: Selector,
     pub ring: OutRing,
     pub causes: CauseBook,
+    pub counts: FeedCounts,
 }
 
 impl Feed {
@@ -41,6 +43,7 @@ impl Feed {
             selector: Selector::new(wish),
             ring: OutRing::new(alloc, ssrc, first)?,
             causes: CauseBook::new(alloc)?,
+            counts: FeedCounts::new(),
         })
     }
 
@@ -61,6 +64,8 @@ impl Feed {
     {
         if self.ring.queued() < MOST_QUEUED {
             cache.queue(&mut self.ring, 0, packet, own_marker(packet));
+        } else {
+            count_one(&mut self.counts.left_out);
         }
     }
 
@@ -85,6 +90,7 @@ impl Feed {
         if let Verdict::Passed = verdict {
             // A constant, so that the verdict isn't tested again.
             self.causes.write(number, Verdict::Passed);
+            self.counts.frames.count(Verdict::Passed);
             let is_top = self.selector.marks_last();
             if is_told(self.selector.opened(), tells) {
                 let mask = offer.mask_for(self.selector.target());
@@ -94,6 +100,7 @@ impl Feed {
             }
         } else {
             self.causes.write(number, verdict);
+            self.counts.frames.count(verdict);
         }
     }
 
@@ -104,7 +111,13 @@ impl Feed {
         ensures untouched { result ≡ false → out.new ≡ out.old }
         ensures sendable { result ≡ true → IsSendable out.new }
     {
-        self.ring.take(out).is_ok()
+        match self.ring.take(out) {
+            Ok(_) => {
+                count_one(&mut self.counts.taken);
+                true
+            }
+            Err(_) => false,
+        }
     }
 
     /// Ends the subscriber, and releases the packets that it shared to `cache`. `left` subscribers remain on the track.

@@ -4,6 +4,7 @@
 
 mod beginning;
 mod content;
+mod counts;
 mod current_target;
 mod feed;
 mod keep_all;
@@ -12,6 +13,7 @@ mod live;
 mod memory;
 mod note;
 mod passing;
+mod ready;
 mod recorder;
 mod refusals;
 mod room;
@@ -25,8 +27,10 @@ mod track_places;
 mod track_questions;
 mod tracks;
 
+pub use counts::SubscriberCounts;
 pub use current_target::DecodeTarget;
 pub use keep_all::KeepAll;
 pub use laws::frames_open_their_targets;
 pub use recorder::{KeepNone, Recorder};
 pub use room::Room;
+pub use track_core::TrackCounts;

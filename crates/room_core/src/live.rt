@@ -22,12 +22,13 @@ pub struct LiveTrack {
     ghost idle: { pipeline.value.window.waiting ≡ [] },
 }
 
-/// A live subscriber: the number of its track, and what it is sent. The feed is on the heap, so that the entries of the table are small: a leave
-/// moves one entry, and `count_on` reads all.
+/// A live subscriber: the number of its track, what it is sent, and how many packets it got once more. The feed is on the heap, so that the
+/// entries of the table are small: a leave moves one entry, and `count_on` reads all.
 #[derive(Drop)]
 pub struct LiveSubscriber {
     pub track: u32,
     pub feed: Box<Feed>,
+    pub resent: u64,
 }
 
 /// What is prepared for a call before anything changes: the pipeline and the frame cache of an accepted publish, the feed of an accepted

@@ -12,6 +12,7 @@ ghost use Rattle.room_core.specs.Live.{joined};
 ghost use Rattle.room_core.specs.Sendable.{IsSendable};
 
 use crate::content::Content;
+use crate::counts::count_one;
 use crate::feed::Feed;
 use crate::live::{LiveSubscriber, LiveTrack, count_on};
 use crate::table::place_of;
@@ -27,7 +28,7 @@ impl Content {
         ensures sends_none { result ≢ reply.Packet }
     {
         match self.subscribers.swap_remove_full(&subscriber) {
-            Some((place, _, LiveSubscriber { track, feed })) => {
+            Some((place, _, LiveSubscriber { track, feed, .. })) => {
                 let left = count_on(&self.subscribers, track);
                 end_feed(&mut self.tracks, track, place, feed, left);
                 move_last(&mut self.tracks, &self.subscribers, place);
@@ -78,15 +79,18 @@ impl Content {
     }
 
     /// Returns a kept packet of the subscriber once more.
-    pub fn resend(&self, subscriber: u32, seq: u16, out: &mut PacketBuf) -> Reply
-        ensures does { (numbers : List ℕ) → Does self.now self.now (call.Resend subscriber seq) result out.new numbers }
+    pub fn resend(&mut self, subscriber: u32, seq: u16, out: &mut PacketBuf) -> Reply
+        ensures does { (numbers : List ℕ) → Does self.old self.new (call.Resend subscriber seq) result out.new numbers }
         ensures fed { is_starved result ≡ false }
         ensures untouched { result ≢ reply.Packet → out.new ≡ out.old }
         ensures sendable { result ≡ reply.Packet → IsSendable out.new }
     {
-        match self.subscribers.get(&subscriber) {
+        match self.subscribers.get_mut(&subscriber) {
             Some(known) => match known.feed.resend(seq, out) {
-                Ok(()) => Reply::Packet,
+                Ok(()) => {
+                    count_one(&mut known.resent);
+                    Reply::Packet
+                }
                 Err(why) => Reply::Refused(why),
             },
             None => Reply::Refused(Refusal::NoSubscriber),

@@ -2,8 +2,10 @@
 // descriptors by Appendix A of RTP Payload Format For AV1.
 ghost use Rattle.std.specs.Prelude.{◌≤◌, length};
 
+mod counts;
 mod current_target;
 mod masks;
+mod ready;
 mod sharing;
 
 use crate::{KeepAll, KeepNone, Room};

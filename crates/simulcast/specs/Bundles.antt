@@ -1,5 +1,5 @@
 -- The state that a room with bundles represents, and what its calls do to it.
-use Rattle.std.specs.Prelude.{IsTrue, ◌≡◌, ◌==◌, ◌+◌, ◌%◌, ◌≤◌, ℕ, Bool, true, false, if◌then◌else◌, List, [], ◌∷◌, ◌++◌, Option, None, Some, Result, Ok, Err, count_by, fold, is_some, max, nat_le, length, map, position, slice_get, slice_set}
+use Rattle.std.specs.Prelude.{IsTrue, ⊤, ◌≡◌, ◌==◌, ◌+◌, ◌%◌, ◌≤◌, ℕ, Bool, true, false, if◌then◌else◌, List, [], ◌∷◌, ◌++◌, Option, None, Some, Result, Ok, Err, count_by, fold, is_some, max, nat_le, length, map, position, slice_get, slice_set}
 use Rattle.std.specs.List.{find, list_all}
 use Rattle.std.specs.Option.{option_map}
 use Rattle.sfu_base.specs.declared.call.Call.TheVariants.{Leave, Plead, Take}
@@ -95,6 +95,11 @@ CallsAs noted b h seat call bytes numbers None (Err why) = ⊥
 CallsAs noted b h seat call bytes numbers None (Ok reply) =
     (is_starved reply ≡ false → answer_of reply bytes numbers ≡ reply_of h.history call)
     × StandsFor noted b (record { history = h.history ++ record { seat = seat; call = call; starved = is_starved reply } ∷ []; made = h.made })
+
+-- the only reason for which a bundle refuses a call of the room
+abbrev pub IsBound : BundleFault → Type 0
+IsBound (fault.Bound bundle) = ⊤
+IsBound other = ⊥
 
 -- the effect of the room's own call, unless a bundle forbids it
 abbrev pub Calls : {R : Type 0} → (R → Option (List Noted)) → (old new : Bundles R) → ℕ → Call → (bytes numbers : List ℕ) → Result Reply BundleFault → Type 0

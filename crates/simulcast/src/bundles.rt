@@ -56,13 +56,14 @@ fn is_layered(kind: Result<Kind, Refusal>, id: u8) -> bool
 }
 
 impl<R: Recorder> Bundles<R> {
-    ghost use Rattle.std.specs.Prelude.{◌≡◌, ◌≤◌, ◌==◌, [], List, OnErr, fold, length, max, position};
+    ghost use Rattle.std.specs.Prelude.{◌≡◌, ◌≤◌, ◌==◌, [], List, IfErr, OnErr, fold, length, max, position};
     ghost use Rattle.std.specs.List.{find, list_all};
     ghost use Rattle.std.specs.Option.{option_map};
+    ghost use Rattle.sfu_base.specs.declared.call.Call.TheVariants as call;
     ghost use Rattle.simulcast.specs.Made.{has_leg, just_made, just_renumbered, made_with};
     ghost use Rattle.room_core.specs.History.{Entry, accepted};
     ghost use Rattle.room_core.specs.Serves.{Stands, recorder_may_refuse};
-    ghost use Rattle.simulcast.specs.Bundles.{Bundled, BundlesHeadline, Calls, CallsWhole, CallStarvesBy, Chooses, Draws, PleasesReceivers, PumpsOne, Redraws, Simulcast, StandsFor, StarvesBy};
+    ghost use Rattle.simulcast.specs.Bundles.{Bundled, BundlesHeadline, Calls, CallsWhole, CallStarvesBy, Chooses, Draws, IsBound, PleasesReceivers, PumpsOne, Redraws, Simulcast, StandsFor, StarvesBy};
     ghost use Rattle.simulcast.specs.Bundles.{bound_leg, bundle_refusal, forbids_by, has_kind, is_live, may_starve, nothing_made};
 
     /// The room, with no bundle yet. Allocates no memory.
@@ -76,6 +77,13 @@ impl<R: Recorder> Bundles<R> {
             newest: NewestDescriptor::new(),
             bundles: Vec::new(alloc),
         }
+    }
+
+    /// The room, for its questions. Every call of the room goes through `call` or `take`.
+    pub fn room(&self) -> &Room<R>
+        ensures { result.now ≡ self.now.room }
+    {
+        &self.room
     }
 
     // The index of the bundle with this number, if there is one.
@@ -255,11 +263,32 @@ impl<R: Recorder> Bundles<R> {
         ensures calls { Calls R.noted self.old self.new seat call.now scratch.new.packet scratch.new.names result }
         ensures whole { CallsWhole R.noted R.may_refuse self.old self.new seat call.now scratch.old scratch.new result }
         ensures memory { CallStarvesBy R.may_refuse self.old call.now result }
+        ensures only { IfErr result IsBound }
         ensures recorder { may_starve R.may_refuse self.new ≡ may_starve R.may_refuse self.old }
     {
         match self.forbids(call) {
             Some(bundle) => Err(BundleFault::Bound { bundle }),
             None => Ok(self.room.serve(seat, call, scratch)),
+        }
+    }
+
+    /// Takes the oldest packet that is queued for a subscriber, as `Room::take` does: `call` with `Call::Take` does the same. `Bound`: the subscriber is a
+    /// leg of that bundle. Nothing changes then, not even the scratch.
+    pub fn take(
+        &mut self,
+        seat: u32,
+        subscriber: u32,
+        scratch: &mut Scratch,
+    ) -> Result<Reply, BundleFault>
+        ensures calls { Calls R.noted self.old self.new seat (call.Take subscriber) scratch.new.packet scratch.new.names result }
+        ensures whole { CallsWhole R.noted R.may_refuse self.old self.new seat (call.Take subscriber) scratch.old scratch.new result }
+        ensures memory { CallStarvesBy R.may_refuse self.old (call.Take subscriber) result }
+        ensures only { IfErr result IsBound }
+        ensures recorder { may_starve R.may_refuse self.new ≡ may_starve R.may_refuse self.old }
+    {
+        match self.owner(subscriber) {
+            Some(bundle) => Err(BundleFault::Bound { bundle }),
+            None => Ok(self.room.take(seat, subscriber, scratch)),
         }
     }
 

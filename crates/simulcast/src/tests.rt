@@ -71,17 +71,20 @@ fn packet(track: u32, seq: u16, rest: &[u8]) -> PacketBuf {
     packet
 }
 
+fn scratch() -> Scratch {
+    Scratch {
+        packet: PacketBuf::new(),
+        names: SeqList::new(),
+    }
+}
+
 fn call(
     rt: &impl Abort,
     bundles: &mut Bundles<KeepNone>,
     call: Call,
     wanted: Result<Reply, BundleFault>,
 ) {
-    let mut scratch = Scratch {
-        packet: PacketBuf::new(),
-        names: SeqList::new(),
-    };
-    assert_eq!(rt; bundles.call(0, &call, &mut scratch), wanted);
+    assert_eq!(rt; bundles.call(0, &call, &mut scratch()), wanted);
 }
 
 fn room_step(rt: &impl Abort, bundles: &mut Bundles<KeepNone>, step: Step) {
@@ -117,7 +120,10 @@ fn room_step(rt: &impl Abort, bundles: &mut Bundles<KeepNone>, step: Step) {
             };
             call(rt, bundles, came, done);
         }
-        Step::Take(subscriber, wanted) => call(rt, bundles, Call::Take { subscriber }, wanted),
+        Step::Take(subscriber, wanted) => {
+            call(rt, bundles, Call::Take { subscriber }, wanted);
+            assert_eq!(rt; bundles.take(0, subscriber, &mut scratch()), wanted);
+        }
         Step::Leave(subscriber, wanted) => call(rt, bundles, Call::Leave { subscriber }, wanted),
         Step::KeyWanted(track, wanted) => {
             call(
@@ -132,10 +138,7 @@ fn room_step(rt: &impl Abort, bundles: &mut Bundles<KeepNone>, step: Step) {
 }
 
 fn bundle_step(rt: &impl Abort, bundles: &mut Bundles<KeepNone>, step: Step) {
-    let mut scratch = Scratch {
-        packet: PacketBuf::new(),
-        names: SeqList::new(),
-    };
+    let mut scratch = scratch();
     let mut out = PacketBuf::new();
     match step {
         Step::Bundle(number, id, legs, wanted) => {

@@ -6,8 +6,9 @@ pub mod Pushing
 pub mod Standing
 pub mod TakenPieces
 pub mod Packets
-pub mod Orders
 pub mod Bounds
+pub mod Counted
+pub mod Orders
 pub mod Brought
 pub mod TakenPackets
 pub mod OfFrames

@@ -1,5 +1,5 @@
 -- What a track stands for after an event, and after a step.
-use Rattle.std.proofs.Common.{◌≡◌, ℕ, ◌+◌, ◌-◌, ◌*◌, ◌≤◌, ◌^◌, Bool, true, false, cond, ◌==◌, nat_lt, List, [], ◌∷◌, ◌++◌, length, drop, Option, Some, None, Result, Ok, Err, refl, sym, ap, subst, ◌∙◌, arith, append_assoc, append-nil, length-append}
+use Rattle.std.proofs.Common.{◌≡◌, ℕ, ◌+◌, ◌-◌, ◌*◌, ◌≤◌, ◌<◌, ◌^◌, Bool, true, false, cond, ◌==◌, nat_lt, List, [], ◌∷◌, ◌++◌, length, drop, Option, Some, None, Result, Ok, Err, refl, sym, ap, subst, ◌∙◌, arith, append_assoc, append-nil, length-append}
 use Rattle.std.specs.Prelude.{IfSome, is_some, slice_get}
 use Rattle.std.specs.List.{AllByRecursion}
 use Rattle.std.specs.Option.{option_map}
@@ -20,12 +20,15 @@ use Rattle.track_core.specs.declared.layers.Layers.{Layers}
 use Rattle.track_core.specs.declared.track.Made.{Made}
 use Rattle.track_core.specs.declared.track.Made.TheVariants as made
 use Rattle.sfu_base.specs.declared.call.Refusal.TheVariants as refusal
+use Rattle.track_core.specs.declared.counts.Tally.{Tally}
+use Rattle.track_core.specs.Counts.{IsSmall, and_given_up, and_gone, counted_item, counted_made, given_up_in, no_tally, tally_after}
 use Rattle.track_core.specs.Layers.{HasStood, IsAfter, IsAfterAs, meaning_made}
 use Rattle.track_core.specs.Pieces.{IsTaken, IsTakenIn, IsTakenPiece, item_by, item_of, items_of}
 use Rattle.track_core.specs.Kept.{packets_in}
 use Rattle.track_core.proofs.Packets.{packets_there}
-use Rattle.track_core.specs.Track.{Seen, StandsFor, and_piece, first_refusal, frame_by, frame_packets, gives, id_of, newest_after, newest_with, number_of, packets_of, plain_packets, is_got, made_by, made_frame, made_meaning, made_of, made_plain, order_refusal, read_refusal, refused, structure_after, structure_in}
+use Rattle.track_core.specs.Track.{Seen, StandsFor, and_piece, first_refusal, frame_by, frame_in, frame_packets, gives, id_of, newest_after, newest_with, number_of, packets_of, plain_packets, is_got, made_by, made_frame, made_meaning, made_of, made_plain, order_refusal, read_refusal, refused, structure_after, structure_in}
 use Rattle.track_core.proofs.Bounds.{next_bounded}
+use Rattle.track_core.proofs.Counted.{gone_as, items_more, piece_fits, sized_as, small_more, tally_more}
 use Rattle.track_core.proofs.TakenPieces.{all_behind, few_pieces, items_taken}
 
 -- ---- before the first event
@@ -38,23 +41,32 @@ before_frames : (o : Option ℕ) → newest_after o [] ≡ None
 before_frames None = refl
 before_frames (Some id) = refl
 
+no_counts : (o : Option ℕ) → tally_after o [] ≡ no_tally
+no_counts None = refl
+no_counts (Some id) = refl
+
+none_small : IsSmall no_tally 0
+none_small = record { arrived = omega arith; frames = omega arith; key_frames = omega arith; framed = omega arith }
+
 pub fresh : (t : Seen) (hold : ℕ) → t.window ≡ record { hold = hold; order = before_all; waiting = [] } → IfSome t.layers (λ l. IsAfter l []) → IfSome t.layers (λ l. l.table.newest ≡ 0)
-    → t.newest ≡ None → StandsFor t [] []
-fresh t hold window layers newest none = record {
+    → t.newest ≡ None → t.tally ≡ no_tally → StandsFor t [] []
+fresh t hold window layers newest none tally = record {
   window = record { order = ap (λ (w : Window). w.order) window };
   taken = tt;
   pieces = ap (λ (w : Window). w.waiting) window;
   layers = layers;
   numbers = zero_few t.layers newest;
   newest = none ∙ sym (before_frames (option_map id_of t.layers));
+  tally = tally ∙ sym (no_counts (option_map id_of t.layers));
+  small = subst (λ (x : Tally). IsSmall x 0) (sym tally) none_small;
 }
 
 -- ---- one event
 
 pub event_stands : (old new : Seen) (event : Event) (events : List Event) (worked : List Piece) → StandsFor old events worked → old.window.waiting ≡ []
     → WindowAfter new.window (event ∷ events) → new.window.waiting ≡ added old.window.hold old.window.order event → new.window.hold ≡ old.window.hold
-    → IsTakenIn event → new.layers ≡ old.layers → new.newest ≡ old.newest → StandsFor new (event ∷ events) worked
-event_stands old new event events worked stands idle window waiting hold one layers newest =
+    → IsTakenIn event → new.layers ≡ old.layers → new.newest ≡ old.newest → new.tally ≡ old.tally → StandsFor new (event ∷ events) worked
+event_stands old new event events worked stands idle window waiting hold one layers newest tally =
     let all : worked ≡ order_items old.window.hold events = sym (append-nil worked) ∙ ap (λ (xs : List Piece). worked ++ xs) (sym idle) ∙ stands.pieces in
     let more : new.window.waiting ≡ added old.window.hold (order_of old.window.hold events) event =
     waiting ∙ ap (λ (o : Order). added old.window.hold o event) stands.window.order in
@@ -66,6 +78,8 @@ event_stands old new event events worked stands idle window waiting hold one lay
       layers = subst (λ (o : Option Layers). IfSome o (λ l. IsAfter l (items_of worked))) (sym layers) stands.layers;
       numbers = subst (λ (o : Option Layers). IfSome o (λ l. l.table.newest ≤ 131072 * length worked)) (sym layers) stands.numbers;
       newest = newest ∙ stands.newest ∙ ap (λ (o : Option Layers). newest_after (option_map id_of o) worked) (sym layers);
+      tally = tally ∙ stands.tally ∙ ap (λ (o : Option Layers). tally_after (option_map id_of o) worked) (sym layers);
+      small = subst (λ (x : Tally). IsSmall x (length worked)) (sym tally) stands.small;
     }
 
 -- ---- refusals
@@ -113,10 +127,6 @@ taken_here : (piece : Piece) (item : OrderItem) (before buffer : List ℕ) → i
 taken_here (Got h) item before buffer told bytes taken got = subst IsTaken (sym bytes) taken
 taken_here (Gone from to) item before buffer told bytes taken got = absurd (let no : false ≡ true = sym (ap is_got told) ∙ got in cc)
 
-items_more : (worked : List Piece) (piece : Piece) → items_of (worked ++ piece ∷ []) ≡ item_of piece ∷ items_of worked
-items_more [] piece = refl
-items_more (p ∷ ps) piece = ap (λ (xs : List Item). xs ++ item_of p ∷ []) (items_more ps piece)
-
 -- a frame that the piece makes is the newest
 newest_more : (o : Option Layers) (worked : List Piece) (piece : Piece) (made : Made) (newest : Option ℕ) → made ≡ made_of o worked (Some piece)
     → newest ≡ newest_after (option_map id_of o) worked → newest_with made newest ≡ newest_after (option_map id_of o) (worked ++ piece ∷ [])
@@ -152,13 +162,35 @@ module _ (t : Seen) (events : List Event) (worked : List Piece) (stands : Stands
   pub stood_step : IfSome t.layers HasStood
   stood_step = some_stood t.layers (items_of worked) stands.layers
 
-  pub bound_step : IfSome t.layers (λ l. l.table.newest ≤ 2 ^ 63 - 131072)
-  bound_step =
+  room_step : length worked + 1 ≤ 2 ^ 46
+  room_step =
       let whole = ap length (ap (λ (xs : List Piece). worked ++ xs) (sym f.is) ∙ stands.pieces) in
       let parts = length-append worked (f.piece ∷ f.rest) in
       let few = few_pieces t.window.hold events in
-      let room : length worked + 1 ≤ 2 ^ 46 = omega (arith, whole, parts, few, next_bounded t.window.hold events) in
-      some_room t.layers (length worked) room stands.numbers
+      omega (arith, whole, parts, few, next_bounded t.window.hold events)
+
+  pub bound_step : IfSome t.layers (λ l. l.table.newest ≤ 2 ^ 63 - 131072)
+  bound_step = some_room t.layers (length worked) room_step stands.numbers
+
+  -- what one more item counts fits
+  pub arrived_step : t.tally.arrived < 2 ^ 63
+  arrived_step = omega (arith, stands.small.arrived, room_step)
+
+  pub gone_step : and_gone item t.tally.given_up < 2 ^ 63
+  gone_step =
+      let fits = piece_fits t.window.hold events worked f.piece f.rest (ap (λ (xs : List Piece). worked ++ xs) (sym f.is) ∙ stands.pieces) in
+      let same = gone_as f.piece item t.tally.given_up f.told in
+      let is : and_given_up f.piece t.tally.given_up ≡ and_given_up f.piece (given_up_in worked) = ap (λ (x : Tally). and_given_up f.piece x.given_up) stands.tally in
+      omega (arith, fits, same, is)
+
+  pub frames_step : t.tally.frames < 2 ^ 63
+  frames_step = omega (arith, stands.small.frames, room_step)
+
+  pub key_frames_step : t.tally.key_frames < 2 ^ 63
+  key_frames_step = omega (arith, stands.small.key_frames, room_step)
+
+  pub framed_step : t.tally.framed < 2 ^ 63
+  framed_step = omega (arith, stands.small.framed, room_step)
 
   frame_meaning : (o : Option (Frame TemplateStructure)) → made_meaning (option_map meaning_of o) ≡ made_frame o
   frame_meaning None = refl
@@ -179,12 +211,15 @@ module _ (t : Seen) (events : List Event) (worked : List Piece) (stands : Stands
       → ((past : List Item) → IfSome t.layers (λ l. IsAfter l past) → IfSome new.layers (λ l. IsAfter l (item_by (is_got item) buffer ∷ past)))
       → option_map id_of new.layers ≡ option_map id_of t.layers
       → (made : Made) → made ≡ made_by t.layers (items_of worked) (is_got item) buffer → new.newest ≡ newest_with made t.newest
+      → (packets : ℕ) → packets ≡ length (frame_in new.layers) → packets ≤ 512 → new.tally ≡ counted_made made packets (counted_item item t.tally)
       → StandsFor new events (worked ++ f.piece ∷ [])
-  step_stands new window near layers id made is newest =
+  step_stands new window near layers id made is newest packets count few tally =
       let rest : new.window.waiting ≡ f.rest = ap (λ (w : Window). w.waiting) window ∙ ap (drop 1) f.is in
       let hold : new.window.hold ≡ t.window.hold = ap (λ (w : Window). w.hold) window in
       let items : item_by (is_got item) buffer ∷ items_of worked ≡ items_of (worked ++ f.piece ∷ []) =
       ap (λ (i : Item). i ∷ items_of worked) (item_here f.piece item before buffer f.told f.bytes) ∙ sym (items_more worked f.piece) in
+      let after : IfSome new.layers (λ l. IsAfter l (item_of f.piece ∷ items_of worked)) =
+      subst (λ (i : Item). IfSome new.layers (λ l. IsAfter l (i ∷ items_of worked))) (item_here f.piece item before buffer f.told f.bytes) (layers (items_of worked) stands.layers) in
       let long : 131072 * length worked + 131072 ≡ 131072 * length (worked ++ f.piece ∷ []) = omega (arith, length-append worked (f.piece ∷ [])) in
       record {
         window = record { order = ap (λ (w : Window). w.order) window ∙ stands.window.order ∙ ap (λ (h : ℕ). order_of h events) (sym hold) };
@@ -195,6 +230,13 @@ module _ (t : Seen) (events : List Event) (worked : List Piece) (stands : Stands
         numbers = subst (λ (n : ℕ). IfSome new.layers (λ l. l.table.newest ≤ n)) long (near (131072 * length worked) stands.numbers);
         newest = newest ∙ newest_more t.layers worked f.piece made t.newest (is ∙ made_with t.layers) stands.newest
             ∙ ap (λ (o : Option ℕ). newest_after o (worked ++ f.piece ∷ [])) (sym id);
+        tally = tally
+            ∙ tally_more t.layers worked f.piece item made packets t.tally (is ∙ made_with t.layers) f.told
+            (λ k frame same by. count ∙ sized_as worked f.piece new.layers k frame (id ∙ same) after by) stands.tally
+            ∙ ap (λ (o : Option ℕ). tally_after o (worked ++ f.piece ∷ [])) (sym id);
+        small = subst (λ (x : Tally). IsSmall x (length (worked ++ f.piece ∷ []))) (sym tally)
+            (subst (IsSmall (counted_made made packets (counted_item item t.tally))) (sym (length-append worked (f.piece ∷ [])))
+            (small_more made item t.tally packets (length worked) few stands.small));
       }
 
   pub made_step : made_by t.layers (items_of worked) (is_got item) buffer ≡ made_of t.layers worked (slice_get t.window.waiting 0)

@@ -96,7 +96,7 @@ items_taken hold events all = (order_taken hold events all).items
 
 -- ---- how many pieces there are
 
-length-counted : (n k : ℕ) → length (counted n k) ≡ k
+pub length-counted : (n k : ℕ) → length (counted n k) ≡ k
 length-counted n zero = refl
 length-counted n (suc k) = ap suc (length-counted (n + 1) k)
 
@@ -135,7 +135,7 @@ items_long hold (event ∷ past) =
     let e = length-append (named (order_items hold past)) (named (added hold (order_of hold past) event)) in
     omega (arith, a, b, c, d, e)
 
-numbers_few : (first : Option ℕ) (end : ℕ) → length (numbers_from first end) ≤ end
+pub numbers_few : (first : Option ℕ) (end : ℕ) → length (numbers_from first end) ≤ end
 numbers_few None end = omega arith
 numbers_few (Some first) end = omega (arith, length-counted first (end - first))
 

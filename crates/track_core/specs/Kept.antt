@@ -19,6 +19,7 @@ seen t = record {
   packets = if t.given then packets_in t.layers t.slot.value else [];
   meaning = t.meaning;
   newest = t.newest;
+  tally = t.tally;
 }
 
 -- there are events that the track represents

@@ -29,11 +29,13 @@ use Rattle.reorder_window.specs.declared.arrival.Item.TheVariants as item
 use Rattle.sfu_base.specs.declared.frame.FrameMeaning.{FrameMeaning}
 use Rattle.sfu_base.specs.Frame.{IsValid}
 use Rattle.std.specs.Option.{option_map}
+use Rattle.track_core.specs.Counts.{IsSmall, tally_after}
+use Rattle.track_core.specs.declared.counts.Tally.{Tally}
 use Rattle.track_core.specs.Layers.{IsAfter, meaning_made}
 use Rattle.track_core.specs.Pieces.{IsTakenIn, item_by, item_of, items_of}
 
--- The SSRC, the reorder window with the pieces that wait, the state of a layered track, the packets that the last step made, and the meaning and the
--- number of the last frame made.
+-- The SSRC, the reorder window with the pieces that wait, the state of a layered track, the packets that the last step made, the meaning and the
+-- number of the last frame that was made, and what is counted.
 pub record Seen : Type 0 where
   pub ssrc : ℕ
   pub window : Window
@@ -41,6 +43,7 @@ pub record Seen : Type 0 where
   pub packets : List (List ℕ)
   pub meaning : FrameMeaning
   pub newest : Option ℕ
+  pub tally : Tally
 
 abbrev pub id_of : Layers → ℕ
 id_of l = l.id
@@ -61,6 +64,8 @@ pub record StandsFor (track : Seen) (events : List Event) (worked : List Piece) 
   pub layers : IfSome track.layers (λ l. IsAfter l (items_of worked))
   pub numbers : IfSome track.layers (λ l. l.table.newest ≤ 131072 * length worked)
   pub newest : track.newest ≡ newest_after (option_map id_of track.layers) worked
+  pub tally : track.tally ≡ tally_after (option_map id_of track.layers) worked
+  pub small : IsSmall track.tally (length worked)
 
 -- ---- refusals
 
@@ -183,6 +188,11 @@ pub record Stays (old new : Seen) : Type 0 where
   pub id : option_map id_of new.layers ≡ option_map id_of old.layers
 
 -- ---- steps of the code
+
+-- the packets that a layered track keeps of a frame that the last step made whole
+abbrev pub frame_in : Option Layers → List (List ℕ)
+frame_in None = []
+frame_in (Some l) = l.assembly.frame
 
 abbrev pub structure_in : Option Layers → Option TemplateStructure
 structure_in None = None

@@ -2,9 +2,11 @@
 //! allocates memory.
 #![tactic(auto)]
 
+mod counts;
 mod layers;
 mod track;
 
+pub use counts::{Tally, TrackCounts};
 pub use layers::Layers;
 pub use track::{Advance, Made, Track};
 

@@ -7,13 +7,15 @@ ghost use Rattle.reorder_window.specs.Missing.{missing_sequences};
 ghost use Rattle.rtp_packet.specs.Faults.{first_fault};
 ghost use Rattle.rtp_packet.specs.Fields.{sequence_of};
 ghost use Rattle.packet_format.specs.Packets.{packet_of};
-ghost use Rattle.track_core.specs.Track.{HasKind, IsMadeValid, StandsFor, Stays, and_piece, first_refusal, frames_packets, has_given, id_of, is_got, made_by, made_of, newest_after, newest_with, packets_of, refusal_of, refused, structure_after, structure_in, with_meaning};
+ghost use Rattle.track_core.specs.Counts.{counts_after};
+ghost use Rattle.track_core.specs.Track.{HasKind, IsMadeValid, StandsFor, Stays, and_piece, first_refusal, frame_in, frames_packets, has_given, id_of, is_got, made_by, made_of, newest_after, newest_with, packets_of, refusal_of, refused, structure_after, structure_in, with_meaning};
 ghost use Rattle.track_core.specs.Layers.{HasStood, IsAfter};
 ghost use Rattle.track_core.specs.Pieces.{IsTaken, item_by};
 ghost use Rattle.forwarding_model.specs.frames.Frames.{Item};
 ghost use Rattle.std.specs.List.{AllByRecursion};
 ghost use Rattle.std.specs.Option.{option_map};
 
+use crate::counts::{Tally, TrackCounts};
 use crate::layers::{Layers, work_off};
 use dd_structure::Structure;
 use frame_table::NO_MEANING;
@@ -50,8 +52,8 @@ pub enum Advance {
 }
 
 /// One publisher's packets, from their arrival to plain packets or whole frames. Clauses see the SSRC, the reorder window with the items that
-/// wait, the state of a layered track, the packets that the last step made, and the meaning and number of the last
-/// frame made.
+/// wait, the state of a layered track, the packets that the last step made, the meaning and number of the last frame
+/// made, and what is counted.
 #[derive(Drop)]
 pub struct Track {
     ssrc: u32,
@@ -66,6 +68,8 @@ pub struct Track {
     meaning: FrameMeaning,
     // The number of the last frame made.
     newest: Option<u64>,
+    // What is counted since the publish.
+    tally: Tally,
 }
 
 impl Model for Track {
@@ -95,6 +99,7 @@ impl Track {
         let Ok(slot) = Box::new(alloc, PacketSlot::new()) else {
             return Err(NoMemory);
         };
+        let tally = Tally::new();
         Ok(Track {
             ssrc,
             window,
@@ -103,6 +108,7 @@ impl Track {
             given: false,
             meaning: NO_MEANING,
             newest: None,
+            tally,
         })
     }
 
@@ -213,6 +219,8 @@ impl Track {
             &mut self.meaning,
         );
         self.newest = newest_with(made, &self.meaning, self.newest);
+        let packets = frame_count(&self.layers);
+        self.tally.add(&item, made, &self.meaning, packets);
         self.given = is_given(made);
         made
     }
@@ -243,6 +251,15 @@ impl Track {
             → result ≡ newest_after (option_map id_of self.now.layers) worked }
     {
         self.newest
+    }
+
+    /// Returns what is counted of the items processed since the track began: the packets that came, the numbers that were given up, the frames made
+    /// whole, the key frames among them, and the packets that are in no whole frame.
+    pub fn counts(&self) -> TrackCounts
+        ensures { (events : List Event) (worked : List Piece) → StandsFor self.now events worked
+            → result ≡ counts_after (option_map id_of self.now.layers) worked }
+    {
+        self.tally.counts(self.layers.is_some())
     }
 
     /// The meaning of the last frame made; before the first frame a placeholder.
@@ -373,6 +390,17 @@ fn newest_with(made: Advance, meaning: &FrameMeaning, newest: Option<u64>) -> Op
     match made {
         Advance::Frame => Some(meaning.number),
         Advance::Idle | Advance::Nothing | Advance::Packet => newest,
+    }
+}
+
+// How many packets the frame has that the last item completed; 0 if it completed none.
+fn frame_count(layers: &Option<Layers>) -> u16
+    ensures count { result ≡ length (frame_in layers.now) }
+    ensures few { result ≤ 512 }
+{
+    match layers {
+        Some(layers) => layers.assembly.count(),
+        None => 0,
     }
 }
 

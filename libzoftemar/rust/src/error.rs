@@ -10,9 +10,9 @@ pub enum Error {
     NoTrack,
     /// No live subscriber has this number.
     NoSubscriber,
-    /// The number isn't above `highest`, the highest that was ever live (0 if none was).
+    /// The number isn't above `highest`, the highest that was ever live, or that a bundle has (0 if none).
     NumberUsed { highest: u64 },
-    /// `live` tracks or subscribers are live already: 64 or 256.
+    /// `live` tracks, subscribers or bundles are live already: 64, 256 or 64.
     TooMany { live: u64 },
     /// The id of the header extension element is 0 or 15; of a recorder 0.
     BadExtensionId,
@@ -29,7 +29,7 @@ pub enum Error {
     Late { next: u64 },
     /// The packet is already buffered, behind a gap.
     Repeat,
-    /// The packet isn't kept. `oldest` is the oldest kept sequence number, `next` the next take's; both are as on the wire.
+    /// The packet isn't kept. `oldest` is the oldest kept sequence number, `next` that of the next take or draw; both are as on the wire.
     NotKept { oldest: u64, next: u64 },
     /// The frame number is above `newest`, the newest frame's number. `None`: no frame came since the subscriber joined.
     Ahead { newest: Option<u64> },
@@ -37,14 +37,24 @@ pub enum Error {
     TooOld { lowest: u64 },
     /// The subscriber's track is plain.
     Plain,
-    /// Out of memory. Only opening, publishing, joining and [`Recorder::feed`](crate::Recorder::feed) return this error.
+    /// Out of memory. Only opening, publishing, joining, bundling and [`Recorder::feed`](crate::Recorder::feed) return this error.
     NoMemory,
+    /// No bundle has this number.
+    NoBundle,
+    /// The bundle has no such leg; its legs are 1 to `legs`.
+    NoLeg { legs: u64 },
+    /// The track of a leg isn't layered, or has another id of the header extension element.
+    WrongKind,
+    /// The subscriber is a leg of bundle `bundle`, or is listed twice among its legs.
+    Bound { bundle: u64 },
     /// A packet or datagram of more than 2,048 bytes, or one to wrap of more than 2,046.
     TooLong,
     /// The session still has a call to make: call [`work`](crate::Session::work) until it returns `None`.
     Busy,
     /// A payload type of 128 or more, or a retransmission stream with the SSRC of the media.
     BadStream,
+    /// A bundle has two or three legs.
+    BadLegs,
     /// A recorded packet isn't RTP, has no or a bad payload or descriptor, or has a structure that isn't in force and begins no key frame.
     Unread,
     /// The recorded packet's SSRC is `got`, and the first packet's is `had`.
@@ -83,9 +93,14 @@ impl Error {
             46 => Error::TooOld { lowest: first },
             47 => Error::Plain,
             48 => Error::NoMemory,
+            49 => Error::NoBundle,
+            50 => Error::NoLeg { legs: first },
+            51 => Error::WrongKind,
+            52 => Error::Bound { bundle: first },
             67 => Error::TooLong,
             70 => Error::Busy,
             71 => Error::BadStream,
+            75 => Error::BadLegs,
             80 => Error::Unread,
             81 => Error::OtherSource { got: first, had: second },
             82 => Error::OutOfSequence { got: first, had: second },
@@ -116,9 +131,14 @@ impl Error {
             Error::TooOld { .. } => 46,
             Error::Plain => 47,
             Error::NoMemory => 48,
+            Error::NoBundle => 49,
+            Error::NoLeg { .. } => 50,
+            Error::WrongKind => 51,
+            Error::Bound { .. } => 52,
             Error::TooLong => 67,
             Error::Busy => 70,
             Error::BadStream => 71,
+            Error::BadLegs => 75,
             Error::Unread => 80,
             Error::OtherSource { .. } => 81,
             Error::OutOfSequence { .. } => 82,
@@ -151,6 +171,9 @@ pub fn code_name(code: u32) -> &'static str {
         6 => "ZOFTEMAR_DUE",
         7 => "ZOFTEMAR_NEWEST",
         8 => "ZOFTEMAR_FILE_PIECE",
+        9 => "ZOFTEMAR_PUMPED",
+        10 => "ZOFTEMAR_COUNTS",
+        11 => "ZOFTEMAR_READY",
         16 => "ZOFTEMAR_PASSED",
         17 => "ZOFTEMAR_NOT_OF_TARGET",
         18 => "ZOFTEMAR_BEHIND",
@@ -176,6 +199,10 @@ pub fn code_name(code: u32) -> &'static str {
         46 => "ZOFTEMAR_TOO_OLD",
         47 => "ZOFTEMAR_PLAIN",
         48 => "ZOFTEMAR_NO_MEMORY",
+        49 => "ZOFTEMAR_NO_BUNDLE",
+        50 => "ZOFTEMAR_NO_LEG",
+        51 => "ZOFTEMAR_WRONG_KIND",
+        52 => "ZOFTEMAR_BOUND",
         64 => "ZOFTEMAR_NO_ROOM",
         65 => "ZOFTEMAR_HAS_ROOM",
         66 => "ZOFTEMAR_NO_SPACE",
@@ -187,6 +214,7 @@ pub fn code_name(code: u32) -> &'static str {
         72 => "ZOFTEMAR_NO_RECORDER",
         73 => "ZOFTEMAR_HAS_RECORDER",
         74 => "ZOFTEMAR_FINISHED",
+        75 => "ZOFTEMAR_BAD_LEGS",
         80 => "ZOFTEMAR_UNREAD",
         81 => "ZOFTEMAR_OTHER_SOURCE",
         82 => "ZOFTEMAR_OUT_OF_SEQUENCE",

@@ -1,5 +1,5 @@
 //! The declarations of zoftemar.h, in Rust.
-use crate::{Error, Target};
+use crate::{Error, SubscriberCounts, Target, TrackCounts};
 use std::ffi::c_void;
 
 /// `zoftemar_reply`.
@@ -20,7 +20,9 @@ pub struct Handle {
     at: *mut c_void,
 }
 
-const _: () = assert!(std::mem::size_of::<Handle>() == 16 && std::mem::size_of::<Reply>() == 24 && std::mem::size_of::<Target>() == 4);
+const _: () = assert!(std::mem::size_of::<Handle>() == 16 && std::mem::size_of::<Reply>() == 24 && std::mem::size_of::<Target>() == 8);
+
+const _: () = assert!(std::mem::size_of::<SubscriberCounts>() == 128 && std::mem::size_of::<TrackCounts>() == 64);
 
 impl Handle {
     /// `ZOFTEMAR_ROOM_NONE`.
@@ -45,6 +47,9 @@ pub const TARGET: u32 = 5;
 pub const DUE: u32 = 6;
 pub const NEWEST: u32 = 7;
 pub const FILE_PIECE: u32 = 8;
+pub const PUMPED: u32 = 9;
+pub const COUNTS: u32 = 10;
+pub const READY: u32 = 11;
 pub const EMPTY: u32 = 43;
 
 impl Reply {
@@ -84,10 +89,19 @@ extern "C" {
     pub fn zoftemar_resend(room: &mut Handle, seat: u32, subscriber: u32, number: u16, out: *mut u8, count: usize) -> Reply;
     pub fn zoftemar_plead(room: &mut Handle, seat: u32, subscriber: u32) -> Reply;
     pub fn zoftemar_why(room: &mut Handle, seat: u32, subscriber: u32, number: u64) -> Reply;
+    pub fn zoftemar_bundle(room: &mut Handle, bundle: u32, id: u8, ssrc: u32, first: u16, legs: *const u32, count: usize) -> Reply;
+    pub fn zoftemar_bundle_renumbered(room: &mut Handle, bundle: u32, id: u8, ssrc: u32, first: u16, legs: *const u32, count: usize) -> Reply;
+    pub fn zoftemar_choose(room: &mut Handle, bundle: u32, leg: u8) -> Reply;
+    pub fn zoftemar_pump(room: &mut Handle, bundle: u32) -> Reply;
+    pub fn zoftemar_draw(room: &mut Handle, bundle: u32, out: *mut u8, count: usize) -> Reply;
+    pub fn zoftemar_redraw(room: &mut Handle, bundle: u32, number: u16, out: *mut u8, count: usize) -> Reply;
     pub fn zoftemar_target_of(room: &Handle, subscriber: u32, out: &mut Target) -> Reply;
     pub fn zoftemar_reaches_wish(room: &Handle, subscriber: u32) -> Reply;
     pub fn zoftemar_due(room: &Handle, track: u32) -> Reply;
     pub fn zoftemar_newest_frame(room: &Handle, track: u32) -> Reply;
+    pub fn zoftemar_counts_of_subscriber(room: &Handle, subscriber: u32, out: &mut SubscriberCounts) -> Reply;
+    pub fn zoftemar_counts_of_track(room: &Handle, track: u32, out: &mut TrackCounts) -> Reply;
+    pub fn zoftemar_ready(room: &Handle, track: u32, out: *mut u32, count: usize) -> Reply;
     pub fn zoftemar_open_publisher(session: &mut Handle, track: u32, ssrc: u32) -> u32;
     pub fn zoftemar_open_subscriber(session: &mut Handle, subscriber: u32, ssrc: u32) -> u32;
     pub fn zoftemar_open_rtx_subscriber(session: &mut Handle, subscriber: u32, ssrc: u32, rtx_ssrc: u32, rtx_payload_type: u8) -> u32;

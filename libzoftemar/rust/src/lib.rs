@@ -1,6 +1,6 @@
 //! The proved room of `zoftemar.h`, behind types that no safe program can misuse.
 //!
-//! A [`Room`] has tracks and subscribers. A [`Publisher`] or a [`Subscriber`] is the session of one peer: it handles NACKs, PLIs and
+//! A [`Room`] has tracks, subscribers and bundles. A [`Publisher`] or a [`Subscriber`] is the session of one peer: it handles NACKs, PLIs and
 //! retransmissions. A [`Recorder`] makes a file. Moments and holds are in milliseconds. A refused call changes nothing and returns an [`Error`].
 //!
 //! ```
@@ -24,7 +24,7 @@ mod verdict;
 
 pub use error::{code_name, Error};
 pub use recorder::Recorder;
-pub use room::{Room, Target};
+pub use room::{Room, SubscriberCounts, Target, TrackCounts};
 pub use session::{Publisher, Session, Subscriber};
 pub use verdict::Verdict;
 

@@ -29,6 +29,59 @@ pub struct Target {
     pub known: bool,
     pub spatial: u8,
     pub temporal: u8,
+    /// For later use: 0.
+    pub spare: [u8; 4],
+}
+
+/// What is counted of a subscriber since its join. Each whole frame of its layered track since then has a [`Verdict`], which is counted; a plain track has
+/// no frames. A count stays at 2^64 - 1 once it is there.
+#[repr(C)]
+#[derive(Debug, Clone, Copy, PartialEq, Eq, Default)]
+#[non_exhaustive]
+pub struct SubscriberCounts {
+    /// Frames that were forwarded.
+    pub passed: u64,
+    /// Frames that were withheld since they aren't in the decode target.
+    pub not_of_target: u64,
+    /// Frames that were withheld since they refer to a frame before the epoch.
+    pub behind: u64,
+    /// Frames that were withheld since they refer to a frame that wasn't forwarded.
+    pub reference: u64,
+    /// Frames that were withheld since the queue had no place for all their packets.
+    pub full: u64,
+    /// Frames that were withheld since the target's chain is broken.
+    pub link: u64,
+    /// Frames that were withheld since no target is open.
+    pub unopened: u64,
+    /// Packets that were queued, also those taken since.
+    pub queued: u64,
+    /// Packets that were taken: by [`Room::take`], a session or a pump.
+    pub taken: u64,
+    /// Retransmissions: by [`Room::resend`] or a session, each time. A bundle's redraws aren't counted.
+    pub resent: u64,
+    /// Packets of a plain track that came while 512 were queued, and weren't queued.
+    pub left_out: u64,
+    /// Packets that are queued now: at most 512.
+    pub waiting: u64,
+    spare: [u64; 4],
+}
+
+/// What is counted of a track since its publish.
+#[repr(C)]
+#[derive(Debug, Clone, Copy, PartialEq, Eq, Default)]
+#[non_exhaustive]
+pub struct TrackCounts {
+    /// Packets that came, and left the reorder buffer in order.
+    pub arrived: u64,
+    /// Sequence numbers that were given up.
+    pub given_up: u64,
+    /// Whole frames: 0 on a plain track.
+    pub frames: u64,
+    /// Whole key frames.
+    pub key_frames: u64,
+    /// Packets of `arrived` that are in no whole frame: of a torn or unfinished frame, unreadable, or padding. 0 on a plain track.
+    pub unframed: u64,
+    spare: [u64; 3],
 }
 
 impl Room {
@@ -117,6 +170,42 @@ impl Room {
         Verdict::of(unsafe { zoftemar_why(&mut self.handle, 0, subscriber, number) })
     }
 
+    /// Makes a bundle of two or three legs, which are subscribers of layered tracks with descriptors in the header extension element `id`. Its packets
+    /// have this SSRC, and sequence numbers from `first` on. The first leg is chosen.
+    pub fn bundle(&mut self, number: u32, id: u8, ssrc: u32, first: u16, legs: &[u32]) -> Result<(), Error> {
+        unsafe { zoftemar_bundle(&mut self.handle, number, id, ssrc, first, legs.as_ptr(), legs.len()) }.done()
+    }
+
+    /// Makes a bundle whose frame numbers continue at a change of leg, which WebRTC receivers need.
+    pub fn bundle_renumbered(&mut self, number: u32, id: u8, ssrc: u32, first: u16, legs: &[u32]) -> Result<(), Error> {
+        unsafe { zoftemar_bundle_renumbered(&mut self.handle, number, id, ssrc, first, legs.as_ptr(), legs.len()) }.done()
+    }
+
+    /// Chooses the leg that a bundle forwards from that leg's next key frame on; the first leg is 1. Requests that key frame if the leg isn't active.
+    pub fn choose(&mut self, bundle: u32, leg: u8) -> Result<(), Error> {
+        unsafe { zoftemar_choose(&mut self.handle, bundle, leg) }.done()
+    }
+
+    /// Takes the packets that are queued for a bundle's legs. Returns how many of them the bundle forwards, and how many it drops.
+    pub fn pump(&mut self, bundle: u32) -> Result<(u64, u64), Error> {
+        let reply = unsafe { zoftemar_pump(&mut self.handle, bundle) }.expect(PUMPED)?;
+        Ok((reply.first, reply.second))
+    }
+
+    /// Moves a bundle's oldest queued packet to `out`, and returns it. `None`: no packet is queued.
+    pub fn draw<'a>(&mut self, bundle: u32, out: &'a mut [u8; PACKET_ROOM]) -> Result<Option<&'a [u8]>, Error> {
+        let reply = unsafe { zoftemar_draw(&mut self.handle, bundle, out.as_mut_ptr(), out.len()) };
+        match reply.code {
+            EMPTY => Ok(None),
+            _ => written(reply, out).map(Some),
+        }
+    }
+
+    /// Copies a packet that was drawn from a bundle before, with this sequence number, to `out`, and returns it.
+    pub fn redraw<'a>(&mut self, bundle: u32, number: u16, out: &'a mut [u8; PACKET_ROOM]) -> Result<&'a [u8], Error> {
+        written(unsafe { zoftemar_redraw(&mut self.handle, bundle, number, out.as_mut_ptr(), out.len()) }, out)
+    }
+
     /// The decode target that a subscriber is sent, if it has one.
     pub fn target_of(&self, subscriber: u32) -> Result<Option<Target>, Error> {
         let mut target = Target::default();
@@ -139,6 +228,27 @@ impl Room {
     pub fn newest_frame(&self, track: u32) -> Result<Option<u64>, Error> {
         let reply = unsafe { zoftemar_newest_frame(&self.handle, track) }.expect(NEWEST)?;
         Ok(reply.has.then_some(reply.first))
+    }
+
+    /// Writes to `out` the numbers of the track's subscribers that have packets queued, as many as fit, and returns the written part. If it is shorter than
+    /// `out`, these are all. After the end of a track, its subscribers count until they leave.
+    pub fn ready<'a>(&self, track: u32, out: &'a mut [u32]) -> Result<&'a [u32], Error> {
+        let reply = unsafe { zoftemar_ready(&self.handle, track, out.as_mut_ptr(), out.len()) }.expect(READY)?;
+        Ok(&out[..reply.first as usize])
+    }
+
+    /// What is counted of a subscriber since its join.
+    pub fn counts_of_subscriber(&self, subscriber: u32) -> Result<SubscriberCounts, Error> {
+        let mut counts = SubscriberCounts::default();
+        unsafe { zoftemar_counts_of_subscriber(&self.handle, subscriber, &mut counts) }.expect(COUNTS)?;
+        Ok(counts)
+    }
+
+    /// What is counted of a track since its publish.
+    pub fn counts_of_track(&self, track: u32) -> Result<TrackCounts, Error> {
+        let mut counts = TrackCounts::default();
+        unsafe { zoftemar_counts_of_track(&self.handle, track, &mut counts) }.expect(COUNTS)?;
+        Ok(counts)
     }
 }
 

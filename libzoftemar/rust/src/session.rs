@@ -15,9 +15,13 @@ pub trait Session: sealed::Owner {
     }
 
     /// Makes the session's calls on the room, up to the next datagram to send to the peer: copies it to `out`, and returns it. `None`: no call is left
-    /// until the next datagram or moment.
-    fn work<'a>(&mut self, room: &mut Room, out: &'a mut [u8; PACKET_ROOM]) -> Option<&'a [u8]> {
-        written(unsafe { zoftemar_session_work(self.handle(), room.handle(), 0, out.as_mut_ptr(), out.len()) }, out).ok()
+    /// until the next datagram or moment. [`Error::Bound`]: the next call is a take from a leg of a bundle, and stays to be made; drop the session.
+    fn work<'a>(&mut self, room: &mut Room, out: &'a mut [u8; PACKET_ROOM]) -> Result<Option<&'a [u8]>, Error> {
+        let reply = unsafe { zoftemar_session_work(self.handle(), room.handle(), 0, out.as_mut_ptr(), out.len()) };
+        match reply.code {
+            DONE => Ok(None),
+            _ => written(reply, out).map(Some),
+        }
     }
 }
 

@@ -17,7 +17,7 @@ fn codes() -> Vec<(u32, &'static str)> {
 #[test]
 fn each_code_has_its_name() {
     let codes = codes();
-    assert_eq!(codes.len(), 52);
+    assert_eq!(codes.len(), 60);
     for (code, name) in &codes {
         assert_eq!(code_name(*code), *name);
     }

@@ -59,8 +59,13 @@ fn a_plain_track_forwards_each_packet_as_it_is() {
     }
     assert_eq!(room.missing(1, &mut names), Ok(&[][..]));
     assert_eq!((room.due(1), room.newest_frame(1)), (Ok(None), Ok(None)));
+    assert_eq!(room.ready(1, &mut [0; 4]), Ok(&[][..]));
     assert_eq!(room.key_wanted(1), Ok(false));
     assert_eq!(room.target_of(1), Ok(None));
+    let (counts, of_track) = (room.counts_of_subscriber(1).unwrap(), room.counts_of_track(1).unwrap());
+    assert_eq!((counts.queued, counts.taken, counts.resent, counts.left_out, counts.waiting, counts.passed), (100, 100, 100, 0, 0, 0));
+    assert_eq!((of_track.arrived, of_track.given_up, of_track.frames, of_track.unframed), (100, 0, 0, 0));
+    assert_eq!((room.counts_of_subscriber(2), room.counts_of_track(2)), (Err(Error::NoSubscriber), Err(Error::NoTrack)));
 }
 
 /// The template of a packet with a Dependency Descriptor, which is the first extension element, in the one-byte or the two-byte form. A packet without
@@ -92,6 +97,9 @@ fn a_layered_track_reaches_each_wish() {
         }
     }
     assert_eq!((sent, due), ([110, 7], [110, 7]));
+    let (high, low, of_track) = (room.counts_of_subscriber(1).unwrap(), room.counts_of_subscriber(2).unwrap(), room.counts_of_track(1).unwrap());
+    assert_eq!((high.taken, low.taken, of_track.arrived - of_track.unframed, high.waiting), (110, 7, 110, 0));
+    assert_eq!((high.passed, low.passed + low.not_of_target), (of_track.frames, of_track.frames));
     assert_eq!((room.reaches_wish(1), room.reaches_wish(2)), (Ok(true), Ok(true)));
     let (high, low) = (room.target_of(1).unwrap().unwrap(), room.target_of(2).unwrap().unwrap());
     assert_eq!((high.known, high.spatial, high.temporal), (true, 2, 2));
@@ -139,14 +147,14 @@ fn sessions_ask_and_answer() {
         now = now.max(*moment);
         publisher.received(now, packet).unwrap();
         assert_eq!(publisher.received(now, packet), Err(Error::Busy));
-        while let Some(datagram) = publisher.work(&mut room, &mut out) {
+        while let Some(datagram) = publisher.work(&mut room, &mut out).unwrap() {
             if datagram == nack(MEDIA, number_of(&lost.1)) && !asked {
                 coming.push_front(lost);
                 asked = true;
             }
         }
         subscriber.waited(now).unwrap();
-        while let Some(packet) = subscriber.work(&mut room, &mut out) {
+        while let Some(packet) = subscriber.work(&mut room, &mut out).unwrap() {
             sent.push(packet.to_vec());
         }
     }
@@ -154,11 +162,11 @@ fn sessions_ask_and_answer() {
     assert_eq!(sent, relayed(&packets[..300]));
 
     subscriber.received(now, &nack(SENT, 10)).unwrap();
-    let again = subscriber.work(&mut room, &mut out).unwrap();
+    let again = subscriber.work(&mut room, &mut out).unwrap().unwrap();
     assert_eq!((again[1] & 127, number_of(again), &again[8..12]), (97, 0, &RTX.to_be_bytes()[..]));
     assert_eq!(unwrap(again, SENT, 45, &mut back).unwrap(), sent[10]);
     assert_eq!(wrap(&sent[10], 0, RTX, 97, &mut back).unwrap(), again);
-    assert_eq!(subscriber.work(&mut room, &mut out), None);
+    assert_eq!(subscriber.work(&mut room, &mut out), Ok(None));
 }
 
 #[test]
@@ -183,6 +191,50 @@ fn a_recorder_makes_a_file_of_what_is_sent() {
     assert!(matches!(Recorder::open(0), Err(Error::BadExtensionId)));
 }
 
+/// Two tracks with the same packets are the legs of a bundle. Frames of the first leg are sent until the second leg is chosen and its key frame, the first,
+/// comes: it gets the next number.
+#[test]
+fn a_bundle_changes_its_leg_at_a_key_frame() {
+    let packets = &captured()[..300];
+    let mut room = Room::open().unwrap();
+    let mut out = [0; PACKET_ROOM];
+    for leg in [1, 2] {
+        room.publish_layered(leg, 4, MEDIA, 300).unwrap();
+        room.join(leg, leg, SENT, 0, (2, 2)).unwrap();
+    }
+    assert_eq!(room.bundle(1, 4, RTX, 7, &[1]), Err(Error::BadLegs));
+    assert_eq!(room.bundle(1, 5, RTX, 7, &[1, 2]), Err(Error::WrongKind));
+    assert_eq!(room.bundle(1, 4, RTX, 7, &[1, 1]), Err(Error::Bound { bundle: 1 }));
+    room.bundle_renumbered(1, 4, RTX, 7, &[1, 2]).unwrap();
+    assert_eq!(room.bundle(1, 4, RTX, 7, &[1, 2]), Err(Error::NumberUsed { highest: 1 }));
+    assert_eq!((room.pump(2), room.choose(1, 3)), (Err(Error::NoBundle), Err(Error::NoLeg { legs: 2 })));
+    assert_eq!((room.take(1, &mut out), room.leave(2)), (Err(Error::Bound { bundle: 1 }), Err(Error::Bound { bundle: 1 })));
+    let mut subscriber = Subscriber::open(1, SENT).unwrap();
+    subscriber.waited(0).unwrap();
+    assert_eq!(subscriber.work(&mut room, &mut out), Err(Error::Bound { bundle: 1 }));
+    assert_eq!(subscriber.waited(0), Err(Error::Busy));
+
+    let mut sent = Vec::new();
+    for leg in [1, 2] {
+        room.choose(1, leg).unwrap();
+        for (moment, packet) in packets {
+            room.packet(leg.into(), *moment, packet).unwrap();
+            room.pump(1).unwrap();
+            while let Some(packet) = room.draw(1, &mut out).unwrap() {
+                assert_eq!((number_of(packet), &packet[8..12]), (7 + sent.len() as u16, &RTX.to_be_bytes()[..]));
+                sent.push(packet.to_vec());
+            }
+        }
+    }
+    assert_eq!(sent.len(), 2 * 110);
+    assert_eq!(room.redraw(1, 7, &mut out).unwrap(), sent[0]);
+    assert_eq!(room.redraw(1, 6, &mut out), Err(Error::NotKept { oldest: 7, next: 227 }));
+    let mut recorder = Recorder::open(4).unwrap();
+    for packet in &sent {
+        recorder.feed(packet).unwrap();
+    }
+}
+
 #[test]
 fn refusals_have_their_numbers_and_names() {
     let (packets, mut out) = (captured(), [0; PACKET_ROOM]);
@@ -203,7 +255,7 @@ fn refusals_have_their_numbers_and_names() {
     assert!(matches!(room.resend(1, 0, &mut out), Err(Error::NotKept { .. })));
     assert!(matches!(Subscriber::open_rtx(1, SENT, SENT, 97), Err(Error::BadStream)));
     assert_eq!(Error::Late { next: 8 }.to_string(), "ZOFTEMAR_LATE");
-    assert_eq!(Error::Other(9).to_string(), "ZOFTEMAR_?");
+    assert_eq!(Error::Other(200).to_string(), "ZOFTEMAR_?");
 }
 
 #[test]
@@ -214,7 +266,7 @@ fn a_room_and_its_sessions_go_to_another_thread() {
     let subscriber = Subscriber::open(1, SENT).unwrap();
     thread::spawn(move || {
         publisher.waited(5).unwrap();
-        assert_eq!(publisher.work(&mut room, &mut [0; PACKET_ROOM]), None);
+        assert_eq!(publisher.work(&mut room, &mut [0; PACKET_ROOM]), Ok(None));
         drop(room);
         drop(subscriber);
     })

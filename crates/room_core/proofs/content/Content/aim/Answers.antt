@@ -18,5 +18,5 @@ invariant_of-self c = record {
 pub returns-in-Some-clause-does : goal.returns-in-Some-clause-does
 returns-in-Some-clause-does c =
     aim_does c.args.self.now _ c.args.subscriber c.args.wish c.in-Some.known.now _ c.in-Some.ensures.value
-    (written_by_key c.args.subscriber c.args.self.now.subscribers _ c.in-Some.known.now _ c.in-Some.ensures.value (c.get_mut.follows.holds _)) refl
+    (written_by_key c.args.subscriber c.args.self.now.subscribers _ c.in-Some.known.now _ c.in-Some.ensures.value (c.get_mut.follows.holds _)) refl refl
     (subst (λ (f : Feed). FollowsAim f c.aim.new.self c.args.wish) c.deref_mut.ensures.value c.aim.ensures.follows) refl refl refl

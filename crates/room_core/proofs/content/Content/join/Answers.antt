@@ -29,7 +29,7 @@ invariant_of-self c =
 pub returns-in-Ok-clause-does : goal.returns-in-Ok-clause-does
 returns-in-Ok-clause-does c = λ ssrc first wish ready.
     let r = ready_feed (refusal_to_join c.args.self.now c.args.subscriber c.args.track) c.args.self.now c.args.track ssrc first wish c.args.ready c.in-Sent.feed c.in-Sent.is ready in
-    join_does c.args.self.now _ c.args.subscriber c.args.track ssrc first wish _ c.in-Ok.field-0-1 r.2 r.0 refl r.1 c.in-Ok.ensures.updates c.in-Ok.ensures.old c.in-Ok.ensures.len
+    join_does c.args.self.now _ c.args.subscriber c.args.track ssrc first wish _ c.in-Ok.field-0-1 r.2 r.0 refl refl r.1 c.in-Ok.ensures.updates c.in-Ok.ensures.old c.in-Ok.ensures.len
     (same_but c.in-Ok.place (get nat_eq c.args.self.now.tracks) (get nat_eq c.put_place.new.tracks) c.put_place.ensures.changed) c.put_place.ensures.count refl refl
 
 pub returns-in-Some-clause-does : goal.returns-in-Some-clause-does

@@ -21,7 +21,7 @@ pub returns-then-take-clause-does : goal.returns-then-take-clause-does
 returns-then-take-clause-does c =
     let there = known_there c.args.self.now.subscribers c.args.subscriber c.in-Some.place c.in-Some-get_index_mut.known.now c.in-Some.ensures c.in-Some-get_index_mut.ensures.value in
     take_does c.args.self.now _ c.args.subscriber c.in-Some-get_index_mut.known.now _ c.args.out.now c.take.new.out there.1
-    (written_at c.args.subscriber c.args.self.now.subscribers c.in-Some.place c.in-Some-get_index_mut.known.now _ c.get_index_mut.ensures.unique there.0) refl
+    (written_at c.args.subscriber c.args.self.now.subscribers c.in-Some.place c.in-Some-get_index_mut.known.now _ c.get_index_mut.ensures.unique there.0) refl refl
     (subst (λ (f : Feed). FollowsTake f c.take.new.self true c.args.out.now c.take.new.out) c.deref_mut.ensures.value
     (subst (λ (b : Bool). FollowsTake c.deref_mut.result.now c.take.new.self b c.args.out.now c.take.new.out) c.if-take.true c.take.ensures.follows))
     refl refl refl
@@ -30,7 +30,7 @@ pub returns-else-take-clause-does : goal.returns-else-take-clause-does
 returns-else-take-clause-does c =
     let there = known_there c.args.self.now.subscribers c.args.subscriber c.in-Some.place c.in-Some-get_index_mut.known.now c.in-Some.ensures c.in-Some-get_index_mut.ensures.value in
     take_finds_none c.args.self.now _ c.args.subscriber c.in-Some-get_index_mut.known.now _ c.args.out.now c.take.new.out there.1
-    (written_at c.args.subscriber c.args.self.now.subscribers c.in-Some.place c.in-Some-get_index_mut.known.now _ c.get_index_mut.ensures.unique there.0) refl
+    (written_at c.args.subscriber c.args.self.now.subscribers c.in-Some.place c.in-Some-get_index_mut.known.now _ c.get_index_mut.ensures.unique there.0) refl refl
     (subst (λ (f : Feed). FollowsTake f c.take.new.self false c.args.out.now c.take.new.out) c.deref_mut.ensures.value
     (subst (λ (b : Bool). FollowsTake c.deref_mut.result.now c.take.new.self b c.args.out.now c.take.new.out) c.if-take.false c.take.ensures.follows))
     refl refl refl

@@ -4,6 +4,8 @@ use Rattle.sfu_base.specs.declared.frame.Step.{Step}
 use Rattle.sfu_base.specs.declared.frame.Verdict.TheVariants.{Passed}
 use Rattle.cause_book.specs.Book.{IsAboveAll, IsAfter}
 use Rattle.target_selector.specs.Masks.{mask_for}
+use Rattle.room_core.specs.Counts.{counted_frame}
+use Rattle.room_core.specs.declared.counts.FrameCounts.{FrameCounts}
 use Rattle.room_core.proofs.Feeding.{frame_is_withheld, frame_passes}
 use Rattle.room_core.proofs.feed.Feed.pass_frame.Goals as goal
 
@@ -12,6 +14,8 @@ returns-then-is_told-clause-follows c = frame_passes c.args.self.now _ c.args.of
     (record {
       kind_is = refl;
       newest_is = c.admit_offered-verdict.ensures.newest;
+      counts_are = ap (λ (f : FrameCounts). record c.args.self.now.counts { frames = f })
+          (c.count.ensures ∙ ap (λ (v : Verdict). counted_frame v c.args.self.now.counts.frames) (sym c.in-Passed.is));
       count_is = c.requires.count;
       queued_is = c.queued.ensures.queued;
       verdict_is = c.admit_offered-verdict.ensures.verdict;
@@ -36,6 +40,8 @@ returns-else-is_told-clause-follows c = frame_passes c.args.self.now _ c.args.of
     (record {
       kind_is = refl;
       newest_is = c.admit_offered-verdict.ensures.newest;
+      counts_are = ap (λ (f : FrameCounts). record c.args.self.now.counts { frames = f })
+          (c.count.ensures ∙ ap (λ (v : Verdict). counted_frame v c.args.self.now.counts.frames) (sym c.in-Passed.is));
       count_is = c.requires.count;
       queued_is = c.queued.ensures.queued;
       verdict_is = c.admit_offered-verdict.ensures.verdict;
@@ -60,6 +66,7 @@ returns-in_default-clause-follows c = frame_is_withheld c.args.self.now _ c.args
     (record {
       kind_is = refl;
       newest_is = c.admit_offered-verdict.ensures.newest;
+      counts_are = ap (λ (f : FrameCounts). record c.args.self.now.counts { frames = f }) c.count-in_default.ensures;
       count_is = c.requires.count;
       queued_is = c.queued.ensures.queued;
       verdict_is = c.admit_offered-verdict.ensures.verdict;

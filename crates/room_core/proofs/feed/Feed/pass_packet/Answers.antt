@@ -1,4 +1,4 @@
-use Rattle.std.proofs.Common.{◌∙◌, ◌∷◌, [], ap, Bool, arith, refl}
+use Rattle.std.proofs.Common.{◌∙◌, ◌∷◌, [], ap, Bool, arith, refl, ℕ}
 use Rattle.rtp_packet.proofs.Faultless.{header_there}
 use Rattle.out_ring.specs.Ring.{pushed}
 use Rattle.room_core.proofs.Feeding.{packet_is_left_out, packet_passes}
@@ -16,7 +16,8 @@ returns-then-queued-lt-MOST_QUEUED c = record {
 pub returns-else-queued-lt-MOST_QUEUED : goal.returns-else-queued-lt-MOST_QUEUED
 returns-else-queued-lt-MOST_QUEUED c = record {
   shared = c.requires.shared;
-  follows = packet_is_left_out c.args.self.now c.args.packet.now (let ge = c.if-queued-lt-MOST_QUEUED.false in omega (arith, ge, c.queued.ensures.queued));
+  follows = packet_is_left_out c.args.self.now _ c.args.packet.now (let ge = c.if-queued-lt-MOST_QUEUED.false in omega (arith, ge, c.queued.ensures.queued))
+      (ap (λ (n : ℕ). record c.args.self.now.counts { left_out = n }) c.count_one.ensures);
 }
 
 pub queue-requires-clause-same : goal.queue-requires-clause-same

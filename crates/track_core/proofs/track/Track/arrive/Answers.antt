@@ -21,7 +21,7 @@ invariant_of-self c =
         events = Arrives c.in-Ok.packet.seq c.args.moment c.args.bytes.now ∷ h.events;
         worked = h.worked;
         stands = event_stands (seen c.self.inside) _ (Arrives c.in-Ok.packet.seq c.args.moment c.args.bytes.now) h.events h.worked h.stands
-            (ap (λ (t : Seen). t.window.waiting) c.self.view_is ∙ c.requires.idle) (c.arrive.ensures.stands h.events h.stands.window) c.arrive.ensures.items c.arrive.ensures.hold taken refl refl;
+            (ap (λ (t : Seen). t.window.waiting) c.self.view_is ∙ c.requires.idle) (c.arrive.ensures.stands h.events h.stands.window) c.arrive.ensures.items c.arrive.ensures.hold taken refl refl refl;
       };
       slot = c.self.invariant.slot;
     }

@@ -13,7 +13,7 @@ invariant_of-self c =
         events = Ticks c.args.moment ∷ h.events;
         worked = h.worked;
         stands = event_stands (seen c.self.inside) _ (Ticks c.args.moment) h.events h.worked h.stands
-            (ap (λ (t : Seen). t.window.waiting) c.self.view_is ∙ c.requires.idle) (c.tick.ensures.stands h.events h.stands.window) c.tick.ensures.items c.tick.ensures.hold tt refl refl;
+            (ap (λ (t : Seen). t.window.waiting) c.self.view_is ∙ c.requires.idle) (c.tick.ensures.stands h.events h.stands.window) c.tick.ensures.items c.tick.ensures.hold tt refl refl refl;
       };
       slot = c.self.invariant.slot;
     }

@@ -1,0 +1,97 @@
+// What is counted of a subscriber and of a track, in the form that C reads.
+ghost use Rattle.std.specs.Prelude.{◌≡◌};
+ghost use Rattle.room_c.specs.Reading.{subscriber_counts_of, track_counts_of};
+ghost use Rattle.room_c.specs.Telling.{plain_subscriber_counts, plain_track_counts};
+
+use room_core::{SubscriberCounts, TrackCounts};
+
+/// What is counted of a subscriber since its join (see `SubscriberCounts` of `room_core`). A count stays at 2^64 - 1 once it is there.
+#[repr(C)]
+#[derive(Clone, Copy, Debug)]
+pub struct PlainSubscriberCounts {
+    /// The frames that were forwarded.
+    pub passed: u64,
+    /// The frames that were withheld because they aren't of the target.
+    pub not_of_target: u64,
+    /// The frames that were withheld because they refer behind the epoch.
+    pub behind: u64,
+    /// The frames that were withheld because they refer to a frame that wasn't forwarded.
+    pub reference: u64,
+    /// The frames that were withheld because the queue was too full.
+    pub full: u64,
+    /// The frames that were withheld because the target's chain was broken.
+    pub link: u64,
+    /// The frames that were withheld because no target was open.
+    pub unopened: u64,
+    /// The packets that were queued, those taken since included.
+    pub queued: u64,
+    /// The packets that were taken.
+    pub taken: u64,
+    /// The packets that were returned once more.
+    pub resent: u64,
+    /// On a plain track, the packets that weren't queued because 512 were queued already.
+    pub left_out: u64,
+    /// The packets that are queued now: at most 512.
+    pub waiting: u64,
+    /// For later counts: 0.
+    pub spare: [u64; 4],
+}
+
+/// What is counted of a track since its publish (see `TrackCounts` of `track_core`).
+#[repr(C)]
+#[derive(Clone, Copy, Debug)]
+pub struct PlainTrackCounts {
+    /// The packets that came in order.
+    pub arrived: u64,
+    /// The sequence numbers that were given up.
+    pub given_up: u64,
+    /// The whole frames. A plain track has none.
+    pub frames: u64,
+    /// The whole key frames.
+    pub key_frames: u64,
+    /// The packets of `arrived` that are in no whole frame; 0 on a plain track.
+    pub unframed: u64,
+    /// For later counts: 0.
+    pub spare: [u64; 3],
+}
+
+impl PlainSubscriberCounts {
+    /// The same counts. Different counts have different numbers.
+    pub fn of(counts: &SubscriberCounts) -> PlainSubscriberCounts
+        ensures told { subscriber_counts_of result ≡ counts.now }
+        ensures exact { result ≡ plain_subscriber_counts counts.now }
+    {
+        PlainSubscriberCounts {
+            passed: counts.passed,
+            not_of_target: counts.not_of_target,
+            behind: counts.behind,
+            reference: counts.reference,
+            full: counts.full,
+            link: counts.link,
+            unopened: counts.unopened,
+            queued: counts.queued,
+            taken: counts.taken,
+            resent: counts.resent,
+            left_out: counts.left_out,
+            waiting: counts.waiting,
+            spare: [0; 4],
+        }
+    }
+}
+
+impl PlainTrackCounts {
+    /// The same counts. Different counts have different numbers.
+    pub fn of(counts: &TrackCounts) -> PlainTrackCounts
+        ensures told { track_counts_of result ≡ counts.now }
+        ensures exact { result ≡ plain_track_counts counts.now }
+    {
+        PlainTrackCounts {
+            arrived: counts.arrived,
+            given_up: counts.given_up,
+            frames: counts.frames,
+            key_frames: counts.key_frames,
+            unframed: counts.unframed,
+            spare: [0; 3],
+        }
+    }
+}
