@@ -9,6 +9,7 @@ import (
 	"net/url"
 	"regexp"
 	"strings"
+	"time"
 
 	"github.com/pion/interceptor/pkg/report"
 	"github.com/pion/rtcp"
@@ -29,6 +30,7 @@ type scene struct {
 type size struct {
 	session
 	media *webrtc.TrackRemote
+	came  time.Time // the latest packet
 }
 
 var (
@@ -73,6 +75,7 @@ func (s *scene) bring(media *webrtc.TrackRemote, receiver *webrtc.RTPReceiver) {
 		if len(descriptor) > 2 && descriptor[0]&0x80 != 0 {
 			s.say("frame: %d %d", place, int(descriptor[1])<<8|int(descriptor[2]))
 		}
+		z.came = time.Now()
 		z.hear(bytes)
 		for _, b := range s.bundles {
 			b.pump()
@@ -97,10 +100,11 @@ func (s *scene) end() {
 	}
 }
 
-// 20 milliseconds have passed. A browser makes a key frame each 300 ms and passes over all other PLIs, so they are repeated until one came whole.
+// 20 milliseconds have passed. A browser makes a key frame each 300 ms and passes over all other PLIs, so they are repeated until one came whole. A size of
+// which nothing comes has been paused: a PLI for it would only make key frames of the others.
 func (s *scene) pass() {
 	for _, z := range s.sizes {
-		if z == nil {
+		if z == nil || time.Since(z.came) > time.Second/2 {
 			continue
 		}
 		if z.hear(nil); z.wantsKey() {

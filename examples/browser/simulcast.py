@@ -16,7 +16,7 @@ from browsers import GAP, HERE, PROXY, SOON, Browser, complain, gate, longest_ga
 OWN = '--force-fieldtrials=WebRTC-GenericDescriptorAuth/Disabled/'   # so Chromium numbers each size by itself
 STEPS = 2, 1, 2, 0, 1, 0                                             # sizes, from 0 on: up and down in turn
 FAR = 100                                                            # frames: numbers that differ by less are those of frames lost or skipped
-HEAD = 'row', 'change', 'frame numbers rise by', 'another size after', 'longest gap', 'budget', 'load'
+HEAD = 'row', 'change', 'frame numbers rise by', 'another size after', 'longest gap', 'of what came into the room', 'budget', 'load'
 table = []
 
 
@@ -51,14 +51,16 @@ class Run:
         return (numbers[new] - numbers[old] + 32768) % 65536 - 32768
 
     def change(self, size, seconds):
-        """The rise of the frame numbers at a change, milliseconds until another size, and the longest gap meanwhile."""
+        """The rise of the frame numbers at a change, milliseconds until another size, and the longest gap meanwhile. Beside it in the table is the longest gap
+        of both sizes on their way into the room: what is as long there is the publisher's own, on a busy machine say."""
         rise, old, width = self.rise(self.size, size), self.size, self.player.run('seen[seen.length - 1][1]')
         at = self.player.run(f'choose({size}), Date.now()')
         time.sleep(seconds)
         shown = self.player.run(f'[...seen.filter(picture => picture[0] >= {at} - 300), [Date.now()]]')   # a gap that still lasts is one
+        came = [longest_gap(self.publisher.run(f'brought[{s}].filter(frame => frame[0] >= {at} - 300)')) for s in (old, size)]
         took = next((picture[0] - at for picture in shown[:-1] if picture[0] > at and picture[1] != width), None)
         self.size, gap = size, longest_gap(shown)
-        line(self.row, f'{"qhf"[old]} to {"qhf"[size]}', rise, took, gap, GAP)
+        line(self.row, f'{"qhf"[old]} to {"qhf"[size]}', rise, took, gap, max(came), GAP)
         return rise, took, gap
 
     def all(self):
@@ -101,7 +103,8 @@ def off(run):
         gap = run.change(size, 10 if falls else 2.5)[2]
         if falls:
             break
-    print(f'off: a gap of {gap} ms where numbers fall', flush=True)
+    lasts = run.player.run('Date.now() - seen[seen.length - 1][0]')
+    print(f'off: a gap of {gap} ms where numbers fall' + (', which lasts' if lasts > GAP else ', and pictures after it'), flush=True)
     if gap <= GAP:
         complain(f'off: no freeze, though frame numbers fell: {gap} ms')
 
