@@ -47,11 +47,5 @@ int main(int argc, char **argv) {
         if (zoftemar_open_rtx_subscriber(&peers[count].session, count, media, rtx, (uint8_t)atoi(argv[4])) != ZOFTEMAR_DONE) return 2;
     }
     if (!open_port(argv[1])) return 1;
-    for (uint64_t ticked = 0;;) {
-        static uint8_t bytes[ZOFTEMAR_PACKET_ROOM];
-        struct sockaddr_in from;
-        size_t length = receive(bytes, sizeof bytes, &from);
-        if (length > 0) handle(&from, bytes, length);
-        if (now() >= ticked + EACH) tick(ticked = now());
-    }
+    serve(handle, tick);
 }

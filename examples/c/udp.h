@@ -1,4 +1,5 @@
-/* udp.h: the common part of relay.c, relay2.c and simulcast.c: the clock, one UDP port, and sending what the sessions return. */
+/* udp.h: the common part of relay.c, relay2.c and simulcast.c: the clock, one UDP port and its loop, and sending what the sessions
+ * return. */
 #pragma once
 #include <arpa/inet.h>
 #include <poll.h>
@@ -35,6 +36,17 @@ static size_t receive(uint8_t *bytes, size_t most, struct sockaddr_in *from) {
 
 static bool is_same(const struct sockaddr_in *a, const struct sockaddr_in *b) {
     return a->sin_port == b->sin_port && a->sin_addr.s_addr == b->sin_addr.s_addr;
+}
+
+/* Handles each datagram, and ticks about every EACH milliseconds, for ever. */
+static inline void serve(void (*handle)(const struct sockaddr_in *from, const uint8_t *bytes, size_t length), void (*tick)(uint64_t moment)) {
+    for (uint64_t ticked = 0;;) {
+        static uint8_t bytes[ZOFTEMAR_PACKET_ROOM];
+        struct sockaddr_in from;
+        size_t length = receive(bytes, sizeof bytes, &from);
+        if (length > 0) handle(&from, bytes, length);
+        if (now() >= ticked + EACH) tick(ticked = now());
+    }
 }
 
 /* RTCP on the same port (RFC 5761, section 4). */
